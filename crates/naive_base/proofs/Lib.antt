@@ -1,0 +1,12 @@
+pub mod Floor
+pub mod Years
+pub mod Months
+pub mod Cycle
+pub mod Dates
+pub mod Weekdays
+pub mod Moves
+pub mod Ranges
+pub mod Digits
+pub mod Readings
+pub mod Alike
+pub mod Values

@@ -1,0 +1,73 @@
+-- The cases of a move.
+use Rattle.std.proofs.Common.{◌≡◌, ◌∙◌, ap, ℕ, ◌<◌, ◌≤◌, ℤ, neg_ℤ, pos, ◌+ℤ◌, ◌-ℤ◌, ◌*ℤ◌, ◌≤ℤ◌, ◌<ℤ◌, unsigned_abs, refl, arith}
+use Rattle.std.proofs.lemmas.Bool.Decides.{nat_tests}
+use Rattle.std.proofs.lemmas.Int.{ints}
+use Rattle.naive_base.specs.Year.{floor_div, floor_mod}
+use Rattle.naive_base.proofs.Floor.{floors}
+use Rattle.naive_base.proofs.Years.{floor_mod_parts}
+use Rattle.naive_base.specs.Reading.{Reading, moved, moved_leap, of_total, total, difference, leap_between}
+
+pub moved-plain : (r : Reading) (d : ℤ) → r.f < 1_000_000_000 → moved r d ≡ of_total (total r +ℤ d)
+moved-plain r d h = grind (arith, nat_tests)
+
+pub moved-leap : (r : Reading) (d : ℤ) → 1_000_000_000 ≤ r.f → moved r d ≡ moved_leap r.s (pos r.f +ℤ d)
+moved-leap r d h = grind (arith, nat_tests)
+
+pub moved_leap-before : (s p : ℤ) → p <ℤ pos 0 → moved_leap s p ≡ of_total (s *ℤ pos 1_000_000_000 +ℤ p)
+moved_leap-before s p h = grind (arith, ints)
+
+pub moved_leap-within : (s p : ℤ) → pos 0 ≤ℤ p → p <ℤ pos 2_000_000_000
+    → moved_leap s p ≡ record { s = s; f = unsigned_abs p }
+moved_leap-within s p h k = grind (arith, ints)
+
+pub moved_leap-behind : (s p : ℤ) → pos 2_000_000_000 ≤ℤ p
+    → moved_leap s p ≡ of_total (s *ℤ pos 1_000_000_000 +ℤ p -ℤ pos 1_000_000_000)
+moved_leap-behind s p h = grind (arith, ints)
+
+pub ruleset moves = (moved-plain, moved-leap, moved_leap-before, moved_leap-within, moved_leap-behind)
+
+-- Readings that are no leap second are their whole nanoseconds.
+
+of_total-total : (s : ℤ) (f : ℕ) → f < 1_000_000_000
+    → (floor_div (s *ℤ pos 1_000_000_000 +ℤ pos f) 1_000_000_000 ≡ s)
+    × (floor_mod (s *ℤ pos 1_000_000_000 +ℤ pos f) 1_000_000_000 ≡ f)
+of_total-total s f h =
+    let parts = floor_mod_parts (s *ℤ pos 1_000_000_000 +ℤ pos f) 1_000_000_000 (omega arith) in
+    (omega (arith, floors), omega (arith, floors))
+
+of_total-total-reading : (r : Reading) → r.f < 1_000_000_000 → of_total (total r) ≡ r
+of_total-total-reading r h = let same = of_total-total r.s r.f h in rw (same.0, same.1) refl
+
+total-of_total : (n : ℤ) → total (of_total n) ≡ n
+total-of_total n = let parts = floor_mod_parts n 1_000_000_000 (omega arith) in omega (arith, floors)
+
+of_total-plain : (n : ℤ) → (of_total n).f < 1_000_000_000
+of_total-plain n = (floor_mod_parts n 1_000_000_000 (omega arith)).1
+
+pub moved-plain_again : (r : Reading) (d : ℤ) → r.f < 1_000_000_000 → (moved r d).f < 1_000_000_000
+moved-plain_again r d h = rw (moved-plain r d h) (of_total-plain (total r +ℤ d))
+
+total-moved : (r : Reading) (d : ℤ) → r.f < 1_000_000_000 → total (moved r d) ≡ total r +ℤ d
+total-moved r d h = rw (moved-plain r d h) (total-of_total (total r +ℤ d))
+
+undone : (n d : ℤ) → (n +ℤ d) +ℤ neg_ℤ d ≡ n
+undone n d = omega (arith, floors)
+
+pub moved-moved_back : (r : Reading) (d : ℤ) → r.f < 1_000_000_000 → moved (moved r d) (neg_ℤ d) ≡ r
+moved-moved_back r d h =
+    moved-plain (moved r d) (neg_ℤ d) (moved-plain_again r d h)
+    ∙ ap of_total (ap (λ (n : ℤ). n +ℤ neg_ℤ d) (total-moved r d h) ∙ undone (total r) d)
+    ∙ of_total-total-reading r h
+
+leap_between-plain : (a b : Reading) → a.f < 1_000_000_000 → b.f < 1_000_000_000 → leap_between a b ≡ pos 0
+leap_between-plain a b h k = grind (arith, nat_tests)
+
+difference-plain : (a b : Reading) → a.f < 1_000_000_000 → b.f < 1_000_000_000 → difference a b +ℤ total b ≡ total a
+difference-plain a b h k = rw (leap_between-plain a b h k) (omega (arith, floors))
+
+taken_away : (m n d : ℤ) → m +ℤ n ≡ n +ℤ d → m ≡ d
+taken_away m n d e = omega (arith, floors)
+
+pub difference-moved : (r : Reading) (d : ℤ) → r.f < 1_000_000_000 → difference (moved r d) r ≡ d
+difference-moved r d h =
+    taken_away (difference (moved r d) r) (total r) d (difference-plain (moved r d) r (moved-plain_again r d h) h ∙ total-moved r d h)

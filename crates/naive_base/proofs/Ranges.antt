@@ -1,0 +1,52 @@
+-- The days of the years in range.
+use Rattle.std.proofs.Common.{◌≡◌, ℕ, arith, refl, ℤ, pos, neg_ℤ, ◌+ℤ◌}
+use Rattle.std.proofs.lemmas.Int.{by_lt_z}
+use Rattle.naive_base.specs.Year.{year_start, year_of}
+use Rattle.naive_base.specs.Date.{IsDate, day_number}
+use Rattle.naive_base.specs.Range.{IsYearInRange, IsDayInRange, IsWideDay, IsWideYear}
+use Rattle.naive_base.proofs.Floor.{floors}
+use Rattle.naive_base.proofs.Years.{lies_in, starts_rise}
+use Rattle.naive_base.proofs.Dates.{date_between}
+
+first_day : year_start (neg_ℤ (pos 262_143)) ≡ neg_ℤ (pos 96_465_292)
+unfolding year_start
+first_day = refl
+
+end_day : year_start (pos 262_142 +ℤ pos 1) ≡ pos 95_026_237
+unfolding year_start
+end_day = refl
+
+pub date_in_years : (y : ℤ) (m d : ℕ) → IsYearInRange y → IsDate y m d → IsDayInRange (day_number y m d)
+date_in_years y m d fits date =
+    let between = date_between (neg_ℤ (pos 262_143)) (pos 262_142) y m d fits.0 fits.1 date in
+    (omega (arith, floors, first_day), omega (arith, floors, end_day))
+
+first_wide : year_start (neg_ℤ (pos 262_144)) ≡ neg_ℤ (pos 96_465_658)
+unfolding year_start
+first_wide = refl
+
+end_wide : year_start (pos 262_144) ≡ pos 95_026_602
+unfolding year_start
+end_wide = refl
+
+pub wide_year : (day : ℤ) → IsWideDay day → IsWideYear (year_of day)
+wide_year day wide =
+    let y = year_of day in let lies = lies_in day in (
+      by_lt_z y (neg_ℤ (pos 262_144)) (λ less. let rise = starts_rise (y +ℤ pos 1) (neg_ℤ (pos 262_144)) (omega (arith, floors)) in absurd (omega (arith, floors, first_wide))) (λ more. more),
+      by_lt_z (pos 262_143) y (λ less. let rise = starts_rise (pos 262_144) y (omega (arith, floors)) in absurd (omega (arith, floors, end_wide))) (λ more. more),
+    )
+
+-- the days in range are those of the years in range
+pub years_in_range : (day : ℤ) → IsDayInRange day → IsYearInRange (year_of day)
+years_in_range day within =
+    let y = year_of day in let lies = lies_in day in (
+      by_lt_z y (neg_ℤ (pos 262_143)) (λ less. let rise = starts_rise (y +ℤ pos 1) (neg_ℤ (pos 262_143)) (omega (arith, floors)) in absurd (omega (arith, floors, first_day))) (λ more. more),
+      by_lt_z (pos 262_142) y (λ less. let rise = starts_rise (pos 262_142 +ℤ pos 1) y (omega (arith, floors)) in absurd (omega (arith, floors, end_day))) (λ more. more),
+    )
+
+pub days_in_range : (day : ℤ) → IsYearInRange (year_of day) → IsDayInRange day
+days_in_range day fits =
+    let y = year_of day in let lies = lies_in day in
+    let low = starts_rise (neg_ℤ (pos 262_143)) y fits.0 in
+    let high = starts_rise (y +ℤ pos 1) (pos 262_142 +ℤ pos 1) (omega (arith, floors)) in
+    (omega (arith, floors, first_day), omega (arith, floors, end_day))

@@ -1,0 +1,37 @@
+-- Dates, times and readings are what they show.
+use Rattle.std.proofs.Common.{◌≡◌, ℕ, ℤ, ap, subst}
+use Rattle.std.proofs.Props.{props}
+use Rattle.naive_base.specs.declared.date.NaiveDate.{NaiveDate}
+use Rattle.naive_base.specs.declared.time.NaiveTime.{NaiveTime}
+use Rattle.naive_base.specs.declared.datetime.NaiveDateTime.{NaiveDateTime}
+use Rattle.naive_base.specs.Range.{IsWideDay, IsTime, IsReading}
+use Rattle.naive_base.specs.NaiveDate.{day_of}
+use Rattle.naive_base.specs.NaiveTime.{second_of, fraction_of}
+use Rattle.naive_base.specs.NaiveDateTime.{reading}
+
+IsWideDay-once : (day : ℤ) → IsProp (IsWideDay day)
+IsWideDay-once day = hlevel props
+
+IsTime-once : (second f : ℕ) → IsProp (IsTime second f)
+IsTime-once second f = hlevel props
+
+IsReading-once : (s : ℤ) (f : ℕ) → IsProp (IsReading s f)
+IsReading-once s f = hlevel props
+
+pub same_date : (a b : NaiveDate) → day_of a ≡ day_of b → a ≡ b
+same_date a b days =
+    let SameAt : ℤ → Type 0 = λ day. (wide : IsWideDay day) → a ≡ record { day = day; in_range = wide } in
+    let at_a : SameAt (day_of a) = λ wide. ap (λ w. record a { in_range = w }) (IsWideDay-once (day_of a) a.in_range wide) in
+    subst SameAt days at_a b.in_range
+
+pub same_time : (a b : NaiveTime) → second_of a ≡ second_of b → fraction_of a ≡ fraction_of b → a ≡ b
+same_time a b seconds fractions =
+    let SameAt : ℕ → ℕ → Type 0 = λ second f. (is_time : IsTime second f) → a ≡ record { secs = second; frac = f; in_range = is_time } in
+    let at_a : SameAt (second_of a) (fraction_of a) = λ is_time. ap (λ t. record a { in_range = t }) (IsTime-once (second_of a) (fraction_of a) a.in_range is_time) in
+    subst (λ (second : ℕ). SameAt second (fraction_of b)) seconds (subst (SameAt (second_of a)) fractions at_a) b.in_range
+
+pub same_reading : (a b : NaiveDateTime) → (reading a).s ≡ (reading b).s → (reading a).f ≡ (reading b).f → a ≡ b
+same_reading a b seconds fractions =
+    let SameAt : ℤ → ℕ → Type 0 = λ s f. (is_reading : IsReading s f) → a ≡ record { secs = s; frac = f; in_range = is_reading } in
+    let at_a : SameAt (reading a).s (reading a).f = λ is_reading. ap (λ r. record a { in_range = r }) (IsReading-once (reading a).s (reading a).f a.in_range is_reading) in
+    subst (λ (s : ℤ). SameAt s (reading b).f) seconds (subst (SameAt (reading a).s) fractions at_a) b.in_range

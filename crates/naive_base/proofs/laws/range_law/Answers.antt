@@ -1,0 +1,11 @@
+use Rattle.naive_base.proofs.Ranges.{years_in_range, days_in_range, wide_year}
+use Rattle.naive_base.proofs.Readings.{seconds_in_range, seconds_of_range, seconds_in_wide, seconds_of_wide}
+use Rattle.naive_base.proofs.laws.range_law.Goals as goal
+
+pub returns : goal.returns
+returns c = record {
+  days = λ day. (years_in_range day, days_in_range day);
+  seconds = λ s. (seconds_in_range s, seconds_of_range s);
+  wide_days = wide_year;
+  wide_seconds = λ s. (seconds_in_wide s, seconds_of_wide s);
+}

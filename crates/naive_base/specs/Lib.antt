@@ -1,0 +1,13 @@
+pub mod Year
+pub mod Month
+pub mod Date
+pub mod Weekday
+pub mod Cycle
+pub mod Range
+pub mod Clock
+pub mod Reading
+pub mod Moves
+pub mod Text
+pub mod NaiveDate
+pub mod NaiveTime
+pub mod NaiveDateTime

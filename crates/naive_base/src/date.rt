@@ -1,0 +1,177 @@
+//! Dates.
+ghost use Rattle.std.specs.Prelude.{◌≡◌, ◌+◌, ◌*◌, pos, ◌+ℤ◌, ◌-ℤ◌, ◌*ℤ◌};
+ghost use Rattle.naive_base.specs.Year.{floor_div, year_of};
+ghost use Rattle.naive_base.specs.Date.{IsDate, day_number, month_of, day_of_month};
+ghost use Rattle.naive_base.specs.Range.{IsYearInRange, IsDayInRange, IsWideDay, IsWide};
+ghost use Rattle.naive_base.specs.Clock.{IsClock, clock_second};
+ghost use Rattle.naive_base.specs.Reading.{reading_at, day_at, second_at};
+
+use crate::calendar::{self, YearMonthDay};
+use crate::{NaiveDateTime, NaiveTime};
+
+/// A day of the proleptic Gregorian calendar, in the years -262143 to 262142.
+///
+/// The date of a [`NaiveDateTime`] on a buffer day is the one day before those years, or the one behind them. Dates
+/// compare and hash by their days. A date prints as `2012-03-04`, and a year before 0 or after 9999 with its sign, as
+/// `-0001-12-31` or `+12345-01-01`, whatever width, fill or flags the formatter has.
+#[derive(Clone, Copy, PartialEq, Eq, PartialOrd, Ord, Hash)]
+pub struct NaiveDate {
+    day: i32,
+    pub ghost in_range: { IsWideDay day },
+}
+
+const FIRST_YEAR: i32 = -262_143;
+
+const LAST_YEAR: i32 = 262_142;
+
+const FIRST_DAY: i64 = -96_465_292;
+
+const LAST_DAY: i64 = 95_026_236;
+
+// 1970-01-01, where 0001-01-01 is day 1.
+const EPOCH_FROM_CE: i64 = 719_163;
+
+fn day_in_range(year: i32, month: u32, day: u32) -> i32
+    requires year { IsYearInRange year }
+    requires date { IsDate year month day }
+    ensures value { result ≡ day_number year month day }
+    ensures bound { IsWideDay result }
+{
+    calendar::day_number(year, month, day) as i32
+}
+
+impl NaiveDate {
+    ghost use Rattle.naive_base.specs.NaiveDate.{day_of, IsDateOf, IsDateOfDay};
+    ghost use Rattle.naive_base.specs.NaiveTime.{second_of, fraction_of};
+    ghost use Rattle.naive_base.specs.NaiveDateTime.{reading, IsReadingOn};
+
+    /// The date of a year, a month from 1 and a day of the month from 1. `None` where the calendar has no such date, or
+    /// the year is not one from -262143 to 262142.
+    pub fn from_ymd_opt(year: i32, month: u32, day: u32) -> Option<NaiveDate>
+        ensures { IsDateOf year month day result }
+    {
+        if year < FIRST_YEAR || year > LAST_YEAR {
+            return None;
+        }
+        if calendar::is_date(year, month, day) {
+            return Some(NaiveDate::of_ymd(year, month, day));
+        }
+        None
+    }
+
+    // The date with these fields, which the calendar has.
+    fn of_ymd(year: i32, month: u32, day: u32) -> NaiveDate
+        requires year { IsYearInRange year }
+        requires date { IsDate year month day }
+        ensures { day_of result ≡ day_number year month day }
+    {
+        NaiveDate {
+            day: day_in_range(year, month, day),
+        }
+    }
+
+    /// The date by its number in the common era, where 0001-01-01 is day 1 and 1970-01-01 is day 719163. `None` where
+    /// the year is not one from -262143 to 262142.
+    pub fn from_num_days_from_ce_opt(days: i32) -> Option<NaiveDate>
+        ensures { IsDateOfDay (days -ℤ pos 719_163) result }
+    {
+        let day = days as i64 - EPOCH_FROM_CE;
+        if day < FIRST_DAY || day > LAST_DAY {
+            return None;
+        }
+        Some(NaiveDate { day: day as i32 })
+    }
+
+    /// The number of the date in the common era, where 0001-01-01 is day 1.
+    pub fn num_days_from_ce(&self) -> i32
+        ensures { result ≡ day_of self.now +ℤ pos 719_163 }
+    {
+        self.day + EPOCH_FROM_CE as i32
+    }
+
+    /// The reading of a clock at that time of this day.
+    pub fn and_time(&self, time: NaiveTime) -> NaiveDateTime
+        ensures value { reading result ≡ reading_at (day_of self.now) (second_of time) (fraction_of time) }
+        ensures day { day_at (reading result) ≡ day_of self.now }
+        ensures second { second_at (reading result) ≡ second_of time }
+    {
+        NaiveDateTime::of_date_and_time(*self, time)
+    }
+
+    /// The reading at an hour from 0 to 23, a minute and a second from 0 to 59 of this day. `None` for any other.
+    pub fn and_hms_opt(&self, hour: u32, min: u32, sec: u32) -> Option<NaiveDateTime>
+        ensures { IsReadingOn (day_of self.now) (IsClock hour min sec) (clock_second hour min sec) 0 result }
+    {
+        let time = NaiveTime::from_hms_opt(hour, min, sec)?;
+        Some(self.and_time(time))
+    }
+
+    /// [`NaiveDate::and_hms_opt`] with milliseconds: below 1000, or, for a leap second after a second 59, below 2000.
+    pub fn and_hms_milli_opt(
+        &self,
+        hour: u32,
+        min: u32,
+        sec: u32,
+        milli: u32,
+    ) -> Option<NaiveDateTime>
+        ensures { IsReadingOn (day_of self.now) (IsClock hour min sec) (clock_second hour min sec) (milli * 1_000_000) result }
+    {
+        let time = NaiveTime::from_hms_milli_opt(hour, min, sec, milli)?;
+        Some(self.and_time(time))
+    }
+
+    /// [`NaiveDate::and_hms_opt`] with microseconds: below 10^6, or, for a leap second after a second 59, below 2*10^6.
+    pub fn and_hms_micro_opt(
+        &self,
+        hour: u32,
+        min: u32,
+        sec: u32,
+        micro: u32,
+    ) -> Option<NaiveDateTime>
+        ensures { IsReadingOn (day_of self.now) (IsClock hour min sec) (clock_second hour min sec) (micro * 1_000) result }
+    {
+        let time = NaiveTime::from_hms_micro_opt(hour, min, sec, micro)?;
+        Some(self.and_time(time))
+    }
+
+    /// [`NaiveDate::and_hms_opt`] with nanoseconds: below 10^9, or, for a leap second after a second 59, below 2*10^9.
+    pub fn and_hms_nano_opt(
+        &self,
+        hour: u32,
+        min: u32,
+        sec: u32,
+        nano: u32,
+    ) -> Option<NaiveDateTime>
+        ensures { IsReadingOn (day_of self.now) (IsClock hour min sec) (clock_second hour min sec) nano result }
+    {
+        let time = NaiveTime::from_hms_nano_opt(hour, min, sec, nano)?;
+        Some(self.and_time(time))
+    }
+
+    pub(crate) fn year_month_day(&self) -> YearMonthDay
+        ensures year { result.year ≡ year_of (day_of self.now) }
+        ensures month { result.month ≡ month_of (day_of self.now) }
+        ensures day { result.day ≡ day_of_month (day_of self.now) }
+        ensures date { IsDate result.year result.month result.day }
+    {
+        calendar::date_of(self.day as i64)
+    }
+
+    // The day that a second since the epoch lies in.
+    pub(crate) fn of_second(second: i64) -> NaiveDate
+        requires { IsWide second }
+        ensures { day_of result ≡ floor_div second 86_400 }
+    {
+        NaiveDate {
+            day: second.div_euclid(86_400) as i32,
+        }
+    }
+
+    // The seconds from the epoch to midnight.
+    pub(crate) fn midnight(&self) -> i64
+        ensures value { result ≡ day_of self.now *ℤ pos 86_400 }
+        ensures bound { IsWide result }
+    {
+        self.day as i64 * 86_400
+    }
+}

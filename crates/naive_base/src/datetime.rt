@@ -1,0 +1,151 @@
+//! Readings of a clock.
+ghost use Rattle.std.specs.Prelude.{◌≡◌, ◌↔◌, ◌<◌, IsTrue, pos, ◌+ℤ◌, ◌-ℤ◌};
+ghost use Rattle.offset_core.specs.FixedOffset.{seconds_of};
+ghost use Rattle.naive_base.specs.Range.{IsReading, IsInRange};
+ghost use Rattle.naive_base.specs.Reading.{reading_at, day_at, second_at, ahead, behind};
+
+mod moves;
+
+use crate::{NaiveDate, NaiveTime};
+use offset_core::FixedOffset;
+
+/// What a clock shows, without a time zone: the seconds from 1970-01-01 00:00:00, every day counted as 86,400, and
+/// nanoseconds, which from 10^9 on are those of a leap second after that second.
+///
+/// A reading is in range in the years -262143 to 262142, or it is on a buffer day, the one before or the one behind
+/// them: that is where a clock's offset may bring it. Readings compare and hash by the seconds, then the nanoseconds. A
+/// reading prints as its date, a space and its time, and by `{:?}` with a `T` between them, whatever width, fill or
+/// flags the formatter has.
+#[derive(Clone, Copy, PartialEq, Eq, PartialOrd, Ord, Hash)]
+pub struct NaiveDateTime {
+    secs: i64,
+    frac: u32,
+    pub ghost in_range: { IsReading secs frac },
+}
+
+const FIRST_SECOND: i64 = -8_334_601_228_800;
+
+const LAST_SECOND: i64 = 8_210_266_876_799;
+
+impl NaiveDateTime {
+    ghost use Rattle.naive_base.specs.NaiveDate.{day_of};
+    ghost use Rattle.naive_base.specs.NaiveTime.{second_of, fraction_of};
+    ghost use Rattle.naive_base.specs.NaiveDateTime.{reading, IsReadingOf};
+
+    /// The first reading in range, the start of the year -262143.
+    pub const MIN: NaiveDateTime = NaiveDateTime {
+        secs: FIRST_SECOND,
+        frac: 0,
+    };
+
+    /// The last reading in range that is no leap second, the last nanosecond of the year 262142.
+    pub const MAX: NaiveDateTime = NaiveDateTime {
+        secs: LAST_SECOND,
+        frac: 999_999_999,
+    };
+
+    pub(crate) fn of_date_and_time(date: NaiveDate, time: NaiveTime) -> NaiveDateTime
+        ensures { reading result ≡ reading_at (day_of date) (second_of time) (fraction_of time) }
+    {
+        NaiveDateTime {
+            secs: date.midnight() + time.num_seconds_from_midnight() as i64,
+            frac: time.nanosecond(),
+        }
+    }
+
+    // The reading at a second, where it is in range.
+    fn at_second(secs: i64, frac: u32) -> Option<NaiveDateTime>
+        requires { frac < 2_000_000_000 }
+        ensures { IsReadingOf (record { s = secs; f = frac }) result }
+    {
+        if secs < FIRST_SECOND || secs > LAST_SECOND {
+            return None;
+        }
+        Some(NaiveDateTime { secs, frac })
+    }
+
+    /// The day that the clock shows.
+    pub fn date(&self) -> NaiveDate
+        ensures { day_of result ≡ day_at (reading self.now) }
+    {
+        NaiveDate::of_second(self.secs)
+    }
+
+    /// The time of day that the clock shows.
+    pub fn time(&self) -> NaiveTime
+        ensures second { second_of result ≡ second_at (reading self.now) }
+        ensures fraction { fraction_of result ≡ (reading self.now).f }
+    {
+        NaiveTime::of_second(self.secs, self.frac)
+    }
+
+    /// Whether the reading is in range, and not on a buffer day.
+    pub fn is_in_range(&self) -> bool
+        ensures { IsTrue result ↔ IsInRange (reading self.now).s }
+    {
+        FIRST_SECOND <= self.secs && self.secs <= LAST_SECOND
+    }
+
+    /// The whole seconds from 1970-01-01 00:00:00, negative before it.
+    pub fn secs_since_epoch(&self) -> i64
+        ensures { result ≡ (reading self.now).s }
+    {
+        self.secs
+    }
+
+    /// The nanoseconds from the start of that second, from 10^9 on those of the leap second after it.
+    pub fn nanosecond(&self) -> u32
+        ensures { result ≡ (reading self.now).f }
+    {
+        self.frac
+    }
+
+    /// What a clock shows that is ahead of this one by an offset. `None` where that isn't in range.
+    pub fn checked_add_offset(self, offset: FixedOffset) -> Option<NaiveDateTime>
+        ensures { IsReadingOf (ahead (reading self) (seconds_of offset)) result }
+    {
+        NaiveDateTime::at_second(self.second_ahead(offset), self.frac)
+    }
+
+    /// What a clock shows that is behind this one by an offset. `None` where that isn't in range.
+    pub fn checked_sub_offset(self, offset: FixedOffset) -> Option<NaiveDateTime>
+        ensures { IsReadingOf (behind (reading self) (seconds_of offset)) result }
+    {
+        NaiveDateTime::at_second(self.second_behind(offset), self.frac)
+    }
+
+    /// What a clock shows that is ahead of this one by an offset, be it on a buffer day. This reading is in range.
+    ///
+    /// `NaiveDateTime::MAX` an hour ahead shows 00:59:59.999999999 on 262143-01-01, which is a buffer day.
+    pub fn overflowing_add_offset(self, offset: FixedOffset) -> NaiveDateTime
+        requires { IsInRange (reading self).s }
+        ensures { reading result ≡ ahead (reading self) (seconds_of offset) }
+    {
+        NaiveDateTime {
+            secs: self.second_ahead(offset),
+            frac: self.frac,
+        }
+    }
+
+    fn second_ahead(self, offset: FixedOffset) -> i64
+        ensures { result ≡ (reading self).s +ℤ seconds_of offset }
+    {
+        self.secs + offset.local_minus_utc() as i64
+    }
+
+    fn second_behind(self, offset: FixedOffset) -> i64
+        ensures { result ≡ (reading self).s -ℤ seconds_of offset }
+    {
+        self.secs - offset.local_minus_utc() as i64
+    }
+}
+
+impl Default for NaiveDateTime {
+    ghost use Rattle.naive_base.specs.NaiveDateTime.{reading};
+
+    ghost is_default = { λ r. reading r ≡ record { s = pos 0; f = 0 } };
+
+    fn default() -> NaiveDateTime {
+        NaiveDateTime { secs: 0, frac: 0 }
+    }
+}

@@ -1,0 +1,173 @@
+//! Readings moved by a length of time, and the time between two.
+ghost use Rattle.std.specs.Prelude.{◌≡◌, ◌<◌, pos, neg_ℤ, ◌+ℤ◌, ◌-ℤ◌, ◌*ℤ◌};
+ghost use Rattle.offset_core.specs.Nanoseconds.{FitsTimeDelta};
+ghost use Rattle.offset_core.specs.TimeDelta.{nanos_of};
+ghost use Rattle.naive_base.specs.Year.{floor_div, floor_mod};
+ghost use Rattle.naive_base.specs.Reading.{total, of_total, moved, moved_leap, leap_between, difference};
+ghost use Rattle.naive_base.specs.Moves.{IsSmall, IsShort, IsWithin};
+ghost use Rattle.naive_base.specs.NaiveDateTime.{reading, IsReadingOf};
+
+use crate::NaiveDateTime;
+use offset_core::TimeDelta;
+
+const NANOS_PER_SECOND: i128 = 1_000_000_000;
+
+// The second in which a count of nanoseconds lies, and the nanoseconds since it began.
+fn split(total: i128) -> (i128, u32)
+    ensures second { result.0 ≡ floor_div total 1_000_000_000 }
+    ensures rest { result.1 ≡ floor_mod total 1_000_000_000 }
+    ensures below { result.1 < 1_000_000_000 }
+{
+    (
+        total.div_euclid(NANOS_PER_SECOND),
+        total.rem_euclid(NANOS_PER_SECOND) as u32,
+    )
+}
+
+fn opposite(delta: TimeDelta) -> i128
+    ensures value { result ≡ neg_ℤ (nanos_of delta) }
+    ensures bound { FitsTimeDelta result }
+{
+    -delta.whole_nanoseconds()
+}
+
+// So many seconds and nanoseconds.
+fn sum_of(secs: i64, nanos: i64) -> TimeDelta
+    requires secs { IsWithin 20_000_000_000_000 secs }
+    requires nanos { IsWithin 2_000_000_000 nanos }
+    ensures { nanos_of result ≡ secs *ℤ pos 1_000_000_000 +ℤ nanos }
+{
+    TimeDelta::seconds(secs)
+        .checked_add(&TimeDelta::nanoseconds(nanos))
+        .unwrap()
+}
+
+impl NaiveDateTime {
+    /// The reading so much later, or earlier for a negative length. `None` where that isn't in range.
+    ///
+    /// From a leap second on, that leap second is counted; no other ever is. From 23:59:59 with 1,750,500,000 nanoseconds
+    /// on 2016-12-31, a move by 249,500,000 nanoseconds gives midnight, and one by -750,500,000 the leap second's start.
+    pub fn checked_add_signed(self, rhs: TimeDelta) -> Option<NaiveDateTime>
+        ensures { IsReadingOf (moved (reading self) (nanos_of rhs)) result }
+    {
+        self.moved(rhs.whole_nanoseconds())
+    }
+
+    /// The reading so much earlier, or later for a negative length. `None` where that isn't in range.
+    ///
+    /// It is [`NaiveDateTime::checked_add_signed`] of the opposite length.
+    pub fn checked_sub_signed(self, rhs: TimeDelta) -> Option<NaiveDateTime>
+        ensures { IsReadingOf (moved (reading self) (neg_ℤ (nanos_of rhs))) result }
+    {
+        self.moved(opposite(rhs))
+    }
+
+    #[tactic(auto, using(crate::proofs::Moves::moves))]
+    fn moved(self, nanos: i128) -> Option<NaiveDateTime>
+        requires { FitsTimeDelta nanos }
+        ensures { IsReadingOf (moved (reading self) nanos) result }
+    {
+        if self.frac < 1_000_000_000 {
+            return NaiveDateTime::of_total(self.total_after(nanos));
+        }
+        self.moved_leap(self.within_after(nanos))
+    }
+
+    // The reading at so many nanoseconds from the start of this second, which a leap second follows.
+    #[tactic(auto, using(crate::proofs::Moves::moves))]
+    fn moved_leap(self, within: i128) -> Option<NaiveDateTime>
+        requires { IsShort within }
+        ensures { IsReadingOf (moved_leap (reading self).s within) result }
+    {
+        if within < 0 {
+            return NaiveDateTime::of_total(self.total_at(within));
+        }
+        if within >= 2_000_000_000 {
+            return NaiveDateTime::of_total(self.total_past(within));
+        }
+        NaiveDateTime::at_second(self.secs, within as u32)
+    }
+
+    fn of_total(total: i128) -> Option<NaiveDateTime>
+        requires { IsSmall total }
+        ensures { IsReadingOf (of_total total) result }
+    {
+        let (secs, frac) = split(total);
+        NaiveDateTime::at_second(secs as i64, frac)
+    }
+
+    // The nanoseconds since this second began, so much later.
+    fn within_after(self, nanos: i128) -> i128
+        requires { FitsTimeDelta nanos }
+        ensures value { result ≡ pos (reading self).f +ℤ nanos }
+        ensures bound { IsShort result }
+    {
+        self.frac as i128 + nanos
+    }
+
+    // All of the reading in nanoseconds, so much later.
+    fn total_after(self, nanos: i128) -> i128
+        requires { FitsTimeDelta nanos }
+        ensures value { result ≡ total (reading self) +ℤ nanos }
+        ensures bound { IsSmall result }
+    {
+        self.secs as i128 * NANOS_PER_SECOND + self.frac as i128 + nanos
+    }
+
+    // All of it in nanoseconds, at so many from the start of this second.
+    fn total_at(self, within: i128) -> i128
+        requires { IsShort within }
+        ensures value { result ≡ (reading self).s *ℤ pos 1_000_000_000 +ℤ within }
+        ensures bound { IsSmall result }
+    {
+        self.secs as i128 * NANOS_PER_SECOND + within
+    }
+
+    // The same, where the leap second lies between.
+    fn total_past(self, within: i128) -> i128
+        requires { IsShort within }
+        ensures value { result ≡ (reading self).s *ℤ pos 1_000_000_000 +ℤ within -ℤ pos 1_000_000_000 }
+        ensures bound { IsSmall result }
+    {
+        self.secs as i128 * NANOS_PER_SECOND + within - NANOS_PER_SECOND
+    }
+
+    /// The time from another reading to this one, negative where this one is earlier.
+    ///
+    /// A reading's own leap second counts where its second of the day is less than the other's, whatever the days: from
+    /// 00:00:59 with 1,500,000,000 nanoseconds to 00:01:00 it is half a second.
+    pub fn signed_duration_since(self, rhs: NaiveDateTime) -> TimeDelta
+        ensures { nanos_of result ≡ difference (reading self) (reading rhs) }
+    {
+        sum_of(self.seconds_from(rhs), self.nanos_from(rhs))
+    }
+
+    fn nanos_from(self, rhs: NaiveDateTime) -> i64
+        ensures value { result ≡ pos (reading self).f -ℤ pos (reading rhs).f }
+        ensures bound { IsWithin 2_000_000_000 result }
+    {
+        self.frac as i64 - rhs.frac as i64
+    }
+
+    fn seconds_from(self, rhs: NaiveDateTime) -> i64
+        ensures value { result ≡ (reading self).s -ℤ (reading rhs).s +ℤ leap_between (reading self) (reading rhs) }
+        ensures bound { IsWithin 20_000_000_000_000 result }
+    {
+        self.secs - rhs.secs + self.leap_seconds_from(rhs)
+    }
+
+    fn leap_seconds_from(self, rhs: NaiveDateTime) -> i64
+        ensures value { result ≡ leap_between (reading self) (reading rhs) }
+        ensures bound { IsWithin 1 result }
+    {
+        let here = self.time().num_seconds_from_midnight();
+        let there = rhs.time().num_seconds_from_midnight();
+        if there < here && rhs.frac >= 1_000_000_000 {
+            return 1;
+        }
+        if here < there && self.frac >= 1_000_000_000 {
+            return -1;
+        }
+        0
+    }
+}

@@ -1,0 +1,94 @@
+//! Times of the day.
+ghost use Rattle.std.specs.Prelude.{◌≡◌, ◌+◌, ◌*◌, ◌<◌};
+ghost use Rattle.naive_base.specs.Year.{floor_mod};
+ghost use Rattle.naive_base.specs.Range.{IsTime};
+ghost use Rattle.naive_base.specs.Clock.{IsClock, clock_second};
+
+/// A second of the day and nanoseconds, which from 10^9 on are those of a leap second after that second.
+///
+/// Times compare and hash by the second, then the nanoseconds. A time prints as `23:59:59`, with a point and 3, 6 or 9
+/// digits behind it where the nanoseconds take them, and a leap second as `23:59:60`, whatever width, fill or flags the
+/// formatter has.
+#[derive(Clone, Copy, PartialEq, Eq, PartialOrd, Ord, Hash)]
+pub struct NaiveTime {
+    secs: u32,
+    frac: u32,
+    pub ghost in_range: { IsTime secs frac },
+}
+
+impl NaiveTime {
+    ghost use Rattle.naive_base.specs.NaiveTime.{second_of, fraction_of, IsTimeOf};
+
+    /// Midnight.
+    pub const MIN: NaiveTime = NaiveTime { secs: 0, frac: 0 };
+
+    /// The time at an hour from 0 to 23, a minute and a second from 0 to 59. `None` for any other.
+    pub fn from_hms_opt(hour: u32, min: u32, sec: u32) -> Option<NaiveTime>
+        ensures { IsTimeOf (IsClock hour min sec) (clock_second hour min sec) 0 result }
+    {
+        NaiveTime::from_hms_nano_opt(hour, min, sec, 0)
+    }
+
+    pub(crate) fn from_hms_milli_opt(hour: u32, min: u32, sec: u32, milli: u32) -> Option<NaiveTime>
+        ensures { IsTimeOf (IsClock hour min sec) (clock_second hour min sec) (milli * 1_000_000) result }
+    {
+        let nano = milli.checked_mul(1_000_000)?;
+        NaiveTime::from_hms_nano_opt(hour, min, sec, nano)
+    }
+
+    pub(crate) fn from_hms_micro_opt(hour: u32, min: u32, sec: u32, micro: u32) -> Option<NaiveTime>
+        ensures { IsTimeOf (IsClock hour min sec) (clock_second hour min sec) (micro * 1_000) result }
+    {
+        let nano = micro.checked_mul(1_000)?;
+        NaiveTime::from_hms_nano_opt(hour, min, sec, nano)
+    }
+
+    pub(crate) fn from_hms_nano_opt(hour: u32, min: u32, sec: u32, nano: u32) -> Option<NaiveTime>
+        ensures { IsTimeOf (IsClock hour min sec) (clock_second hour min sec) nano result }
+    {
+        if hour > 23 || min > 59 || sec > 59 {
+            return None;
+        }
+        NaiveTime::from_num_seconds_from_midnight_opt(hour * 3600 + min * 60 + sec, nano)
+    }
+
+    /// The time at a second of the day below 86400, and so many nanoseconds: below 10^9, or, for a leap second after the
+    /// last second of a minute, below 2*10^9. `None` for any other.
+    pub fn from_num_seconds_from_midnight_opt(secs: u32, nano: u32) -> Option<NaiveTime>
+        ensures { IsTimeOf (secs < 86_400) secs nano result }
+    {
+        if secs >= 86_400 || nano >= 2_000_000_000 {
+            return None;
+        }
+        if nano >= 1_000_000_000 && secs % 60 != 59 {
+            return None;
+        }
+        Some(NaiveTime { secs, frac: nano })
+    }
+
+    /// The second of the day.
+    pub fn num_seconds_from_midnight(&self) -> u32
+        ensures { result ≡ second_of self.now }
+    {
+        self.secs
+    }
+
+    /// The nanoseconds from the start of that second, from 10^9 on those of the leap second after it.
+    pub fn nanosecond(&self) -> u32
+        ensures { result ≡ fraction_of self.now }
+    {
+        self.frac
+    }
+
+    // The time of day at a second since the epoch.
+    pub(crate) fn of_second(second: i64, frac: u32) -> NaiveTime
+        requires { frac < 2_000_000_000 }
+        ensures second { second_of result ≡ floor_mod second 86_400 }
+        ensures fraction { fraction_of result ≡ frac }
+    {
+        NaiveTime {
+            secs: second.rem_euclid(86_400) as u32,
+            frac,
+        }
+    }
+}

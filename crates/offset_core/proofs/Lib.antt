@@ -1,0 +1,4 @@
+pub mod Digits
+pub mod FixedOffsets
+pub mod Printed
+pub mod WallAnswers

@@ -1,0 +1,5 @@
+use Rattle.offset_core.proofs.WallAnswers.{one_wall_answer}
+use Rattle.offset_core.proofs.laws.one_wall_answer.Goals as goal
+
+pub returns : goal.returns
+returns g c = one_wall_answer g.C.WallClock.shows g.C.WallClock.one_value

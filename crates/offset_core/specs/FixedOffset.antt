@@ -1,0 +1,17 @@
+-- What a `FixedOffset` shows.
+use Rattle.std.specs.Prelude.{◌≡◌, ℕ, List, ℤ, Option, Some, None}
+use Rattle.offset_core.specs.declared.fixed_offset.FixedOffset.{FixedOffset}
+use Rattle.offset_core.specs.Offset.{IsWithinDay, offset_text}
+
+-- the seconds that local time is ahead of UTC
+abbrev pub seconds_of : FixedOffset → ℤ
+seconds_of offset = offset.local_minus_utc
+
+-- the offset of so many seconds, exactly where that is within a day
+abbrev pub IsOffsetOf : ℤ → Option FixedOffset → Type 0
+IsOffsetOf secs (Some offset) = IsWithinDay secs × (seconds_of offset ≡ secs)
+IsOffsetOf secs None = IsWithinDay secs → ⊥
+
+-- the bytes of its `Display` and of its `Debug`
+abbrev pub printed_offset : FixedOffset → List ℕ
+printed_offset offset = offset_text (seconds_of offset)

@@ -1,0 +1,7 @@
+pub mod Digits
+pub mod FixedOffset
+pub mod LocalResult
+pub mod Nanoseconds
+pub mod Offset
+pub mod TimeDelta
+pub mod WallAnswer

@@ -1,0 +1,58 @@
+//! Laws of the definitions that the contracts of this crate cite. Each function here is a theorem: its
+//! contract holds, and it has no code.
+ghost use Rattle.std.specs.Prelude.{◌≡◌, ℕ, ℤ, neg_ℤ, pos, ◌+ℤ◌, ◌*ℤ◌, Option, int_div, int_rem};
+ghost use Rattle.offset_core.specs.declared.fixed_offset.FixedOffset.{FixedOffset};
+ghost use Rattle.offset_core.specs.declared.local_result.LocalResult.{LocalResult};
+ghost use Rattle.offset_core.specs.declared.time_delta.TimeDelta.{TimeDelta};
+ghost use Rattle.offset_core.specs.FixedOffset.{IsOffsetOf, printed_offset};
+ghost use Rattle.offset_core.specs.LocalResult.{single_of, earliest_of, latest_of};
+ghost use Rattle.offset_core.specs.Nanoseconds.{nanos_per_second};
+ghost use Rattle.offset_core.specs.TimeDelta.{nanos_of, IsDeltaOfParts};
+ghost use Rattle.offset_core.specs.WallAnswer.{IsWallAnswer, IsNeverShown, IsShownOnce, IsShownBetween};
+
+/// Where `single` gives a value, `earliest` and `latest` give it too.
+pub fn single_at_both_ends<T>()
+    ensures earliest { (values : LocalResult T) (value : T) → single_of values ≡ Some value
+        → earliest_of values ≡ Some value }
+    ensures latest { (values : LocalResult T) (value : T) → single_of values ≡ Some value
+        → latest_of values ≡ Some value }
+{}
+
+/// `east_opt(secs)` and `west_opt(-secs)` are the same, where both arguments exist.
+pub fn east_is_west_of_negative()
+    ensures { (secs : ℤ) (east west : Option FixedOffset) → IsOffsetOf secs east
+        → IsOffsetOf (neg_ℤ (neg_ℤ secs)) west → east ≡ west }
+{}
+
+/// `num_seconds` and `subsec_nanos` of `new(secs, nanos)` make the total that these two make.
+pub fn parts_make_total()
+    ensures { (secs : ℤ) (nanos : ℕ) (delta : TimeDelta) → IsDeltaOfParts secs nanos (Some delta)
+        → int_div (nanos_of delta) nanos_per_second *ℤ nanos_per_second +ℤ int_rem (nanos_of delta) nanos_per_second
+        ≡ secs *ℤ nanos_per_second +ℤ pos nanos }
+{}
+
+/// Any relation between seconds and values, read as: at this second a wall clock shows the time that
+/// is asked for, and this is its value there.
+pub trait WallClock<T> {
+    ghost shows: { ℤ → T → Type 0 };
+
+    /// A second has at most one value.
+    ghost one_value: { (u : ℤ) (a b : T) → shows u a → shows u b → a ≡ b };
+}
+
+/// At most one answer of a lookup by wall clock is right.
+pub fn one_wall_answer<T, C: WallClock<T>>()
+    ensures { (x y : LocalResult T) → IsWallAnswer C.shows x → IsWallAnswer C.shows y → x ≡ y }
+{}
+
+/// The three cases of an answer exclude each other: never shown, shown once, shown several times.
+pub fn wall_answers_exclude<T, C: WallClock<T>>()
+    ensures never_or_once { (a : T) → IsNeverShown C.shows → IsShownOnce C.shows a → ⊥ }
+    ensures never_or_between { (a b : T) → IsNeverShown C.shows → IsShownBetween C.shows a b → ⊥ }
+    ensures once_or_between { (c a b : T) → IsShownOnce C.shows c → IsShownBetween C.shows a b → ⊥ }
+{}
+
+/// Two offsets print alike only if they are equal.
+pub fn one_printed_offset()
+    ensures { (a b : FixedOffset) → printed_offset a ≡ printed_offset b → a ≡ b }
+{}

@@ -1,0 +1,12 @@
+//! The values that every crate of zoned time speaks of: what a lookup by wall clock may answer, how
+//! far a clock stands from UTC, and lengths of time.
+#![tactic(auto)]
+
+mod fixed_offset;
+pub mod laws;
+mod local_result;
+mod time_delta;
+
+pub use fixed_offset::FixedOffset;
+pub use local_result::{LocalResult, MappedLocalTime};
+pub use time_delta::TimeDelta;

@@ -1,0 +1,130 @@
+//! What a lookup by wall clock may answer.
+ghost use Rattle.std.specs.Prelude.{◌≡◌, IsSome};
+ghost use Rattle.offset_core.specs.LocalResult.{single_of, earliest_of, latest_of, IsMapped, IsAndThen, IsCallableOnEach, all_or_none};
+
+/// The answer of a lookup by wall clock: no value, one, or two.
+///
+/// Where clocks are set forward there is a gap, whose times no clock shows: `None`. Where they are
+/// set back there is a fold, whose times are shown twice or more: `Ambiguous`, with the value at the
+/// first and the value at the last instant that shows the time.
+///
+/// In New York clocks were set back from 02:00 to 01:00 on 2021-11-07, from four hours behind UTC to
+/// five. So the offset at 01:30 that day was
+///
+/// ```text
+/// let offsets = LocalResult::Ambiguous(FixedOffset::west(14_400), FixedOffset::west(18_000));
+/// offsets.single() == None
+/// offsets.earliest() == Some(FixedOffset::west(14_400))
+/// ```
+#[derive(Clone, Copy, Drop, PartialEq, Eq, Hash, Debug)]
+pub enum LocalResult<T> {
+    /// The time is shown once.
+    Single(T),
+    /// The time is shown several times: the first and the last.
+    Ambiguous(T, T),
+    /// The time is never shown.
+    None,
+}
+
+/// Another name of [`LocalResult`], which chrono has too.
+pub type MappedLocalTime<T> = LocalResult<T>;
+
+impl<T> LocalResult<T> {
+    /// The value, where there is exactly one.
+    pub fn single(self) -> Option<T>
+    where
+        T: Drop,
+        ensures { result ≡ single_of self }
+    {
+        match self {
+            LocalResult::Single(value) => Some(value),
+            _ => None,
+        }
+    }
+
+    /// The only value, or the first of several.
+    pub fn earliest(self) -> Option<T>
+    where
+        T: Drop,
+        ensures { result ≡ earliest_of self }
+    {
+        match self {
+            LocalResult::Single(value) => Some(value),
+            LocalResult::Ambiguous(first, _last) => Some(first),
+            LocalResult::None => None,
+        }
+    }
+
+    /// The only value, or the last of several.
+    pub fn latest(self) -> Option<T>
+    where
+        T: Drop,
+        ensures { result ≡ latest_of self }
+    {
+        match self {
+            LocalResult::Single(value) => Some(value),
+            LocalResult::Ambiguous(_first, last) => Some(last),
+            LocalResult::None => None,
+        }
+    }
+
+    /// What `f` gives for each value. It is asked for the first one first.
+    pub fn map<U, F: FnMut(T) -> U>(self, mut f: F) -> LocalResult<U>
+        requires { IsCallableOnEach F.pre F.step f self }
+        ensures { IsMapped F.step f self result }
+    {
+        match self {
+            LocalResult::Single(value) => LocalResult::Single(f(value)),
+            LocalResult::Ambiguous(first, last) => {
+                let one = f(first);
+                let other = f(last);
+                LocalResult::Ambiguous(one, other)
+            }
+            LocalResult::None => LocalResult::None,
+        }
+    }
+
+    /// What `f` gives for each value, or `None` where it gives `None` for one of them. It is asked
+    /// for the first one first, and for the last one also where it gave `None` for the first.
+    pub fn and_then<U, F: FnMut(T) -> Option<U>>(self, f: F) -> LocalResult<U>
+    where
+        U: Drop,
+        requires { IsCallableOnEach F.pre F.step f self }
+        ensures { IsAndThen F.step f self result }
+    {
+        self.map(f).all_or_none()
+    }
+
+    /// The value of a `Single`. Whether this is one, [`LocalResult::single`] tells.
+    pub fn unwrap(self) -> T
+        requires { IsSome (single_of self) }
+        ensures { self ≡ LocalResult.Single result }
+    {
+        match self {
+            LocalResult::Single(value) => value,
+            _ => unreachable!(),
+        }
+    }
+}
+
+impl<T: Drop> LocalResult<Option<T>> {
+    // The values, or `None` where one of them is missing.
+    fn all_or_none(self) -> LocalResult<T>
+        ensures { result ≡ all_or_none self }
+    {
+        match self {
+            LocalResult::Single(value) => match value {
+                Some(value) => LocalResult::Single(value),
+                None => LocalResult::None,
+            },
+            LocalResult::Ambiguous(first, last) => match (first, last) {
+                (Some(first), Some(last)) => LocalResult::Ambiguous(first, last),
+                _ => LocalResult::None,
+            },
+            LocalResult::None => LocalResult::None,
+        }
+    }
+}
+
+#[cfg(test)]
+mod tests;

@@ -1,0 +1,222 @@
+//! Lengths of time.
+ghost use Rattle.std.specs.Prelude.{◌≡◌, pos, ◌+ℤ◌, ◌*ℤ◌, FitsSigned, SomeIff, int_div, int_rem};
+ghost use Rattle.std.specs.Int.{w64};
+ghost use Rattle.std.specs.Duration.{as_nanos};
+ghost use Rattle.offset_core.specs.Nanoseconds.{FitsTimeDelta, nanos_per_microsecond, nanos_per_millisecond, nanos_per_second, nanos_per_minute, nanos_per_hour, nanos_per_day, nanos_per_week};
+
+use std::time::Duration;
+
+/// A length of time in whole nanoseconds, which may be negative: at most `i64::MAX` milliseconds
+/// either way, which is some 292 million years.
+///
+/// Lengths compare and hash by their nanoseconds.
+#[derive(Clone, Copy, PartialEq, Eq, PartialOrd, Ord, Hash, Debug)]
+pub struct TimeDelta {
+    nanos: i128,
+    pub ghost in_range: { FitsTimeDelta nanos },
+}
+
+const NANOS_PER_MICROSECOND: i128 = 1_000;
+
+const NANOS_PER_MILLISECOND: i128 = 1_000_000;
+
+const NANOS_PER_SECOND: i128 = 1_000_000_000;
+
+const NANOS_PER_MINUTE: i128 = 60 * NANOS_PER_SECOND;
+
+const NANOS_PER_HOUR: i128 = 60 * NANOS_PER_MINUTE;
+
+const NANOS_PER_DAY: i128 = 24 * NANOS_PER_HOUR;
+
+const NANOS_PER_WEEK: i128 = 7 * NANOS_PER_DAY;
+
+const MAX_NANOS: i128 = 9_223_372_036_854_775_807_000_000;
+
+impl TimeDelta {
+    ghost use Rattle.offset_core.specs.TimeDelta.{nanos_of, IsDeltaOf, IsDeltaOfParts};
+
+    /// The longest length, `i64::MAX` milliseconds. Its negative is the least.
+    pub const MAX: TimeDelta = TimeDelta { nanos: MAX_NANOS };
+
+    /// So many seconds, and so many nanoseconds more. `None` where that is out of range, or the
+    /// nanoseconds make a second or more.
+    pub fn new(secs: i64, nanos: u32) -> Option<TimeDelta>
+        ensures { IsDeltaOfParts secs nanos result }
+    {
+        if nanos >= 1_000_000_000 {
+            return None;
+        }
+        TimeDelta::of_nanos(secs as i128 * NANOS_PER_SECOND + nanos as i128)
+    }
+
+    // So many nanoseconds, where they are in range.
+    fn of_nanos(nanos: i128) -> Option<TimeDelta>
+        ensures { IsDeltaOf nanos result }
+    {
+        if -MAX_NANOS <= nanos && nanos <= MAX_NANOS {
+            Some(TimeDelta { nanos })
+        } else {
+            None
+        }
+    }
+
+    /// No time at all.
+    pub fn zero() -> TimeDelta
+        ensures { nanos_of result ≡ pos 0 }
+    {
+        TimeDelta { nanos: 0 }
+    }
+
+    /// So many nanoseconds.
+    pub fn nanoseconds(nanos: i64) -> TimeDelta
+        ensures { nanos_of result ≡ nanos }
+    {
+        TimeDelta {
+            nanos: nanos as i128,
+        }
+    }
+
+    /// So many microseconds.
+    pub fn microseconds(micros: i64) -> TimeDelta
+        ensures { nanos_of result ≡ micros *ℤ nanos_per_microsecond }
+    {
+        TimeDelta {
+            nanos: micros as i128 * NANOS_PER_MICROSECOND,
+        }
+    }
+
+    /// So many milliseconds, or `None` where that is out of range, as `i64::MIN` alone is.
+    pub fn try_milliseconds(millis: i64) -> Option<TimeDelta>
+        ensures { IsDeltaOf (millis *ℤ nanos_per_millisecond) result }
+    {
+        TimeDelta::of_nanos(millis as i128 * NANOS_PER_MILLISECOND)
+    }
+
+    /// So many milliseconds, where [`TimeDelta::try_milliseconds`] answers.
+    pub fn milliseconds(millis: i64) -> TimeDelta
+        requires { FitsTimeDelta (millis *ℤ nanos_per_millisecond) }
+        ensures { nanos_of result ≡ millis *ℤ nanos_per_millisecond }
+    {
+        TimeDelta::try_milliseconds(millis).unwrap()
+    }
+
+    /// So many seconds, or `None` where that is out of range.
+    pub fn try_seconds(secs: i64) -> Option<TimeDelta>
+        ensures { IsDeltaOf (secs *ℤ nanos_per_second) result }
+    {
+        TimeDelta::of_nanos(secs as i128 * NANOS_PER_SECOND)
+    }
+
+    /// So many seconds, where [`TimeDelta::try_seconds`] answers.
+    pub fn seconds(secs: i64) -> TimeDelta
+        requires { FitsTimeDelta (secs *ℤ nanos_per_second) }
+        ensures { nanos_of result ≡ secs *ℤ nanos_per_second }
+    {
+        TimeDelta::try_seconds(secs).unwrap()
+    }
+
+    /// So many minutes, or `None` where that is out of range.
+    pub fn try_minutes(minutes: i64) -> Option<TimeDelta>
+        ensures { IsDeltaOf (minutes *ℤ nanos_per_minute) result }
+    {
+        TimeDelta::of_nanos(minutes as i128 * NANOS_PER_MINUTE)
+    }
+
+    /// So many minutes, where [`TimeDelta::try_minutes`] answers.
+    pub fn minutes(minutes: i64) -> TimeDelta
+        requires { FitsTimeDelta (minutes *ℤ nanos_per_minute) }
+        ensures { nanos_of result ≡ minutes *ℤ nanos_per_minute }
+    {
+        TimeDelta::try_minutes(minutes).unwrap()
+    }
+
+    /// So many hours, or `None` where that is out of range.
+    pub fn try_hours(hours: i64) -> Option<TimeDelta>
+        ensures { IsDeltaOf (hours *ℤ nanos_per_hour) result }
+    {
+        TimeDelta::of_nanos(hours as i128 * NANOS_PER_HOUR)
+    }
+
+    /// So many hours, where [`TimeDelta::try_hours`] answers.
+    pub fn hours(hours: i64) -> TimeDelta
+        requires { FitsTimeDelta (hours *ℤ nanos_per_hour) }
+        ensures { nanos_of result ≡ hours *ℤ nanos_per_hour }
+    {
+        TimeDelta::try_hours(hours).unwrap()
+    }
+
+    /// So many days of 86,400 seconds, or `None` where that is out of range.
+    pub fn try_days(days: i64) -> Option<TimeDelta>
+        ensures { IsDeltaOf (days *ℤ nanos_per_day) result }
+    {
+        TimeDelta::of_nanos(days as i128 * NANOS_PER_DAY)
+    }
+
+    /// So many days, where [`TimeDelta::try_days`] answers.
+    pub fn days(days: i64) -> TimeDelta
+        requires { FitsTimeDelta (days *ℤ nanos_per_day) }
+        ensures { nanos_of result ≡ days *ℤ nanos_per_day }
+    {
+        TimeDelta::try_days(days).unwrap()
+    }
+
+    /// So many weeks of seven such days, or `None` where that is out of range.
+    pub fn try_weeks(weeks: i64) -> Option<TimeDelta>
+        ensures { IsDeltaOf (weeks *ℤ nanos_per_week) result }
+    {
+        TimeDelta::of_nanos(weeks as i128 * NANOS_PER_WEEK)
+    }
+
+    /// So many weeks, where [`TimeDelta::try_weeks`] answers.
+    pub fn weeks(weeks: i64) -> TimeDelta
+        requires { FitsTimeDelta (weeks *ℤ nanos_per_week) }
+        ensures { nanos_of result ≡ weeks *ℤ nanos_per_week }
+    {
+        TimeDelta::try_weeks(weeks).unwrap()
+    }
+
+    /// The length of a duration of the standard library, or `None` where that is out of range.
+    pub fn from_std(duration: Duration) -> Option<TimeDelta>
+        ensures { IsDeltaOf (pos (as_nanos duration)) result }
+    {
+        TimeDelta::of_nanos(duration.as_nanos() as i128)
+    }
+
+    /// The whole seconds of this length, a part of a second left away on either side of zero.
+    pub fn num_seconds(&self) -> i64
+        ensures { result ≡ int_div (nanos_of self.now) nanos_per_second }
+    {
+        (self.nanos / NANOS_PER_SECOND) as i64
+    }
+
+    /// The nanoseconds beside the whole seconds, with the sign of the length.
+    pub fn subsec_nanos(&self) -> i32
+        ensures { result ≡ int_rem (nanos_of self.now) nanos_per_second }
+    {
+        (self.nanos % NANOS_PER_SECOND) as i32
+    }
+
+    /// All of this length in nanoseconds, or `None` where that leaves an `i64`.
+    pub fn num_nanoseconds(&self) -> Option<i64>
+        ensures { SomeIff result (FitsSigned w64 (nanos_of self.now)) (nanos_of self.now) }
+    {
+        i64::try_from(self.nanos).ok()
+    }
+
+    /// All of this length in nanoseconds.
+    pub fn whole_nanoseconds(&self) -> i128
+        ensures { result ≡ nanos_of self.now }
+    {
+        self.nanos
+    }
+
+    /// The sum of two lengths, or `None` where that is out of range.
+    pub fn checked_add(&self, other: &TimeDelta) -> Option<TimeDelta>
+        ensures { IsDeltaOf (nanos_of self.now +ℤ nanos_of other.now) result }
+    {
+        TimeDelta::of_nanos(self.nanos + other.nanos)
+    }
+}
+
+#[cfg(test)]
+mod tests;

@@ -1,0 +1,212 @@
+-- Footers: what is read is spelled, what is spelled is read, and where it is refused its fault stands.
+use Rattle.std.proofs.Common.{◌≡◌, ◌≢◌, ℕ, ◌+◌, ◌-◌, ◌==◌, List, [], ◌∷◌, ◌++◌, length, get_or, slice_index, Result, Ok, Err, Option, Some, None, Bool, true, false, cond, ◌&&◌, ◌||◌, refl, sym, ap, ◌∙◌, subst, arith, inl, inr}
+use Rattle.std.proofs.lemmas.Bool.Decides.{nat_tests}
+use Rattle.std.proofs.lemmas.List.{length-append}
+use Rattle.std.proofs.lemmas.Str.{is_utf8-from_IsUtf8, IsUtf8-from_is_utf8}
+use Rattle.std.proofs.Math.Seq.{get_or-append_seam}
+use Rattle.std.specs.List.{list_any}
+use Rattle.std.specs.Str.{is_utf8}
+use Rattle.std.specs.Char.{is_ascii_whitespace}
+use Rattle.tz_info.specs.Fronts.{Gives}
+use Rattle.tz_info.specs.FileContents.{is_zero, HasNoZero}
+use Rattle.tz_info.specs.TzTexts.{IsTzText}
+use Rattle.tz_info.specs.TzFaults.{IsTextFault}
+use Rattle.tz_info.specs.Readings.{text_at}
+use Rattle.tz_info.specs.Footers.{IsBetweenNewlines, IsSpace, BeginsBare, EndsBare, IsTrimmed, SaysRule, IsFooter, FooterFault, Not_utf8, No_newlines, Colon, Zero, In_text}
+use Rattle.tz_info.specs.FooterReading.{trimmed_front, unless_space, trimmed_back, trimmed, is_between_newlines, is_no_text, rule_in, rule_or_none, text_or_none, footer_at}
+use Rattle.tz_info.specs.declared.error.Error.{Error}
+use Rattle.tz_info.specs.declared.rule.transition_rule.TransitionRule.{TransitionRule}
+use Rattle.tz_info.proofs.TextLaws.{text_law}
+use Rattle.tz_info.proofs.ReadLaws.{bind_ok, bind_err, ok_same, err_same, choose, test_ok, test_err, and_true}
+
+-- ---- newlines
+last_is : (b : ℕ) (bs : List ℕ) → get_or (b ∷ bs) (length bs) 0 ≡ 10 → (front : List ℕ) × (b ∷ bs ≡ front ++ (10 ∷ []))
+last_is b [] h = ([], ap (λ x. x ∷ []) h)
+last_is b (c ∷ cs) h = let r = last_is c cs h in (b ∷ r.0, ap (λ s. b ∷ s) r.1)
+
+between_is : (bytes : List ℕ) → is_between_newlines bytes ≡ true → IsBetweenNewlines bytes
+between_is [] h = cc
+between_is (b ∷ bs) h =
+    let p = and_true (b == 10) (get_or (b ∷ bs) (length (b ∷ bs) - 1) 0 == 10) h in
+    let first = p.0 in let last = p.1 in
+    let ten : b ≡ 10 = grind (arith, nat_tests) in
+    let at : length (b ∷ bs) - 1 ≡ length bs = omega arith in
+    let end : get_or (b ∷ bs) (length (b ∷ bs) - 1) 0 ≡ 10 = grind (arith, nat_tests) in
+    let r = last_is b bs (ap (λ n. get_or (b ∷ bs) n 0) (sym at) ∙ end) in
+    record { after_first = bs; before_last = r.0; starts = ap (λ x. x ∷ bs) ten; ends = r.1 }
+
+between_again : (bytes : List ℕ) → IsBetweenNewlines bytes → is_between_newlines bytes ≡ true
+between_again bytes h =
+    let first : get_or bytes 0 0 ≡ 10 = ap (λ (s : List ℕ). get_or s 0 0) h.starts in
+    let l : length bytes ≡ length h.before_last + 1 = ap length h.ends ∙ length-append h.before_last (10 ∷ []) in
+    let at : length bytes - 1 ≡ length h.before_last = omega arith in
+    let last : get_or bytes (length bytes - 1) 0 ≡ 10 = ap (λ n. get_or bytes n 0) at ∙ (ap (λ (s : List ℕ). get_or s (length h.before_last) 0) h.ends ∙ get_or-append_seam h.before_last 10 [] 0) in
+    both (get_or bytes 0 0) (get_or bytes (length bytes - 1) 0) first last
+  where
+    both : (x y : ℕ) → x ≡ 10 → y ≡ 10 → ((x == 10) && (y == 10)) ≡ true
+    both x y a b = rw (a, b) refl
+
+-- ---- white space
+space_front : (before rest : List ℕ) → IsSpace before → trimmed_front (before ++ rest) ≡ trimmed_front rest
+space_front [] rest h = refl
+space_front (b ∷ bs) rest h = rw h.0 (space_front bs rest h.1)
+
+space_is_none : (after : List ℕ) → IsSpace after → trimmed_front after ≡ []
+space_is_none [] h = refl
+space_is_none (b ∷ bs) h = rw h.0 (space_is_none bs h.1)
+
+space_back : (after : List ℕ) → IsSpace after → trimmed_back after ≡ []
+space_back [] h = refl
+space_back (b ∷ bs) h = rw (space_back bs h.1, h.0) refl
+
+back_again : (text after : List ℕ) → EndsBare text → IsSpace after → trimmed_back (text ++ after) ≡ text
+back_again [] after e s = space_back after s
+back_again (b ∷ []) after e s = rw (space_back after s, e) refl
+back_again (b ∷ c ∷ cs) after e s = ap (λ t. unless_space b t) (back_again (c ∷ cs) after e s)
+
+front_again : (text after : List ℕ) → BeginsBare text → EndsBare text → IsSpace after → trimmed_back (trimmed_front (text ++ after)) ≡ text
+front_again [] after b e s = ap trimmed_back (space_is_none after s)
+front_again (x ∷ xs) after b e s = rw b (back_again (x ∷ xs) after e s)
+
+trim_again : (bytes text : List ℕ) → IsTrimmed bytes text → trimmed bytes ≡ text
+unfolding trimmed
+trim_again bytes text h =
+    ap (λ s. trimmed_back (trimmed_front s)) h.whole ∙ (ap trimmed_back (space_front h.before (text ++ h.after) h.space_before) ∙ front_again text h.after h.first h.last h.space_after)
+
+front_takes : (bytes : List ℕ) → (before : List ℕ) × (bytes ≡ before ++ trimmed_front bytes) × IsSpace before × BeginsBare (trimmed_front bytes)
+front_takes [] = ([], refl, tt, tt)
+front_takes (b ∷ bs) = elim (is_ascii_whitespace b) as (λ t. is_ascii_whitespace b ≡ t → (before : List ℕ) × (b ∷ bs ≡ before ++ cond t (trimmed_front bs) (b ∷ bs)) × IsSpace before × BeginsBare (cond t (trimmed_front bs) (b ∷ bs))) [
+  | true ↦ λ e. let r = front_takes bs in (b ∷ r.0, ap (λ s. b ∷ s) r.1, (e, r.2), r.3)
+  | false ↦ λ e. ([], refl, tt, e)
+] refl
+
+back_step : (b : ℕ) (bs text after : List ℕ) → bs ≡ text ++ after → IsSpace after → EndsBare text
+    → (behind : List ℕ) × (b ∷ bs ≡ unless_space b text ++ behind) × IsSpace behind × EndsBare (unless_space b text)
+back_step b bs [] after w s e = elim (is_ascii_whitespace b) as (λ t. is_ascii_whitespace b ≡ t → (behind : List ℕ) × (b ∷ bs ≡ cond t [] (b ∷ []) ++ behind) × IsSpace behind × EndsBare (cond t [] (b ∷ []))) [
+  | true ↦ λ k. (b ∷ bs, refl, (k, subst IsSpace (sym w) s), tt)
+  | false ↦ λ k. (after, ap (λ x. b ∷ x) w, s, k)
+] refl
+back_step b bs (c ∷ cs) after w s e = (after, ap (λ x. b ∷ x) w, s, e)
+
+back_takes : (bytes : List ℕ) → (after : List ℕ) × (bytes ≡ trimmed_back bytes ++ after) × IsSpace after × EndsBare (trimmed_back bytes)
+back_takes [] = ([], refl, tt, tt)
+back_takes (b ∷ bs) = let r = back_takes bs in back_step b bs (trimmed_back bs) r.0 r.1 r.2 r.3
+
+still_bare : (text after : List ℕ) → BeginsBare (text ++ after) → BeginsBare text
+still_bare [] after h = tt
+still_bare (b ∷ bs) after h = h
+
+trim_is : (bytes : List ℕ) → IsTrimmed bytes (trimmed bytes)
+unfolding trimmed
+trim_is bytes =
+    let f = front_takes bytes in let b = back_takes (trimmed_front bytes) in
+    record {
+      before = f.0;
+      after = b.0;
+      whole = f.1 ∙ ap (λ s. f.0 ++ s) b.1;
+      space_before = f.2;
+      space_after = b.2;
+      first = still_bare (trimmed_back (trimmed_front bytes)) b.0 (subst BeginsBare b.1 f.3);
+      last = b.3;
+    }
+
+-- ---- the text
+or_false : (a b : Bool) → (a || b) ≡ false → (a ≡ false) × (b ≡ false)
+or_false true b h = cc
+or_false false b h = (refl, h)
+
+no_zero_is : (text : List ℕ) → list_any is_zero text ≡ false → HasNoZero text
+no_zero_is [] h = tt
+no_zero_is (b ∷ bs) h = let p = or_false (b == 0) (list_any is_zero bs) h in let e = p.0 in ((λ z. grind (arith, nat_tests)), no_zero_is bs p.1)
+
+no_zero_again : (text : List ℕ) → HasNoZero text → list_any is_zero text ≡ false
+no_zero_again [] h = refl
+no_zero_again (b ∷ bs) h = let n = h.0 in let e : (b == 0) ≡ false = grind (arith, nat_tests) in rw e (no_zero_again bs h.1)
+
+-- what the reader of TZ texts answers
+pub rule_given : (extended : Bool) (text rest : List ℕ) (r : Result TransitionRule Error) → Gives (λ rule. (rule, rest)) r (text_at extended text) → Gives (λ rule. rule) r (rule_in extended text)
+unfolding rule_in
+rule_given extended text rest (Ok rule) g = rw g refl
+rule_given extended text rest (Err e) g = rw g refl
+
+spelled_takes : (extended : Bool) (text : List ℕ) (rule : TransitionRule) → rule_in extended text ≡ Ok rule → IsTzText extended text rule
+unfolding rule_in
+spelled_takes extended text rule h =
+    let a = bind_ok (text_at extended text) _ rule h in
+    subst (λ r. IsTzText extended text r) (ok_same (Ok a.0.0) a.0.0 rule refl a.2) ((text_law extended).takes text a.0.0 a.0.1 a.1).0
+
+spelled_again : (extended : Bool) (text : List ℕ) (rule : TransitionRule) → IsTzText extended text rule → rule_in extended text ≡ Ok rule
+unfolding rule_in
+spelled_again extended text rule h = rw ((text_law extended).again text rule [] (h, refl)) refl
+
+spelled_fails : (extended : Bool) (text : List ℕ) (e : ℕ) → rule_in extended text ≡ Err e → IsTextFault extended text e
+unfolding rule_in
+spelled_fails extended text e h = elim (bind_err (text_at extended text) _ e h) [
+  | inl k ↦ (text_law extended).fails text e k
+  | inr k ↦ let q = k.2 in cc
+]
+
+rule_takes : (extended : Bool) (text : List ℕ) (rule : Option TransitionRule) → rule_or_none extended text ≡ Ok rule → SaysRule extended text rule
+rule_takes extended [] rule h = subst (λ r. SaysRule extended [] r) (ok_same (Ok None) None rule refl h) refl
+rule_takes extended (b ∷ bs) rule h =
+    let a = bind_ok (rule_in extended (b ∷ bs)) _ rule h in
+    subst (λ r. SaysRule extended (b ∷ bs) r) (ok_same (Ok (Some a.0)) (Some a.0) rule refl a.2) ((λ e. cc), spelled_takes extended (b ∷ bs) a.0 a.1)
+
+rule_again : (extended : Bool) (text : List ℕ) (rule : Option TransitionRule) → SaysRule extended text rule → rule_or_none extended text ≡ Ok rule
+rule_again extended [] None h = refl
+rule_again extended (b ∷ bs) None h = cc
+rule_again extended [] (Some rule) h = absurd (h.0 refl)
+rule_again extended (b ∷ bs) (Some rule) h = rw (spelled_again extended (b ∷ bs) rule h.1) refl
+
+rule_fails : (extended : Bool) (text : List ℕ) (e : ℕ) → rule_or_none extended text ≡ Err e → (text ≢ []) × IsTextFault extended text e
+rule_fails extended [] e h = cc
+rule_fails extended (b ∷ bs) e h = elim (bind_err (rule_in extended (b ∷ bs)) _ e h) [
+  | inl k ↦ ((λ q. cc), spelled_fails extended (b ∷ bs) e k)
+  | inr k ↦ let q = k.2 in cc
+]
+
+text_refused : (extended : Bool) (bytes text : List ℕ) → IsTrimmed bytes text → is_no_text text ≡ true → FooterFault extended bytes 5
+text_refused extended bytes text t h = elim (slice_index text 0 == 58) as (λ b. (slice_index text 0 == 58) ≡ b → (b || list_any is_zero text) ≡ true → FooterFault extended bytes 5) [
+  | true ↦ λ e k. Colon text t (grind (arith, nat_tests))
+  | false ↦ λ e k. Zero text t (λ n. let q = no_zero_again text n in cc)
+] refl h
+
+-- ---- the whole
+pub footer_takes : (extended : Bool) (bytes : List ℕ) (rule : Option TransitionRule) → footer_at extended bytes ≡ Ok rule → IsFooter extended bytes rule
+unfolding footer_at
+footer_takes extended bytes rule h =
+    let u = test_ok (is_utf8 bytes) (cond (is_between_newlines bytes) (text_or_none extended (trimmed bytes)) (Err 5)) rule 16 h in
+    let b = test_ok (is_between_newlines bytes) (text_or_none extended (trimmed bytes)) rule 5 u.1 in
+    elim (choose (is_no_text (trimmed bytes)) (Err 5) (rule_or_none extended (trimmed bytes)) (Ok rule) b.1) [
+      | inl k ↦ let q = k.1 in cc
+      | inr k ↦
+          let n = or_false (slice_index (trimmed bytes) 0 == 58) (list_any is_zero (trimmed bytes)) k.0 in let colon = n.0 in
+          record {
+            text = trimmed bytes;
+            utf8 = IsUtf8-from_is_utf8 bytes u.0;
+            newlines = between_is bytes b.0;
+            trimmed = trim_is bytes;
+            no_colon = λ e. grind (arith, nat_tests);
+            no_zero = no_zero_is (trimmed bytes) n.1;
+            says = rule_takes extended (trimmed bytes) rule k.1;
+          }
+    ]
+
+pub footer_again : (extended : Bool) (bytes : List ℕ) (rule : Option TransitionRule) → IsFooter extended bytes rule → footer_at extended bytes ≡ Ok rule
+unfolding footer_at
+footer_again extended bytes rule h =
+    let n = h.no_colon in let colon : (slice_index h.text 0 == 58) ≡ false = grind (arith, nat_tests) in
+    rw (is_utf8-from_IsUtf8 bytes h.utf8, between_again bytes h.newlines, trim_again bytes h.text h.trimmed, colon, no_zero_again h.text h.no_zero) (rule_again extended h.text rule h.says)
+
+pub footer_fails : (extended : Bool) (bytes : List ℕ) (e : ℕ) → footer_at extended bytes ≡ Err e → FooterFault extended bytes e
+unfolding footer_at
+footer_fails extended bytes e h = elim (test_err (is_utf8 bytes) (cond (is_between_newlines bytes) (text_or_none extended (trimmed bytes)) (Err 5)) 16 e h) [
+  | inl u ↦ subst (λ n. FooterFault extended bytes n) (sym u.1) (Not_utf8 (λ t. let q = is_utf8-from_IsUtf8 bytes t in let f = u.0 in cc))
+  | inr u ↦ elim (test_err (is_between_newlines bytes) (text_or_none extended (trimmed bytes)) 5 e u.1) [
+    | inl b ↦ subst (λ n. FooterFault extended bytes n) (sym b.1) (No_newlines (λ t. let q = between_again bytes t in let f = b.0 in cc))
+    | inr b ↦ elim (choose (is_no_text (trimmed bytes)) (Err 5) (rule_or_none extended (trimmed bytes)) (Err e) b.1) [
+      | inl k ↦ subst (λ n. FooterFault extended bytes n) (err_same (Err 5) 5 e refl k.1) (text_refused extended bytes (trimmed bytes) (trim_is bytes) k.0)
+      | inr k ↦ let f = rule_fails extended (trimmed bytes) e k.1 in In_text (trimmed bytes) e (trim_is bytes) f.0 f.1
+    ]
+  ]
+]

@@ -1,0 +1,146 @@
+-- Leap times rise weakly with Unix times, none is refused near now, and where corrections count 1, 2, 3 and so on each Unix
+-- time is that of its leap time.
+use Rattle.std.proofs.Common.{◌≡◌, ℕ, zero, suc, ◌+◌, ◌*◌, ◌<◌, ◌≤◌, arith, refl, ap, ◌∙◌, sym, add-one, List, [], ◌∷◌, length, get_or, take, map, true, false, cond, ℤ, pos, neg_ℤ, ◌+ℤ◌, ◌-ℤ◌, ◌≤ℤ◌, ◌<ℤ◌, int_le, int_lt, inl, inr}
+use Rattle.std.specs.List.{count_by, filter}
+use Rattle.std.proofs.lemmas.Int.{ints, by_lt_z}
+use Rattle.std.proofs.lemmas.List.{get_or_default}
+use Rattle.std.proofs.lemmas.List.Sums.{sum_by-cons, count_by-le-length}
+use Rattle.tz_info.specs.Lists.{last_else}
+use Rattle.tz_info.specs.Leaps.{IsOneStep, AreLeapSeconds, AreCounted, corrections, thresholds, passed_count, correction_at, correction_before, IsLeapTime, IsLeapTimeRefused, IsUnixTime}
+use Rattle.tz_info.specs.declared.zone.leap_second.LeapSecond.{LeapSecond}
+use Rattle.tz_info.proofs.Prefixes.{filter_first, last_taken, mapped_at, le_true, le_false, lt_true, lt_false}
+use Rattle.tz_info.proofs.LeapEntries.{Follow, follow, follow_tail, threshold_apart, threshold_count, threshold_at}
+
+-- how many entries behind one of correction p are passed at u
+abbrev counted_from : ℤ → List LeapSecond → ℤ → ℕ
+counted_from p es u = count_by (λ t. int_le t u) (thresholds p es)
+
+-- the next threshold comes later
+tail_later : (p : ℤ) (e : LeapSecond) (es : List LeapSecond) → Follow p (e ∷ es) → (d : LeapSecond) → 0 < length es → ((e.unix_leap_time -ℤ p) +ℤ pos 2_419_198) ≤ℤ ((get_or es 0 d).unix_leap_time -ℤ e.correction)
+tail_later p e es f d h = threshold_apart e (get_or es 0 d) p (f.next 0 d (omega arith)) (f.step e (omega arith))
+
+counted : (p u : ℤ) (e : LeapSecond) (es : List LeapSecond) → (e.unix_leap_time -ℤ p) ≤ℤ u → counted_from p (e ∷ es) u ≡ suc (counted_from e.correction es u)
+counted p u e es h = sum_by-cons (λ t. cond (int_le t u) 1 0) (e.unix_leap_time -ℤ p) (thresholds e.correction es) ∙ rw (le_true (e.unix_leap_time -ℤ p) u h) (omega arith)
+
+not_counted : (p u : ℤ) (e : LeapSecond) (es : List LeapSecond) → u <ℤ (e.unix_leap_time -ℤ p) → counted_from p (e ∷ es) u ≡ counted_from e.correction es u
+not_counted p u e es h = sum_by-cons (λ t. cond (int_le t u) 1 0) (e.unix_leap_time -ℤ p) (thresholds e.correction es) ∙ rw (le_false (e.unix_leap_time -ℤ p) u h) (omega arith)
+
+-- where u lies before the first threshold no entry is passed
+none_counted : (p u : ℤ) (es : List LeapSecond) → Follow p es → ((d : LeapSecond) → 0 < length es → u <ℤ ((get_or es 0 d).unix_leap_time -ℤ p)) → counted_from p es u ≡ 0
+none_counted p u [] f h = refl
+none_counted p u (e ∷ es) f h =
+    let here = h e (omega arith) in
+    not_counted p u e es here ∙ none_counted e.correction u es (follow_tail p e es f) (λ d l. let t = tail_later p e es f d l in omega (arith, ints))
+
+abbrev summed : ℤ → List LeapSecond → ℤ → ℤ
+summed p es u = u +ℤ last_else p (corrections (take (counted_from p es u) es))
+
+summed_counted : (p u : ℤ) (e : LeapSecond) (es : List LeapSecond) → (e.unix_leap_time -ℤ p) ≤ℤ u → summed p (e ∷ es) u ≡ summed e.correction es u
+summed_counted p u e es h = rw (counted p u e es h) refl
+
+summed_none : (p u : ℤ) (es : List LeapSecond) → Follow p es → ((d : LeapSecond) → 0 < length es → u <ℤ ((get_or es 0 d).unix_leap_time -ℤ p)) → summed p es u ≡ u +ℤ p
+summed_none p u es f h = rw (none_counted p u es f h) refl
+
+sums_rise : (p u v : ℤ) (es : List LeapSecond) → Follow p es → u ≤ℤ v → summed p es u ≤ℤ summed p es v
+sums_rise p u v [] f h = omega (arith, ints)
+sums_rise p u v (e ∷ es) f h = by_lt_z u (e.unix_leap_time -ℤ p)
+    (λ below. by_lt_z v (e.unix_leap_time -ℤ p)
+    (λ under. rw (summed_none p u (e ∷ es) f (λ d l. below), summed_none p v (e ∷ es) f (λ d l. under)) (omega (arith, ints)))
+    (λ above.
+    let t = follow_tail p e es f in
+    let r = sums_rise e.correction (e.unix_leap_time -ℤ p) v es t above in
+    let q = summed_none e.correction (e.unix_leap_time -ℤ p) es t (λ d l. let t = tail_later p e es f d l in omega (arith, ints)) in
+    let m = rw q at r in
+    rw (summed_none p u (e ∷ es) f (λ d l. below), summed_counted p v e es above)
+    (elim (f.step e (omega arith)) [ inl k ↦ omega (arith, ints) | inr k ↦ omega (arith, ints) ])))
+    (λ above. rw (summed_counted p u e es above, summed_counted p v e es (omega (arith, ints))) (sums_rise e.correction u v es (follow_tail p e es f) h))
+
+pub leap_times_rise : (es : List LeapSecond) (u v x y : ℤ) → AreLeapSeconds es → u ≤ℤ v → IsLeapTime es u x → IsLeapTime es v y → x ≤ℤ y
+leap_times_rise es u v x y valid h a b = rw (a.sum, b.sum) (sums_rise (pos 0) u v es (follow es valid) h)
+
+was_counted : (p u : ℤ) (e : LeapSecond) (es : List LeapSecond) (k : ℕ) → Follow p (e ∷ es) → k < counted_from p (e ∷ es) u → (e.unix_leap_time -ℤ p) ≤ℤ u
+was_counted p u e es k f l = by_lt_z u (e.unix_leap_time -ℤ p)
+    (λ below. let z = none_counted p u (e ∷ es) f (λ d m. below) in absurd (omega arith))
+    (λ above. above)
+
+-- the k-th passed entry lies k steps on, and its correction is at most k + 1 away
+record Bounded (p a u : ℤ) (es : List LeapSecond) (k : ℕ) : Type 0 where
+  pub later : (a +ℤ pos (2_419_198 * k)) ≤ℤ u
+  pub most : get_or (corrections es) k (pos 0) ≤ℤ (p +ℤ pos (suc k))
+  pub least : p ≤ℤ (get_or (corrections es) k (pos 0) +ℤ pos (suc k))
+
+bounded : (p a u : ℤ) (es : List LeapSecond) (k : ℕ) → Follow p es → ((d : LeapSecond) → 0 < length es → a ≤ℤ ((get_or es 0 d).unix_leap_time -ℤ p)) → k < counted_from p es u → Bounded p a u es k
+bounded p a u [] k f h l = absurd (omega arith)
+bounded p a u (e ∷ es) zero f h l =
+    let above = was_counted p u e es zero f l in let t = h e (omega arith) in let d = f.step e (omega arith) in
+    record {
+      later = omega (arith, ints);
+      most = elim d [ inl q ↦ omega (arith, ints) | inr q ↦ omega (arith, ints) ];
+      least = elim d [ inl q ↦ omega (arith, ints) | inr q ↦ omega (arith, ints) ];
+    }
+bounded p a u (e ∷ es) (suc k) f h l =
+    let above = was_counted p u e es (suc k) f l in let t = h e (omega arith) in let d = f.step e (omega arith) in
+    let c = counted p u e es above in
+    let r = bounded e.correction (a +ℤ pos 2_419_198) u es k (follow_tail p e es f) (λ g m. let w = tail_later p e es f g m in omega (arith, ints)) (omega arith) in
+    record {
+      later = let q = r.later in omega (arith, ints);
+      most = let m = r.most in elim d [ inl q ↦ omega (arith, ints) | inr q ↦ omega (arith, ints) ];
+      least = let m = r.least in elim d [ inl q ↦ omega (arith, ints) | inr q ↦ omega (arith, ints) ];
+    }
+
+pub leap_times_answer : (es : List LeapSecond) (u : ℤ) → AreLeapSeconds es → neg_ℤ (pos 10_000_000_000_000) ≤ℤ u → u ≤ℤ pos 10_000_000_000_000 → IsLeapTimeRefused es u → ⊥
+leap_times_answer es u valid low high r =
+    let b = bounded (pos 0) (pos 0) u es r.place (follow es valid) (λ d l. let f = (valid.first d l).since_epoch in omega (arith, ints)) r.passed in
+    let a = b.later in let m = b.most in let n = b.least in
+    r.leaves (omega (arith, ints))
+
+-- the passed entries are those whose thresholds are not above u
+record Split (p u : ℤ) (es : List LeapSecond) (k : ℕ) : Type 0 where
+  pub passed : k < counted_from p es u → get_or (thresholds p es) k (pos 0) ≤ℤ u
+  pub not_passed : counted_from p es u ≤ k → u <ℤ get_or (thresholds p es) k (pos 0)
+
+split : (p u : ℤ) (es : List LeapSecond) (k : ℕ) → Follow p es → k < length es → Split p u es k
+split p u [] k f h = absurd (omega arith)
+split p u (e ∷ es) zero f h = by_lt_z u (e.unix_leap_time -ℤ p)
+    (λ below. let z = none_counted p u (e ∷ es) f (λ d m. below) in record { passed = λ l. absurd (omega arith); not_passed = λ l. below })
+    (λ above. let c = counted p u e es above in record { passed = λ l. above; not_passed = λ l. absurd (omega arith) })
+split p u (e ∷ es) (suc k) f h =
+    let r = split e.correction u es k (follow_tail p e es f) (omega arith) in
+    by_lt_z u (e.unix_leap_time -ℤ p)
+    (λ below.
+    let c = not_counted p u e es below in let z = none_counted p u (e ∷ es) f (λ d m. below) in
+    record { passed = λ l. absurd (omega arith); not_passed = λ l. r.not_passed (omega arith) })
+    (λ above.
+    let c = counted p u e es above in
+    record { passed = λ l. r.passed (omega arith); not_passed = λ l. r.not_passed (omega arith) })
+
+-- the correction of the last of the first k entries is k
+counted_correction : (es : List LeapSecond) (k : ℕ) → AreCounted es → k ≤ length es → last_else (pos 0) (corrections (take k es)) ≡ pos k
+counted_correction [] zero c h = refl
+counted_correction [] (suc k) c h = absurd (omega arith)
+counted_correction (e ∷ es) zero c h = refl
+counted_correction (e ∷ es) (suc k) c h =
+    last_taken (λ (e : LeapSecond). e.correction) (pos 0) (e ∷ es) k e (omega arith) ∙ sym (mapped_at (λ (e : LeapSecond). e.correction) (e ∷ es) k e (pos 0) (omega arith)) ∙ c k (omega arith) ∙ ap pos (add-one k)
+
+pub leap_time_undone : (es : List LeapSecond) (u x v : ℤ) → AreLeapSeconds es → AreCounted es → IsLeapTime es u x → IsUnixTime es x v → v ≡ u
+leap_time_undone es u x v valid c a b =
+    let n = passed_count es u in
+    let m = threshold_count (pos 0) es in
+    let l = count_by-le-length (λ t. int_le t u) (thresholds (pos 0) es) in
+    let s = a.sum in
+    let q = counted_correction es n c (omega arith) in
+    let f : filter (λ (e : LeapSecond). int_lt e.unix_leap_time x) es ≡ take n es =
+    filter_first (λ (e : LeapSecond). int_lt e.unix_leap_time x) es n (omega arith)
+    (λ k d j.
+    let t = (split (pos 0) u es k (follow es valid) (omega arith)).passed j in
+    let w = threshold_at (pos 0) es k d (pos 0) (omega arith) in
+    let y = counted_correction es k c (omega arith) in
+    lt_true _ x (omega (arith, ints)))
+    (λ k d j i.
+    let t = (split (pos 0) u es k (follow es valid) i).not_passed j in
+    let w = threshold_at (pos 0) es k d (pos 0) i in
+    let y = counted_correction es k c (omega arith) in
+    lt_false _ x (omega (arith, ints))) in
+    let e = b.difference in
+    let g : correction_before es x ≡ pos n = rw f q in
+    omega (arith, ints)

@@ -1,0 +1,28 @@
+-- Values by places.
+use Rattle.std.proofs.Common.{◌≡◌, ℕ, zero, suc, ◌<◌, List, Result, Ok, Err, refl, sym, arith, inl, inr, Bool, true, false, ◌&&◌}
+use Rattle.std.proofs.lemmas.Bool.{cases_lt}
+use Rattle.tz_info.specs.ContentReading.{values_below, all_below}
+
+-- the first refusal is that of all
+pub first_refusal : {X : Type 0} (n i : ℕ) (read : ℕ → Result X ℕ) (xs : List X) (e : ℕ) → i < n → values_below i read ≡ Ok xs → read i ≡ Err e → values_below n read ≡ Err e
+first_refusal zero i read xs e l p q = absurd (omega arith)
+first_refusal {X = X} (suc n) i read xs e l p q = elim (cases_lt i n) as (λ _. values_below (suc n) read ≡ Err e) [
+  | inl h ↦ rw (first_refusal n i read xs e h p q) refl
+  | inr h ↦
+      let same : i ≡ n = omega arith in
+      let p' : values_below n read ≡ Ok xs = rw (sym same) p in
+      let q' : read n ≡ Err e = rw (sym same) q in rw (p', q') refl
+]
+
+and_false : (b : Bool) → (b && false) ≡ false
+and_false true = refl
+and_false false = refl
+
+pub one_false : (n i : ℕ) (test : ℕ → Bool) → i < n → test i ≡ false → all_below n test ≡ false
+one_false zero i test l q = absurd (omega arith)
+one_false (suc n) i test l q = elim (cases_lt i n) as (λ _. all_below (suc n) test ≡ false) [
+  | inl h ↦ rw (one_false n i test h q) refl
+  | inr h ↦
+      let same : i ≡ n = omega arith in
+      let q' : test n ≡ false = rw (sym same) q in rw q' (and_false (all_below n test))
+]

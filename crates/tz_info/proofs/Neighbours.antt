@@ -1,0 +1,183 @@
+-- Only a year's own moments and those of its two neighbours can enclose a second of the year.
+use Rattle.std.proofs.Common.{◌≡◌, ℕ, ◌+◌, ◌*◌, ◌<◌, ◌≤◌, arith, ℤ, pos, neg_ℤ, Bool, true, false, not, cond, ◌&&◌, ◌||◌, ◌+ℤ◌, ◌-ℤ◌, ◌≤ℤ◌, ◌<ℤ◌, ◌*ℤ◌, refl, inl, inr, ◌⊎◌, ⊎_elim, int_lt, int_le, sym, ◌∙◌, ap, IsTrue, IsFalse, ◌↔◌}
+use Rattle.std.proofs.lemmas.Int.{by_lt_z, ints}
+use Rattle.naive_base.specs.Year.{floor_div, year_start, days_in_year, LiesIn}
+use Rattle.naive_base.proofs.Floor.{floors}
+use Rattle.naive_base.proofs.Years.{year_step, days_at_least, starts_rise}
+use Rattle.tz_info.specs.RuleDays.{IsRuleDay, rule_day}
+use Rattle.tz_info.specs.Rules.{Alternate, IsAlternateRule, IsWithinDay, IsWithinWeek}
+use Rattle.tz_info.specs.Moments.{moment, IsYearOf, IsInSomeYear, IsDstAt, start_in, end_in}
+use Rattle.tz_info.specs.Turns.{IsAmid, is_between, is_dst_by_one, is_in_three}
+use Rattle.tz_info.specs.declared.rule.alternate.DayTime.{DayTime}
+use Rattle.tz_info.proofs.RuleDays.{day_within}
+
+-- the moments of each year lie less than eight days outside of it
+pub record IsNear (moments : ℤ → ℤ) : Type 0 where
+  pub low : (year : ℤ) → (pos 86_400 *ℤ year_start year -ℤ pos 691_198) ≤ℤ moments year
+  pub high : (year : ℤ) → moments year ≤ℤ (pos 86_400 *ℤ (year_start year +ℤ pos 365) +ℤ pos 691_198)
+
+moments_near : (t : DayTime) (offset : ℤ) → IsRuleDay t.day → IsWithinWeek t.time → IsWithinDay offset → IsNear (moment t offset)
+unfolding moment
+moments_near t offset fits week day = record {
+  low = λ year. let within = day_within t.day year fits in omega (arith, floors);
+  high = λ year. let within = day_within t.day year fits in omega (arith, floors);
+}
+
+pub starts_near : (a : Alternate) → IsAlternateRule a → IsNear (start_in a)
+starts_near a h = moments_near a.start a.std.offset h.start_day h.within.start_time h.within.std_offset
+
+pub ends_near : (a : Alternate) → IsAlternateRule a → IsNear (end_in a)
+ends_near a h = moments_near a.end a.dst.offset h.end_day h.within.end_time h.within.dst_offset
+
+-- a later year begins at least 365 days later
+year_after : (a b : ℤ) → a <ℤ b → (year_start a +ℤ pos 365) ≤ℤ year_start b
+year_after a b h =
+    let step = year_step a in let least = days_at_least a in
+    let rise = starts_rise (a +ℤ pos 1) b (omega (arith, floors)) in
+    omega (arith, floors)
+
+-- two years later at least 730 days later
+two_years_after : (a b : ℤ) → (a +ℤ pos 1) <ℤ b → (year_start a +ℤ pos 730) ≤ℤ year_start b
+two_years_after a b h =
+    let step = year_after a (a +ℤ pos 1) (omega (arith, floors)) in let next = year_after (a +ℤ pos 1) b h in
+    omega (arith, floors)
+
+-- a second of the year comes from the year's first day on, and before the next year
+pub second_low : (u year : ℤ) → IsYearOf u year → (pos 86_400 *ℤ year_start year) ≤ℤ u
+second_low u year h = omega (arith, floors, h.0)
+
+pub second_high : (u year : ℤ) → IsYearOf u year → u <ℤ (pos 86_400 *ℤ year_start (year +ℤ pos 1))
+second_high u year h = omega (arith, floors, h.1)
+
+not_earlier : (lasts : ℤ → ℤ) (u year other : ℤ) → IsNear lasts → IsYearOf u year → u <ℤ lasts other → (year -ℤ pos 1) ≤ℤ other
+not_earlier lasts u year other near of_second before = by_lt_z other (year -ℤ pos 1)
+    (λ less.
+    let far = two_years_after other year (omega (arith, floors)) in
+    let high = near.high other in let low = second_low u year of_second in
+    absurd (omega (arith, floors)))
+    (λ h. h)
+
+not_later : (firsts : ℤ → ℤ) (u year other : ℤ) → IsNear firsts → IsYearOf u year → firsts other ≤ℤ u → other ≤ℤ (year +ℤ pos 1)
+not_later firsts u year other near of_second from = by_lt_z (year +ℤ pos 1) other
+    (λ more.
+    let far = year_after (year +ℤ pos 1) other more in
+    let low = near.low other in let high = second_high u year of_second in
+    absurd (omega (arith, floors)))
+    (λ h. h)
+
+-- moments that enclose a second are those of one of three years
+place : (year other : ℤ) → (year -ℤ pos 1) ≤ℤ other → other ≤ℤ (year +ℤ pos 1) → (other ≡ year -ℤ pos 1) ⊎ ((other ≡ year) ⊎ (other ≡ year +ℤ pos 1))
+place year other low high = by_lt_z other year
+    (λ less. inl (omega (arith, floors)))
+    (λ not_less. inr (by_lt_z year other (λ more. inr (omega (arith, floors))) (λ not_more. inl (omega (arith, floors)))))
+
+pub below_true : (a b : ℤ) → a <ℤ b → int_lt a b ≡ true
+below_true a b h = grind (arith, ints)
+
+between_true : (first last u : ℤ) → first ≤ℤ u → u <ℤ last → is_between first last u ≡ true
+between_true first last u from before = grind (arith, ints)
+
+between_is : (first last u : ℤ) → is_between first last u ≡ true → (first ≤ℤ u) × (u <ℤ last)
+between_is first last u h = grind (arith, ints)
+
+or_cases : (a b c : Bool) → (a || b || c) ≡ true → (a ≡ true) ⊎ ((b ≡ true) ⊎ (c ≡ true))
+or_cases true b c h = inl refl
+or_cases false true c h = inr (inl refl)
+or_cases false false c h = inr (inr h)
+
+or_first : (a b c : Bool) → a ≡ true → (a || b || c) ≡ true
+or_first a b c h = rw h refl
+
+or_second : (a b c : Bool) → b ≡ true → (a || b || c) ≡ true
+or_second true b c h = refl
+or_second false b c h = rw h refl
+
+or_third : (a b c : Bool) → c ≡ true → (a || b || c) ≡ true
+or_third true b c h = refl
+or_third false true c h = refl
+or_third false false c h = h
+
+three_found : (firsts lasts : ℤ → ℤ) (year u : ℤ) → is_in_three firsts lasts year u ≡ true → IsInSomeYear firsts lasts u
+three_found firsts lasts year u h =
+    let found : (other : ℤ) → is_between (firsts other) (lasts other) u ≡ true → IsInSomeYear firsts lasts u =
+    λ other t. let b = between_is (firsts other) (lasts other) u t in (other, b.0, b.1) in
+    ⊎_elim (found (year -ℤ pos 1)) (⊎_elim (found year) (found (year +ℤ pos 1))) (or_cases _ _ _ h)
+
+three_all : (firsts lasts : ℤ → ℤ) (year u : ℤ) → IsNear firsts → IsNear lasts → IsYearOf u year → IsInSomeYear firsts lasts u → is_in_three firsts lasts year u ≡ true
+three_all firsts lasts year u near_first near_last of_second (other, from, before) =
+    let asked : ℤ → Bool = λ z. is_between (firsts z) (lasts z) u in
+    let here : (z : ℤ) → other ≡ z → asked z ≡ true = λ z same. rw (← same) (between_true (firsts other) (lasts other) u from before) in
+    let x = asked (year -ℤ pos 1) in let v = asked year in let w = asked (year +ℤ pos 1) in
+    ⊎_elim (λ same. or_first x v w (here _ same)) (⊎_elim (λ same. or_second x v w (here _ same)) (λ same. or_third x v w (here _ same)))
+    (place year other (not_earlier lasts u year other near_last of_second before) (not_later firsts u year other near_first of_second from))
+
+-- far from the neighbours only the year's own moments can
+own_year : (firsts lasts : ℤ → ℤ) (year u other : ℤ) → IsNear firsts → IsNear lasts → IsAmid (floor_div u 86_400) year → firsts other ≤ℤ u → u <ℤ lasts other → other ≡ year
+own_year firsts lasts year u other near_first near_last amid from before =
+    by_lt_z other year
+    (λ less. let after = year_after other year less in let high = near_last.high other in absurd (omega (arith, floors)))
+    (λ not_less. by_lt_z year other
+    (λ more. let after = year_after year other more in let low = near_first.low other in absurd (omega (arith, floors)))
+    (λ not_more. omega (arith, floors)))
+
+-- a test that finds what some year has, with the start first or the end first
+not_false : (b : Bool) → not b ≡ false → b ≡ true
+not_false true h = refl
+not_false false h = cc
+
+by_start : (starts ends : ℤ → ℤ) (year u : ℤ) (dst : Bool) → starts year ≤ℤ ends year → (dst ≡ true → IsInSomeYear starts ends u) → (IsInSomeYear starts ends u → dst ≡ true) → IsDstAt starts ends year u dst
+by_start starts ends year u dst order found all = record {
+  start_first = λ _. (found, all);
+  end_first = λ less. absurd (omega (arith, ints));
+}
+
+by_end : (starts ends : ℤ → ℤ) (year u : ℤ) (dst std : Bool) → ends year <ℤ starts year → dst ≡ not std → (std ≡ true → IsInSomeYear ends starts u) → (IsInSomeYear ends starts u → std ≡ true) → IsDstAt starts ends year u dst
+by_end starts ends year u dst std order is found all = record {
+  start_first = λ less. absurd (omega (arith, ints));
+  end_first = λ _. rw is (λ t. found (not_false std t), λ some. ap not (all some));
+}
+
+pub start_first_by_three : (starts ends : ℤ → ℤ) (year u : ℤ) (dst : Bool) → IsNear starts → IsNear ends → IsYearOf u year → starts year ≤ℤ ends year → dst ≡ is_in_three starts ends year u → IsDstAt starts ends year u dst
+start_first_by_three starts ends year u dst near_start near_end of_second order is =
+    by_start starts ends year u dst order (λ t. three_found starts ends year u (sym is ∙ t)) (λ some. is ∙ three_all starts ends year u near_start near_end of_second some)
+
+pub end_first_by_three : (starts ends : ℤ → ℤ) (year u : ℤ) (dst : Bool) → IsNear starts → IsNear ends → IsYearOf u year → ends year <ℤ starts year → dst ≡ not (is_in_three ends starts year u) → IsDstAt starts ends year u dst
+end_first_by_three starts ends year u dst near_start near_end of_second order is =
+    by_end starts ends year u dst (is_in_three ends starts year u) order is (three_found ends starts year u) (three_all ends starts year u near_end near_start of_second)
+
+one_found : (firsts lasts : ℤ → ℤ) (year u : ℤ) → is_between (firsts year) (lasts year) u ≡ true → IsInSomeYear firsts lasts u
+one_found firsts lasts year u h = let b = between_is (firsts year) (lasts year) u h in (year, b.0, b.1)
+
+one_all : (firsts lasts : ℤ → ℤ) (year u : ℤ) → IsNear firsts → IsNear lasts → IsAmid (floor_div u 86_400) year → IsInSomeYear firsts lasts u → is_between (firsts year) (lasts year) u ≡ true
+one_all firsts lasts year u near_first near_last amid (other, from, before) =
+    rw (← own_year firsts lasts year u other near_first near_last amid from before) (between_true (firsts other) (lasts other) u from before)
+
+-- the year's own moments decide far from its neighbours
+pub dst_by_one : (starts ends : ℤ → ℤ) (year u : ℤ) (dst : Bool) → IsNear starts → IsNear ends → IsAmid (floor_div u 86_400) year → dst ≡ is_dst_by_one (starts year) (ends year) u → IsDstAt starts ends year u dst
+dst_by_one starts ends year u dst near_start near_end amid is =
+    by_lt_z (ends year) (starts year)
+    (λ less.
+    let t : int_le (starts year) (ends year) ≡ false = grind (arith, ints) in
+    by_end starts ends year u dst (is_between (ends year) (starts year) u) less (rw t at is) (one_found ends starts year u) (one_all ends starts year u near_end near_start amid))
+    (λ order.
+    let t : int_le (starts year) (ends year) ≡ true = grind (arith, ints) in
+    let own = rw t at is in
+    by_start starts ends year u dst order (λ h. one_found starts ends year u (sym own ∙ h)) (λ some. own ∙ one_all starts ends year u near_start near_end amid some))
+
+-- no second has two answers
+pub one_answer : (starts ends : ℤ → ℤ) (year u : ℤ) (a b : Bool) → IsDstAt starts ends year u a → IsDstAt starts ends year u b → a ≡ b
+one_answer starts ends year u true true h k = refl
+one_answer starts ends year u false false h k = refl
+one_answer starts ends year u true false h k = by_lt_z (ends year) (starts year) (λ less. (h.end_first less).1 ((k.end_first less).0 refl)) (λ order. sym ((k.start_first order).1 ((h.start_first order).0 refl)))
+one_answer starts ends year u false true h k = by_lt_z (ends year) (starts year) (λ less. sym ((k.end_first less).1 ((h.end_first less).0 refl))) (λ order. (h.start_first order).1 ((k.start_first order).0 refl))
+
+-- the moments of three years decide everywhere
+pub dst_by_three : (starts ends : ℤ → ℤ) (year u : ℤ) (dst : Bool) → IsNear starts → IsNear ends → IsYearOf u year → dst ≡ cond (int_le (starts year) (ends year)) (is_in_three starts ends year u) (not (is_in_three ends starts year u)) → IsDstAt starts ends year u dst
+dst_by_three starts ends year u dst near_start near_end of_second is =
+    by_lt_z (ends year) (starts year)
+    (λ less.
+    let t : int_le (starts year) (ends year) ≡ false = grind (arith, ints) in
+    end_first_by_three starts ends year u dst near_start near_end of_second less (rw t at is))
+    (λ order.
+    let t : int_le (starts year) (ends year) ≡ true = grind (arith, ints) in
+    start_first_by_three starts ends year u dst near_start near_end of_second order (rw t at is))

@@ -1,0 +1,74 @@
+-- The transitions at or before a leap time, and the type in force there.
+use Rattle.std.proofs.Common.{◌≡◌, ℕ, suc, ◌+◌, ◌-◌, ◌<◌, ◌≤◌, arith, refl, ap, ◌∙◌, sym, List, [], ◌∷◌, length, get_or, take, map, ℤ, inl, inr, ◌⊎◌, length-take, Result, Ok, Err, MatchResult}
+use Rattle.tz_info.specs.Leaps.{IsLeapTime}
+use Rattle.tz_info.specs.Lists.{last_else}
+use Rattle.tz_info.specs.LocalTypes.{LocalType}
+use Rattle.tz_info.specs.Transitions.{passed}
+use Rattle.tz_info.specs.Zones.{Zone, HasType, RuleOrType, IsRefusedBy, IsBeforeLast, IsFromLast, index_at, TypeAtLeapTime, TypeAt, IsTypeRefused, by_rule}
+use Rattle.tz_info.specs.declared.zone.transition.Transition.{Transition}
+use Rattle.tz_info.proofs.Prefixes.{last_taken}
+
+-- n transitions come at or before the leap time x: the first ones
+pub record ArePassed (transitions : List Transition) (x : ℤ) (n : ℕ) : Type 0 where
+  pub within : n ≤ length transitions
+  pub first : passed transitions x ≡ take n transitions
+
+passed_length : (ts : List Transition) (x : ℤ) (n : ℕ) → ArePassed ts x n → length (passed ts x) ≡ n
+passed_length ts x n p = let w = p.within in rw p.first (simp length-take (omega arith))
+
+latest_index : (z : Zone) (x : ℤ) (n : ℕ) (d : Transition) → ArePassed z.transitions x n → 0 < n → index_at z x ≡ (get_or z.transitions (n - 1) d).type_index
+latest_index z x n d p h =
+    let w = p.within in
+    let e : n ≡ suc (n - 1) = omega arith in
+    let f : passed z.transitions x ≡ take (suc (n - 1)) z.transitions = p.first ∙ ap (λ k. take k z.transitions) e in
+    rw f (last_taken (λ (t : Transition). t.type_index) 0 z.transitions (n - 1) d (omega arith))
+
+-- none has come
+pub at_first : (z : Zone) (u x : ℤ) (t : LocalType) → ArePassed z.transitions x 0 → 0 < length z.transitions → HasType z 0 t → TypeAtLeapTime z u x t
+at_first z u x t p some h = record {
+  before_last = λ _. rw p.first h;
+  from_last = λ l. let n = passed_length z.transitions x 0 p in absurd (omega arith);
+}
+
+-- some have come, and some not
+pub at_middle : (z : Zone) (u x : ℤ) (n : ℕ) (d : Transition) (t : LocalType) → ArePassed z.transitions x n → 0 < n → n < length z.transitions → HasType z (get_or z.transitions (n - 1) d).type_index t → TypeAtLeapTime z u x t
+at_middle z u x n d t p some h k = record {
+  before_last = λ _. rw (latest_index z x n d p some) k;
+  from_last = λ l. let n = passed_length z.transitions x n p in absurd (omega arith);
+}
+
+-- all have come, and the rule is asked, or there is none
+pub at_last : {T E : Type 0} (view : T → LocalType) (number : E → ℕ) (z : Zone) (u x : ℤ) (n : ℕ) (d : Transition) (r : Result T E) → ArePassed z.transitions x n → 0 < n → n ≡ length z.transitions
+    → MatchResult r (λ t. RuleOrType z u (get_or z.transitions (n - 1) d).type_index (view t)) (λ e. (number e ≡ 2) × IsRefusedBy z.rule u)
+    → MatchResult r (λ t. TypeAtLeapTime z u x (view t)) (λ e. (number e ≡ 2) × IsFromLast z x × IsRefusedBy z.rule u)
+at_last view number z u x n d (Ok t) p some h k = record {
+  before_last = λ l. let n = passed_length z.transitions x n p in absurd (omega arith);
+  from_last = λ _. rw (latest_index z x n d p some) k;
+}
+at_last view number z u x n d (Err e) p some h k = (k.0, passed_length z.transitions x n p ∙ h, k.1)
+
+pub no_items : {X : Type 0} (xs : List X) → length xs ≡ 0 → xs ≡ []
+no_items [] h = refl
+no_items (x ∷ xs) h = absurd (omega arith)
+
+-- without transitions the rule is asked, or there is none
+pub without_transitions : {T E : Type 0} (view : T → LocalType) (number : E → ℕ) (z : Zone) (u : ℤ) (r : Result T E) → length z.transitions ≡ 0
+    → MatchResult r (λ t. RuleOrType z u 0 (view t)) (λ e. (number e ≡ 2) × IsRefusedBy z.rule u)
+    → MatchResult r (λ t. TypeAt z u (view t)) (λ e. (number e ≡ 2) × IsTypeRefused z u)
+without_transitions view number z u (Ok t) e k =
+    let f = no_items z.transitions e in
+    record {
+      leap_time = u;
+      of_second = λ p. absurd (omega arith);
+      in_force = record { before_last = λ q. absurd (omega arith); from_last = λ _. rw f k };
+    }
+without_transitions view number z u (Err x) e k =
+    let f = no_items z.transitions e in
+    (k.0, by_rule u (λ p. absurd (omega arith)) (rw f refl) k.1)
+
+-- with transitions the second's leap time is asked
+pub with_transitions : {T E : Type 0} (view : T → LocalType) (number : E → ℕ) (z : Zone) (u x : ℤ) (r : Result T E) → IsLeapTime z.leaps u x
+    → MatchResult r (λ t. TypeAtLeapTime z u x (view t)) (λ e. (number e ≡ 2) × IsFromLast z x × IsRefusedBy z.rule u)
+    → MatchResult r (λ t. TypeAt z u (view t)) (λ e. (number e ≡ 2) × IsTypeRefused z u)
+with_transitions view number z u x (Ok t) l k = record { leap_time = x; of_second = λ _. l; in_force = k }
+with_transitions view number z u x (Err e) l k = (k.0, by_rule x (λ _. l) k.1 k.2)

@@ -1,0 +1,116 @@
+-- Steps of a reading, and what is read of bytes and numbers at the front.
+use Rattle.std.proofs.Common.{◌≡◌, ℕ, ◌+◌, ◌<◌, ◌≤◌, arith, refl, ap, ◌∙◌, sym, subst, List, [], ◌∷◌, ◌++◌, length, take, drop, Bool, true, false, cond, nat_lt, ◌&&◌, Ok, Err, Result, inl, inr, ◌⊎◌}
+use Rattle.std.proofs.lemmas.Bool.Decides.{nat_tests}
+use Rattle.std.proofs.lemmas.List.{take-append-drop, length-take, length-append}
+use Rattle.std.proofs.Math.Seq.{take-append_seam}
+use Rattle.std.specs.Int.{w32, from_be_bytes}
+use Rattle.tz_info.specs.Fronts.{◌>>=◌, exact_at, be_u32_at}
+use Rattle.tz_info.specs.FileHeaders.{IsNumber}
+pub use Rattle.tz_info.proofs.PieceLaws.{bind_ok, bind_err}
+
+pub ok_same : {A : Type 0} (r : Result A ℕ) (x y : A) → r ≡ Ok x → r ≡ Ok y → x ≡ y
+ok_same r x y h k = cc
+
+pub err_same : {A : Type 0} (r : Result A ℕ) (m n : ℕ) → r ≡ Err m → r ≡ Err n → m ≡ n
+err_same r m n h k = cc
+
+-- which side a test took
+pub choose : {A : Type 0} (b : Bool) (r s x : Result A ℕ) → cond b r s ≡ x → ((b ≡ true) × (r ≡ x)) ⊎ ((b ≡ false) × (s ≡ x))
+choose true r s x h = inl (refl, h)
+choose false r s x h = inr (refl, h)
+
+-- a value that stands under a test
+pub guard_ok : {A : Type 0} (b : Bool) (x y : A) (e : ℕ) → cond b (Ok x) (Err e) ≡ Ok y → (b ≡ true) × (x ≡ y)
+guard_ok true x y e h = (refl, cc)
+guard_ok false x y e h = cc
+
+pub guard_err : {A : Type 0} (b : Bool) (x : A) (n e : ℕ) → cond b (Ok x) (Err n) ≡ Err e → (b ≡ false) × (e ≡ n)
+guard_err true x n e h = cc
+guard_err false x n e h = (refl, cc)
+
+-- what is read under a test
+pub test_ok : {A : Type 0} (b : Bool) (r : Result A ℕ) (y : A) (e : ℕ) → cond b r (Err e) ≡ Ok y → (b ≡ true) × (r ≡ Ok y)
+test_ok true r y e h = (refl, h)
+test_ok false r y e h = cc
+
+pub test_err : {A : Type 0} (b : Bool) (r : Result A ℕ) (n e : ℕ) → cond b r (Err n) ≡ Err e → ((b ≡ false) × (e ≡ n)) ⊎ ((b ≡ true) × (r ≡ Err e))
+test_err true r n e h = inr (refl, h)
+test_err false r n e h = inl (refl, cc)
+
+pub and_true : (a b : Bool) → (a && b) ≡ true → (a ≡ true) × (b ≡ true)
+and_true true b h = (refl, h)
+and_true false b h = cc
+
+-- ---- bytes
+short_ok : {A : Type 0} (b : Bool) (x y : A) (e : ℕ) → cond b (Err e) (Ok x) ≡ Ok y → (b ≡ false) × (x ≡ y)
+short_ok true x y e h = cc
+short_ok false x y e h = (refl, cc)
+
+short_err : {A : Type 0} (b : Bool) (x : A) (n e : ℕ) → cond b (Err n) (Ok x) ≡ Err e → (b ≡ true) × (e ≡ n)
+short_err true x n e h = (refl, cc)
+short_err false x n e h = cc
+
+pub exact_takes : (n : ℕ) (bytes : List ℕ) (x : List ℕ × List ℕ) → exact_at n bytes ≡ Ok x → (bytes ≡ x.0 ++ x.1) × (length x.0 ≡ n)
+unfolding exact_at
+exact_takes n bytes x h =
+    let g = short_ok (nat_lt (length bytes) n) (take n bytes, drop n bytes) x 7 h in
+    let enough : n ≤ length bytes = let t = g.0 in grind (arith, nat_tests) in
+    let whole : bytes ≡ take n bytes ++ drop n bytes = sym (take-append-drop n bytes) in
+    let size : length (take n bytes) ≡ n = omega (arith, length-take n bytes) in
+    subst (λ (y : List ℕ × List ℕ). (bytes ≡ y.0 ++ y.1) × (length y.0 ≡ n)) g.1 (whole, size)
+
+pub drop_front : (xs ys : List ℕ) → drop (length xs) (xs ++ ys) ≡ ys
+drop_front [] ys = refl
+drop_front (x ∷ xs) ys = drop_front xs ys
+
+pub exact_again : (n : ℕ) (xs rest : List ℕ) → length xs ≡ n → exact_at n (xs ++ rest) ≡ Ok (xs, rest)
+unfolding exact_at
+exact_again n xs rest l =
+    let enough : nat_lt (length (xs ++ rest)) (length xs) ≡ false = let k = length-append xs rest in grind (arith, nat_tests) in
+    rw (sym l) (rw (enough, take-append_seam xs rest, drop_front xs rest) refl)
+
+pub exact_fails : (n : ℕ) (bytes : List ℕ) (e : ℕ) → exact_at n bytes ≡ Err e → (e ≡ 7) × (length bytes < n)
+unfolding exact_at
+exact_fails n bytes e h =
+    let g = short_err (nat_lt (length bytes) n) (take n bytes, drop n bytes) 7 e h in let t = g.0 in
+    (g.1, grind (arith, nat_tests))
+
+-- refused for want of bytes, at this part or at one behind it
+pub short_step : {B : Type 0} (n : ℕ) (bytes : List ℕ) (f : List ℕ × List ℕ → Result B ℕ) (e m : ℕ)
+    → ((x : List ℕ × List ℕ) → f x ≡ Err e → (e ≡ 7) × (length x.1 < m))
+    → (exact_at n bytes >>= f) ≡ Err e → (e ≡ 7) × (length bytes < n + m)
+short_step n bytes f e m next h = elim (bind_err (exact_at n bytes) f e h) [
+  | inl k ↦ let p = exact_fails n bytes e k in (p.0, omega arith)
+  | inr k ↦
+      let p = next k.0 k.2 in let t = exact_takes n bytes k.0 k.1 in
+      let l : length bytes ≡ length k.0.0 + length k.0.1 = ap length t.0 ∙ length-append k.0.0 k.0.1 in
+      (p.0, omega (arith, t.1, l))
+]
+
+pub no_err : {A : Type 0} (x : A) (e m : ℕ) (l : List ℕ) (r : Result A ℕ) → r ≡ Ok x → r ≡ Err e → (e ≡ 7) × (length l < m)
+no_err x e m l r h k = cc
+
+-- ---- numbers
+pub number_takes : (bytes : List ℕ) (x : ℕ × List ℕ) → be_u32_at bytes ≡ Ok x → IsNumber bytes x.0 x.1
+unfolding be_u32_at
+number_takes bytes x h =
+    let b = bind_ok (exact_at 4 bytes) (λ p. Ok (from_be_bytes w32 p.0, p.1)) x h in
+    let t = exact_takes 4 bytes b.0 b.1 in
+    let e : (from_be_bytes w32 b.0.0, b.0.1) ≡ x = ok_same _ _ _ refl b.2 in
+    subst (λ (y : ℕ × List ℕ). IsNumber bytes y.0 y.1) e (record { four = b.0.0; whole = t.0; size = t.1; value = refl })
+
+pub number_again : (bytes : List ℕ) (n : ℕ) (rest : List ℕ) → IsNumber bytes n rest → be_u32_at bytes ≡ Ok (n, rest)
+unfolding be_u32_at
+number_again bytes n rest h = rw (h.whole, exact_again 4 h.four rest h.size) (ap (λ m. Ok (m, rest)) h.value)
+
+pub number_step : {B : Type 0} (bytes : List ℕ) (f : ℕ × List ℕ → Result B ℕ) (e m : ℕ)
+    → ((x : ℕ × List ℕ) → f x ≡ Err e → (e ≡ 7) × (length x.1 < m))
+    → (be_u32_at bytes >>= f) ≡ Err e → (e ≡ 7) × (length bytes < 4 + m)
+unfolding be_u32_at
+number_step bytes f e m next h = elim (bind_err (be_u32_at bytes) f e h) [
+  | inl k ↦ let p = short_step 4 bytes _ e 0 (λ z. no_err _ e 0 z.1 _ refl) k in (p.0, omega (arith, p.1))
+  | inr k ↦
+      let p = next k.0 k.2 in let t = number_takes bytes k.0 k.1 in
+      let l : length bytes ≡ length t.four + length k.0.1 = ap length t.whole ∙ length-append t.four k.0.1 in
+      (p.0, omega (arith, t.size, l, p.1))
+]

@@ -1,0 +1,110 @@
+-- A rule has one type at a second, or is refused there, and never both.
+use Rattle.std.proofs.Common.{◌≡◌, ℕ, ◌+◌, ◌*◌, ◌<◌, ◌≤◌, arith, ℤ, pos, neg_ℤ, Bool, not, ◌+ℤ◌, ◌-ℤ◌, ◌*ℤ◌, ◌≤ℤ◌, ◌<ℤ◌, refl, sym, ◌∙◌, ap, subst, inl, inr, ◌⊎◌, ◌↔◌}
+use Rattle.std.proofs.lemmas.Int.{by_lt_z}
+use Rattle.naive_base.specs.Year.{floor_div, year_start, year_of, LiesIn}
+use Rattle.naive_base.proofs.Floor.{floors}
+use Rattle.naive_base.proofs.Years.{lies_in, one_year, starts_rise}
+use Rattle.tz_info.specs.LocalTypes.{LocalType}
+use Rattle.tz_info.specs.Rules.{Alternate as AlternateRule, IsAlternateRule}
+use Rattle.tz_info.specs.Moments.{IsYearOf, IsDstAt, IsRuleYear, IsRuleTime, AlternateAt, IsAlternateRefused, start_in, end_in, type_when}
+use Rattle.tz_info.specs.Turns.{is_in_three}
+use Rattle.tz_info.specs.RuleTypes.{RuleAt, IsRuleRefused, IsRule}
+use Rattle.tz_info.specs.declared.rule.transition_rule.TransitionRule.{TransitionRule}
+use Rattle.tz_info.specs.declared.rule.transition_rule.TransitionRule.TheVariants.{Fixed, Alternate}
+use Rattle.tz_info.proofs.Neighbours.{IsNear, starts_near, ends_near, start_first_by_three, end_first_by_three, one_answer, second_low, second_high}
+
+alternate_once : (a : AlternateRule) (u : ℤ) (s t : LocalType) → AlternateAt a u s → AlternateAt a u t → s ≡ t
+alternate_once a u s t h k =
+    let same = one_year (floor_div u 86_400) h.year k.year h.of_second k.of_second in
+    let when = subst (λ (year : ℤ). IsDstAt (start_in a) (end_in a) year u h.dst) same h.when in
+    h.shown ∙ ap (type_when a) (one_answer (start_in a) (end_in a) k.year u h.dst k.dst when k.when) ∙ sym k.shown
+
+pub rule_once : (rule : TransitionRule) (u : ℤ) (s t : LocalType) → RuleAt rule u s → RuleAt rule u t → s ≡ t
+rule_once (Fixed fixed) u s t h k = h ∙ sym k
+rule_once (Alternate a) u s t h k = alternate_once a u s t h k
+
+pub rule_not_refused : (rule : TransitionRule) (u : ℤ) (t : LocalType) → RuleAt rule u t → IsRuleRefused rule u → ⊥
+rule_not_refused (Fixed fixed) u t h refused = refused
+rule_not_refused (Alternate a) u t h refused = refused h.year h.of_second h.inside
+
+-- whether it is daylight saving time has an answer in every year
+dst_decided : (starts ends : ℤ → ℤ) (year u : ℤ) → IsNear starts → IsNear ends → IsYearOf u year → (dst : Bool) × IsDstAt starts ends year u dst
+dst_decided starts ends year u near_start near_end of_second =
+    by_lt_z (ends year) (starts year)
+    (λ less. (_, end_first_by_three starts ends year u (not (is_in_three ends starts year u)) near_start near_end of_second less refl))
+    (λ order. (_, start_first_by_three starts ends year u (is_in_three starts ends year u) near_start near_end of_second order refl))
+
+refused_at : (u year : ℤ) → IsYearOf u year → (IsRuleYear year → ⊥) → IsAlternateRefused u
+refused_at u year of_second out = λ other h inside. out (subst IsRuleYear (one_year (floor_div u 86_400) other year h of_second) inside)
+
+rule_year_decided : (year : ℤ) → IsRuleYear year ⊎ (IsRuleYear year → ⊥)
+rule_year_decided year =
+    by_lt_z year (neg_ℤ (pos 2_147_483_646))
+    (λ less. inr (λ h. omega (arith, floors, h.0)))
+    (λ low. by_lt_z (pos 2_147_483_645) year
+    (λ more. inr (λ h. omega (arith, floors, h.1)))
+    (λ high. inl (omega (arith, floors), omega (arith, floors))))
+
+pub alternate_decided : (a : AlternateRule) (u : ℤ) → IsAlternateRule a → ((t : LocalType) × AlternateAt a u t) ⊎ IsAlternateRefused u
+alternate_decided a u limits =
+    let year = year_of (floor_div u 86_400) in
+    let of_second = lies_in (floor_div u 86_400) in
+    elim (rule_year_decided year) [
+      | inl inside ↦
+          let d = dst_decided (start_in a) (end_in a) year u (starts_near a limits) (ends_near a limits) of_second in
+          inl (type_when a d.0, record { year = year; of_second = of_second; inside = inside; dst = d.0; when = d.1; shown = refl })
+      | inr out ↦ inr (refused_at u year of_second out)
+    ]
+
+-- every second has a type or is refused
+pub rule_decided : (rule : TransitionRule) (u : ℤ) → IsRule rule → ((t : LocalType) × RuleAt rule u t) ⊎ IsRuleRefused rule u
+rule_decided (Fixed fixed) u h = inl (fixed, refl)
+rule_decided (Alternate a) u h = alternate_decided a u h
+
+first_start : year_start (neg_ℤ (pos 2_147_483_646)) ≡ neg_ℤ (pos 784_353_015_102)
+unfolding year_start
+first_start = refl
+
+last_start : year_start (pos 2_147_483_646) ≡ pos 784_351_576_047
+unfolding year_start
+last_start = refl
+
+-- the seconds of the years that a rule answers in
+pub rule_time : (u year : ℤ) → IsYearOf u year → IsRuleYear year → IsRuleTime u
+rule_time u year of_second inside =
+    let low = second_low u year of_second in let high = second_high u year of_second in
+    let first = starts_rise (neg_ℤ (pos 2_147_483_646)) year inside.0 in
+    let last = starts_rise (year +ℤ pos 1) (pos 2_147_483_646) (omega (arith, floors, inside.1)) in
+    (omega (arith, floors, first_start), omega (arith, floors, last_start))
+
+pub rule_year : (u year : ℤ) → IsYearOf u year → IsRuleTime u → IsRuleYear year
+rule_year u year of_second within =
+    let low = second_low u year of_second in let high = second_high u year of_second in
+    let from : neg_ℤ (pos 2_147_483_646) ≤ℤ year = by_lt_z year (neg_ℤ (pos 2_147_483_646))
+    (λ less. let before = starts_rise (year +ℤ pos 1) (neg_ℤ (pos 2_147_483_646)) (omega (arith, floors)) in absurd (omega (arith, floors, first_start, within.0)))
+    (λ h. h) in
+    let to : year ≤ℤ pos 2_147_483_645 = by_lt_z (pos 2_147_483_645) year
+    (λ more. let behind = starts_rise (pos 2_147_483_646) year (omega (arith, floors)) in absurd (omega (arith, floors, last_start, within.1)))
+    (λ h. h) in
+    (from, to)
+
+-- outside of them an alternate rule is refused
+pub refused_outside : (u : ℤ) → (IsRuleTime u → ⊥) → IsAlternateRefused u
+refused_outside u out = λ year of_second inside. out (rule_time u year of_second inside)
+
+-- the year of the second's day is the second's year, and a rule answers in it
+pub year_found : (u day year : ℤ) → day ≡ floor_div u 86_400 → year ≡ year_of day → IsRuleTime u → LiesIn day year × IsRuleYear year
+year_found u day year at_day at_year within =
+    let lies : LiesIn day year = rw at_year (lies_in day) in
+    (lies, rule_year u year (rw at_day at lies) within)
+
+-- the type at a second whose day and year are known
+pub alternate_at : (a : AlternateRule) (u day year : ℤ) (dst : Bool) → day ≡ floor_div u 86_400 → LiesIn day year → IsRuleYear year → IsDstAt (start_in a) (end_in a) year u dst → AlternateAt a u (type_when a dst)
+alternate_at a u day year dst at_day lies inside when = record {
+  year = year;
+  of_second = rw at_day at lies;
+  inside = inside;
+  dst = dst;
+  when = when;
+  shown = refl;
+}

@@ -1,0 +1,91 @@
+-- A binary search in transitions whose times rise.
+use Rattle.std.proofs.Common.{◌≡◌, ℕ, ℤ, ◌+◌, ◌-◌, ◌<◌, ◌≤◌, arith, refl, ap, ◌∙◌, sym, List, length, get_or, take, true, false, ◌≤ℤ◌, ◌<ℤ◌, inl, inr, int_le}
+use Rattle.std.specs.List.{filter}
+use Rattle.std.proofs.lemmas.List.{get_or_default}
+use Rattle.std.proofs.lemmas.Bool.{cases_lt}
+use Rattle.std.proofs.lemmas.Int.{ints}
+use Rattle.tz_info.specs.Transitions.{AreRising, passed, AreTransitions, Stands}
+use Rattle.tz_info.specs.declared.zone.transition.Transition.{Transition}
+use Rattle.tz_info.proofs.Prefixes.{filter_first, le_true, le_false}
+
+-- the transitions below `low` come at or before v, those from `high` on after it
+pub record Between (xs : List Transition) (v : ℤ) (low high : ℕ) : Type 0 where
+  pub ordered : low ≤ high
+  pub within : high ≤ length xs
+  pub below : (k : ℕ) (d : Transition) → k < low → (get_or xs k d).unix_leap_time ≤ℤ v
+  pub above : (k : ℕ) (d : Transition) → high ≤ k → k < length xs → v <ℤ (get_or xs k d).unix_leap_time
+
+pub all_between : (xs : List Transition) (v : ℤ) → Between xs v 0 (length xs)
+all_between xs v = record { ordered = omega arith; within = omega arith; below = λ k d h. absurd (omega arith); above = λ k d h l. absurd (omega arith) }
+
+-- a look at a transition at or before v
+pub between_later : (xs : List Transition) (v : ℤ) (low middle high : ℕ) (x : Transition) → AreRising xs → Between xs v low high → middle < high → x ≡ get_or xs middle x → x.unix_leap_time ≤ℤ v → Between xs v (middle + 1) high
+between_later xs v low middle high x rising b h e le = let w = b.within in record {
+  ordered = omega arith;
+  within = b.within;
+  below = λ k d l.
+      let same : get_or xs middle d ≡ x = get_or_default xs middle d x (omega arith) ∙ sym e in
+      let times = ap (λ (t : Transition). t.unix_leap_time) same in
+      elim (cases_lt k middle) [
+        | inl m ↦ let r = rising k middle d m (omega arith) in omega (arith, ints)
+        | inr g ↦ let i : k ≡ middle = omega arith in rw i (omega (arith, ints))
+      ];
+  above = b.above;
+}
+
+-- a look at a transition after v
+pub between_earlier : (xs : List Transition) (v : ℤ) (low middle high : ℕ) (x : Transition) → AreRising xs → Between xs v low high → low ≤ middle → middle < high → x ≡ get_or xs middle x → v <ℤ x.unix_leap_time → Between xs v low middle
+between_earlier xs v low middle high x rising b l h e lt = let w = b.within in record {
+  ordered = l;
+  within = omega arith;
+  below = b.below;
+  above = λ k d a m.
+      let same : get_or xs middle d ≡ x = get_or_default xs middle d x (omega arith) ∙ sym e in
+      let times = ap (λ (t : Transition). t.unix_leap_time) same in
+      elim (cases_lt middle k) [
+        | inl l ↦ let r = rising middle k d l m in omega (arith, ints)
+        | inr g ↦ let i : k ≡ middle = omega arith in rw i (omega (arith, ints))
+      ];
+}
+
+pub search_found : (xs : List Transition) (v : ℤ) (low high : ℕ) → high ≤ low → Between xs v low high → passed xs v ≡ take low xs
+search_found xs v low high h b =
+    let o = b.ordered in let w = b.within in
+    filter_first (λ (t : Transition). int_le t.unix_leap_time v) xs low (omega arith)
+    (λ k d l. le_true _ v (b.below k d l))
+    (λ k d l m. le_false _ v (b.above k d (omega arith) m))
+
+-- transitions that stand so far rise so far
+pub record StandUntil (types : ℕ) (xs : List Transition) (n : ℕ) : Type 0 where
+  pub indexes : (k : ℕ) (d : Transition) → k < n → (get_or xs k d).type_index < types
+  pub rising : (i j : ℕ) (d : Transition) → i < j → j < n → (get_or xs i d).unix_leap_time <ℤ (get_or xs j d).unix_leap_time
+
+pub stand_none : (types : ℕ) (xs : List Transition) → StandUntil types xs 0
+stand_none types xs = record { indexes = λ k d h. absurd (omega arith); rising = λ i j d h l. absurd (omega arith) }
+
+pub stand_more : (types : ℕ) (xs : List Transition) (n : ℕ) → StandUntil types xs n → Stands types xs n → StandUntil types xs (n + 1)
+stand_more types xs n s here = record {
+  indexes = λ k d h. elim (cases_lt k n) [ inl l ↦ s.indexes k d l | inr g ↦ let e : k ≡ n = omega arith in rw e (here.index d) ];
+  rising = λ i j d h l. elim (cases_lt j n) [
+    | inl m ↦ s.rising i j d h m
+    | inr g ↦
+        let e : j ≡ n = omega arith in
+        let last = here.later d (omega arith) in
+        elim (cases_lt i (n - 1)) [
+          | inl m ↦ let r = s.rising i (n - 1) d m (omega arith) in rw e (omega (arith, ints))
+          | inr m ↦ let f : i ≡ n - 1 = omega arith in rw (e, f) last
+        ]
+  ];
+}
+
+pub all_stand : (types : ℕ) (xs : List Transition) (n : ℕ) → length xs ≤ n → StandUntil types xs n → AreTransitions types xs
+all_stand types xs n h s = record {
+  indexes = λ k d l. s.indexes k d (omega arith);
+  rising = λ i j d l m. s.rising i j d l (omega arith);
+}
+
+pub one_stands : (types : ℕ) (xs : List Transition) (n : ℕ) → n < length xs → AreTransitions types xs → Stands types xs n
+one_stands types xs n h a = record {
+  index = λ d. a.indexes n d h;
+  later = λ d l. a.rising (n - 1) n d (omega arith) h;
+}

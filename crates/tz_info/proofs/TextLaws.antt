@@ -1,0 +1,311 @@
+-- The law of a whole TZ text, and what it says of a reader.
+use Rattle.std.proofs.Common.{◌≡◌, ℕ, ℤ, refl, ap, ◌∙◌, sym, subst, List, [], ◌∷◌, Bool, true, false, cond, Ok, Err, Result, inl, inr, ◌⊎◌, ◌≢◌, Option, Some, IfOk, IfErr}
+use Rattle.std.specs.Result.{IsOkAnd}
+use Rattle.tz_info.specs.Errors.{number_of}
+use Rattle.tz_info.specs.Fronts.{Gives, optional_tag_at, ◌>>=◌}
+use Rattle.tz_info.specs.LocalTypes.{LocalType}
+use Rattle.tz_info.specs.Rules.{Alternate}
+use Rattle.tz_info.specs.Pieces.{Name, Offset, DstOffset}
+use Rattle.tz_info.specs.TzTexts.{IsNamed, IsTzText}
+use Rattle.tz_info.specs.TzFaults.{Days, IsBadName, TurnsFault, RuleFault, IsTextFault}
+use Rattle.tz_info.specs.Readings.{checked_at, name_at, letters_at, is_name, named_type_of, end_at, more_at, dst_offset_at, given_offset_at, fixed_at, named_types_of, alternate_at, rule_at, text_at}
+use Rattle.tz_info.specs.declared.error.Error.{Error}
+use Rattle.tz_info.specs.declared.rule.alternate.DayTime.{DayTime}
+use Rattle.tz_info.specs.declared.rule.transition_rule.TransitionRule.{TransitionRule}
+use Rattle.tz_info.specs.declared.rule.transition_rule.TransitionRule.TheVariants as rules
+use Rattle.tz_info.proofs.NamedTypes.{name_from, name_to}
+use Rattle.tz_info.proofs.PieceLaws.{Law, Then, then_law, made_law, like_law, checked_law, ok_parts, bind_ok, bind_err}
+use Rattle.tz_info.proofs.ClockLaws.{offset_law}
+use Rattle.tz_info.proofs.QuoteLaws.{name_law}
+use Rattle.tz_info.proofs.DayLaws.{days_law}
+use Rattle.tz_info.proofs.DstOffsetLaws.{dst_offset_law}
+
+-- ---- types
+abbrev typed : ℤ → Bool → Option (List ℕ) → LocalType
+typed offset dst name = record { offset = offset; dst = dst; name = name }
+
+abbrev type_refused_unless : Bool → LocalType → Result LocalType ℕ
+type_refused_unless t x = cond t (Ok x) (Err 3)
+
+named_ok : (name : List ℕ) (dst : Bool) (offset : ℤ) (t : LocalType) → named_type_of name dst offset ≡ Ok t → IsNamed name dst t × (t.offset ≡ offset)
+unfolding named_type_of
+named_ok name dst offset t h = elim (is_name name) as (λ b. is_name name ≡ b → type_refused_unless b (typed offset dst (Some name)) ≡ Ok t → IsNamed name dst t × (t.offset ≡ offset)) [
+  | true ↦ λ b k.
+      let e : typed offset dst (Some name) ≡ t = cc in
+      subst (λ (y : LocalType). IsNamed name dst y × (y.offset ≡ offset)) e (record { allowed = name_from name b; named = refl; mark = refl }, refl)
+  | false ↦ λ b k. cc
+] refl h
+
+same_type : (o p : ℤ) (d e : Bool) (m n : Option (List ℕ)) → o ≡ p → d ≡ e → m ≡ n → typed o d m ≡ typed p e n
+same_type o p d e m n a b c = cc
+
+named_again : (name : List ℕ) (dst : Bool) (offset : ℤ) (t : LocalType) → IsNamed name dst t → t.offset ≡ offset → named_type_of name dst offset ≡ Ok t
+unfolding named_type_of
+named_again name dst offset t h e =
+    let same : t ≡ typed offset dst (Some name) = same_type t.offset offset t.dst dst t.name (Some name) e h.mark h.named in
+    rw (name_to name h.allowed) (ap Ok (sym same))
+
+named_err : (name : List ℕ) (dst : Bool) (offset : ℤ) (n : ℕ) → named_type_of name dst offset ≡ Err n → IsBadName name n
+unfolding named_type_of
+named_err name dst offset n h = elim (is_name name) as (λ b. is_name name ≡ b → type_refused_unless b (typed offset dst (Some name)) ≡ Err n → IsBadName name n) [
+  | true ↦ λ b k. cc
+  | false ↦ λ b k. (λ good. let e = name_to name good in cc, cc)
+] refl h
+
+-- both types of a rule
+record AreNamed (std_name : List ℕ) (std_offset : ℤ) (dst_name : List ℕ) (dst_offset : ℤ) (p : LocalType × LocalType) : Type 0 where
+  std_named : IsNamed std_name false p.0
+  std_offset_is : p.0.offset ≡ std_offset
+  dst_named : IsNamed dst_name true p.1
+  dst_offset_is : p.1.offset ≡ dst_offset
+
+types_ok : (std_name : List ℕ) (std_offset : ℤ) (dst_name : List ℕ) (dst_offset : ℤ) (p : LocalType × LocalType) → named_types_of std_name std_offset dst_name dst_offset ≡ Ok p → AreNamed std_name std_offset dst_name dst_offset p
+unfolding named_types_of
+types_ok std_name std_offset dst_name dst_offset p h =
+    let k = bind_ok (named_type_of std_name false std_offset) _ p h in
+    let m = bind_ok (named_type_of dst_name true dst_offset) _ p k.2 in
+    let a = named_ok std_name false std_offset k.0 k.1 in
+    let b = named_ok dst_name true dst_offset m.0 m.1 in
+    let e : (k.0, m.0) ≡ p = cc in
+    subst (AreNamed std_name std_offset dst_name dst_offset) e (record { std_named = a.0; std_offset_is = a.1; dst_named = b.0; dst_offset_is = b.1 })
+
+types_again : (std_name : List ℕ) (std_offset : ℤ) (dst_name : List ℕ) (dst_offset : ℤ) (p : LocalType × LocalType) → AreNamed std_name std_offset dst_name dst_offset p → named_types_of std_name std_offset dst_name dst_offset ≡ Ok p
+unfolding named_types_of
+types_again std_name std_offset dst_name dst_offset p h = rw (named_again std_name false std_offset p.0 h.std_named h.std_offset_is, named_again dst_name true dst_offset p.1 h.dst_named h.dst_offset_is) refl
+
+types_err : (std_name : List ℕ) (std_offset : ℤ) (dst_name : List ℕ) (dst_offset : ℤ) (n : ℕ) → named_types_of std_name std_offset dst_name dst_offset ≡ Err n → IsBadName std_name n ⊎ IsBadName dst_name n
+unfolding named_types_of
+types_err std_name std_offset dst_name dst_offset n h = elim (bind_err (named_type_of std_name false std_offset) _ n h) [
+  | inl e ↦ inl (named_err std_name false std_offset n e)
+  | inr k ↦ elim (bind_err (named_type_of dst_name true dst_offset) _ n k.2) [ inl e ↦ inr (named_err dst_name true dst_offset n e) | inr m ↦ cc ]
+]
+
+-- ---- the end
+abbrev End : List ℕ → Unit {0} → List ℕ → Type 0
+End bytes unit rest = (bytes ≡ []) × (rest ≡ [])
+
+abbrev EndFault : List ℕ → ℕ → Type 0
+EndFault bytes n = (bytes ≢ []) × (n ≡ 6)
+
+end_takes : (bytes : List ℕ) (u : Unit {0}) (rest : List ℕ) → end_at bytes ≡ Ok (u, rest) → End bytes u rest
+unfolding end_at
+end_takes [] u rest h = (refl, sym (ok_parts tt u [] rest h).1)
+end_takes (b ∷ bs) u rest h = cc
+
+end_again : (bytes : List ℕ) (u : Unit {0}) (rest : List ℕ) → End bytes u rest → end_at bytes ≡ Ok (u, rest)
+unfolding end_at
+end_again [] u rest h = rw h.1 refl
+end_again (b ∷ bs) u rest h = let e = h.0 in cc
+
+end_fails : (bytes : List ℕ) (n : ℕ) → end_at bytes ≡ Err n → EndFault bytes n
+unfolding end_at
+end_fails [] n h = cc
+end_fails (b ∷ bs) n h = (λ e. cc, cc)
+
+end_law : Law (Unit {0}) end_at End EndFault
+end_law = record { takes = end_takes; again = end_again; fails = end_fails }
+
+-- ---- behind the days
+abbrev turns_of : DayTime × DayTime → LocalType × LocalType → TransitionRule
+turns_of days types = rules.Alternate (record { std = types.0; dst = types.1; start = days.0; end = days.1 })
+
+abbrev Tail : List ℕ → ℤ → List ℕ → ℤ → DayTime × DayTime → List ℕ → TransitionRule → List ℕ → Type 0
+Tail std_name std_offset dst_name dst_offset days bytes rule rest = (types : LocalType × LocalType) × AreNamed std_name std_offset dst_name dst_offset types × (bytes ≡ []) × (rest ≡ []) × (turns_of days types ≡ rule)
+
+abbrev TailFault : List ℕ → List ℕ → List ℕ → ℕ → Type 0
+TailFault std_name dst_name bytes n = ((bytes ≢ []) × (n ≡ 6)) ⊎ ((bytes ≡ []) × (IsBadName std_name n ⊎ IsBadName dst_name n))
+
+tail_law : (std_name : List ℕ) (std_offset : ℤ) (dst_name : List ℕ) (dst_offset : ℤ) (days : DayTime × DayTime) → Law TransitionRule (λ bytes. end_at bytes >>= λ e. (checked_at (named_types_of std_name std_offset dst_name dst_offset) e.1 >>= λ p. Ok (turns_of days p.0, p.1))) (Tail std_name std_offset dst_name dst_offset days) (TailFault std_name dst_name)
+tail_law std_name std_offset dst_name dst_offset days = like_law (then_law end_law (λ _. made_law (turns_of days) (checked_law (named_types_of std_name std_offset dst_name dst_offset))))
+    (λ bytes rule rest h. let t = h.3 in (t.0, types_ok std_name std_offset dst_name dst_offset t.0 t.1.0, h.2.0, sym t.1.1 ∙ h.2.1, t.2))
+    (λ bytes rule rest h. (tt, [], (h.2, refl), (h.0, (types_again std_name std_offset dst_name dst_offset h.0 h.1, sym h.3), h.4)))
+    (λ bytes n h. elim h [ inl a ↦ inl a | inr b ↦ inr (b.2.0, types_err std_name std_offset dst_name dst_offset n b.3) ])
+
+-- ---- behind the offset of standard time
+record Turns (extended : Bool) (std_name : List ℕ) (std_offset : ℤ) (bytes : List ℕ) (a : Alternate) (rest : List ℕ) : Type 0 where
+  dst_name : List ℕ
+  after_dst_name : List ℕ
+  at_start : List ℕ
+  dst_name_spelled : Name bytes dst_name after_dst_name
+  dst_offset_spelled : DstOffset std_offset after_dst_name a.dst.offset at_start
+  days_spelled : Days extended at_start (a.start, a.end) []
+  named : AreNamed std_name std_offset dst_name a.dst.offset (a.std, a.dst)
+  nothing : rest ≡ []
+
+abbrev AlternatePiece : Bool → List ℕ → ℤ → List ℕ → TransitionRule → List ℕ → Type 0
+AlternatePiece extended std_name std_offset bytes (rules.Fixed t) rest = ⊥
+AlternatePiece extended std_name std_offset bytes (rules.Alternate a) rest = Turns extended std_name std_offset bytes a rest
+
+abbrev AlternateParts : Bool → List ℕ → ℤ → List ℕ → TransitionRule → List ℕ → Type 0
+AlternateParts extended std_name std_offset = Then Name (λ dst_name. Then (DstOffset std_offset) (λ dst_offset. Then (Days extended) (λ days. Tail std_name std_offset dst_name dst_offset days)))
+
+alternate_to : (extended : Bool) (std_name : List ℕ) (std_offset : ℤ) (bytes : List ℕ) (rule : TransitionRule) (rest : List ℕ) → AlternateParts extended std_name std_offset bytes rule rest → AlternatePiece extended std_name std_offset bytes rule rest
+alternate_to extended std_name std_offset bytes rule rest h =
+    let offset = h.3 in let days = offset.3 in let tail = days.3 in
+    subst (λ (r : TransitionRule). AlternatePiece extended std_name std_offset bytes r rest) tail.4 (record {
+      dst_name = h.0;
+      after_dst_name = h.1;
+      at_start = offset.1;
+      dst_name_spelled = h.2;
+      dst_offset_spelled = subst (λ (z : ℤ). DstOffset std_offset h.1 z offset.1) (sym tail.1.dst_offset_is) offset.2;
+      days_spelled = subst (λ (r : List ℕ). Days extended offset.1 days.0 r) tail.2 days.2;
+      named = record { std_named = tail.1.std_named; std_offset_is = tail.1.std_offset_is; dst_named = tail.1.dst_named; dst_offset_is = refl };
+      nothing = tail.3;
+    })
+
+alternate_from : (extended : Bool) (std_name : List ℕ) (std_offset : ℤ) (bytes : List ℕ) (rule : TransitionRule) (rest : List ℕ) → AlternatePiece extended std_name std_offset bytes rule rest → AlternateParts extended std_name std_offset bytes rule rest
+alternate_from extended std_name std_offset bytes (rules.Fixed t) rest h = absurd h
+alternate_from extended std_name std_offset bytes (rules.Alternate a) rest h =
+    (h.dst_name, h.after_dst_name, h.dst_name_spelled, (a.dst.offset, h.at_start, h.dst_offset_spelled, ((a.start, a.end), [], h.days_spelled, ((a.std, a.dst), h.named, refl, h.nothing, refl))))
+
+alternate_law : (extended : Bool) (std_name : List ℕ) (std_offset : ℤ) → Law TransitionRule (alternate_at extended std_name std_offset) (AlternatePiece extended std_name std_offset) (TurnsFault extended std_name std_offset)
+unfolding alternate_at
+alternate_law extended std_name std_offset = like_law (then_law name_law (λ dst_name. then_law (dst_offset_law std_offset) (λ dst_offset. then_law (days_law extended) (λ days. tail_law std_name std_offset dst_name dst_offset days))))
+    (alternate_to extended std_name std_offset)
+    (alternate_from extended std_name std_offset)
+    (λ bytes n h. h)
+
+alternate_none : (extended : Bool) (std_name : List ℕ) (std_offset : ℤ) → alternate_at extended std_name std_offset [] ≡ Err 15
+unfolding alternate_at name_at letters_at dst_offset_at given_offset_at more_at optional_tag_at
+alternate_none extended std_name std_offset = refl
+
+-- ---- the rule of a name and an offset
+abbrev RulePiece : Bool → List ℕ → ℤ → List ℕ → TransitionRule → List ℕ → Type 0
+RulePiece extended std_name std_offset bytes (rules.Fixed t) rest = IsNamed std_name false t × (t.offset ≡ std_offset) × (bytes ≡ []) × (rest ≡ [])
+RulePiece extended std_name std_offset bytes (rules.Alternate a) rest = Turns extended std_name std_offset bytes a rest
+
+fixed_takes : (extended : Bool) (std_name : List ℕ) (std_offset : ℤ) (rule : TransitionRule) (rest : List ℕ) → fixed_at std_name std_offset [] ≡ Ok (rule, rest) → RulePiece extended std_name std_offset [] rule rest
+unfolding fixed_at
+fixed_takes extended std_name std_offset rule rest h =
+    let m = (made_law rules.Fixed (checked_law (named_type_of std_name false std_offset))).takes [] rule rest h in
+    let t = named_ok std_name false std_offset m.0 m.1.0 in
+    subst (λ (r : TransitionRule). RulePiece extended std_name std_offset [] r rest) m.2 (t.0, t.1, refl, sym m.1.1)
+
+fixed_again : (std_name : List ℕ) (std_offset : ℤ) (t : LocalType) → IsNamed std_name false t → t.offset ≡ std_offset → fixed_at std_name std_offset [] ≡ Ok (rules.Fixed t, [])
+unfolding fixed_at
+fixed_again std_name std_offset t h e = rw (named_again std_name false std_offset t h e) refl
+
+fixed_fails : (std_name : List ℕ) (std_offset : ℤ) (n : ℕ) → fixed_at std_name std_offset [] ≡ Err n → IsBadName std_name n
+unfolding fixed_at
+fixed_fails std_name std_offset n h = named_err std_name false std_offset n ((made_law rules.Fixed (checked_law (named_type_of std_name false std_offset))).fails [] n h)
+
+alternate_is_rule : (extended : Bool) (std_name : List ℕ) (std_offset : ℤ) (bytes : List ℕ) (rule : TransitionRule) (rest : List ℕ) → AlternatePiece extended std_name std_offset bytes rule rest → RulePiece extended std_name std_offset bytes rule rest
+alternate_is_rule extended std_name std_offset bytes (rules.Fixed t) rest h = absurd h
+alternate_is_rule extended std_name std_offset bytes (rules.Alternate a) rest h = h
+
+rule_takes : (extended : Bool) (std_name : List ℕ) (std_offset : ℤ) (bytes : List ℕ) (rule : TransitionRule) (rest : List ℕ) → rule_at extended std_name std_offset bytes ≡ Ok (rule, rest) → RulePiece extended std_name std_offset bytes rule rest
+unfolding rule_at
+rule_takes extended std_name std_offset [] rule rest h = fixed_takes extended std_name std_offset rule rest h
+rule_takes extended std_name std_offset (b ∷ bs) rule rest h = alternate_is_rule extended std_name std_offset (b ∷ bs) rule rest ((alternate_law extended std_name std_offset).takes (b ∷ bs) rule rest h)
+
+turns_again : (extended : Bool) (std_name : List ℕ) (std_offset : ℤ) (bytes : List ℕ) (a : Alternate) (rest : List ℕ) → Turns extended std_name std_offset bytes a rest → rule_at extended std_name std_offset bytes ≡ Ok (rules.Alternate a, rest)
+unfolding rule_at
+turns_again extended std_name std_offset [] a rest h = let e = (alternate_law extended std_name std_offset).again [] (rules.Alternate a) rest h in let k = alternate_none extended std_name std_offset in cc
+turns_again extended std_name std_offset (b ∷ bs) a rest h = (alternate_law extended std_name std_offset).again (b ∷ bs) (rules.Alternate a) rest h
+
+none_again : (extended : Bool) (std_name : List ℕ) (std_offset : ℤ) (t : LocalType) → IsNamed std_name false t → t.offset ≡ std_offset → rule_at extended std_name std_offset [] ≡ Ok (rules.Fixed t, [])
+unfolding rule_at
+none_again extended std_name std_offset t h e = fixed_again std_name std_offset t h e
+
+rule_again : (extended : Bool) (std_name : List ℕ) (std_offset : ℤ) (bytes : List ℕ) (rule : TransitionRule) (rest : List ℕ) → RulePiece extended std_name std_offset bytes rule rest → rule_at extended std_name std_offset bytes ≡ Ok (rule, rest)
+rule_again extended std_name std_offset bytes (rules.Fixed t) rest h = rw (h.2, h.3) (none_again extended std_name std_offset t h.0 h.1)
+rule_again extended std_name std_offset bytes (rules.Alternate a) rest h = turns_again extended std_name std_offset bytes a rest h
+
+rule_fails : (extended : Bool) (std_name : List ℕ) (std_offset : ℤ) (bytes : List ℕ) (n : ℕ) → rule_at extended std_name std_offset bytes ≡ Err n → RuleFault extended std_name std_offset bytes n
+unfolding rule_at
+rule_fails extended std_name std_offset [] n h = inl (refl, fixed_fails std_name std_offset n h)
+rule_fails extended std_name std_offset (b ∷ bs) n h = inr (λ e. cc, (alternate_law extended std_name std_offset).fails (b ∷ bs) n h)
+
+rule_law : (extended : Bool) (std_name : List ℕ) (std_offset : ℤ) → Law TransitionRule (rule_at extended std_name std_offset) (RulePiece extended std_name std_offset) (RuleFault extended std_name std_offset)
+rule_law extended std_name std_offset = record { takes = rule_takes extended std_name std_offset; again = rule_again extended std_name std_offset; fails = rule_fails extended std_name std_offset }
+
+-- ---- the whole
+abbrev TextPiece : Bool → List ℕ → TransitionRule → List ℕ → Type 0
+TextPiece extended bytes rule rest = IsTzText extended bytes rule × (rest ≡ [])
+
+abbrev TextParts : Bool → List ℕ → TransitionRule → List ℕ → Type 0
+TextParts extended = Then Name (λ name. Then Offset (λ offset. RulePiece extended name offset))
+
+text_to : (extended : Bool) (bytes : List ℕ) (rule : TransitionRule) (rest : List ℕ) → TextParts extended bytes rule rest → TextPiece extended bytes rule rest
+text_to extended bytes (rules.Fixed t) rest h =
+    let o = h.3 in let r = o.3 in (
+      record {
+        name = h.0;
+        after_name = h.1;
+        name_spelled = h.2;
+        offset_spelled = subst (λ (z : ℤ). Offset h.1 z []) (sym r.1) (subst (λ (y : List ℕ). Offset h.1 o.0 y) r.2 o.2);
+        named = r.0;
+      },
+      r.3,
+    )
+text_to extended bytes (rules.Alternate a) rest h =
+    let o = h.3 in let r = o.3 in (
+      record {
+        std_name = h.0;
+        dst_name = r.dst_name;
+        after_std_name = h.1;
+        after_std = o.1;
+        after_dst_name = r.after_dst_name;
+        at_start = r.at_start;
+        at_end = r.days_spelled.at_end;
+        std_name_spelled = h.2;
+        std_offset_spelled = subst (λ (z : ℤ). Offset h.1 z o.1) (sym r.named.std_offset_is) o.2;
+        dst_name_spelled = r.dst_name_spelled;
+        dst_offset_spelled = subst (λ (z : ℤ). DstOffset z r.after_dst_name a.dst.offset r.at_start) (sym r.named.std_offset_is) r.dst_offset_spelled;
+        start_spelled = r.days_spelled.start;
+        end_spelled = r.days_spelled.end;
+        std_named = r.named.std_named;
+        dst_named = r.named.dst_named;
+      },
+      r.nothing,
+    )
+
+text_from : (extended : Bool) (bytes : List ℕ) (rule : TransitionRule) (rest : List ℕ) → TextPiece extended bytes rule rest → TextParts extended bytes rule rest
+text_from extended bytes (rules.Fixed t) rest h =
+    let x = h.0 in
+    (x.name, x.after_name, x.name_spelled, (t.offset, [], x.offset_spelled, (x.named, refl, refl, h.1)))
+text_from extended bytes (rules.Alternate a) rest h =
+    let x = h.0 in (
+      x.std_name,
+      x.after_std_name,
+      x.std_name_spelled,
+      (
+        a.std.offset,
+        x.after_std,
+        x.std_offset_spelled,
+        record {
+          dst_name = x.dst_name;
+          after_dst_name = x.after_dst_name;
+          at_start = x.at_start;
+          dst_name_spelled = x.dst_name_spelled;
+          dst_offset_spelled = x.dst_offset_spelled;
+          days_spelled = record { at_end = x.at_end; start = x.start_spelled; end = x.end_spelled };
+          named = record { std_named = x.std_named; std_offset_is = refl; dst_named = x.dst_named; dst_offset_is = refl };
+          nothing = h.1;
+        },
+      ),
+    )
+
+pub text_law : (extended : Bool) → Law TransitionRule (text_at extended) (TextPiece extended) (IsTextFault extended)
+unfolding text_at
+text_law extended = like_law (then_law name_law (λ name. then_law offset_law (λ offset. rule_law extended name offset)))
+    (text_to extended)
+    (text_from extended)
+    (λ bytes n h. h)
+
+-- ---- what a reader of a whole text answers
+pub found_by : (extended : Bool) (bytes rest : List ℕ) (r : Result TransitionRule Error) → Gives (λ rule. (rule, rest)) r (text_at extended bytes) → IfOk r (λ rule. IsTzText extended bytes rule)
+found_by extended bytes rest (Ok rule) g = ((text_law extended).takes bytes rule rest g).0
+found_by extended bytes rest (Err e) g = tt
+
+pub only_by : (extended : Bool) (bytes rest : List ℕ) (r : Result TransitionRule Error) → Gives (λ rule. (rule, rest)) r (text_at extended bytes) → (rule : TransitionRule) → IsTzText extended bytes rule → IsOkAnd r (λ y. y ≡ rule)
+only_by extended bytes rest (Ok y) g rule h = (ok_parts y rule rest [] (sym g ∙ (text_law extended).again bytes rule [] (h, refl))).0
+only_by extended bytes rest (Err e) g rule h = let k = (text_law extended).again bytes rule [] (h, refl) in cc
+
+pub fault_by : (extended : Bool) (bytes rest : List ℕ) (r : Result TransitionRule Error) → Gives (λ rule. (rule, rest)) r (text_at extended bytes) → IfErr r (λ e. IsTextFault extended bytes (number_of e))
+fault_by extended bytes rest (Ok y) g = tt
+fault_by extended bytes rest (Err e) g = (text_law extended).fails bytes (number_of e) g
+
+-- no bytes spell two rules
+pub one_rule : (extended : Bool) (bytes : List ℕ) (a b : TransitionRule) → IsTzText extended bytes a → IsTzText extended bytes b → a ≡ b
+one_rule extended bytes a b p q = (ok_parts a b [] [] (sym ((text_law extended).again bytes a [] (p, refl)) ∙ (text_law extended).again bytes b [] (q, refl))).0

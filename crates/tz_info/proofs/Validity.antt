@@ -1,0 +1,39 @@
+-- Whether a rule agrees with the last transition.
+use Rattle.std.proofs.Common.{◌≡◌, sym, ◌∙◌, List, slice_get, ℤ, Some, inl, inr, Bool, IsTrue, ◌↔◌}
+use Rattle.tz_info.specs.Leaps.{IsUnixTime, IsUnixTimeRefused}
+use Rattle.tz_info.specs.LocalTypes.{LocalType}
+use Rattle.tz_info.specs.RuleTypes.{RuleAt, IsRuleRefused}
+use Rattle.tz_info.specs.Zones.{Agrees}
+use Rattle.tz_info.specs.declared.rule.transition_rule.TransitionRule.{TransitionRule}
+use Rattle.tz_info.specs.declared.zone.leap_second.LeapSecond.{LeapSecond}
+use Rattle.tz_info.specs.declared.zone.transition.Transition.{Transition}
+use Rattle.tz_info.proofs.RuleLaws.{rule_once, rule_not_refused}
+
+unix_time_once : (leaps : List LeapSecond) (x u v : ℤ) → IsUnixTime leaps x u → IsUnixTime leaps x v → u ≡ v
+unix_time_once leaps x u v a b = a.difference ∙ sym b.difference
+
+unix_time_not_refused : (leaps : List LeapSecond) (x u : ℤ) → IsUnixTime leaps x u → IsUnixTimeRefused leaps x → ⊥
+unix_time_not_refused leaps x u a (inl e) = a.not_least e
+unix_time_not_refused leaps x u a (inr out) = let e = a.difference in out (rw e at a.fits)
+
+agreed_types : (types : List LocalType) (leaps : List LeapSecond) (rule : TransitionRule) (last : Transition) (u : ℤ) (s t : LocalType) → IsUnixTime leaps last.unix_leap_time u → RuleAt rule u s → slice_get types last.type_index ≡ Some t → Agrees types leaps rule last → s ≡ t
+agreed_types types leaps rule last u s t of_last of_rule listed h =
+    let e = unix_time_once leaps last.unix_leap_time u h.unix_time of_last h.of_transition in
+    let r = rule_once rule u s h.type of_rule (rw e h.of_rule) in
+    let q : Some t ≡ Some h.type = sym listed ∙ h.listed in
+    cc
+
+-- whether the rule agrees is whether its type there and the listed one are the same
+pub agrees_if_same : (types : List LocalType) (leaps : List LeapSecond) (rule : TransitionRule) (last : Transition) (u : ℤ) (s t : LocalType) (same : Bool) → IsUnixTime leaps last.unix_leap_time u → RuleAt rule u s → slice_get types last.type_index ≡ Some t → IsTrue same ↔ (s ≡ t) → IsTrue same ↔ Agrees types leaps rule last
+agrees_if_same types leaps rule last u s t same of_last of_rule listed e = (
+  λ h. record { unix_time = u; of_transition = of_last; type = s; of_rule = of_rule; listed = rw (e.0 h) listed },
+  λ h. e.1 (agreed_types types leaps rule last u s t of_last of_rule listed h),
+)
+
+pub differs_without_time : (types : List LocalType) (leaps : List LeapSecond) (rule : TransitionRule) (last : Transition) → IsUnixTimeRefused leaps last.unix_leap_time → Agrees types leaps rule last → ⊥
+differs_without_time types leaps rule last refused h = unix_time_not_refused leaps last.unix_leap_time h.unix_time h.of_transition refused
+
+pub differs_without_rule : (types : List LocalType) (leaps : List LeapSecond) (rule : TransitionRule) (last : Transition) (u : ℤ) → IsUnixTime leaps last.unix_leap_time u → IsRuleRefused rule u → Agrees types leaps rule last → ⊥
+differs_without_rule types leaps rule last u of_last refused h =
+    let e = unix_time_once leaps last.unix_leap_time u h.unix_time of_last h.of_transition in
+    rule_not_refused rule u h.type (rw e h.of_rule) refused

@@ -1,0 +1,143 @@
+-- At each second a zone has one type, of its list or of its rule, or it is refused, and never both.
+use Rattle.std.proofs.Common.{◌≡◌, ℕ, zero, suc, ◌<◌, ◌≤◌, ◌+◌, ◌-◌, ℤ, pos, neg_ℤ, ◌+ℤ◌, Option, Some, None, List, [], ◌∷◌, length, map, get_or, int_le, ◌⊎◌, inl, inr, ⊎_elim, arith, refl, sym, ◌∙◌, ap, slice_get, w64}
+use Rattle.std.proofs.lemmas.Int.{ints, by_lt_z}
+use Rattle.std.proofs.lemmas.Bool.{cases_lt}
+use Rattle.std.proofs.lemmas.List.Sums.{length-filter, count_by-le-length}
+use mir.Val.{SFits}
+use Rattle.tz_info.specs.Leaps.{AreLeapSeconds, corrections, passed_count, correction_at, IsLeapTime, IsLeapTimeRefused}
+use Rattle.tz_info.specs.Lists.{last_else}
+use Rattle.tz_info.specs.LocalTypes.{LocalType}
+use Rattle.tz_info.specs.Transitions.{passed, AreTransitions}
+use Rattle.tz_info.specs.Zones.{Zone, HasType, IsValid, RuleOrElse, IsRefusedBy, index_at, IsBeforeLast, IsFromLast, TypeAtLeapTime, TypeAt, IsTypeRefused, by_leap_time, by_rule, IsRuleOrNone, IsTypeOf, zone_of_rule}
+use Rattle.tz_info.specs.declared.rule.transition_rule.TransitionRule.{TransitionRule}
+use Rattle.tz_info.specs.declared.zone.leap_second.LeapSecond.{LeapSecond}
+use Rattle.tz_info.specs.declared.zone.transition.Transition.{Transition}
+use Rattle.tz_info.proofs.PassedTransitions.{no_items}
+use Rattle.tz_info.proofs.Prefixes.{le_true, le_false}
+use Rattle.tz_info.proofs.RuleLaws.{rule_once, rule_not_refused, rule_decided}
+
+passed_at_most : (z : Zone) (x : ℤ) → length (passed z.transitions x) ≤ length z.transitions
+passed_at_most z x = omega (arith, length-filter (λ (t : Transition). int_le t.unix_leap_time x) z.transitions, count_by-le-length (λ (t : Transition). int_le t.unix_leap_time x) z.transitions)
+
+pub before_or_from_last : (z : Zone) (x : ℤ) → IsBeforeLast z x ⊎ IsFromLast z x
+before_or_from_last z x = let l = passed_at_most z x in ⊎_elim (λ h. inl h) (λ h. inr (omega arith)) (cases_lt (length (passed z.transitions x)) (length z.transitions))
+
+-- two leap times of a second pass the same transitions
+same_passed : (z : Zone) (u x y : ℤ) → (0 < length z.transitions → IsLeapTime z.leaps u x) → (0 < length z.transitions → IsLeapTime z.leaps u y) → passed z.transitions x ≡ passed z.transitions y
+same_passed z u x y a b = ⊎_elim
+    (λ h. ap (passed z.transitions) ((a h).sum ∙ sym (b h).sum))
+    (λ h. rw (no_items z.transitions (omega arith)) refl)
+    (cases_lt 0 (length z.transitions))
+
+some_once : (o : Option LocalType) (s t : LocalType) → o ≡ Some s → o ≡ Some t → s ≡ t
+some_once o s t h k = cc
+
+or_else_once : (rule : Option TransitionRule) (o : Option LocalType) (u : ℤ) (s t : LocalType) → RuleOrElse rule u (o ≡ Some s) s → RuleOrElse rule u (o ≡ Some t) t → s ≡ t
+or_else_once (Some rule) o u s t h k = rule_once rule u s t h k
+or_else_once None o u s t h k = some_once o s t h k
+
+pub type_once : (z : Zone) (u : ℤ) (s t : LocalType) → TypeAt z u s → TypeAt z u t → s ≡ t
+type_once z u s t a b =
+    let e = same_passed z u a.leap_time b.leap_time a.of_second b.of_second in
+    ⊎_elim
+    (λ h. some_once (slice_get z.types (index_at z a.leap_time)) s t (a.in_force.before_last h) (rw (← e) at (b.in_force.before_last (rw (← e) h))))
+    (λ h. or_else_once z.rule (slice_get z.types (index_at z a.leap_time)) u s t (a.in_force.from_last h) (rw (← e) at (b.in_force.from_last (rw (← e) h))))
+    (before_or_from_last z a.leap_time)
+
+or_else_not_refused : (rule : Option TransitionRule) (otherwise : Type 0) (u : ℤ) (t : LocalType) → RuleOrElse rule u otherwise t → IsRefusedBy rule u → ⊥
+or_else_not_refused (Some rule) otherwise u t h refused = rule_not_refused rule u t h refused
+or_else_not_refused None otherwise u t h refused = refused
+
+pub type_not_refused : (z : Zone) (u : ℤ) (t : LocalType) → TypeAt z u t → IsTypeRefused z u → ⊥
+type_not_refused z u t a (by_leap_time some r) = r.leaves ((a.of_second some).fits r.place r.passed)
+type_not_refused z u t a (by_rule x of_second last refused) =
+    let e = same_passed z u a.leap_time x a.of_second of_second in
+    or_else_not_refused z.rule (HasType z (index_at z a.leap_time) t) u t (a.in_force.from_last (rw e last)) refused
+
+-- what stands in a list
+listed_inside : {X : Type 0} (xs : List X) (i : ℕ) (x : X) → slice_get xs i ≡ Some x → i < length xs
+listed_inside [] i x h = cc
+listed_inside (y ∷ xs) zero x h = omega arith
+listed_inside (y ∷ xs) (suc i) x h = let l = listed_inside xs i x h in omega arith
+
+inside_listed : {X : Type 0} (xs : List X) (i : ℕ) → i < length xs → (x : X) × (slice_get xs i ≡ Some x)
+inside_listed [] i h = absurd (omega arith)
+inside_listed (y ∷ xs) zero h = (y, refl)
+inside_listed (y ∷ xs) (suc i) h = inside_listed xs i (omega arith)
+
+or_else_listed : (rule : Option TransitionRule) (z : Zone) (u : ℤ) (i : ℕ) (t : LocalType) → RuleOrElse rule u (HasType z i t) t → ((k : ℕ) × (k < length z.types) × HasType z k t) ⊎ IsTypeOf rule u t
+or_else_listed (Some rule) z u i t h = inr h
+or_else_listed None z u i t h = inl (i, listed_inside z.types i t h, h)
+
+-- a type in force stands in the list or is the rule's
+pub type_listed : (z : Zone) (u : ℤ) (t : LocalType) → TypeAt z u t → ((k : ℕ) × (k < length z.types) × HasType z k t) ⊎ IsTypeOf z.rule u t
+type_listed z u t a = ⊎_elim
+    (λ h. let k = a.in_force.before_last h in inl (index_at z a.leap_time, listed_inside z.types (index_at z a.leap_time) t k, k))
+    (λ h. or_else_listed z.rule z u (index_at z a.leap_time) t (a.in_force.from_last h))
+    (before_or_from_last z a.leap_time)
+
+fits_or_not : (a : ℤ) → SFits w64 a ⊎ (SFits w64 a → ⊥)
+fits_or_not a = by_lt_z a (neg_ℤ (pos 9_223_372_036_854_775_808))
+    (λ low. inr (λ f. omega (arith, ints)))
+    (λ h. by_lt_z (pos 9_223_372_036_854_775_807) a (λ high. inr (λ f. omega (arith, ints))) (λ l. inl (omega (arith, ints))))
+
+-- all of n numbers fit 64 bits, or one does not
+all_fit_or_not : (f : ℕ → ℤ) (n : ℕ) → ((k : ℕ) → k < n → SFits w64 (f k)) ⊎ ((k : ℕ) × (k < n) × (SFits w64 (f k) → ⊥))
+all_fit_or_not f zero = inl (λ k h. absurd (omega arith))
+all_fit_or_not f (suc n) = elim (all_fit_or_not f n) [
+  | inl all ↦ elim (fits_or_not (f n)) [
+    | inl here ↦ inl (λ k h. elim (cases_lt k n) [ inl l ↦ all k l | inr g ↦ let e : k ≡ n = omega arith in rw e here ])
+    | inr out ↦ inr (n, omega arith, out)
+  ]
+  | inr some ↦ inr (some.0, let l = some.1 in omega arith, some.2)
+]
+
+pub leap_time_decided : (leaps : List LeapSecond) (u : ℤ) → ((x : ℤ) × IsLeapTime leaps u x) ⊎ IsLeapTimeRefused leaps u
+leap_time_decided leaps u = elim (all_fit_or_not (λ k. u +ℤ get_or (corrections leaps) k (pos 0)) (passed_count leaps u)) [
+  | inl all ↦ inl (u +ℤ correction_at leaps u, record { sum = refl; fits = all })
+  | inr some ↦ inr (record { place = some.0; passed = some.1; leaves = some.2 })
+]
+
+-- the last of the passed transitions names a type
+last_index_below : (ts : List Transition) (x : ℤ) (d n : ℕ) → d < n → ((k : ℕ) (e : Transition) → k < length ts → (get_or ts k e).type_index < n) → last_else d (map (λ t. t.type_index) (passed ts x)) < n
+last_index_below [] x d n h all = h
+last_index_below (t ∷ ts) x d n h all = by_lt_z x t.unix_leap_time
+    (λ later. rw (le_false t.unix_leap_time x later) (last_index_below ts x d n h (λ k e l. all (suc k) e (omega arith))))
+    (λ come. rw (le_true t.unix_leap_time x come) (last_index_below ts x t.type_index n (all 0 t (omega arith)) (λ k e l. all (suc k) e (omega arith))))
+
+or_else_decided : (rule : Option TransitionRule) (z : Zone) (u : ℤ) (i : ℕ) → i < length z.types → IsRuleOrNone rule → ((t : LocalType) × RuleOrElse rule u (HasType z i t) t) ⊎ IsRefusedBy rule u
+or_else_decided (Some rule) z u i h limits = rule_decided rule u limits
+or_else_decided None z u i h limits = inl (inside_listed z.types i h)
+
+decided_at : (z : Zone) (u x : ℤ) → IsValid z → IsRuleOrNone z.rule → (0 < length z.transitions → IsLeapTime z.leaps u x) → ((t : LocalType) × TypeAt z u t) ⊎ IsTypeRefused z u
+decided_at z u x valid limits of_second =
+    let below = last_index_below z.transitions x 0 (length z.types) valid.some valid.transitions.indexes in
+    elim (before_or_from_last z x) [
+      | inl before ↦
+          let t = inside_listed z.types (index_at z x) below in
+          inl (t.0, record { leap_time = x; of_second = of_second; in_force = record { before_last = λ _. t.1; from_last = λ l. absurd (omega arith) } })
+      | inr last ↦ elim (or_else_decided z.rule z u (index_at z x) below limits) [
+        | inl t ↦ inl (t.0, record { leap_time = x; of_second = of_second; in_force = record { before_last = λ l. absurd (omega arith); from_last = λ _. t.1 } })
+        | inr refused ↦ inr (by_rule x of_second last refused)
+      ]
+    ]
+
+pub type_decided : (z : Zone) (u : ℤ) → IsValid z → IsRuleOrNone z.rule → ((t : LocalType) × TypeAt z u t) ⊎ IsTypeRefused z u
+type_decided z u valid limits = elim (cases_lt 0 (length z.transitions)) [
+  | inl some ↦ elim (leap_time_decided z.leaps u) [
+    | inl x ↦ decided_at z u x.0 valid limits (λ _. x.1)
+    | inr refused ↦ inr (by_leap_time some refused)
+  ]
+  | inr none ↦ decided_at z u u valid limits (λ h. absurd (omega arith))
+]
+
+no_transitions : (types : ℕ) → AreTransitions types []
+no_transitions types = record { indexes = λ k d h. absurd (omega arith); rising = λ i j d h l. absurd (omega arith) }
+
+no_leaps : AreLeapSeconds []
+no_leaps = record { first = λ d h. absurd (omega arith); next = λ k d h. absurd (omega arith) }
+
+-- a rule and types without transitions make a zone
+pub zone_of_rule_valid : (types : List LocalType) (rule : Option TransitionRule) → 0 < length types → IsValid (zone_of_rule types rule)
+zone_of_rule_valid types (Some rule) some = record { some = some; transitions = no_transitions (length types); leaps = no_leaps; agrees = tt }
+zone_of_rule_valid types None some = record { some = some; transitions = no_transitions (length types); leaps = no_leaps; agrees = tt }

@@ -1,0 +1,7 @@
+use Rattle.std.proofs.Common.{sym, length}
+use Rattle.tz_info.specs.ContentReading.{pair_agrees}
+use Rattle.tz_info.proofs.ListLaws.{one_false}
+use Rattle.tz_info.proofs.file.contents.indicators_agree.Goals as goal
+
+pub returns-then-not-pair_agrees : goal.returns-then-not-pair_agrees
+returns-then-not-pair_agrees c = sym (one_false (length c.args.ut_local.now) c.loop-k.k (pair_agrees c.args.standard_wall.now c.args.ut_local.now) c.loop-k-test.true (rw (← c.pair_agrees.ensures) c.if-not-pair_agrees.true))

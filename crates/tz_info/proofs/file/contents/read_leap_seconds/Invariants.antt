@@ -1,0 +1,6 @@
+use Rattle.std.proofs.Common.{◌≡◌, Ok}
+use Rattle.tz_info.specs.ContentReading.{values_below, leap_second_in}
+use Rattle.tz_info.proofs.file.contents.read_leap_seconds.Given as goal
+
+abbrev pub invariant-loop-k : goal.invariant-loop-k
+invariant-loop-k l = values_below l.k (leap_second_in l.time_size l.part) ≡ Ok l.leap_seconds.items

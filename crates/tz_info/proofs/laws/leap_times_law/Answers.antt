@@ -1,0 +1,14 @@
+use Rattle.tz_info.proofs.LeapOrder.{leap_times_rise, leap_times_answer, leap_time_undone}
+use Rattle.tz_info.proofs.laws.leap_times_law.Goals as goal
+
+pub returns-clause-rise : goal.returns-clause-rise
+returns-clause-rise c = leap_times_rise
+
+pub returns-clause-near : goal.returns-clause-near
+returns-clause-near c = leap_times_answer
+
+pub returns-clause-apart : goal.returns-clause-apart
+returns-clause-apart c = λ leaps u x a r. r.leaves (a.fits r.place r.passed)
+
+pub returns-clause-undone : goal.returns-clause-undone
+returns-clause-undone c = leap_time_undone

@@ -1,0 +1,6 @@
+use Rattle.std.proofs.Common.{rules, to_z-of_z}
+use Rattle.tz_info.proofs.NamedTypes.{named_by}
+use Rattle.tz_info.proofs.rule.reader.text.named_type.Goals as goal
+
+pub returns-clause-value : goal.returns-clause-value
+returns-clause-value c = let f = c.ranges.offset in named_by _ _ _ _ (simp to_z-of_z at c.new.ensures) (search rules)

@@ -1,0 +1,62 @@
+-- The footer of a TZif file (RFC 8536 section 3.3).
+use Rattle.std.specs.Prelude.{ℕ, ◌≡◌, ◌≢◌, Bool, true, false, List, [], ◌∷◌, ◌++◌, slice_index, Option, Some, None}
+use Rattle.std.specs.Str.{IsUtf8}
+use Rattle.std.specs.Char.{is_ascii_whitespace}
+use Rattle.tz_info.specs.FileContents.{HasNoZero}
+use Rattle.tz_info.specs.TzTexts.{IsTzText}
+use Rattle.tz_info.specs.TzFaults.{IsTextFault}
+use Rattle.tz_info.specs.declared.rule.transition_rule.TransitionRule.{TransitionRule}
+
+-- a newline in front and a newline at the end; one alone is both
+pub record IsBetweenNewlines (bytes : List ℕ) : Type 0 where
+  pub after_first : List ℕ
+  pub before_last : List ℕ
+  pub starts : bytes ≡ 10 ∷ after_first
+  pub ends : bytes ≡ before_last ++ (10 ∷ [])
+
+-- spaces, tabs, line feeds, form feeds and carriage returns alone
+abbrev pub IsSpace : List ℕ → Type 0
+IsSpace [] = Unit {0}
+IsSpace (b ∷ bs) = (is_ascii_whitespace b ≡ true) × IsSpace bs
+
+-- no white space in front, and none at the end
+abbrev pub BeginsBare : List ℕ → Type 0
+BeginsBare [] = Unit {0}
+BeginsBare (b ∷ bs) = is_ascii_whitespace b ≡ false
+
+abbrev pub EndsBare : List ℕ → Type 0
+EndsBare [] = Unit {0}
+EndsBare (b ∷ []) = is_ascii_whitespace b ≡ false
+EndsBare (b ∷ c ∷ cs) = EndsBare (c ∷ cs)
+
+-- the text between the white space at both ends
+pub record IsTrimmed (bytes text : List ℕ) : Type 0 where
+  pub before : List ℕ
+  pub after : List ℕ
+  pub whole : bytes ≡ before ++ (text ++ after)
+  pub space_before : IsSpace before
+  pub space_after : IsSpace after
+  pub first : BeginsBare text
+  pub last : EndsBare text
+
+-- no text is no rule
+abbrev pub SaysRule : Bool → List ℕ → Option TransitionRule → Type 0
+SaysRule extended text None = text ≡ []
+SaysRule extended text (Some rule) = (text ≢ []) × IsTzText extended text rule
+
+pub record IsFooter (extended : Bool) (bytes : List ℕ) (rule : Option TransitionRule) : Type 0 where
+  pub text : List ℕ
+  pub utf8 : IsUtf8 bytes
+  pub newlines : IsBetweenNewlines bytes
+  pub trimmed : IsTrimmed bytes text
+  pub no_colon : slice_index text 0 ≢ 58
+  pub no_zero : HasNoZero text
+  pub says : SaysRule extended text rule
+
+-- what is wrong with a footer, and the number of the refusal
+pub data FooterFault (extended : Bool) (bytes : List ℕ) : ℕ → Type 0 where
+  Not_utf8 : ¬ (IsUtf8 bytes) → FooterFault extended bytes 16
+  No_newlines : ¬ (IsBetweenNewlines bytes) → FooterFault extended bytes 5
+  Colon : (text : List ℕ) → IsTrimmed bytes text → slice_index text 0 ≡ 58 → FooterFault extended bytes 5
+  Zero : (text : List ℕ) → IsTrimmed bytes text → ¬ (HasNoZero text) → FooterFault extended bytes 5
+  In_text : (text : List ℕ) (n : ℕ) → IsTrimmed bytes text → text ≢ [] → IsTextFault extended text n → FooterFault extended bytes n

@@ -1,0 +1,16 @@
+-- Local time types (RFC 8536 section 3.2, "local time type record"; the offset counts east of UTC).
+use Rattle.std.specs.Prelude.{ℕ, ℤ, pos, neg_ℤ, ◌<ℤ◌, ◌≤ℤ◌, Bool, false, List, Option, None}
+
+-- what a local time type shows: seconds east of UTC, whether it is daylight saving time, and its name if it has one
+pub record LocalType : Type 0 where
+  pub offset : ℤ
+  pub dst : Bool
+  pub name : Option (List ℕ)
+
+-- an i32 but the least one, so that its negative is one too
+abbrev pub IsUtOffset : ℤ → Type 0
+IsUtOffset offset = (neg_ℤ (pos 2_147_483_647) ≤ℤ offset) × (offset ≤ℤ pos 2_147_483_647)
+
+-- the type of that offset, not daylight saving time and without a name
+abbrev pub plain_type : ℤ → LocalType
+plain_type offset = record { offset = offset; dst = false; name = None }

@@ -1,0 +1,39 @@
+-- The zones of TZ texts (POSIX.1 section 8.3, "TZ").
+use Rattle.std.specs.Prelude.{ℕ, pos, ◌≡◌, ◌≢◌, ◌⊎◌, false, List, [], ◌∷◌, Some}
+use Rattle.std.specs.Str.{IsTrimAscii}
+use Rattle.tz_info.specs.LocalTypes.{LocalType}
+use Rattle.tz_info.specs.Zones.{Zone, plain_zone, zone_of_rule}
+use Rattle.tz_info.specs.TzTexts.{IsTzText}
+use Rattle.tz_info.specs.TzFaults.{IsTextFault}
+use Rattle.tz_info.specs.declared.rule.transition_rule.TransitionRule.{TransitionRule}
+use Rattle.tz_info.specs.declared.rule.transition_rule.TransitionRule.TheVariants as rules
+
+-- the types of a rule, that of standard time first
+abbrev pub types_of : TransitionRule → List LocalType
+types_of (rules.Fixed t) = t ∷ []
+types_of (rules.Alternate a) = a.std ∷ a.dst ∷ []
+
+-- the zone of a rule at every instant
+abbrev pub posix_zone : TransitionRule → Zone
+posix_zone rule = zone_of_rule (types_of rule) (Some rule)
+
+-- the text without white space of ASCII at its ends (spaces, tabs, line feeds, form feeds, carriage returns) spells the
+-- zone's rule
+pub record IsZoneOfText (text : List ℕ) (z : Zone) : Type 0 where
+  pub some : text ≢ []
+  pub trimmed : List ℕ
+  pub rule : TransitionRule
+  pub trims : IsTrimAscii text trimmed
+  pub spells : IsTzText false trimmed rule
+  pub zone : z ≡ posix_zone rule
+
+-- an empty text is the zone of UTC, another the zone of its rule
+abbrev pub IsPosixZone : List ℕ → Zone → Type 0
+IsPosixZone text z = ((text ≡ []) × (z ≡ plain_zone (pos 0))) ⊎ IsZoneOfText text z
+
+-- what is wrong with a text, by the number of the refusal
+pub record IsPosixFault (text : List ℕ) (n : ℕ) : Type 0 where
+  pub some : text ≢ []
+  pub trimmed : List ℕ
+  pub trims : IsTrimAscii text trimmed
+  pub fault : IsTextFault false trimmed n

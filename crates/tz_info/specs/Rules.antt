@@ -1,0 +1,32 @@
+-- Rules with two types (POSIX.1 section 8.3: `std`, `dst`, and when each begins).
+use Rattle.std.specs.Prelude.{ℤ, pos, neg_ℤ, ◌<ℤ◌}
+use Rattle.tz_info.specs.LocalTypes.{LocalType}
+use Rattle.tz_info.specs.RuleDays.{IsRuleDay}
+use Rattle.tz_info.specs.declared.rule.alternate.DayTime.{DayTime}
+
+-- what an alternate rule shows: its types, and the days and times of day at which daylight saving time starts and ends
+pub record Alternate : Type 0 where
+  pub std : LocalType
+  pub dst : LocalType
+  pub start : DayTime
+  pub end : DayTime
+
+-- an offset strictly within a day
+abbrev pub IsWithinDay : ℤ → Type 0
+IsWithinDay offset = (neg_ℤ (pos 86_400) <ℤ offset) × (offset <ℤ pos 86_400)
+
+-- a day time strictly within a week
+abbrev pub IsWithinWeek : ℤ → Type 0
+IsWithinWeek time = (neg_ℤ (pos 604_800) <ℤ time) × (time <ℤ pos 604_800)
+
+pub record IsAlternate (a : Alternate) : Type 0 where
+  pub std_offset : IsWithinDay a.std.offset
+  pub dst_offset : IsWithinDay a.dst.offset
+  pub start_time : IsWithinWeek a.start.time
+  pub end_time : IsWithinWeek a.end.time
+
+-- the numbers of an alternate rule, those of its days too, are in their limits
+pub record IsAlternateRule (a : Alternate) : Type 0 where
+  pub within : IsAlternate a
+  pub start_day : IsRuleDay a.start.day
+  pub end_day : IsRuleDay a.end.day

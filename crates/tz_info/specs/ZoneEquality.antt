@@ -1,0 +1,25 @@
+-- When two zones are equal: their transitions, types, leap seconds and rules are.
+use Rattle.std.specs.Prelude.{Bool}
+use Rattle.std.specs.Cmp.{IsEquivalence}
+use Rattle.std.specs.Cmp.Lexicographic.{pointwise, options_equiv}
+use Rattle.std.specs.Option.{option_eq}
+use Rattle.std.specs.Ordering.{on, eq_of_both}
+use Rattle.std.proofs.lemmas.Cmp.{on_equiv, and_equiv, lists_equiv}
+use Rattle.tz_info.specs.LocalTypes.{LocalType}
+use Rattle.tz_info.specs.Zones.{Zone}
+use Rattle.tz_info.specs.declared.rule.transition_rule.TransitionRule.{TransitionRule}
+use Rattle.tz_info.specs.declared.zone.leap_second.LeapSecond.{LeapSecond}
+use Rattle.tz_info.specs.declared.zone.transition.Transition.{Transition}
+
+-- by tests of what the lists hold
+abbrev pub zone_eq : (Transition → Transition → Bool) → (LocalType → LocalType → Bool) → (LeapSecond → LeapSecond → Bool) → (TransitionRule → TransitionRule → Bool) → Zone → Zone → Bool
+zone_eq transitions types leaps rules =
+    eq_of_both (on (λ z. z.transitions) (pointwise transitions))
+    (eq_of_both (on (λ z. z.types) (pointwise types))
+    (eq_of_both (on (λ z. z.leaps) (pointwise leaps)) (on (λ z. z.rule) (option_eq rules))))
+
+pub zone_eq_equiv : {T : Transition → Transition → Bool} {L : LocalType → LocalType → Bool} {S : LeapSecond → LeapSecond → Bool} {R : TransitionRule → TransitionRule → Bool} → IsEquivalence T → IsEquivalence L → IsEquivalence S → IsEquivalence R → IsEquivalence (zone_eq T L S R)
+zone_eq_equiv t l s r =
+    and_equiv (on_equiv (λ z. z.transitions) (lists_equiv t))
+    (and_equiv (on_equiv (λ z. z.types) (lists_equiv l))
+    (and_equiv (on_equiv (λ z. z.leaps) (lists_equiv s)) (on_equiv (λ z. z.rule) (options_equiv r))))

@@ -1,0 +1,56 @@
+//! Time zone files (TZif, RFC 8536): the zone that the bytes of a file spell.
+
+ghost use Rattle.std.specs.Prelude.{◌≡◌, IfOk, IfErr, MatchResult};
+ghost use Rattle.tz_info.specs.Errors.{number_of};
+ghost use Rattle.tz_info.specs.FilePieces.{FilePieces, HasPieces};
+ghost use Rattle.tz_info.specs.TzFiles.{IsTzFile, IsZoneFault};
+ghost use Rattle.tz_info.specs.Zones.{Zone, IsValid};
+ghost use Rattle.tz_info.specs.declared.error.Error.TheVariants.{OutOfMemory};
+
+mod block;
+mod contents;
+mod footer;
+mod header;
+mod numbers;
+mod reader;
+#[cfg(test)]
+mod tests;
+mod types;
+
+use crate::error::Error;
+use crate::zone::TimeZone;
+use reader::read_lists;
+use std::alloc::Global;
+
+impl TimeZone {
+    /// The zone of a TZif file of version 1, 2 or 3 (RFC 8536 section 3). Of version 1 the one data block says all; from
+    /// version 2 on the second block does, with the TZ text of the footer, and of the first one only the header and the
+    /// length count. In version 3 that text may have the extensions of RFC 8536 section 3.3.1.
+    ///
+    /// Memory is asked for only once every block is known to be there.
+    ///
+    /// # Errors
+    ///
+    /// The first of these that is met from the front on: [`Error::UnexpectedEnd`] where bytes are wanting;
+    /// [`Error::UnsupportedTzFile`] for another version; [`Error::InvalidTzFile`] for any other fault of the file's form,
+    /// as bytes behind a file of version 1. Then, once both blocks are there: [`Error::InvalidTzFile`] and
+    /// [`Error::LocalTimeType`] for a type, one after the other; [`Error::InvalidTzFile`] for indicators that say UT
+    /// where they do not say standard time; [`Error::Utf8`] and [`Error::InvalidTzFile`] for a footer, and the errors of
+    /// [`TransitionRule::from_tz_string`](crate::TransitionRule::from_tz_string) for its text; last [`Error::TimeZone`]
+    /// for lists that [`TimeZone::new`] does not take. [`Error::OutOfMemory`] if there is no memory for the lists.
+    pub fn from_tz_data(alloc: Global, bytes: &[u8]) -> Result<TimeZone, Error>
+        // The zone is the file's, and valid.
+        ensures found { IfOk result (λ z. IsTzFile bytes.now z × IsValid z) }
+        // A file that has a valid zone gives it, unless memory runs out.
+        ensures only { (z : Zone) → IsTzFile bytes.now z → IsValid z → MatchResult result (λ y. y ≡ z) (λ e. e ≡ OutOfMemory) }
+        // Where it is refused, what the number says stands in the file.
+        ensures fault { IfErr result (λ e. IsZoneFault bytes.now (number_of e)) }
+        // Memory is asked for only where every piece of the file is there.
+        ensures memory { IfErr result (λ e. e ≡ OutOfMemory → (p : FilePieces) × HasPieces bytes.now p) }
+    {
+        match read_lists(alloc, bytes) {
+            Ok(lists) => lists.into_zone(alloc),
+            Err(e) => Err(e),
+        }
+    }
+}

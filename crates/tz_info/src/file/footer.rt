@@ -1,0 +1,90 @@
+//! The footer of a file (RFC 8536 section 3.3).
+
+ghost use Rattle.std.specs.Prelude.{◌≡◌};
+ghost use Rattle.std.specs.List.{list_any};
+ghost use Rattle.std.specs.Str.{is_utf8};
+ghost use Rattle.tz_info.specs.Fronts.{Gives};
+ghost use Rattle.tz_info.specs.FileContents.{is_zero};
+ghost use Rattle.tz_info.specs.FooterReading.{trimmed, is_between_newlines, is_no_text, rule_in, rule_or_none, text_or_none, footer_at};
+
+use crate::error::Error;
+use crate::file::contents::byte_or_zero;
+use crate::rule::TransitionRule;
+use crate::rule::reader::read_all;
+
+/// The rule of a footer: none, or that of the TZ text that stands between two newlines.
+#[tactic(auto, unfolding(crate::specs::FooterReading::footer_at))]
+pub fn read_footer(extended: bool, bytes: &[u8]) -> Result<Option<TransitionRule>, Error>
+    ensures { Gives (λ r. r) result (footer_at extended bytes.now) }
+{
+    if !is_utf8(bytes) {
+        return Err(Error::Utf8("a footer of text"));
+    }
+    if !is_between_newlines(bytes) {
+        return Err(Error::InvalidTzFile("a footer between newlines"));
+    }
+    text_or_none(extended, trimmed(bytes))
+}
+
+fn text_or_none(extended: bool, text: &[u8]) -> Result<Option<TransitionRule>, Error>
+    ensures { Gives (λ r. r) result (text_or_none extended text.now) }
+{
+    if is_no_text(text) {
+        return Err(Error::InvalidTzFile("a TZ text in the footer"));
+    }
+    rule_or_none(extended, text)
+}
+
+fn rule_or_none(extended: bool, text: &[u8]) -> Result<Option<TransitionRule>, Error>
+    ensures { Gives (λ r. r) result (rule_or_none extended text.now) }
+{
+    if text.is_empty() {
+        return Ok(None);
+    }
+    match read_rule(extended, text) {
+        Ok(rule) => Ok(Some(rule)),
+        Err(e) => Err(e),
+    }
+}
+
+fn read_rule(extended: bool, text: &[u8]) -> Result<TransitionRule, Error>
+    ensures { Gives (λ r. r) result (rule_in extended text.now) }
+{
+    read_all(text, extended)
+}
+
+fn is_utf8(bytes: &[u8]) -> bool
+    ensures { result ≡ is_utf8 bytes.now }
+{
+    match std::str::from_utf8(bytes) {
+        Ok(_) => true,
+        Err(_) => false,
+    }
+}
+
+/// One newline alone begins and ends the footer.
+fn is_between_newlines(bytes: &[u8]) -> bool
+    ensures { result ≡ is_between_newlines bytes.now }
+{
+    byte_or_zero(bytes, 0) == b'\n' && byte_or_zero(bytes, bytes.len().saturating_sub(1)) == b'\n'
+}
+
+/// Without the ASCII white space at both ends.
+fn trimmed(bytes: &[u8]) -> &[u8]
+    ensures { result.now ≡ trimmed bytes.now }
+{
+    bytes.trim_ascii_start().trim_ascii_end()
+}
+
+/// A colon in front would name a file, and a 0 byte is in no TZ text.
+fn is_no_text(text: &[u8]) -> bool
+    ensures { result ≡ is_no_text text.now }
+{
+    byte_or_zero(text, 0) == b':' || has_zero(text)
+}
+
+fn has_zero(bytes: &[u8]) -> bool
+    ensures { result ≡ list_any is_zero bytes.now }
+{
+    bytes.iter().any(|byte| *byte == 0)
+}

@@ -1,0 +1,214 @@
+//! A file from its first byte to its last: its pieces, and the lists that they spell.
+
+ghost use Rattle.std.specs.Prelude.{◌≡◌, IfOk, IfErr, MatchResult, option_map};
+ghost use Rattle.tz_info.specs.Errors.{number_of};
+ghost use Rattle.tz_info.specs.Fronts.{Gives};
+ghost use Rattle.tz_info.specs.Zones.{Zone, IsValid};
+ghost use Rattle.tz_info.specs.FileBlocks.{parts_of};
+ghost use Rattle.tz_info.specs.FileReading.{first_version_in, later_version_at, after_version, pieces_at};
+ghost use Rattle.tz_info.specs.ContentReading.{GivesInMemory};
+ghost use Rattle.tz_info.specs.FooterReading.{footer_of};
+ghost use Rattle.tz_info.specs.FileLists.{pieces_of, zone_of, lists_in, with_types, with_rule, HasLengths, Reads};
+ghost use Rattle.tz_info.specs.FilePieces.{FilePieces, HasPieces, is_extended};
+ghost use Rattle.tz_info.specs.TzFiles.{IsTzFile, IsFileFault};
+ghost use Rattle.tz_info.specs.declared.error.Error.TheVariants.{OutOfMemory};
+
+use crate::cursor::Cursor;
+use crate::error::Error;
+use crate::file::block::{Block, read_block};
+use crate::file::contents::{check_indicators, read_leap_seconds, read_transitions};
+use crate::file::footer::read_footer;
+use crate::file::header::{Counts, Header, Place, Version, read_header};
+use crate::file::types::read_types;
+use crate::local_time_type::LocalTimeType;
+use crate::rule::TransitionRule;
+use crate::zone::{LeapSecond, TimeZone, Transition};
+use std::alloc::Global;
+
+/// The lists that a file spells. They need not make a valid zone.
+#[derive(Drop)]
+pub struct Lists {
+    pub transitions: Vec<Transition>,
+    pub types: Vec<LocalTimeType>,
+    pub leap_seconds: Vec<LeapSecond>,
+    pub rule: Option<TransitionRule>,
+}
+
+impl Lists {
+    /// The zone of the lists, if they make a valid one.
+    pub fn into_zone(self, alloc: Global) -> Result<TimeZone, Error>
+        ensures { MatchResult result
+            (λ z. IsValid (zone_of self) × (z ≡ zone_of self))
+            (λ e. (number_of e ≡ 12) × ¬ (IsValid (zone_of self))) }
+    {
+        let Lists {
+            transitions,
+            types,
+            leap_seconds,
+            rule,
+        } = self;
+        TimeZone::new(alloc, transitions, types, leap_seconds, rule)
+    }
+}
+
+/// The lists that the bytes of a file spell.
+pub fn read_lists(alloc: Global, bytes: &[u8]) -> Result<Lists, Error>
+    // What is answered is spelled.
+    ensures found { IfOk result (λ lists. IsTzFile bytes.now (zone_of lists)) }
+    // What is spelled is answered, unless memory runs out.
+    ensures only { (z : Zone) → IsTzFile bytes.now z → MatchResult result (λ lists. zone_of lists ≡ z) (λ e. e ≡ OutOfMemory) }
+    // A refusal names a fault that is there.
+    ensures fault { IfErr result (λ e. IsFileFault bytes.now (number_of e)) }
+    // Memory is asked for only where every piece of the file is there.
+    ensures memory { IfErr result (λ e. e ≡ OutOfMemory → (p : FilePieces) × HasPieces bytes.now p) }
+{
+    read_file(alloc, bytes)
+}
+
+fn read_file(alloc: Global, bytes: &[u8]) -> Result<Lists, Error>
+    ensures { Reads result (pieces_at bytes.now) }
+{
+    match read_pieces(bytes) {
+        Ok(pieces) => lists_of(alloc, &pieces),
+        Err(e) => Err(e),
+    }
+}
+
+/// The pieces of a file that say what its zone is: the last block, with its header's counts and the size of its times,
+/// the footer, and whether the footer's text may have extensions.
+#[derive(Clone, Copy)]
+struct Pieces<'a> {
+    extended: bool,
+    time_size: usize,
+    counts: Counts,
+    block: Block<'a>,
+    footer: Option<&'a [u8]>,
+}
+
+#[tactic(auto, unfolding(crate::specs::FileReading::pieces_at))]
+fn read_pieces(bytes: &[u8]) -> Result<Pieces<'_>, Error>
+    ensures { Gives pieces_of result (pieces_at bytes.now) }
+{
+    let mut cursor = Cursor::new(bytes);
+    let header = read_header(&mut cursor, Place::First)?;
+    let block = read_block(&mut cursor, &header.counts, 4)?;
+    after_first_block(&mut cursor, header, block)
+}
+
+fn after_first_block<'a>(
+    cursor: &mut Cursor<'a>,
+    header: Header,
+    block: Block<'a>,
+) -> Result<Pieces<'a>, Error>
+    ensures { Gives pieces_of result (after_version header.version header.counts (parts_of block.entry) cursor.old) }
+{
+    match header.version {
+        Version::One => first_version(cursor, header.counts, block),
+        Version::Two | Version::Three => later_version(cursor),
+    }
+}
+
+/// In version 1 the first block says all, and nothing follows it.
+fn first_version<'a>(
+    cursor: &Cursor<'a>,
+    counts: Counts,
+    block: Block<'a>,
+) -> Result<Pieces<'a>, Error>
+    ensures { Gives pieces_of result (first_version_in counts (parts_of block.entry) cursor.now) }
+{
+    if !cursor.is_empty() {
+        return Err(Error::InvalidTzFile("nothing after a block of version 1"));
+    }
+    Ok(Pieces {
+        extended: false,
+        time_size: 4,
+        counts,
+        block,
+        footer: None,
+    })
+}
+
+/// From version 2 on the second block says all, with the footer, which is the rest.
+#[tactic(auto, unfolding(crate::specs::FileReading::later_version_at))]
+fn later_version<'a>(cursor: &mut Cursor<'a>) -> Result<Pieces<'a>, Error>
+    ensures { Gives pieces_of result (later_version_at cursor.old) }
+{
+    let header = read_header(cursor, Place::Second)?;
+    let block = read_block(cursor, &header.counts, 8)?;
+    Ok(Pieces {
+        extended: is_extended(header.version),
+        time_size: 8,
+        counts: header.counts,
+        block,
+        footer: Some(cursor.remaining()),
+    })
+}
+
+/// From version 3 on the TZ text has the extensions of RFC 8536 section 3.3.1.
+fn is_extended(version: Version) -> bool
+    ensures { result ≡ is_extended version }
+{
+    matches!(version, Version::Three)
+}
+
+/// What the pieces say: first the types are read, one after the other, then the indicators, then the footer.
+#[tactic(auto, unfolding(crate::specs::FileLists::lists_in))]
+fn lists_of(alloc: Global, pieces: &Pieces<'_>) -> Result<Lists, Error>
+    requires { HasLengths (pieces_of pieces.now) }
+    ensures { GivesInMemory zone_of result (lists_in (pieces_of pieces.now)) }
+{
+    let block = pieces.block;
+    match read_types(
+        alloc,
+        pieces.counts.types as usize,
+        block.types,
+        block.designations,
+    ) {
+        Ok(types) => with_types(alloc, pieces, types),
+        Err(e) => Err(e),
+    }
+}
+
+#[tactic(auto, unfolding(crate::specs::FileLists::with_types))]
+fn with_types(alloc: Global, pieces: &Pieces<'_>, types: Vec<LocalTimeType>) -> Result<Lists, Error>
+    requires { HasLengths (pieces_of pieces.now) }
+    ensures { GivesInMemory zone_of result (with_types (pieces_of pieces.now) types.items) }
+{
+    check_indicators(pieces.block.standard_wall, pieces.block.ut_local)?;
+    match read_rule(pieces.extended, pieces.footer) {
+        Ok(rule) => with_rule(alloc, pieces, types, rule),
+        Err(e) => Err(e),
+    }
+}
+
+#[tactic(auto, unfolding(crate::specs::FileLists::with_rule))]
+fn with_rule(
+    alloc: Global,
+    pieces: &Pieces<'_>,
+    types: Vec<LocalTimeType>,
+    rule: Option<TransitionRule>,
+) -> Result<Lists, Error>
+    requires { HasLengths (pieces_of pieces.now) }
+    ensures { GivesInMemory zone_of result (with_rule (pieces_of pieces.now) types.items rule) }
+{
+    let time_size = pieces.time_size;
+    let block = pieces.block;
+    let leap_count = pieces.counts.leap_seconds as usize;
+    let transitions = read_transitions(alloc, time_size, block.times, block.type_indexes)?;
+    let leap_seconds = read_leap_seconds(alloc, time_size, leap_count, block.leap_seconds)?;
+    Ok(Lists {
+        transitions,
+        types,
+        leap_seconds,
+        rule,
+    })
+}
+
+fn read_rule(extended: bool, footer: Option<&[u8]>) -> Result<Option<TransitionRule>, Error>
+    ensures { Gives (λ r. r) result (footer_of extended (option_map (λ f. f.now) footer.entry)) }
+{
+    match footer {
+        None => Ok(None),
+        Some(bytes) => read_footer(extended, bytes),
+    }
+}

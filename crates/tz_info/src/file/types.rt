@@ -1,0 +1,107 @@
+//! The local time types of a data block and their names (RFC 8536 section 3.2).
+
+ghost use Rattle.std.specs.Prelude.{◌≡◌, ◌≤◌, ◌<◌, ◌*◌, length, IfSome, option_map};
+ghost use Rattle.std.specs.List.{position_from};
+ghost use Rattle.tz_info.specs.Fronts.{Gives};
+ghost use Rattle.tz_info.specs.FileContents.{is_zero, designation_of};
+ghost use Rattle.tz_info.specs.ContentReading.{GivesInMemory, values_below, type_in, type_of_record, with_next_type, mark_of, type_of, text_before_zero, designation_at};
+
+use crate::error::Error;
+use crate::file::numbers::{record_at, signed_32};
+use crate::local_time_type::LocalTimeType;
+use std::alloc::Global;
+
+/// The types of a block: each an offset of four bytes, a mark of daylight saving time, and where in the designations
+/// its name begins.
+pub fn read_types(
+    alloc: Global,
+    count: usize,
+    part: &[u8],
+    designations: &[u8],
+) -> Result<Vec<LocalTimeType>, Error>
+    requires { length part.now ≡ count * 6 }
+    ensures { GivesInMemory (λ v. v.items) result (values_below count (type_in designations.now part.now)) }
+{
+    let mut types = Vec::with_capacity(alloc, count)?;
+    for k in 0..count {
+        read_next(&mut types, designations, record_at(part, 6, k))?;
+    }
+    Ok(types)
+}
+
+fn read_next(types: &mut Vec<LocalTimeType>, designations: &[u8], bytes: &[u8]) -> Result<(), Error>
+    requires { length bytes.now ≡ 6 }
+    ensures { GivesInMemory (λ _. types.new.items) result (with_next_type designations.now bytes.now types.old.items) }
+{
+    match read_type(designations, bytes) {
+        Ok(local_type) => {
+            types.push(local_type)?;
+            Ok(())
+        }
+        Err(e) => Err(e),
+    }
+}
+
+#[tactic(auto, unfolding(crate::specs::ContentReading::type_of_record))]
+fn read_type(designations: &[u8], bytes: &[u8]) -> Result<LocalTimeType, Error>
+    requires { length bytes.now ≡ 6 }
+    ensures { Gives (λ t. t) result (type_of_record designations.now bytes.now) }
+{
+    let is_dst = read_mark(bytes[4])?;
+    let text = designation_at(designations, bytes[5] as usize)?;
+    local_type(signed_32(bytes.split_at(4).0), is_dst, text)
+}
+
+fn read_mark(byte: u8) -> Result<bool, Error>
+    ensures { Gives (λ b. b) result (mark_of byte) }
+{
+    match byte {
+        0 => Ok(false),
+        1 => Ok(true),
+        _ => Err(Error::InvalidTzFile("0 or 1 as the mark of daylight saving time")),
+    }
+}
+
+/// The text that begins at that place of the designations and ends at a 0 byte.
+#[tactic(auto, unfolding(crate::specs::ContentReading::designation_at))]
+fn designation_at(designations: &[u8], place: usize) -> Result<&[u8], Error>
+    ensures { Gives (λ s. s.now) result (designation_at designations.now place) }
+{
+    if place >= designations.len() {
+        return Err(Error::InvalidTzFile("a name within the designations"));
+    }
+    text_before_zero(designations.split_at(place).1)
+}
+
+#[tactic(auto, unfolding(crate::specs::ContentReading::text_before_zero))]
+fn text_before_zero(bytes: &[u8]) -> Result<&[u8], Error>
+    ensures { Gives (λ s. s.now) result (text_before_zero bytes.now) }
+{
+    match first_zero(bytes) {
+        Some(place) => Ok(bytes.split_at(place).0),
+        None => Err(Error::InvalidTzFile("a 0 byte behind a name")),
+    }
+}
+
+fn first_zero(bytes: &[u8]) -> Option<usize>
+    ensures value { result ≡ position_from is_zero 0 bytes.now }
+    ensures bound { IfSome result (λ place. place < length bytes.now) }
+{
+    bytes.iter().position(|byte| *byte == 0)
+}
+
+fn local_type(ut_offset: i32, is_dst: bool, text: &[u8]) -> Result<LocalTimeType, Error>
+    ensures { Gives (λ t. t) result (type_of ut_offset is_dst text.now) }
+{
+    LocalTimeType::new(ut_offset, is_dst, designation_of(text))
+}
+
+/// An empty text is no name.
+fn designation_of(text: &[u8]) -> Option<&[u8]>
+    ensures { option_map (λ name. name.now) result ≡ designation_of text.now }
+{
+    if text.is_empty() {
+        return None;
+    }
+    Some(text)
+}

@@ -1,0 +1,23 @@
+//! Time zones: the types of local time, the rules of TZ texts, and the zones made of both.
+#![tactic(auto)]
+
+mod cursor;
+mod error;
+mod file;
+pub mod file_laws;
+pub mod laws;
+mod local_time_type;
+mod name;
+mod rule;
+mod span;
+pub mod text_laws;
+pub mod wall_laws;
+mod zone;
+
+pub use cursor::Cursor;
+pub use error::Error;
+pub use local_time_type::LocalTimeType;
+pub use name::TimeZoneName;
+pub use rule::{AlternateTime, RuleDay, TransitionRule};
+pub use zone::probes::Probes;
+pub use zone::{LeapSecond, TimeZone, Transition};

@@ -1,0 +1,13 @@
+//! The rule of a TZ text: one type for ever, or two that take turns each year.
+
+mod alternate;
+mod day;
+pub(crate) mod reader;
+#[cfg(test)]
+mod tests;
+mod transition_rule;
+mod wall_clock;
+
+pub use alternate::AlternateTime;
+pub use day::RuleDay;
+pub use transition_rule::TransitionRule;

@@ -1,0 +1,130 @@
+//! The offsets and the times of day of a TZ text: `hh[:mm[:ss]]` with a sign or without.
+
+ghost use Rattle.std.specs.Prelude.{◌≡◌, ◌≤◌, ◌<ℤ◌, ◌≤ℤ◌, pos, neg_ℤ, not, Ok, IfOk};
+ghost use Rattle.tz_info.specs.Fronts.{Gives};
+ghost use Rattle.tz_info.specs.Rules.{IsWithinDay, IsWithinWeek};
+ghost use Rattle.tz_info.specs.Readings.{sign_at, seconds_at, minutes_seconds_at, others_at, hours_minutes_seconds_at, seconds_within, duration_at, offset_at, time_sign_at, time_at, optional_time_at};
+
+use crate::cursor::Cursor;
+use crate::error::Error;
+
+/// The limit of each number, before those of hours, minutes and seconds.
+const CLOCK_MAX: u32 = i32::MAX as u32;
+
+/// An offset, in seconds east of UTC. The text counts west.
+#[tactic(auto, unfolding(crate::specs::Readings::offset_at))]
+pub(super) fn read_offset(cursor: &mut Cursor<'_>) -> Result<i32, Error>
+    ensures value { Gives (λ z. (z, cursor.new)) result (offset_at cursor.old) }
+    ensures bound { IfOk result (λ z. IsWithinDay z) }
+{
+    let is_minus = read_sign(cursor);
+    read_duration(23, !is_minus, cursor)
+}
+
+/// A `/` and a time of day, in seconds behind midnight, or nothing for two o'clock.
+#[tactic(auto, unfolding(crate::specs::Readings::optional_time_at))]
+pub(super) fn read_optional_time(extended: bool, cursor: &mut Cursor<'_>) -> Result<i32, Error>
+    ensures value { Gives (λ z. (z, cursor.new)) result (optional_time_at extended cursor.old) }
+    ensures bound { IfOk result (λ z. IsWithinWeek z) }
+{
+    if cursor.read_optional_tag(b"/") {
+        read_time(extended, cursor)
+    } else {
+        Ok(7_200)
+    }
+}
+
+#[tactic(auto, unfolding(crate::specs::Readings::time_at))]
+fn read_time(extended: bool, cursor: &mut Cursor<'_>) -> Result<i32, Error>
+    ensures value { Gives (λ z. (z, cursor.new)) result (time_at extended cursor.old) }
+    ensures bound { IfOk result (λ z. IsWithinWeek z) }
+{
+    let is_minus = read_time_sign(extended, cursor);
+    read_duration(if extended { 167 } else { 24 }, is_minus, cursor)
+}
+
+#[tactic(auto, unfolding(crate::specs::Readings::time_sign_at))]
+fn read_time_sign(extended: bool, cursor: &mut Cursor<'_>) -> bool
+    ensures { time_sign_at extended cursor.old ≡ Ok (result, cursor.new) }
+{
+    if extended { read_sign(cursor) } else { false }
+}
+
+/// Whether a minus stands there. A plus may stand there too.
+#[tactic(auto, unfolding(crate::specs::Readings::sign_at))]
+fn read_sign(cursor: &mut Cursor<'_>) -> bool
+    ensures { sign_at cursor.old ≡ Ok (result, cursor.new) }
+{
+    if cursor.read_optional_tag(b"+") {
+        false
+    } else {
+        cursor.read_optional_tag(b"-")
+    }
+}
+
+#[tactic(auto, unfolding(crate::specs::Readings::duration_at))]
+fn read_duration(limit: u32, negative: bool, cursor: &mut Cursor<'_>) -> Result<i32, Error>
+    requires { limit ≤ 167 }
+    ensures value { Gives (λ z. (z, cursor.new)) result (duration_at limit negative cursor.old) }
+    ensures day { limit ≤ 23 → IfOk result (λ z. IsWithinDay z) }
+    ensures week { IfOk result (λ z. IsWithinWeek z) }
+{
+    let (h, m, s) = read_hours_minutes_seconds(cursor)?;
+    seconds_of(limit, negative, h, m, s)
+}
+
+/// Hours, minutes and seconds; 0 for what is left out.
+#[tactic(auto, unfolding(crate::specs::Readings::hours_minutes_seconds_at))]
+fn read_hours_minutes_seconds(cursor: &mut Cursor<'_>) -> Result<(u32, u32, u32), Error>
+    ensures { Gives (λ t. ((t.0, t.1, t.2), cursor.new)) result (hours_minutes_seconds_at cursor.old) }
+{
+    let h = cursor.read_int(CLOCK_MAX)?;
+    let (m, s) = read_others(cursor)?;
+    Ok((h, m, s))
+}
+
+#[tactic(auto, unfolding(crate::specs::Readings::others_at))]
+fn read_others(cursor: &mut Cursor<'_>) -> Result<(u32, u32), Error>
+    ensures { Gives (λ t. ((t.0, t.1), cursor.new)) result (others_at cursor.old) }
+{
+    if cursor.read_optional_tag(b":") {
+        read_minutes_seconds(cursor)
+    } else {
+        Ok((0, 0))
+    }
+}
+
+#[tactic(auto, unfolding(crate::specs::Readings::minutes_seconds_at))]
+fn read_minutes_seconds(cursor: &mut Cursor<'_>) -> Result<(u32, u32), Error>
+    ensures { Gives (λ t. ((t.0, t.1), cursor.new)) result (minutes_seconds_at cursor.old) }
+{
+    let m = cursor.read_int(CLOCK_MAX)?;
+    let s = read_seconds(cursor)?;
+    Ok((m, s))
+}
+
+#[tactic(auto, unfolding(crate::specs::Readings::seconds_at))]
+fn read_seconds(cursor: &mut Cursor<'_>) -> Result<u32, Error>
+    ensures { Gives (λ s. (s, cursor.new)) result (seconds_at cursor.old) }
+{
+    if cursor.read_optional_tag(b":") {
+        cursor.read_int(CLOCK_MAX)
+    } else {
+        Ok(0)
+    }
+}
+
+/// The signed seconds of so many hours, up to the limit, minutes and seconds, up to 59.
+#[tactic(auto, unfolding(crate::specs::Readings::seconds_within))]
+fn seconds_of(limit: u32, negative: bool, h: u32, m: u32, s: u32) -> Result<i32, Error>
+    requires { limit ≤ 167 }
+    ensures value { Gives (λ z. z) result (seconds_within limit negative h m s) }
+    ensures day { limit ≤ 23 → IfOk result (λ z. IsWithinDay z) }
+    ensures week { IfOk result (λ z. IsWithinWeek z) }
+{
+    if h > limit || m > 59 || s > 59 {
+        return Err(Error::InvalidTzString("hours, minutes and seconds within their limits"));
+    }
+    let seconds = (3_600 * h + 60 * m + s) as i32;
+    if negative { Ok(-seconds) } else { Ok(seconds) }
+}

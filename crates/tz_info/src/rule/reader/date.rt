@@ -1,0 +1,78 @@
+//! The days of a TZ text: a date, and a time of that day.
+
+ghost use Rattle.std.specs.Prelude.{◌≡◌, IfOk};
+ghost use Rattle.tz_info.specs.Fronts.{Gives, int_at};
+ghost use Rattle.tz_info.specs.Rules.{IsWithinWeek};
+ghost use Rattle.tz_info.specs.Readings.{date_at, month_date_at, julian_date_at, day_number_at, day_at};
+
+use crate::cursor::Cursor;
+use crate::error::Error;
+use crate::rule::day::RuleDay;
+use crate::rule::reader::clock::read_optional_time;
+
+/// The limit of a month, a week and a weekday, before their own.
+const DATE_MAX: u32 = u8::MAX as u32;
+
+/// The limit of a day number, before its own.
+const DAY_MAX: u32 = u16::MAX as u32;
+
+/// A date, and its time of day, in seconds behind midnight.
+#[tactic(auto, unfolding(crate::specs::Readings::day_at))]
+pub(super) fn read_day(extended: bool, cursor: &mut Cursor<'_>) -> Result<(RuleDay, i32), Error>
+    ensures value { Gives (λ d. (record { day = d.0; time = d.1 }, cursor.new)) result (day_at extended cursor.old) }
+    ensures bound { IfOk result (λ d. IsWithinWeek d.1) }
+{
+    match read_date(cursor) {
+        Ok(date) => Ok((date, read_optional_time(extended, cursor)?)),
+        Err(e) => Err(e),
+    }
+}
+
+#[tactic(auto, unfolding(crate::specs::Readings::date_at))]
+fn read_date(cursor: &mut Cursor<'_>) -> Result<RuleDay, Error>
+    ensures { Gives (λ d. (d, cursor.new)) result (date_at cursor.old) }
+{
+    if cursor.read_optional_tag(b"M") {
+        read_month_date(cursor)
+    } else if cursor.read_optional_tag(b"J") {
+        read_julian_date(cursor)
+    } else {
+        read_day_number(cursor)
+    }
+}
+
+/// `month.week.weekday`, behind the `M`.
+#[tactic(auto, unfolding(crate::specs::Readings::month_date_at, crate::specs::Readings::rule_day_of))]
+fn read_month_date(cursor: &mut Cursor<'_>) -> Result<RuleDay, Error>
+    ensures { Gives (λ d. (d, cursor.new)) result (month_date_at cursor.old) }
+{
+    let month = read_byte(cursor)?;
+    cursor.read_tag(b".")?;
+    let week = read_byte(cursor)?;
+    cursor.read_tag(b".")?;
+    let weekday = read_byte(cursor)?;
+    RuleDay::month_weekday(month, week, weekday)
+}
+
+fn read_byte(cursor: &mut Cursor<'_>) -> Result<u8, Error>
+    ensures { Gives (λ n. (n, cursor.new)) result (int_at 255 cursor.old) }
+{
+    Ok(cursor.read_int(DATE_MAX)? as u8)
+}
+
+/// The number behind the `J`.
+#[tactic(auto, unfolding(crate::specs::Readings::julian_date_at, crate::specs::Readings::rule_day_of))]
+fn read_julian_date(cursor: &mut Cursor<'_>) -> Result<RuleDay, Error>
+    ensures { Gives (λ d. (d, cursor.new)) result (julian_date_at cursor.old) }
+{
+    let n = cursor.read_int(DAY_MAX)?;
+    RuleDay::julian_1(n as u16)
+}
+
+#[tactic(auto, unfolding(crate::specs::Readings::day_number_at, crate::specs::Readings::rule_day_of))]
+fn read_day_number(cursor: &mut Cursor<'_>) -> Result<RuleDay, Error>
+    ensures { Gives (λ d. (d, cursor.new)) result (day_number_at cursor.old) }
+{
+    let n = cursor.read_int(DAY_MAX)?;
+    RuleDay::julian_0(n as u16)
+}

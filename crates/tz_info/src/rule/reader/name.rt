@@ -1,0 +1,53 @@
+//! The names of a TZ text: letters, or any bytes between `<` and `>`.
+
+ghost use Rattle.std.specs.Prelude.{◌≡◌, ◌==◌};
+ghost use Rattle.tz_info.specs.Fronts.{Gives, run_of, after_run};
+ghost use Rattle.tz_info.specs.Pieces.{greater, is_letter, is_not_greater};
+ghost use Rattle.tz_info.specs.Readings.{name_at, quoted_at};
+
+use crate::cursor::Cursor;
+use crate::error::Error;
+
+/// A name as the text gives it, which need not be one that a type can have.
+#[tactic(auto, unfolding(crate::specs::Readings::name_at, crate::specs::Readings::letters_at))]
+pub(super) fn read_name<'a>(cursor: &mut Cursor<'a>) -> Result<&'a [u8], Error>
+    ensures { Gives (λ name. (name.now, cursor.new)) result (name_at cursor.old) }
+{
+    if cursor.read_optional_tag(b"<") {
+        read_quoted(cursor)
+    } else {
+        Ok(read_letters(cursor))
+    }
+}
+
+/// What stands before the `>`, which is taken too.
+#[tactic(auto, unfolding(crate::specs::Readings::quoted_at))]
+fn read_quoted<'a>(cursor: &mut Cursor<'a>) -> Result<&'a [u8], Error>
+    ensures { Gives (λ name. (name.now, cursor.new)) result (quoted_at cursor.old) }
+{
+    let name = read_until_greater(cursor);
+    cursor.read_tag(b">")?;
+    Ok(name)
+}
+
+fn read_until_greater<'a>(cursor: &mut Cursor<'a>) -> &'a [u8]
+    ensures run { result.now ≡ run_of is_not_greater cursor.old }
+    ensures rest { cursor.new ≡ after_run is_not_greater cursor.old }
+{
+    cursor.read_until(
+        |b: u8| -> bool
+            ensures { result ≡ (b == greater) }
+        { b == b'>' },
+    )
+}
+
+fn read_letters<'a>(cursor: &mut Cursor<'a>) -> &'a [u8]
+    ensures run { result.now ≡ run_of is_letter cursor.old }
+    ensures rest { cursor.new ≡ after_run is_letter cursor.old }
+{
+    cursor.read_while(
+        |b: u8| -> bool
+            ensures { result ≡ is_letter b }
+        { b.is_ascii_alphabetic() },
+    )
+}

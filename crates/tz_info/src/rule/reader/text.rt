@@ -1,0 +1,217 @@
+//! The whole of a TZ text.
+
+ghost use Rattle.std.specs.Prelude.{◌≡◌, IfOk};
+ghost use Rattle.tz_info.specs.Fronts.{Gives};
+ghost use Rattle.tz_info.specs.Rules.{IsWithinDay, IsWithinWeek};
+ghost use Rattle.tz_info.specs.Readings.{is_end, more_at, end_at, next_hour_of, given_offset_at, dst_offset_at, named_type_of, fixed_at, alternate_at, days_at, named_types_of, rule_at, text_at};
+
+use crate::cursor::Cursor;
+use crate::error::Error;
+use crate::local_time_type::LocalTimeType;
+use crate::rule::alternate::AlternateTime;
+use crate::rule::day::RuleDay;
+use crate::rule::reader::clock::read_offset;
+use crate::rule::reader::date::read_day;
+use crate::rule::reader::name::read_name;
+use crate::rule::transition_rule::TransitionRule;
+
+/// The rule that all bytes of the cursor spell.
+#[tactic(auto, unfolding(crate::specs::Readings::text_at))]
+pub(super) fn read_text(extended: bool, cursor: &mut Cursor<'_>) -> Result<TransitionRule, Error>
+    ensures { Gives (λ rule. (rule, cursor.new)) result (text_at extended cursor.old) }
+{
+    let name = read_name(cursor)?;
+    let offset = read_offset(cursor)?;
+    read_rule(extended, name, offset, cursor)
+}
+
+#[tactic(auto, unfolding(crate::specs::Readings::rule_at))]
+fn read_rule(
+    extended: bool,
+    name: &[u8],
+    offset: i32,
+    cursor: &mut Cursor<'_>,
+) -> Result<TransitionRule, Error>
+    requires { IsWithinDay offset }
+    ensures { Gives (λ rule. (rule, cursor.new)) result (rule_at extended name.now offset cursor.old) }
+{
+    if is_at_end(cursor) {
+        read_fixed(name, offset, cursor)
+    } else {
+        read_alternate(extended, name, offset, cursor)
+    }
+}
+
+#[tactic(auto, unfolding(crate::specs::Readings::fixed_at))]
+fn read_fixed(name: &[u8], offset: i32, cursor: &mut Cursor<'_>) -> Result<TransitionRule, Error>
+    requires { IsWithinDay offset }
+    ensures { Gives (λ rule. (rule, cursor.new)) result (fixed_at name.now offset cursor.old) }
+{
+    match named_type(name, false, offset) {
+        Ok(local) => Ok(TransitionRule::Fixed(local)),
+        Err(e) => Err(e),
+    }
+}
+
+/// What follows the offset of standard time. The names are looked at last.
+#[tactic(auto, unfolding(crate::specs::Readings::alternate_at))]
+fn read_alternate(
+    extended: bool,
+    name: &[u8],
+    offset: i32,
+    cursor: &mut Cursor<'_>,
+) -> Result<TransitionRule, Error>
+    requires { IsWithinDay offset }
+    ensures { Gives (λ rule. (rule, cursor.new)) result (alternate_at extended name.now offset cursor.old) }
+{
+    let dst_name = read_name(cursor)?;
+    let dst_offset = read_dst_offset(offset, cursor)?;
+    match read_days(extended, cursor) {
+        Ok((start, end)) => {
+            expect_end(cursor)?;
+            match named_types(name, offset, dst_name, dst_offset) {
+                Ok((std, dst)) => Ok(TransitionRule::Alternate(alternate(std, dst, start, end))),
+                Err(e) => Err(e),
+            }
+        }
+        Err(e) => Err(e),
+    }
+}
+
+/// The days when daylight saving time starts and ends, with their times.
+#[tactic(auto, unfolding(crate::specs::Readings::days_at))]
+fn read_days(
+    extended: bool,
+    cursor: &mut Cursor<'_>,
+) -> Result<((RuleDay, i32), (RuleDay, i32)), Error>
+    ensures value { Gives (λ days. ((record { day = days.0.0; time = days.0.1 }, record { day = days.1.0; time = days.1.1 }), cursor.new)) result (days_at extended cursor.old) }
+    ensures bound { IfOk result (λ days. IsWithinWeek days.0.1 × IsWithinWeek days.1.1) }
+{
+    match read_day(extended, cursor) {
+        Ok(start) => {
+            cursor.read_tag(b",")?;
+            match read_day(extended, cursor) {
+                Ok(end) => Ok((start, end)),
+                Err(e) => Err(e),
+            }
+        }
+        Err(e) => Err(e),
+    }
+}
+
+/// The offset of daylight saving time, an hour more than that of standard time if none is given, and the comma behind it.
+#[tactic(auto, unfolding(crate::specs::Readings::dst_offset_at))]
+fn read_dst_offset(std: i32, cursor: &mut Cursor<'_>) -> Result<i32, Error>
+    requires { IsWithinDay std }
+    ensures value { Gives (λ z. (z, cursor.new)) result (dst_offset_at std cursor.old) }
+    ensures bound { IfOk result (λ z. IsWithinDay z) }
+{
+    if cursor.read_optional_tag(b",") {
+        next_hour(std)
+    } else {
+        read_given_offset(cursor)
+    }
+}
+
+#[tactic(auto, unfolding(crate::specs::Readings::given_offset_at))]
+fn read_given_offset(cursor: &mut Cursor<'_>) -> Result<i32, Error>
+    ensures value { Gives (λ z. (z, cursor.new)) result (given_offset_at cursor.old) }
+    ensures bound { IfOk result (λ z. IsWithinDay z) }
+{
+    expect_more(cursor)?;
+    let offset = read_offset(cursor)?;
+    expect_more(cursor)?;
+    cursor.read_tag(b",")?;
+    Ok(offset)
+}
+
+#[tactic(auto, unfolding(crate::specs::Readings::next_hour_of))]
+fn next_hour(std: i32) -> Result<i32, Error>
+    requires { IsWithinDay std }
+    ensures value { Gives (λ z. z) result (next_hour_of std) }
+    ensures bound { IfOk result (λ z. IsWithinDay z) }
+{
+    let offset = std + 3_600;
+    if offset > 86_399 {
+        return Err(Error::InvalidTzString("an offset of daylight saving time within a day"));
+    }
+    Ok(offset)
+}
+
+/// The types of standard time and of daylight saving time.
+#[tactic(auto, unfolding(crate::specs::Readings::named_types_of))]
+fn named_types(
+    std_name: &[u8],
+    std_offset: i32,
+    dst_name: &[u8],
+    dst_offset: i32,
+) -> Result<(LocalTimeType, LocalTimeType), Error>
+    requires std { IsWithinDay std_offset }
+    requires dst { IsWithinDay dst_offset }
+    ensures value { Gives (λ types. (types.0, types.1)) result (named_types_of std_name.now std_offset dst_name.now dst_offset) }
+    ensures offsets { IfOk result (λ types. IsWithinDay types.0.offset × IsWithinDay types.1.offset) }
+{
+    match named_type(std_name, false, std_offset) {
+        Ok(std) => match named_type(dst_name, true, dst_offset) {
+            Ok(dst) => Ok((std, dst)),
+            Err(e) => Err(e),
+        },
+        Err(e) => Err(e),
+    }
+}
+
+/// The type of that name, if a type can have it.
+fn named_type(name: &[u8], dst: bool, offset: i32) -> Result<LocalTimeType, Error>
+    requires { IsWithinDay offset }
+    ensures value { Gives (λ t. t) result (named_type_of name.now dst offset) }
+    ensures offset { IfOk result (λ t. IsWithinDay t.offset) }
+{
+    LocalTimeType::new(offset, dst, Some(name))
+}
+
+/// The rule of two types and two days with their times.
+fn alternate(
+    std: LocalTimeType,
+    dst: LocalTimeType,
+    start: (RuleDay, i32),
+    end: (RuleDay, i32),
+) -> AlternateTime
+    requires std { IsWithinDay std.offset }
+    requires dst { IsWithinDay dst.offset }
+    requires start { IsWithinWeek start.1 }
+    requires end { IsWithinWeek end.1 }
+    ensures { result ≡ record { std = std; dst = dst; start = record { day = start.0; time = start.1 }; end = record { day = end.0; time = end.1 } } }
+{
+    match AlternateTime::new(std, dst, start.0, start.1, end.0, end.1) {
+        Ok(rule) => rule,
+        Err(_) => unreachable!(),
+    }
+}
+
+#[tactic(auto, unfolding(crate::specs::Readings::more_at))]
+fn expect_more(cursor: &Cursor<'_>) -> Result<(), Error>
+    ensures { Gives (λ unit. (unit, cursor.now)) result (more_at cursor.now) }
+{
+    if is_at_end(cursor) {
+        Err(Error::UnsupportedTzString("days when daylight saving time starts and ends"))
+    } else {
+        Ok(())
+    }
+}
+
+#[tactic(auto, unfolding(crate::specs::Readings::end_at))]
+fn expect_end(cursor: &Cursor<'_>) -> Result<(), Error>
+    ensures { Gives (λ unit. (unit, cursor.now)) result (end_at cursor.now) }
+{
+    if is_at_end(cursor) {
+        Ok(())
+    } else {
+        Err(Error::InvalidTzString("nothing behind the text"))
+    }
+}
+
+fn is_at_end(cursor: &Cursor<'_>) -> bool
+    ensures { result ≡ is_end cursor.now }
+{
+    cursor.is_empty()
+}

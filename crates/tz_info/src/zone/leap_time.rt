@@ -1,0 +1,102 @@
+//! Leap times of Unix times, and Unix times of leap times.
+
+ghost use Rattle.std.specs.Prelude.{◌≡◌, pos, ◌+ℤ◌, ◌≤ℤ◌, MatchResult, IsTrue, ◌↔◌};
+ghost use Rattle.tz_info.specs.Errors.{number_of};
+ghost use Rattle.tz_info.specs.Leaps.{IsOneStep, IsFirstLeap, IsNextLeap, AreLeapSeconds, IsLeapTime, IsLeapTimeRefused, IsUnixTime, IsUnixTimeRefused, correction_before};
+
+use crate::error::Error;
+use crate::zone::leap_second::LeapSecond;
+
+/// Whether the entries may be those of a zone, in one pass over them.
+pub(super) fn are_leap_seconds(entries: &[LeapSecond]) -> bool
+    ensures { IsTrue result ↔ AreLeapSeconds entries.now }
+{
+    for i in 1..entries.len() {
+        if !is_next(entries[i - 1], entries[i]) {
+            return false;
+        }
+    }
+    match entries.first() {
+        Some(first) => is_first(*first),
+        None => true,
+    }
+}
+
+fn is_first(entry: LeapSecond) -> bool
+    ensures { IsTrue result ↔ IsFirstLeap entry }
+{
+    entry.unix_leap_time >= 0 && is_one_step(0, entry.correction)
+}
+
+fn is_next(before: LeapSecond, entry: LeapSecond) -> bool
+    ensures { IsTrue result ↔ IsNextLeap before entry }
+{
+    is_far_enough(before.unix_leap_time, entry.unix_leap_time)
+        && is_one_step(before.correction, entry.correction)
+}
+
+fn is_far_enough(before: i64, after: i64) -> bool
+    ensures { IsTrue result ↔ ((before +ℤ pos 2_419_199) ≤ℤ after) }
+{
+    match before.checked_add(2_419_199) {
+        Some(earliest) => earliest <= after,
+        None => false,
+    }
+}
+
+fn is_one_step(before: i32, after: i32) -> bool
+    ensures { IsTrue result ↔ IsOneStep before after }
+{
+    after as i64 == before as i64 + 1 || after as i64 == before as i64 - 1
+}
+
+/// The leap time of a Unix time.
+pub(super) fn leap_time(entries: &[LeapSecond], unix_time: i64) -> Result<i64, Error>
+    requires { AreLeapSeconds entries.now }
+    ensures { MatchResult result
+        (λ x. IsLeapTime entries.now unix_time x)
+        (λ e. (number_of e ≡ 9) × IsLeapTimeRefused entries.now unix_time) }
+{
+    let mut leap_time = unix_time;
+    for entry in entries {
+        if leap_time < entry.unix_leap_time {
+            return Ok(leap_time);
+        }
+        match unix_time.checked_add(entry.correction as i64) {
+            Some(sum) => leap_time = sum,
+            None => return Err(Error::OutOfRange("a leap time of 64 bits")),
+        }
+    }
+    Ok(leap_time)
+}
+
+/// The Unix time of a leap time.
+pub(super) fn unix_time(entries: &[LeapSecond], leap_time: i64) -> Result<i64, Error>
+    requires { AreLeapSeconds entries.now }
+    ensures { MatchResult result
+        (λ u. IsUnixTime entries.now leap_time u)
+        (λ e. (number_of e ≡ 9) × IsUnixTimeRefused entries.now leap_time) }
+{
+    if leap_time == i64::MIN {
+        return Err(Error::OutOfRange("a leap time above i64::MIN"));
+    }
+    match leap_time.checked_sub(correction_before(entries, leap_time) as i64) {
+        Some(difference) => Ok(difference),
+        None => Err(Error::OutOfRange("a Unix time of 64 bits")),
+    }
+}
+
+/// The correction of the last entry before a leap time.
+fn correction_before(entries: &[LeapSecond], leap_time: i64) -> i32
+    requires { AreLeapSeconds entries.now }
+    ensures { result ≡ correction_before entries.now leap_time }
+{
+    let mut correction = 0;
+    for entry in entries {
+        if entry.unix_leap_time >= leap_time {
+            return correction;
+        }
+        correction = entry.correction;
+    }
+    correction
+}

@@ -1,0 +1,63 @@
+//! Zones of TZ texts.
+
+ghost use Rattle.std.specs.Prelude.{◌≡◌, IfOk, IfErr, MatchResult, ◌⊎◌, [], ◌∷◌};
+ghost use Rattle.tz_info.specs.Errors.{number_of};
+ghost use Rattle.tz_info.specs.Zones.{Zone};
+ghost use Rattle.tz_info.specs.PosixZones.{IsPosixZone, IsPosixFault, types_of, posix_zone};
+
+use crate::error::Error;
+use crate::local_time_type::LocalTimeType;
+use crate::rule::TransitionRule;
+use crate::zone::time_zone::TimeZone;
+use std::alloc::Global;
+
+impl TimeZone {
+    /// The zone of a TZ text, as `EST5EDT,M3.2.0,M11.1.0` (POSIX.1 section 8.3): its rule, and the one type or the two
+    /// types of the rule, that of standard time first. An empty text gives the zone of [`TimeZone::utc`]. Otherwise spaces,
+    /// tabs, line feeds, form feeds and carriage returns at both ends do not count, and the text is read without
+    /// extensions.
+    ///
+    /// # Errors
+    ///
+    /// Those of [`TransitionRule::from_tz_string`]; [`Error::OutOfMemory`] if there is no memory for the zone.
+    pub fn from_posix_tz(alloc: Global, text: &str) -> Result<TimeZone, Error>
+        // The zone is the text's.
+        ensures found { IfOk result (λ z. IsPosixZone text.now z) }
+        // A text that has a zone gives it, unless there is no memory.
+        ensures only { (z : Zone) → IsPosixZone text.now z → MatchResult result (λ y. y ≡ z) (λ e. number_of e ≡ 17) }
+        // Where it is refused, what the number says stands in the text, or there is no memory.
+        ensures fault { IfErr result (λ e. (number_of e ≡ 17) ⊎ IsPosixFault text.now (number_of e)) }
+    {
+        if text.is_empty() {
+            return TimeZone::utc(alloc);
+        }
+        match TransitionRule::from_tz_string(text.trim_ascii().as_bytes(), false) {
+            Ok(rule) => TimeZone::of_rule(alloc, rule),
+            Err(e) => Err(e),
+        }
+    }
+
+    /// The zone of the rule.
+    fn of_rule(alloc: Global, rule: TransitionRule) -> Result<TimeZone, Error>
+        ensures { MatchResult result (λ z. z ≡ posix_zone rule) (λ e. number_of e ≡ 17) }
+    {
+        let types = types_of(alloc, &rule)?;
+        Ok(TimeZone::with_rule(types, Some(rule)))
+    }
+}
+
+/// The types of the rule, that of standard time first.
+fn types_of(alloc: Global, rule: &TransitionRule) -> Result<Vec<LocalTimeType>, Error>
+    ensures { MatchResult result (λ types. types.items ≡ types_of rule.now) (λ e. number_of e ≡ 17) }
+{
+    match rule {
+        TransitionRule::Fixed(local) => Ok(vec![in alloc; *local]?),
+        TransitionRule::Alternate(alternate) => Ok(vec![in alloc;
+            *alternate.std(),
+            *alternate.dst(),
+        ]?),
+    }
+}
+
+#[cfg(test)]
+mod tests;

@@ -1,0 +1,73 @@
+//! Counts of what a lookup looks at.
+
+ghost use Rattle.std.specs.Prelude.{◌≡◌, ◌+◌, ◌^◌, ◌<◌, ◌↔◌, IsTrue};
+ghost use Rattle.tz_info.specs.Counts.{HasRoom};
+
+use std::marker::Model;
+
+/// How often lookups looked at a transition, and how often they asked a rule.
+#[derive(Debug, Drop)]
+pub struct Probes {
+    transition_reads: u128,
+    questions: u128,
+}
+
+impl Model for Probes {
+    ghost use Rattle.tz_info.specs.Counts.{Counts};
+
+    ghost Value = { Counts };
+
+    ghost view = { λ p. record { reads = p.transition_reads; rule_questions = p.questions } };
+}
+
+impl Probes {
+    /// What both counts are below where a lookup may start.
+    const ROOM: u128 = 1 << 120;
+
+    /// Counts of 0.
+    pub fn new() -> Probes
+        ensures { result ≡ record { reads = 0; rule_questions = 0 } }
+    {
+        Probes {
+            transition_reads: 0,
+            questions: 0,
+        }
+    }
+
+    /// How often a transition was looked at.
+    pub fn reads(&self) -> u128
+        ensures { result ≡ self.now.reads }
+    {
+        self.transition_reads
+    }
+
+    /// How often a rule was asked for the type at an instant.
+    pub fn rule_questions(&self) -> u128
+        ensures { result ≡ self.now.rule_questions }
+    {
+        self.questions
+    }
+
+    /// Whether a counted lookup may start: each count is below 2^120.
+    pub fn has_room(&self) -> bool
+        ensures { IsTrue result ↔ HasRoom self.now }
+    {
+        self.transition_reads < Self::ROOM && self.questions < Self::ROOM
+    }
+
+    /// Counts a look at a transition.
+    pub(super) fn count_read(&mut self)
+        requires { self.old.reads < 2 ^ 122 }
+        ensures { self.new ≡ record self.old { reads = self.old.reads + 1 } }
+    {
+        self.transition_reads += 1;
+    }
+
+    /// Counts a question to a rule.
+    pub(super) fn count_question(&mut self)
+        requires { self.old.rule_questions < 2 ^ 122 }
+        ensures { self.new ≡ record self.old { rule_questions = self.old.rule_questions + 1 } }
+    {
+        self.questions += 1;
+    }
+}

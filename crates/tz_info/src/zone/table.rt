@@ -1,0 +1,118 @@
+//! The transitions of a zone. A lookup can look at one of them only where the look is counted.
+
+ghost use Rattle.std.specs.Prelude.{◌≡◌, ◌+◌, ◌^◌, ◌<◌, ◌≤◌, ◌↔◌, List, length, take, slice_index_or, IsTrue, pos};
+ghost use Rattle.tz_info.specs.Counts.{RoseWithin};
+ghost use Rattle.tz_info.specs.Digits.{digits};
+ghost use Rattle.tz_info.specs.Transitions.{AreRising, AreTransitions, Stands, passed};
+
+use crate::zone::probes::Probes;
+use crate::zone::transition::Transition;
+use std::marker::Model;
+
+/// Transitions whose times rise.
+#[derive(Debug, Drop)]
+pub(super) struct Table {
+    entries: Vec<Transition>,
+}
+
+impl Model for Table {
+    ghost use Rattle.std.specs.Prelude.{List};
+    ghost use Rattle.tz_info.specs.declared.zone.transition.Transition.{Transition};
+    ghost use Rattle.tz_info.specs.Transitions.{AreRising};
+
+    ghost Value = { List Transition };
+
+    ghost view = { λ t. t.entries.items };
+
+    ghost invariant = { λ t. AreRising t.entries.items };
+}
+
+impl PartialEq for Table {
+    ghost use Rattle.std.specs.Cmp.{partial_equiv_from_equiv};
+    ghost use Rattle.std.specs.Cmp.Lexicographic.{pointwise};
+    ghost use Rattle.std.proofs.lemmas.Cmp.{lists_equiv};
+    ghost use Rattle.tz_info.specs.contracts.zone.transition.TransitionEq.TheImpl.Laws.{laws-law};
+
+    ghost eq = { pointwise ⟦<Transition as PartialEq>⟧.eq };
+
+    ghost laws = { partial_equiv_from_equiv (lists_equiv laws-law) };
+
+    fn eq(&self, other: &Table) -> bool {
+        self.entries == other.entries
+    }
+}
+
+impl Table {
+    /// The table of those transitions.
+    pub(super) fn new(entries: Vec<Transition>) -> Table
+        requires { AreRising entries.items }
+        ensures { result ≡ entries.items }
+    {
+        Table { entries }
+    }
+
+    /// How many transitions there are.
+    pub(super) fn len(&self) -> usize
+        ensures count { result ≡ length self.now }
+        ensures rising { AreRising self.now }
+    {
+        self.entries.len()
+    }
+
+    /// The transition at that place. This is the only look that a lookup can take.
+    pub(super) fn read(&self, place: usize, probes: &mut Probes) -> Transition
+        requires place { place < length self.now }
+        requires room { probes.old.reads < 2 ^ 122 }
+        ensures item { result ≡ slice_index_or self.now place result }
+        ensures count { probes.new ≡ record probes.old { reads = probes.old.reads + 1 } }
+    {
+        probes.count_read();
+        self.entries[place]
+    }
+
+    /// How many transitions come at or before the leap time, by a binary search.
+    pub(super) fn passed_count(&self, leap_time: i64, probes: &mut Probes) -> usize
+        requires { probes.old.reads < 2 ^ 121 }
+        ensures within { result ≤ length self.now }
+        ensures passed { passed self.now leap_time ≡ take result self.now }
+        ensures cost { RoseWithin probes.old probes.new (digits (length self.now)) 0 }
+    {
+        let mut low = 0;
+        let mut high = self.len();
+        while low < high {
+            let middle = low + (high - low) / 2;
+            if self.read(middle, probes).unix_leap_time <= leap_time {
+                low = middle + 1;
+            } else {
+                high = middle;
+            }
+        }
+        low
+    }
+}
+
+/// Whether a zone of so many types may have the transitions, in one pass over them.
+pub(super) fn are_transitions(type_count: usize, transitions: &[Transition]) -> bool
+    ensures { IsTrue result ↔ AreTransitions type_count transitions.now }
+{
+    for i in 0..transitions.len() {
+        if !stands(type_count, transitions, i) {
+            return false;
+        }
+    }
+    true
+}
+
+/// Whether the transition at that place names a type and comes later than the one before it.
+fn stands(type_count: usize, transitions: &[Transition], place: usize) -> bool
+    requires { place < length transitions.now }
+    ensures { IsTrue result ↔ Stands type_count transitions.now place }
+{
+    if transitions[place].type_index >= type_count {
+        return false;
+    }
+    if place == 0 {
+        return true;
+    }
+    transitions[place - 1].unix_leap_time < transitions[place].unix_leap_time
+}

@@ -1,0 +1,301 @@
+//! A time zone: transitions, the types of its local time, leap seconds, and the rule that goes on after them.
+
+ghost use Rattle.std.specs.Prelude.{◌≡◌, pos, ◌<◌, length, IsTrue, ◌↔◌, MatchResult, ◌⊎◌, option_map};
+ghost use Rattle.tz_info.specs.Errors.{number_of};
+ghost use Rattle.tz_info.specs.Leaps.{AreLeapSeconds, IsLeapTime, IsLeapTimeRefused, IsUnixTime, IsUnixTimeRefused};
+ghost use Rattle.tz_info.specs.LocalTypes.{IsUtOffset};
+ghost use Rattle.tz_info.specs.Zones.{Zone, IsValid, Agrees, plain_zone, zone_of_rule, zone_of_type};
+
+use crate::error::Error;
+use crate::local_time_type::LocalTimeType;
+use crate::rule::TransitionRule;
+use crate::zone::leap_second::LeapSecond;
+use crate::zone::leap_time::{are_leap_seconds, leap_time, unix_time};
+use crate::zone::table::{Table, are_transitions};
+use crate::zone::transition::Transition;
+use std::alloc::Global;
+use std::marker::Model;
+
+/// A time zone: which type of local time is in force at each instant.
+///
+/// ```text
+/// let types = vec![in alloc; LocalTimeType::utc(), LocalTimeType::with_offset(3600)?]?;
+/// let transitions = vec![in alloc; Transition::new(0, 1)]?;
+/// let zone = TimeZone::new(alloc, transitions, types, Vec::new(alloc), None)?;
+/// let before = zone.find_local_time_type(-1)?;    // UTC
+/// let after = zone.find_local_time_type(0)?;      // 3600 seconds east of UTC
+/// ```
+#[derive(Debug, Drop)]
+pub struct TimeZone {
+    pub(super) table: Table,
+    pub(super) local_types: Vec<LocalTimeType>,
+    pub(super) leap_seconds: Vec<LeapSecond>,
+    pub(super) last_rule: Option<TransitionRule>,
+}
+
+impl Model for TimeZone {
+    ghost use Rattle.tz_info.specs.Zones.{Zone, IsValid};
+
+    ghost Value = { Zone };
+
+    ghost view = { λ z. record { transitions = z.table; types = z.local_types.items; leaps = z.leap_seconds.items; rule = z.last_rule } };
+
+    ghost invariant = { λ z. IsValid (record { transitions = z.table; types = z.local_types.items; leaps = z.leap_seconds.items; rule = z.last_rule }) };
+}
+
+impl PartialEq for TimeZone {
+    ghost use Rattle.std.specs.Cmp.{partial_equiv_from_equiv};
+    ghost use Rattle.tz_info.specs.ZoneEquality.{zone_eq, zone_eq_equiv};
+    ghost use Rattle.tz_info.specs.contracts.zone.transition.TransitionEq.TheImpl.Laws.{laws-law as transitions};
+    ghost use Rattle.tz_info.specs.contracts.local_time_type.LocalTimeTypeEq.TheImpl.Laws.{laws-law as types};
+    ghost use Rattle.tz_info.specs.contracts.zone.leap_second.LeapSecondEq.TheImpl.Laws.{laws-law as leaps};
+    ghost use Rattle.tz_info.specs.contracts.rule.transition_rule.TransitionRuleEq.TheImpl.Laws.{laws-law as rules};
+
+    ghost eq = { zone_eq ⟦<Transition as PartialEq>⟧.eq ⟦<LocalTimeType as PartialEq>⟧.eq ⟦<LeapSecond as PartialEq>⟧.eq ⟦<TransitionRule as PartialEq>⟧.eq };
+
+    ghost laws = { partial_equiv_from_equiv (zone_eq_equiv transitions types leaps rules) };
+
+    fn eq(&self, other: &TimeZone) -> bool {
+        self.table == other.table
+            && self.local_types == other.local_types
+            && self.leap_seconds == other.leap_seconds
+            && self.last_rule == other.last_rule
+    }
+}
+
+impl Eq for TimeZone {
+    ghost use Rattle.tz_info.specs.ZoneEquality.{zone_eq_equiv};
+    ghost use Rattle.tz_info.specs.contracts.zone.transition.TransitionEq.TheImpl.Laws.{laws-law as transitions};
+    ghost use Rattle.tz_info.specs.contracts.local_time_type.LocalTimeTypeEq.TheImpl.Laws.{laws-law as types};
+    ghost use Rattle.tz_info.specs.contracts.zone.leap_second.LeapSecondEq.TheImpl.Laws.{laws-law as leaps};
+    ghost use Rattle.tz_info.specs.contracts.rule.transition_rule.TransitionRuleEq.TheImpl.Laws.{laws-law as rules};
+
+    ghost laws = { zone_eq_equiv transitions types leaps rules };
+}
+
+impl TimeZone {
+    /// The zone of those transitions, types, leap seconds and rule.
+    ///
+    /// There is a type; each transition names one, and their times rise. The first leap second comes in 1970 or later and
+    /// has the correction 1 or -1; each other one comes at least 28 days, less a second, after the one before, and its
+    /// correction is one more or one less. Where there are a rule and a transition, the rule's type at the last
+    /// transition's Unix time is that transition's type.
+    ///
+    /// # Errors
+    ///
+    /// [`Error::TimeZone`] if the lists are otherwise.
+    pub fn new(
+        _alloc: Global,
+        transitions: Vec<Transition>,
+        types: Vec<LocalTimeType>,
+        leaps: Vec<LeapSecond>,
+        rule: Option<TransitionRule>,
+    ) -> Result<TimeZone, Error>
+        ensures { let lists : Zone = record { transitions = transitions.items; types = types.items; leaps = leaps.items; rule = rule } in
+            MatchResult result (λ z. IsValid lists × (z ≡ lists)) (λ e. (number_of e ≡ 12) × ¬ (IsValid lists)) }
+    {
+        if !is_valid(&transitions, &types, &leaps, &rule) {
+            return Err(Error::TimeZone("lists of a zone"));
+        }
+        Ok(TimeZone {
+            table: Table::new(transitions),
+            local_types: types,
+            leap_seconds: leaps,
+            last_rule: rule,
+        })
+    }
+
+    /// The zone of UTC: one type, that of [`LocalTimeType::utc`], at every instant.
+    ///
+    /// # Errors
+    ///
+    /// [`Error::OutOfMemory`] if there is no memory for it.
+    pub fn utc(alloc: Global) -> Result<TimeZone, Error>
+        ensures { MatchResult result (λ z. z ≡ plain_zone (pos 0)) (λ e. number_of e ≡ 17) }
+    {
+        TimeZone::of_type(alloc, LocalTimeType::utc())
+    }
+
+    /// The zone of one type at every instant: that offset, in seconds east of UTC, without a name.
+    ///
+    /// # Errors
+    ///
+    /// [`Error::LocalTimeType`] if the offset is `i32::MIN`; [`Error::OutOfMemory`] if there is no memory for the zone.
+    pub fn fixed(alloc: Global, ut_offset: i32) -> Result<TimeZone, Error>
+        ensures { MatchResult result
+            (λ z. IsUtOffset ut_offset × (z ≡ plain_zone ut_offset))
+            (λ e. ((number_of e ≡ 3) × ¬ (IsUtOffset ut_offset)) ⊎ ((number_of e ≡ 17) × IsUtOffset ut_offset)) }
+    {
+        match LocalTimeType::with_offset(ut_offset) {
+            Ok(local) => TimeZone::of_type(alloc, local),
+            Err(e) => Err(e),
+        }
+    }
+
+    /// The zone of those types, of which there is one at least, and of that rule.
+    pub(crate) fn with_rule(types: Vec<LocalTimeType>, rule: Option<TransitionRule>) -> TimeZone
+        requires { 0 < length types.items }
+        ensures { result ≡ zone_of_rule types.items rule }
+    {
+        let alloc = *types.allocator();
+        TimeZone {
+            table: Table::new(Vec::new(alloc)),
+            local_types: types,
+            leap_seconds: Vec::new(alloc),
+            last_rule: rule,
+        }
+    }
+
+    /// The zone of one type at every instant.
+    fn of_type(alloc: Global, local: LocalTimeType) -> Result<TimeZone, Error>
+        ensures { MatchResult result (λ z. z ≡ zone_of_type local) (λ e. number_of e ≡ 17) }
+    {
+        let types = vec![in alloc; local]?;
+        Ok(TimeZone::with_rule(types, None))
+    }
+
+    /// How many transitions the zone has.
+    pub fn transition_count(&self) -> usize
+        ensures { result ≡ length self.now.transitions }
+    {
+        self.table.len()
+    }
+
+    /// How many types of local time the zone has; one at least.
+    pub fn type_count(&self) -> usize
+        ensures count { result ≡ length self.now.types }
+        ensures some { 0 < length self.now.types }
+    {
+        self.local_types.len()
+    }
+
+    /// How many leap seconds the zone has.
+    pub fn leap_count(&self) -> usize
+        ensures { result ≡ length self.now.leaps }
+    {
+        self.leap_seconds.len()
+    }
+
+    /// The rule that says what follows the last transition, if the zone has one.
+    pub fn rule(&self) -> Option<&TransitionRule>
+        ensures { option_map (λ r. r.now) result ≡ self.now.rule }
+    {
+        self.last_rule.as_ref()
+    }
+
+    /// The leap time of a Unix time: the second counted from 1970 with the zone's leap seconds.
+    ///
+    /// # Errors
+    ///
+    /// [`Error::OutOfRange`] if the Unix time and the correction of a leap second that it has passed leave 64 bits.
+    pub fn unix_time_to_unix_leap_time(&self, unix_time: i64) -> Result<i64, Error>
+        ensures { MatchResult result
+            (λ x. IsLeapTime self.now.leaps unix_time x)
+            (λ e. (number_of e ≡ 9) × IsLeapTimeRefused self.now.leaps unix_time) }
+    {
+        leap_time(&self.leap_seconds, unix_time)
+    }
+
+    /// The Unix time of a leap time: the second without the leap seconds before it. An inserted leap second has the Unix
+    /// time of the second after it.
+    ///
+    /// # Errors
+    ///
+    /// [`Error::OutOfRange`] if the leap time is `i64::MIN`, or if less its correction it leaves 64 bits.
+    pub fn unix_leap_time_to_unix_time(&self, unix_leap_time: i64) -> Result<i64, Error>
+        ensures { MatchResult result
+            (λ u. IsUnixTime self.now.leaps unix_leap_time u)
+            (λ e. (number_of e ≡ 9) × IsUnixTimeRefused self.now.leaps unix_leap_time) }
+    {
+        unix_time(&self.leap_seconds, unix_leap_time)
+    }
+}
+
+/// Whether the lists make a zone, in one pass over each.
+fn is_valid(
+    transitions: &[Transition],
+    types: &[LocalTimeType],
+    leaps: &[LeapSecond],
+    rule: &Option<TransitionRule>,
+) -> bool
+    ensures { IsTrue result ↔ IsValid (record { transitions = transitions.now; types = types.now; leaps = leaps.now; rule = rule.now }) }
+{
+    if types.is_empty() {
+        return false;
+    }
+    if !are_transitions(types.len(), transitions) {
+        return false;
+    }
+    if !are_leap_seconds(leaps) {
+        return false;
+    }
+    match rule {
+        Some(rule) => match transitions.last() {
+            Some(last) => agrees(types, leaps, rule, *last),
+            None => true,
+        },
+        None => true,
+    }
+}
+
+/// Whether at the Unix time of the last transition the rule has that transition's type.
+fn agrees(
+    types: &[LocalTimeType],
+    leaps: &[LeapSecond],
+    rule: &TransitionRule,
+    last: Transition,
+) -> bool
+    requires leaps { AreLeapSeconds leaps.now }
+    requires index { last.type_index < length types.now }
+    ensures { IsTrue result ↔ Agrees types.now leaps.now rule.now last }
+{
+    match unix_time(leaps, last.unix_leap_time) {
+        Ok(time) => match rule.find_local_time_type(time) {
+            Ok(local) => is_same_type(local, &types[last.type_index]),
+            Err(_) => false,
+        },
+        Err(_) => false,
+    }
+}
+
+fn is_same_type(a: &LocalTimeType, b: &LocalTimeType) -> bool
+    ensures { IsTrue result ↔ (a.now ≡ b.now) }
+{
+    *a == *b
+}
+
+#[cfg(test)]
+mod tests {
+    use super::*;
+    use std::test::Fail;
+
+    #[test]
+    fn zones_of_one_type(rt: HostRuntime) -> Result<(), Fail> {
+        let utc = TimeZone::utc(rt.alloc())?;
+        assert_eq!(rt; utc.find_local_time_type(i64::MAX)?.offset(), 0);
+        assert_eq!(rt;
+            (utc.transition_count(), utc.type_count(), utc.leap_count()),
+            (0, 1, 0)
+        );
+        assert!(rt; utc.rule().is_none());
+
+        let fixed = TimeZone::fixed(rt.alloc(), -36_000)?;
+        assert_eq!(rt; fixed.find_local_time_type(0)?.offset(), -36_000);
+        assert_eq!(rt;
+            TimeZone::fixed(rt.alloc(), i32::MIN)
+                .err()
+                .map(|e| e.number()),
+            Some(3)
+        );
+        Ok(())
+    }
+
+    #[test]
+    fn a_zone_with_a_rule(rt: HostRuntime) -> Result<(), Fail> {
+        let rule = TransitionRule::from(LocalTimeType::utc());
+        let zone = TimeZone::with_rule(vec![in rt.alloc(); LocalTimeType::utc()]?, Some(rule));
+        assert_eq!(rt; zone.rule(), Some(&rule));
+        assert_eq!(rt; zone.find_local_time_type(i64::MIN)?.name(), None);
+        Ok(())
+    }
+}

@@ -1,0 +1,11 @@
+pub mod Digits
+pub mod Standing
+pub mod Bytes
+pub mod Stopping
+pub mod Spelling
+pub mod Cutting
+pub mod LocalTimes
+pub mod WallTimes
+pub mod Deciding
+pub mod Covering
+pub mod Ending

@@ -1,0 +1,14 @@
+use Rattle.std.proofs.Common.{codes, inr, refl, to_z-of_z}
+use Rattle.std.proofs.lemmas.Result.{on_ok_weaker}
+use Rattle.zone_query.specs.Answers.{refusal_text}
+use Rattle.zone_query.proofs.answer.tell_type.Goals as goal
+
+pub returns-in_default : goal.returns-in_default
+returns-in_default c = on_ok_weaker c.writeln.result (λ bytes. (codes "no zone", bytes, rw c.in_default.is refl)) c.writeln.ensures.bytes
+
+pub returns-in-Err : goal.returns-in-Err
+returns-in-Err c =
+    let fits = c.ranges.seconds in
+    let refused = simp to_z-of_z at c.in-Err.ensures in
+    let written = rw (c.number.ensures, refused.0) at c.writeln-in-Err.ensures.bytes in
+    on_ok_weaker c.writeln-in-Err.result (λ bytes. (refusal_text 2, bytes, rw c.in-Some.is (inr (refused.1, refl)))) written

@@ -1,0 +1,52 @@
+use Rattle.std.proofs.Common.{arith, take, [], ◌++◌, None}
+use Rattle.zone_query.proofs.Bytes.{appends_join, consumes_join, still_works}
+use Rattle.zone_query.proofs.Standing.{answered_join}
+use Rattle.zone_query.proofs.Ending.{not_failed, ended_now, block_stopped, reader_ended}
+use Rattle.zone_query.proofs.session.run.Goals as goal
+
+pub loop-preserved : goal.loop-preserved
+loop-preserved g c =
+    let w = g.W.Write.contents in
+    let r = g.R.Read.remaining in
+    let kept = c.loop.invariant in
+    let f = kept.answered in
+    let t = c.in-Ok-take_block.ensures.ok.1 in
+    let given = take c.in-Ok.n c.read.new.buf in
+    record {
+      reader_works = not_failed c.read.new.self.failed c.loop.reader.failed c.in-Ok.ensures.failed kept.reader_works;
+      goes_on = still_works c.read.new.self.ended c.loop.reader.ended _ c.in-Ok.n c.in-Ok.ensures.ended kept.goes_on c.in-Ok.n-test.1;
+      writer_works = c.in-Ok-take_block.ensures.ok.0;
+      room = omega (arith, c.read.auto.buf);
+      bounded = λ some. omega (arith, c.in-Ok.ensures.reads);
+      counted = omega (arith, c.in-Ok.ensures.reads);
+      answered = (
+        f.0 ++ given,
+        f.1 ++ t.0,
+        consumes_join (r c.args.reader.now.inner) (r c.loop.reader.inner) (r c.read.new.self.inner) f.0 given f.2 c.in-Ok.ensures.bytes.0,
+        appends_join (w c.args.writer.now.inner) (w c.loop.writer.inner) (w c.take_block.new.writer.inner) f.1 t.0 f.3 t.2,
+        answered_join None [] f.0 f.1 c.loop.session.zone c.loop.session.begun.items given t.0 c.take_block.new.self.zone c.take_block.new.self.begun.items f.4 t.1,
+      );
+    }
+
+pub returns-in-Err-take_block : goal.returns-in-Err-take_block
+returns-in-Err-take_block g c =
+    let w = g.W.Write.contents in
+    let r = g.R.Read.remaining in
+    let kept = c.loop.invariant in
+    let f = kept.answered in
+    block_stopped c.read.new.self.failed c.take_block.new.writer.failed c.read.new.self.reads (r c.args.reader.now.inner) (r c.loop.reader.inner) (r c.read.new.self.inner) (w c.args.writer.now.inner) (w c.loop.writer.inner) (w c.take_block.new.writer.inner) f.0 f.1 c.loop.session.zone c.loop.session.begun.items (take c.in-Ok.n c.read.new.buf) c.in-Err-take_block.e
+    (not_failed c.read.new.self.failed c.loop.reader.failed c.in-Ok.ensures.failed kept.reader_works) f.2 f.3 f.4 c.in-Ok.ensures.bytes.0 c.in-Err-take_block.ensures.err
+
+pub returns-in-Ok-eq0 : goal.returns-in-Ok-eq0
+returns-in-Ok-eq0 g c =
+    let w = g.W.Write.contents in
+    let r = g.R.Read.remaining in
+    let kept = c.loop.invariant in
+    let f = kept.answered in
+    let read = c.in-Ok-eq0 in
+    let none = read.field-0-test in
+    reader_ended c.read.new.self.ended c.read.new.self.failed c.finish.new.writer.failed c.read.new.self.reads (r c.args.reader.now.inner) (r c.loop.reader.inner) (r c.read.new.self.inner) (w c.args.writer.now.inner) (w c.loop.writer.inner) (w c.finish.new.writer.inner) f.0 f.1 c.loop.session.zone c.loop.session.begun.items c.read.new.buf c.finish.result
+    (ended_now c.read.new.self.ended c.loop.reader.ended read.field-0 _ read.ensures.ended kept.goes_on none kept.room)
+    (read.ensures.bytes.1 none (omega (arith, c.read.auto.buf)))
+    (not_failed c.read.new.self.failed c.loop.reader.failed read.ensures.failed kept.reader_works)
+    f.2 f.3 f.4 (rw none at read.ensures.bytes.0) c.finish.ensures.ok c.finish.ensures.err

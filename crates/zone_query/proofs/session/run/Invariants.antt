@@ -1,0 +1,18 @@
+use Rattle.std.proofs.Common.{◌≡◌, ◌≤◌, ◌<◌, ◌^◌, length, false, List, [], ℕ, None}
+use Rattle.std.specs.Io.KnownBytes.{Appends, Consumes}
+use Rattle.zone_query.specs.Steps.{Answered}
+use Rattle.zone_query.proofs.session.run.Given as goal
+
+abbrev pub invariant-loop : goal.invariant-loop
+invariant-loop g l = record {
+  reader_works : l.reader.failed ≡ false;
+  goes_on : l.reader.ended ≡ false;
+  writer_works : l.writer.failed ≡ false;
+  room : 0 < length l.block;
+  bounded : 0 < l.counter → l.reader.reads < 2 ^ 64;
+  counted : l.counter ≤ l.reader.reads;
+  answered : (input : List ℕ) × (output : List ℕ)
+      × Consumes (g.R.Read.remaining l.fn.reader.inner) (g.R.Read.remaining l.reader.inner) input
+      × Appends (g.W.Write.contents l.fn.writer.inner) (g.W.Write.contents l.writer.inner) output
+      × Answered None [] input output l.session.zone l.session.begun.items;
+}

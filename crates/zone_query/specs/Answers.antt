@@ -1,0 +1,82 @@
+-- What may answer a line, by the latest zone that an earlier line gave, and the zone that the line leaves.
+use Rattle.std.specs.Prelude.{◌≡◌, ℕ, ℤ, List, [], ◌∷◌, ◌++◌, ◌⊎◌, Bool, true, false, Option, Some, None, length, codes, decimal}
+use Rattle.std.specs.Fmt.{signed_decimal}
+use Rattle.offset_core.specs.WallAnswer.{IsWallAnswer}
+use Rattle.offset_core.specs.declared.local_result.LocalResult.{LocalResult}
+use Rattle.offset_core.specs.declared.local_result.LocalResult.TheVariants as results
+use Rattle.tz_info.specs.LocalTypes.{LocalType}
+use Rattle.tz_info.specs.PosixZones.{IsPosixZone, IsPosixFault}
+use Rattle.tz_info.specs.WallClocks.{Shows}
+use Rattle.tz_info.specs.Zones.{Zone, TypeAt, IsTypeRefused}
+use Rattle.tz_info.specs.declared.rule.transition_rule.TransitionRule.{TransitionRule}
+use Rattle.tz_info.specs.declared.rule.transition_rule.TransitionRule.TheVariants as rules
+use Rattle.zone_query.specs.Questions.{Query, Text, At, Wall, Asks, IsBadLine}
+
+abbrev pub mark_text : Bool → List ℕ
+mark_text true = codes "dst"
+mark_text false = codes "std"
+
+abbrev pub name_text : Option (List ℕ) → List ℕ
+name_text None = codes "-"
+name_text (Some name) = name
+
+-- a local time type: `OFFSET std NAME` or `OFFSET dst NAME`, with `-` for no name
+abbrev pub type_text : LocalType → List ℕ
+type_text t = signed_decimal t.offset ++ codes " " ++ mark_text t.dst ++ codes " " ++ name_text t.name
+
+-- the types at the seconds at which a clock shows a local time: at none, at one, or at the first and the last of several
+abbrev pub wall_text : LocalResult LocalType → List ℕ
+wall_text results.None = codes "none"
+wall_text (results.Single t) = codes "single " ++ type_text t
+wall_text (results.Ambiguous first last) = codes "ambiguous " ++ type_text first ++ codes ", " ++ type_text last
+
+abbrev pub rule_text : Option TransitionRule → List ℕ
+rule_text None = codes "none"
+rule_text (Some (rules.Fixed _)) = codes "fixed"
+rule_text (Some (rules.Alternate _)) = codes "alternate"
+
+-- a zone that was accepted: `ok TRANSITIONS TYPES LEAPS RULE`
+abbrev pub zone_text : Zone → List ℕ
+zone_text zone =
+    codes "ok " ++ decimal (length zone.transitions) ++ codes " " ++ decimal (length zone.types) ++ codes " " ++ decimal (length zone.leaps) ++ codes " " ++ rule_text zone.rule
+
+abbrev pub refusal_text : ℕ → List ℕ
+refusal_text number = codes "refused " ++ decimal number
+
+-- the text gives a zone, which is the zone from here on; or it is refused, by a fault that stands in it or for want of
+-- memory (17), and the earlier zone stays
+abbrev pub AnswersText : Option Zone → List ℕ → List ℕ → Option Zone → Type 0
+AnswersText zone text answer after =
+    ((found : Zone) × IsPosixZone text found × (answer ≡ zone_text found) × (after ≡ Some found))
+    ⊎ ((number : ℕ) × ((number ≡ 17) ⊎ IsPosixFault text number) × (answer ≡ refusal_text number) × (after ≡ zone))
+
+-- the type in force at that second, or the refusal of the second
+abbrev pub AnswersAt : Option Zone → ℤ → List ℕ → Type 0
+AnswersAt None seconds answer = answer ≡ codes "no zone"
+AnswersAt (Some zone) seconds answer =
+    ((t : LocalType) × TypeAt zone seconds t × (answer ≡ type_text t))
+    ⊎ (IsTypeRefused zone seconds × (answer ≡ refusal_text 2))
+
+-- the types in force when a clock shows that local time
+abbrev pub AnswersWall : Option Zone → ℤ → List ℕ → Type 0
+AnswersWall None local answer = answer ≡ codes "no zone"
+AnswersWall (Some zone) local answer =
+    (types : LocalResult LocalType) × IsWallAnswer (Shows (TypeAt zone) local) types × (answer ≡ wall_text types)
+
+abbrev pub AnswersQuery : Option Zone → Query → List ℕ → Option Zone → Type 0
+AnswersQuery zone (Text text) answer after = AnswersText zone text answer after
+AnswersQuery zone (At seconds) answer after = AnswersAt zone seconds answer × (after ≡ zone)
+AnswersQuery zone (Wall local) answer after = AnswersWall zone local answer × (after ≡ zone)
+
+-- the answer to a line, without its newline
+abbrev pub AnswersLine : Option Zone → List ℕ → List ℕ → Option Zone → Type 0
+AnswersLine zone line answer after =
+    ((query : Query) × Asks line query × AnswersQuery zone query answer after)
+    ⊎ (IsBadLine line × (answer ≡ codes "bad line") × (after ≡ zone))
+
+-- one line of answer for each of the lines, in their order
+abbrev pub AnswersLines : Option Zone → List (List ℕ) → List ℕ → Option Zone → Type 0
+AnswersLines zone [] output after = (output ≡ []) × (after ≡ zone)
+AnswersLines zone (line ∷ lines) output after =
+    (answer : List ℕ) × (next : Option Zone) × (rest : List ℕ)
+    × AnswersLine zone line answer next × AnswersLines next lines rest after × (output ≡ answer ++ codes "\n" ++ rest)

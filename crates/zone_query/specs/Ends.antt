@@ -1,0 +1,12 @@
+-- What a call on a reader or a writer tells of it.
+use Rattle.std.specs.Prelude.{ℕ, ◌==◌, ◌&&◌, Bool, true, false, nat_lt, Result, Ok, Err}
+
+-- the call answered an error
+abbrev pub has_failed : {X E : Type 0} → Result X E → Bool
+has_failed (Ok x) = false
+has_failed (Err e) = true
+
+-- the call answered 0 bytes though it was given some to fill or to write
+abbrev pub gave_nothing : {E : Type 0} → Result ℕ E → ℕ → Bool
+gave_nothing (Ok n) given = (n == 0) && nat_lt 0 given
+gave_nothing (Err e) given = false

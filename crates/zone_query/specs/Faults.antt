@@ -1,0 +1,10 @@
+-- What a program says of a run that stopped.
+use Rattle.std.specs.Prelude.{ℕ, List, codes}
+use Rattle.zone_query.specs.declared.session.RunError.{RunError}
+use Rattle.zone_query.specs.declared.session.RunError.TheVariants as errors
+
+abbrev pub fault_text : RunError → List ℕ
+fault_text errors.Read = codes "zoneq: read failed"
+fault_text errors.Write = codes "zoneq: write failed"
+fault_text errors.Memory = codes "zoneq: out of memory"
+fault_text errors.TooLong = codes "zoneq: input too long"

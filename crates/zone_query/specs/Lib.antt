@@ -1,0 +1,11 @@
+pub mod Ends
+pub mod Watch
+pub mod Numerals
+pub mod Words
+pub mod Questions
+pub mod QuestionView
+pub mod Answers
+pub mod Lines
+pub mod Faults
+pub mod Runs
+pub mod Steps

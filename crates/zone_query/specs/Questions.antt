@@ -1,0 +1,49 @@
+-- What a line asks. Its words are parted by exactly one space, and a text is all that follows the space after `text`.
+use Rattle.std.specs.Prelude.{◌≡◌, ℕ, ℤ, List, [], ◌∷◌, ◌++◌, codes, FitsSigned}
+use Rattle.std.specs.Int.{w32, w64}
+use Rattle.std.specs.Str.{IsUtf8}
+use Rattle.naive_base.specs.Clock.{IsClock, clock_second}
+use Rattle.naive_base.specs.Date.{IsDate, day_number}
+use Rattle.naive_base.specs.Range.{IsYearInRange}
+use Rattle.naive_base.specs.Reading.{reading_at}
+use Rattle.zone_query.specs.Numerals.{IsInteger}
+use Rattle.zone_query.specs.Words.{AreNumbers}
+
+-- a question: to read a TZ text as the zone, for the type in force at a Unix time, or for the types that are in force
+-- when a clock shows a local time: the seconds from 1970-01-01 00:00:00 on the clock, every day counted as 86,400
+pub data Query : Type 0 where
+  Text : List ℕ → Query
+  At : ℤ → Query
+  Wall : ℤ → Query
+
+-- the calendar has the date, its year is in range, and a clock has the hands
+abbrev pub Exists : ℤ → (m d h min s : ℕ) → Type 0
+Exists y m d h min s = IsYearInRange y × IsDate y m d × IsClock h min s
+
+-- the text is a year, a month, a day, an hour, a minute and a second, each behind one space but for the year; and the
+-- date and the time exist, and are this local time
+pub record IsLocalTime (text : List ℕ) (local : ℤ) : Type 0 where
+  pub year : List ℕ
+  pub others : List ℕ
+  pub y : ℤ
+  pub m : ℕ
+  pub d : ℕ
+  pub h : ℕ
+  pub min : ℕ
+  pub s : ℕ
+  pub whole : text ≡ year ++ others
+  pub year_spelled : IsInteger year y
+  pub year_fits : FitsSigned w32 y
+  pub others_spelled : AreNumbers others (m ∷ d ∷ h ∷ min ∷ s ∷ [])
+  pub exists : Exists y m d h min s
+  pub shown : local ≡ (reading_at (day_number y m d) (clock_second h min s) 0).s
+
+-- the line asks this
+abbrev pub Asks : List ℕ → Query → Type 0
+Asks line (Text text) = (line ≡ codes "text " ++ text) × IsUtf8 text
+Asks line (At seconds) = (number : List ℕ) × (line ≡ codes "at " ++ number) × IsInteger number seconds × FitsSigned w64 seconds
+Asks line (Wall local) = (text : List ℕ) × (line ≡ codes "wall " ++ text) × IsLocalTime text local
+
+-- the line asks nothing
+abbrev pub IsBadLine : List ℕ → Type 0
+IsBadLine line = (query : Query) → ¬ (Asks line query)

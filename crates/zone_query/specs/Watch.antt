@@ -1,0 +1,8 @@
+-- What a watched end shows: the end itself, and what became of it so far.
+use Rattle.std.specs.Prelude.{ℕ, Bool}
+
+pub record Watch (T : Type 0) : Type 0 where
+  pub inner : T
+  pub failed : Bool
+  pub ended : Bool
+  pub reads : ℕ

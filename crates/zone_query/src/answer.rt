@@ -1,0 +1,134 @@
+//! The answer to a line.
+
+ghost use Rattle.std.specs.Prelude.{◌≡◌, ℕ, List, [], ◌∷◌, ◌++◌, OnOk, string_bytes, Some};
+ghost use Rattle.naive_base.specs.NaiveDateTime.{reading};
+ghost use Rattle.zone_query.specs.Answers.{AnswersLine, AnswersText, AnswersAt, AnswersWall, type_text, wall_text, zone_text, rule_text, refusal_text};
+
+use crate::question::Question;
+use naive_base::NaiveDateTime;
+use offset_core::MappedLocalTime;
+use std::alloc::{AllocError, Global};
+use std::fmt;
+use std::fmt::Write;
+use tz_info::{LocalTimeType, TimeZone, TransitionRule};
+
+/// Puts the answer to a line in place of what `out` holds, with a newline behind it. A text that is accepted sets the
+/// zone.
+pub fn answer(
+    alloc: Global,
+    zone: &mut Option<TimeZone>,
+    line: &[u8],
+    out: &mut String,
+) -> Result<(), AllocError>
+    ensures { OnOk result ((text : List ℕ) × (string_bytes out.new ≡ text ++ 10 ∷ []) × AnswersLine zone.old line.now text zone.new) }
+{
+    out.clear();
+    match Question::parse(line) {
+        Some(Question::Text(text)) => set_zone(alloc, zone, text, out),
+        Some(Question::At(seconds)) => tell_type(zone, seconds, out),
+        Some(Question::Wall(local)) => tell_types(zone, local, out),
+        None => writeln!(out, "bad line"),
+    }
+}
+
+// Reads a TZ text as the zone.
+fn set_zone(
+    alloc: Global,
+    zone: &mut Option<TimeZone>,
+    text: &str,
+    out: &mut String,
+) -> Result<(), AllocError>
+    ensures { OnOk result ((answer : List ℕ) × (string_bytes out.new ≡ string_bytes out.old ++ (answer ++ 10 ∷ [])) × AnswersText zone.old text.now answer zone.new) }
+{
+    match TimeZone::from_posix_tz(alloc, text) {
+        Ok(found) => {
+            writeln!(out, "{}", Accepted(&found))?;
+            *zone = Some(found);
+            Ok(())
+        }
+        Err(fault) => writeln!(out, "refused {}", fault.number()),
+    }
+}
+
+// Looks up the type in force.
+fn tell_type(zone: &Option<TimeZone>, seconds: i64, out: &mut String) -> Result<(), AllocError>
+    ensures { OnOk result ((answer : List ℕ) × (string_bytes out.new ≡ string_bytes out.old ++ (answer ++ 10 ∷ [])) × AnswersAt zone.now seconds answer) }
+{
+    let Some(zone) = zone else {
+        return writeln!(out, "no zone");
+    };
+    match zone.find_local_time_type(seconds) {
+        Ok(found) => writeln!(out, "{}", Shown(found)),
+        Err(fault) => writeln!(out, "refused {}", fault.number()),
+    }
+}
+
+// Looks up the types in force when a clock shows that date and time.
+fn tell_types(
+    zone: &Option<TimeZone>,
+    local: NaiveDateTime,
+    out: &mut String,
+) -> Result<(), AllocError>
+    ensures { OnOk result ((answer : List ℕ) × (string_bytes out.new ≡ string_bytes out.old ++ (answer ++ 10 ∷ [])) × AnswersWall zone.now (reading local).s answer) }
+{
+    let Some(zone) = zone else {
+        return writeln!(out, "no zone");
+    };
+    match zone.find_local_time_type_from_local(local) {
+        Ok(found) => writeln!(out, "{}", ShownAll(found)),
+        Err(fault) => writeln!(out, "refused {}", fault.number()),
+    }
+}
+
+// A zone that was accepted: `ok TRANSITIONS TYPES LEAPS RULE`.
+#[derive(Clone, Copy)]
+struct Accepted<'a>(&'a TimeZone);
+
+impl fmt::Display for Accepted<'_> {
+    ghost output = { λ accepted. Some (zone_text accepted.0.now) };
+
+    fn fmt<W: fmt::Write>(&self, f: &mut fmt::Formatter<W>) -> fmt::Result {
+        let transitions = self.0.transition_count();
+        let types = self.0.type_count();
+        let leaps = self.0.leap_count();
+        let rule = match self.0.rule() {
+            None => "none",
+            Some(TransitionRule::Fixed(_)) => "fixed",
+            Some(TransitionRule::Alternate(_)) => "alternate",
+        };
+        write!(f, "ok {transitions} {types} {leaps} {rule}")
+    }
+}
+
+// A local time type: `OFFSET std NAME` or `OFFSET dst NAME`, with `-` for no name.
+#[derive(Clone, Copy)]
+struct Shown<'a>(&'a LocalTimeType);
+
+impl fmt::Display for Shown<'_> {
+    ghost output = { λ shown. Some (type_text shown.0.now) };
+
+    fn fmt<W: fmt::Write>(&self, f: &mut fmt::Formatter<W>) -> fmt::Result {
+        let offset = self.0.offset();
+        let mark = if self.0.is_dst() { "dst" } else { "std" };
+        let name = self.0.name().map_or("-", |name| name.as_str());
+        write!(f, "{offset} {mark} {name}")
+    }
+}
+
+// The types of a wall clock: `none`, `single TYPE`, or `ambiguous TYPE, TYPE`.
+#[derive(Clone, Copy)]
+struct ShownAll(MappedLocalTime<LocalTimeType>);
+
+impl fmt::Display for ShownAll {
+    ghost output = { λ shown. Some (wall_text shown.0) };
+
+    fn fmt<W: fmt::Write>(&self, f: &mut fmt::Formatter<W>) -> fmt::Result {
+        match &self.0 {
+            MappedLocalTime::None => write!(f, "none"),
+            MappedLocalTime::Single(only) => write!(f, "single {}", Shown(only)),
+            MappedLocalTime::Ambiguous(first, last) => {
+                write!(f, "ambiguous {}, {}", Shown(first), Shown(last))
+            }
+        }
+    }
+}

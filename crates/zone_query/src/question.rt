@@ -1,0 +1,71 @@
+//! A line as a question.
+
+ghost use Rattle.std.specs.Prelude.{◌≡◌, ℤ, MatchOption};
+ghost use Rattle.naive_base.specs.NaiveDateTime.{reading};
+ghost use Rattle.zone_query.specs.Questions.{IsLocalTime};
+
+use crate::numerals::{integer, small_integer};
+use crate::words::{next_number, split_word};
+use naive_base::{NaiveDate, NaiveDateTime};
+use std::str;
+
+/// What a line asks.
+#[derive(Clone, Copy)]
+pub enum Question<'a> {
+    /// `text T`: to read this TZ text, and to take its zone from here on.
+    Text(&'a str),
+    /// `at SECS`: for the local time type in force at this Unix time.
+    At(i64),
+    /// `wall Y M D h m s`: for the local time types in force when a clock shows this date and time.
+    Wall(NaiveDateTime),
+}
+
+impl<'a> Question<'a> {
+    ghost use Rattle.zone_query.specs.Questions.{Asks, IsBadLine};
+    ghost use Rattle.zone_query.specs.QuestionView.{query_of};
+
+    /// The question that a line asks, or `None` for a bad line.
+    ///
+    /// A text that isn't UTF-8 makes a bad line, and so does a number that doesn't fit its type, and a date or a time that
+    /// doesn't exist.
+    pub fn parse(line: &'a [u8]) -> Option<Question<'a>>
+        ensures { MatchOption result (IsBadLine line.now) (λ question. Asks line.now (query_of question)) }
+    {
+        if let Some(text) = line.strip_prefix(b"text ") {
+            return match str::from_utf8(text) {
+                Ok(text) => Some(Question::Text(text)),
+                Err(_) => None,
+            };
+        }
+        if let Some(number) = line.strip_prefix(b"at ") {
+            return match integer(number) {
+                Some(seconds) => Some(Question::At(seconds)),
+                None => None,
+            };
+        }
+        if let Some(text) = line.strip_prefix(b"wall ") {
+            return match local_time(text) {
+                Some(local) => Some(Question::Wall(local)),
+                None => None,
+            };
+        }
+        None
+    }
+}
+
+// The date and time `Y M D h m s`, if there is such a one.
+fn local_time(text: &[u8]) -> Option<NaiveDateTime>
+    ensures { MatchOption result ((local : ℤ) → ¬ (IsLocalTime text.now local)) (λ local. IsLocalTime text.now (reading local).s) }
+{
+    let (word, rest) = split_word(text);
+    let year = small_integer(word)?;
+    let (month, rest) = next_number(rest)?;
+    let (day, rest) = next_number(rest)?;
+    let (hour, rest) = next_number(rest)?;
+    let (minute, rest) = next_number(rest)?;
+    let (second, rest) = next_number(rest)?;
+    if !rest.is_empty() {
+        return None;
+    }
+    NaiveDate::from_ymd_opt(year, month, day)?.and_hms_opt(hour, minute, second)
+}

@@ -1,0 +1,2 @@
+pub mod Relocals
+pub mod Walls

@@ -1,0 +1,28 @@
+-- Wall clocks of a zone whose offset never changes.
+use Rattle.std.proofs.Common.{◌≡◌, ℤ, ◌+ℤ◌, ◌-ℤ◌, arith, refl}
+use Rattle.std.proofs.lemmas.Int.{ints}
+use Rattle.offset_core.specs.declared.local_result.LocalResult.TheVariants.{Single}
+use Rattle.offset_core.specs.Offset.{IsWithinDay}
+use Rattle.offset_core.specs.WallAnswer.{IsShownOnce}
+use Rattle.naive_base.specs.declared.date.NaiveDate.{NaiveDate}
+use Rattle.naive_base.specs.Range.{IsWide}
+use Rattle.zoned_time.specs.Zone.{Shows, SameOffsets, AreOffsetsFor, midnight_of}
+
+-- what a clock may show, it shows once
+pub shown_once : (k l : ℤ) → IsWithinDay k → IsWide l → IsShownOnce (Shows (λ _. k) l) k
+shown_once k l day wide = record {
+  second = l -ℤ k;
+  shown = record { in_zone = (omega (arith, ints), omega (arith, ints)); offset = refl; shown = omega (arith, ints) };
+  only = λ u j s. let j_is : j ≡ k = s.offset in let back : u +ℤ j ≡ l = s.shown in omega (arith, ints);
+}
+
+-- so the answer is the offset itself
+pub constant_wall : {O : Type 0} (seconds : O → ℤ) (home : O → ℤ → ℤ) (offset : O) (k l : ℤ)
+    → seconds offset ≡ k → SameOffsets (home offset) (λ _. k) → IsWithinDay k → IsWide l
+    → AreOffsetsFor seconds home (λ _. k) l (Single offset)
+constant_wall seconds home offset k l is same day wide =
+    record { wall = rw is (shown_once k l day wide); same_home = same }
+
+-- the midnight of a date is a reading's second
+pub midnight_wide : (date : NaiveDate) → IsWide (midnight_of date)
+midnight_wide date = let day = date.in_range in (omega (arith, ints, day), omega (arith, ints, day))

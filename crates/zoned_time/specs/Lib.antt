@@ -1,0 +1,5 @@
+pub mod DateTime
+pub mod Relocal
+pub mod Stamps
+pub mod Zone
+pub mod Zoned

@@ -1,0 +1,30 @@
+-- Zoned readings: a reading of UTC, and an offset.
+use Rattle.std.specs.Prelude.{◌≡◌, ℤ}
+use Rattle.offset_core.specs.declared.fixed_offset.FixedOffset.{FixedOffset}
+use Rattle.offset_core.specs.FixedOffset.{seconds_of}
+use Rattle.naive_base.specs.declared.datetime.NaiveDateTime.{NaiveDateTime}
+use Rattle.naive_base.specs.NaiveDateTime.{reading}
+use Rattle.naive_base.specs.Reading.{Reading, ahead}
+use Rattle.zoned_time.specs.Zone.{IsOffsetAt}
+
+pub record Zoned (O : Type 0) : Type 0 where
+  pub utc : Reading
+  pub offset : O
+
+-- of these two fields of a `DateTime`. (Its word is `zoned`; the trait `TimeZone` can't cite that, since it names the trait.)
+abbrev pub shown : {O : Type 0} → NaiveDateTime → O → Zoned O
+shown utc offset = record { utc = reading utc; offset = offset }
+
+-- what a clock with this offset shows at that instant
+abbrev pub local_of : {O : Type 0} → (O → ℤ) → Zoned O → Reading
+local_of seconds d = ahead d.utc (seconds d.offset)
+
+-- the reading r of UTC with the offset that the zone gives there
+pub record IsAt {O : Type 0} (seconds : O → ℤ) (home : O → ℤ → ℤ) (off : ℤ → ℤ) (r : Reading) (d : Zoned O) : Type 0 where
+  pub utc : d.utc ≡ r
+  pub offset : IsOffsetAt seconds home off r.s d.offset
+
+-- the same instant, with an offset that is nothing but its seconds
+pub record IsFixedFrom {O : Type 0} (seconds : O → ℤ) (d : Zoned O) (e : Zoned FixedOffset) : Type 0 where
+  pub utc : e.utc ≡ d.utc
+  pub offset : seconds_of e.offset ≡ seconds d.offset

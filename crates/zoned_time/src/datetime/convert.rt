@@ -1,0 +1,48 @@
+//! The same instant in another zone.
+ghost use Rattle.std.specs.Prelude.{◌≡◌, pos};
+ghost use Rattle.zoned_time.specs.DateTime.{zoned};
+ghost use Rattle.zoned_time.specs.Stamps.{in_utc};
+ghost use Rattle.zoned_time.specs.Zoned.{IsAt, IsFixedFrom};
+
+use super::DateTime;
+use crate::{Offset, TimeZone, Utc};
+use offset_core::FixedOffset;
+
+impl<Tz: TimeZone> DateTime<Tz> {
+    /// The same instant, with the offset that the zone has then.
+    pub fn with_timezone<Tz2: TimeZone>(&self, tz: &Tz2) -> DateTime<Tz2>
+        ensures { IsAt Tz2.Offset.seconds Tz2.home (Tz2.off tz.now) (zoned self.now).utc (zoned result) }
+    {
+        tz.from_utc_datetime(&self.datetime)
+    }
+
+    /// The same instant, with the offset as nothing but its seconds.
+    pub fn fixed_offset(&self) -> DateTime<FixedOffset>
+        ensures { IsFixedFrom Tz.Offset.seconds (zoned self.now) (zoned result) }
+    {
+        DateTime::from_naive_utc_and_offset(self.datetime, self.offset.fix())
+    }
+
+    /// The same instant in UTC.
+    pub fn to_utc(&self) -> DateTime<Utc>
+        ensures { zoned result ≡ in_utc (zoned self.now).utc }
+    {
+        DateTime::from_naive_utc_and_offset(self.datetime, Utc)
+    }
+}
+
+impl From<DateTime<Utc>> for DateTime<FixedOffset> {
+    ghost from_gives = { λ d r. IsFixedFrom (λ _. pos 0) (zoned d) (zoned r) };
+
+    fn from(instant: DateTime<Utc>) -> DateTime<FixedOffset> {
+        instant.fixed_offset()
+    }
+}
+
+impl From<DateTime<FixedOffset>> for DateTime<Utc> {
+    ghost from_gives = { λ d r. zoned r ≡ in_utc (zoned d).utc };
+
+    fn from(instant: DateTime<FixedOffset>) -> DateTime<Utc> {
+        instant.to_utc()
+    }
+}

@@ -1,0 +1,113 @@
+//! Instants made of a reading and an offset, and taken apart into them.
+ghost use Rattle.std.specs.Prelude.{◌≡◌, SomeIff, option_map};
+ghost use Rattle.offset_core.specs.FixedOffset.{seconds_of};
+ghost use Rattle.naive_base.specs.NaiveDate.{day_of};
+ghost use Rattle.naive_base.specs.NaiveDateTime.{reading};
+ghost use Rattle.naive_base.specs.NaiveTime.{second_of, fraction_of};
+ghost use Rattle.naive_base.specs.Range.{IsInRange};
+ghost use Rattle.naive_base.specs.Reading.{day_at, second_at};
+ghost use Rattle.zoned_time.specs.DateTime.{zoned};
+ghost use Rattle.zoned_time.specs.Relocal.{HasInstant, instant_of};
+ghost use Rattle.zoned_time.specs.Zone.{SameOffsets};
+ghost use Rattle.zoned_time.specs.Zoned.{shown, local_of};
+
+use super::DateTime;
+use crate::{Offset, TimeZone};
+use naive_base::{NaiveDate, NaiveDateTime, NaiveTime};
+use std::marker::PhantomData;
+
+impl<Tz: TimeZone> DateTime<Tz> {
+    /// The instant of a UTC reading in range, with that offset.
+    pub fn from_naive_utc_and_offset(datetime: NaiveDateTime, offset: Tz::Offset) -> DateTime<Tz>
+        requires { IsInRange (reading datetime).s }
+        ensures { zoned result ≡ shown datetime offset }
+    {
+        DateTime {
+            datetime,
+            offset,
+            zone: PhantomData,
+        }
+    }
+
+    /// chrono's older name of [`DateTime::from_naive_utc_and_offset`].
+    pub fn from_utc(datetime: NaiveDateTime, offset: Tz::Offset) -> DateTime<Tz>
+        requires { IsInRange (reading datetime).s }
+        ensures { zoned result ≡ shown datetime offset }
+    {
+        DateTime::from_naive_utc_and_offset(datetime, offset)
+    }
+
+    /// The instant when a clock with that offset shows the reading. Its UTC reading is in range.
+    pub fn from_local(datetime: NaiveDateTime, offset: Tz::Offset) -> DateTime<Tz>
+        requires { HasInstant Tz.Offset.seconds (reading datetime) offset }
+        ensures { zoned result ≡ instant_of Tz.Offset.seconds (reading datetime) offset }
+    {
+        let utc = datetime.checked_sub_offset(offset.fix()).unwrap();
+        DateTime::from_naive_utc_and_offset(utc, offset)
+    }
+
+    // The instant when a clock with that offset shows the reading, where it is in range.
+    pub(crate) fn from_local_opt(
+        datetime: &NaiveDateTime,
+        offset: Tz::Offset,
+    ) -> Option<DateTime<Tz>>
+        ensures { let seconds = Tz.Offset.seconds in
+            SomeIff (option_map zoned result) (HasInstant seconds (reading datetime.now) offset)
+            (instant_of seconds (reading datetime.now) offset) }
+    {
+        let utc = datetime.checked_sub_offset(offset.fix())?;
+        Some(DateTime::from_naive_utc_and_offset(utc, offset))
+    }
+
+    /// What a clock of UTC shows.
+    pub fn naive_utc(&self) -> NaiveDateTime
+        ensures { reading result ≡ (zoned self.now).utc }
+    {
+        self.datetime
+    }
+
+    /// The offset.
+    pub fn offset(&self) -> &Tz::Offset
+        ensures { result.now ≡ (zoned self.now).offset }
+    {
+        &self.offset
+    }
+
+    /// A zone of the same offsets as the one that the offset came from.
+    pub fn timezone(&self) -> Tz
+        ensures { SameOffsets (Tz.off result) (Tz.home (zoned self.now).offset) }
+    {
+        Tz::from_offset(&self.offset)
+    }
+
+    /// What a clock with the offset shows, where that is in range.
+    pub fn naive_local(&self) -> NaiveDateTime
+        requires { IsInRange (local_of Tz.Offset.seconds (zoned self.now)).s }
+        ensures { reading result ≡ local_of Tz.Offset.seconds (zoned self.now) }
+    {
+        self.local()
+    }
+
+    /// The date that a clock with the offset shows, where its reading is in range.
+    pub fn date_naive(&self) -> NaiveDate
+        requires { IsInRange (local_of Tz.Offset.seconds (zoned self.now)).s }
+        ensures { day_of result ≡ day_at (local_of Tz.Offset.seconds (zoned self.now)) }
+    {
+        self.local().date()
+    }
+
+    /// The time of day that a clock with the offset shows.
+    pub fn time(&self) -> NaiveTime
+        ensures second { second_of result ≡ second_at (local_of Tz.Offset.seconds (zoned self.now)) }
+        ensures fraction { fraction_of result ≡ (local_of Tz.Offset.seconds (zoned self.now)).f }
+    {
+        self.local().time()
+    }
+
+    // What a clock with the offset shows, be it on a buffer day.
+    pub(super) fn local(&self) -> NaiveDateTime
+        ensures { reading result ≡ local_of Tz.Offset.seconds (zoned self.now) }
+    {
+        self.datetime.overflowing_add_offset(self.offset.fix())
+    }
+}

@@ -1,0 +1,19 @@
+//! Time zones, and readings of a clock that stand in one: the traits that every zone implements, UTC and fixed
+//! offsets, and `DateTime`.
+#![tactic(auto)]
+
+mod datetime;
+mod fixed;
+pub mod laws;
+mod naive_zoned;
+mod offset;
+#[cfg(test)]
+mod tests;
+mod time_zone;
+mod utc;
+
+pub use datetime::{DateTime, MAX_DATETIME, MIN_DATETIME};
+pub use naive_zoned::NaiveZoned;
+pub use offset::Offset;
+pub use time_zone::TimeZone;
+pub use utc::Utc;

@@ -1,0 +1,176 @@
+//! Zones.
+ghost use Rattle.std.specs.Prelude.{◌≡◌, ℤ};
+ghost use Rattle.offset_core.specs.LocalResult.{map_of};
+ghost use Rattle.offset_core.specs.Offset.{IsWithinDay};
+ghost use Rattle.naive_base.specs.Clock.{IsClock, clock_second};
+ghost use Rattle.naive_base.specs.Date.{IsDate, day_number};
+ghost use Rattle.naive_base.specs.NaiveDateTime.{reading};
+ghost use Rattle.naive_base.specs.Range.{IsInRange, IsYearInRange};
+ghost use Rattle.naive_base.specs.Reading.{reading_at, of_total};
+ghost use Rattle.zoned_time.specs.Relocal.{IsRelocal};
+ghost use Rattle.zoned_time.specs.Stamps.{IsStamp, IsAtWhere, of_secs, of_millis, of_micros};
+ghost use Rattle.zoned_time.specs.Zone.{IsZoneSecond, SameOffsets, IsOffsetAt, AreOffsetsFor, midnight_of};
+ghost use Rattle.zoned_time.specs.Zoned.{shown, IsAt};
+
+use crate::{DateTime, Offset, Utc};
+use naive_base::{NaiveDate, NaiveDateTime};
+use offset_core::LocalResult;
+
+/// A time zone: an offset for each second.
+///
+/// An implementation writes [`TimeZone::from_offset`] and the four `offset_from_*`. It can't replace the other calls, which
+/// mean the same in every zone.
+///
+/// A wall clock needn't show each reading once. In New York clocks were set forward on 2021-03-14 at 02:00:00, to 03:00:00:
+/// no clock showed 02:30:00, which lies in a gap. On 2021-11-07 they were set back at 02:00:00, to 01:00:00: they showed
+/// 01:30:00 twice, which lies in a fold, first at -04:00 and an hour later at -05:00.
+pub trait TimeZone: Sized + Copy {
+    /// What the zone's lookups give.
+    type Offset: Offset;
+
+    // the zone's offset function: how many seconds its clocks are ahead of UTC, at each second
+    ghost off: { Self → ℤ → ℤ };
+
+    // the offset function of the zone that an offset came from
+    ghost home: { Self.Offset → ℤ → ℤ };
+
+    /// A zone of the same offsets as the one that gave this offset.
+    fn from_offset(offset: &Self::Offset) -> Self
+        ensures { SameOffsets (off result) (home offset.now) };
+
+    /// The offset at an instant, given by its UTC reading.
+    fn offset_from_utc_datetime(&self, utc: &NaiveDateTime) -> Self::Offset
+        ensures { IsOffsetAt Self.Offset.seconds home (off self.now) (reading utc.now).s result };
+
+    /// The offset at the midnight of UTC that begins a date.
+    fn offset_from_utc_date(&self, utc: &NaiveDate) -> Self::Offset
+        ensures { IsOffsetAt Self.Offset.seconds home (off self.now) (midnight_of utc.now) result };
+
+    /// The offset at the instant when the zone's clocks show a reading: none in a gap, and in a fold those at the first and
+    /// at the last such instant.
+    fn offset_from_local_datetime(&self, local: &NaiveDateTime) -> LocalResult<Self::Offset>
+        ensures { AreOffsetsFor Self.Offset.seconds home (off self.now) (reading local.now).s result };
+
+    /// [`TimeZone::offset_from_local_datetime`] of the midnight that begins a date.
+    fn offset_from_local_date(&self, local: &NaiveDate) -> LocalResult<Self::Offset>
+        ensures { AreOffsetsFor Self.Offset.seconds home (off self.now) (midnight_of local.now) result };
+
+    // clocks are never a day or more away from UTC
+    ghost within_day: { (zone : Self) (u : ℤ) → IsZoneSecond u → IsWithinDay (off zone u) };
+
+    /// The instant of a UTC reading in range.
+    final fn from_utc_datetime(&self, utc: &NaiveDateTime) -> DateTime<Self>
+        requires { IsInRange (reading utc.now).s }
+        ensures { IsAt Self.Offset.seconds home (off self.now) (reading utc.now) (shown result.datetime result.offset) }
+    {
+        DateTime::from_naive_utc_and_offset(*utc, self.offset_from_utc_datetime(utc))
+    }
+
+    /// The instant when the zone's clocks show a reading: none in a gap, and in a fold the first and the last such instant.
+    /// Where the UTC reading of one of them is out of range, there is none.
+    final fn from_local_datetime(&self, local: &NaiveDateTime) -> LocalResult<DateTime<Self>>
+        ensures { IsRelocal Self.Offset.seconds home (off self.now) (reading local.now) (map_of (λ d. shown d.datetime d.offset) result) }
+    {
+        match self.offset_from_local_datetime(local) {
+            LocalResult::None => LocalResult::None,
+            LocalResult::Single(offset) => match DateTime::<Self>::from_local_opt(local, offset) {
+                Some(instant) => LocalResult::Single(instant),
+                None => LocalResult::None,
+            },
+            LocalResult::Ambiguous(first, last) => match DateTime::<Self>::from_local_opt(
+                local, first,
+            ) {
+                Some(first) => match DateTime::<Self>::from_local_opt(local, last) {
+                    Some(last) => LocalResult::Ambiguous(first, last),
+                    None => LocalResult::None,
+                },
+                None => LocalResult::None,
+            },
+        }
+    }
+
+    /// [`TimeZone::from_local_datetime`] of a date and a time, as `zone.with_ymd_and_hms(2021, 11, 7, 1, 30, 0).earliest()`. `None` also where the date isn't one of the calendar in the
+    /// years -262143 to 262142, or a day has no such hour, minute or second.
+    final fn with_ymd_and_hms(
+        &self,
+        year: i32,
+        month: u32,
+        day: u32,
+        hour: u32,
+        min: u32,
+        sec: u32,
+    ) -> LocalResult<DateTime<Self>>
+        ensures exists { IsYearInRange year → IsDate year month day → IsClock hour min sec
+            → IsRelocal Self.Offset.seconds home (off self.now)
+            (reading_at (day_number year month day) (clock_second hour min sec) 0) (map_of (λ d. shown d.datetime d.offset) result) }
+        ensures missing { (IsYearInRange year → IsDate year month day → IsClock hour min sec → ⊥) → result ≡ LocalResult.None }
+    {
+        let Some(date) = NaiveDate::from_ymd_opt(year, month, day) else {
+            return LocalResult::None;
+        };
+        match date.and_hms_opt(hour, min, sec) {
+            Some(local) => self.from_local_datetime(&local),
+            None => LocalResult::None,
+        }
+    }
+
+    /// The instant of [`DateTime::from_timestamp`], where it answers.
+    final fn timestamp_opt(&self, secs: i64, nsecs: u32) -> LocalResult<DateTime<Self>>
+        ensures { let r = of_secs secs nsecs in
+            IsAtWhere Self.Offset.seconds home (off self.now) (IsStamp r) r (map_of (λ d. shown d.datetime d.offset) result) }
+    {
+        match DateTime::<Utc>::from_timestamp(secs, nsecs) {
+            Some(instant) => LocalResult::Single(instant.with_timezone(self)),
+            None => LocalResult::None,
+        }
+    }
+
+    /// [`TimeZone::timestamp_opt`], where it answers.
+    final fn timestamp(&self, secs: i64, nsecs: u32) -> DateTime<Self>
+        requires { IsStamp (of_secs secs nsecs) }
+        ensures { IsAt Self.Offset.seconds home (off self.now) (of_secs secs nsecs) (shown result.datetime result.offset) }
+    {
+        DateTime::<Utc>::from_timestamp(secs, nsecs)
+            .unwrap()
+            .with_timezone(self)
+    }
+
+    /// The instant of [`DateTime::from_timestamp_millis`], where it answers.
+    final fn timestamp_millis_opt(&self, millis: i64) -> LocalResult<DateTime<Self>>
+        ensures { let r = of_millis millis in
+            IsAtWhere Self.Offset.seconds home (off self.now) (IsInRange r.s) r (map_of (λ d. shown d.datetime d.offset) result) }
+    {
+        match DateTime::<Utc>::from_timestamp_millis(millis) {
+            Some(instant) => LocalResult::Single(instant.with_timezone(self)),
+            None => LocalResult::None,
+        }
+    }
+
+    /// [`TimeZone::timestamp_millis_opt`], where it answers.
+    final fn timestamp_millis(&self, millis: i64) -> DateTime<Self>
+        requires { IsInRange (of_millis millis).s }
+        ensures { IsAt Self.Offset.seconds home (off self.now) (of_millis millis) (shown result.datetime result.offset) }
+    {
+        DateTime::<Utc>::from_timestamp_millis(millis)
+            .unwrap()
+            .with_timezone(self)
+    }
+
+    /// The instant of [`DateTime::from_timestamp_micros`], where it answers.
+    final fn timestamp_micros(&self, micros: i64) -> LocalResult<DateTime<Self>>
+        ensures { let r = of_micros micros in
+            IsAtWhere Self.Offset.seconds home (off self.now) (IsInRange r.s) r (map_of (λ d. shown d.datetime d.offset) result) }
+    {
+        match DateTime::<Utc>::from_timestamp_micros(micros) {
+            Some(instant) => LocalResult::Single(instant.with_timezone(self)),
+            None => LocalResult::None,
+        }
+    }
+
+    /// The instant of [`DateTime::from_timestamp_nanos`].
+    final fn timestamp_nanos(&self, nanos: i64) -> DateTime<Self>
+        ensures { IsAt Self.Offset.seconds home (off self.now) (of_total nanos) (shown result.datetime result.offset) }
+    {
+        DateTime::<Utc>::from_timestamp_nanos(nanos).with_timezone(self)
+    }
+}

@@ -1,0 +1,68 @@
+//! Coordinated universal time.
+ghost use Rattle.std.specs.Prelude.{◌≡◌, ℤ, pos, codes, Some};
+ghost use Rattle.std.proofs.Common.{rules};
+
+use crate::{Offset, TimeZone};
+use naive_base::{NaiveDate, NaiveDateTime};
+use offset_core::{FixedOffset, LocalResult};
+use std::fmt;
+
+/// UTC as a zone, and as its only offset, which is 0.
+///
+/// It prints as `UTC`, and by `{:?}` as `Z`, whatever width, fill or flags the formatter has.
+#[derive(Clone, Copy, PartialEq, Eq, Hash)]
+pub struct Utc;
+
+impl Offset for Utc {
+    ghost seconds = { λ _. pos 0 };
+
+    fn fix(&self) -> FixedOffset {
+        FixedOffset::east(0)
+    }
+}
+
+impl TimeZone for Utc {
+    type Offset = Utc;
+
+    ghost off = { λ _ _. pos 0 };
+
+    ghost home = { λ _ _. pos 0 };
+
+    ghost within_day = { Prim.search rules };
+
+    fn from_offset(_offset: &Utc) -> Utc {
+        Utc
+    }
+
+    fn offset_from_utc_datetime(&self, _utc: &NaiveDateTime) -> Utc {
+        Utc
+    }
+
+    fn offset_from_utc_date(&self, _utc: &NaiveDate) -> Utc {
+        Utc
+    }
+
+    fn offset_from_local_datetime(&self, _local: &NaiveDateTime) -> LocalResult<Utc> {
+        LocalResult::Single(Utc)
+    }
+
+    fn offset_from_local_date(&self, _local: &NaiveDate) -> LocalResult<Utc> {
+        LocalResult::Single(Utc)
+    }
+}
+
+impl fmt::Display for Utc {
+    ghost output = { λ _. Some (codes "UTC") };
+
+    fn fmt<W: fmt::Write>(&self, f: &mut fmt::Formatter<W>) -> fmt::Result {
+        f.write_str("UTC")
+    }
+}
+
+impl fmt::Debug for Utc {
+    ghost debug_output = { λ _. Some (codes "Z") };
+
+    fn fmt<W: fmt::Write>(&self, f: &mut fmt::Formatter<W>) -> fmt::Result {
+        f.write_str("Z")
+    }
+}

@@ -1,0 +1,29 @@
+//! Answers questions on a time zone: lines from standard input, a line of answer to each on standard output.
+#![tactic(auto)]
+
+use std::io;
+use std::io::BufWriter;
+use std::process::ExitCode;
+use zone_query::{RunError, Watched, run};
+
+// Room for the answers to a block of input, so that a block's answers mostly leave in one write.
+const OUTPUT: usize = 65536;
+
+fn main(rt: HostRuntime) -> ExitCode {
+    match answer_all(&rt) {
+        Ok(()) => ExitCode::SUCCESS,
+        Err(stop) => {
+            let _ = eprintln!(rt; "{}", stop.text());
+            ExitCode::FAILURE
+        }
+    }
+}
+
+fn answer_all(rt: &HostRuntime) -> Result<(), RunError> {
+    let Ok(output) = BufWriter::with_capacity(rt.alloc(), OUTPUT, rt.stdout()) else {
+        return Err(RunError::Memory);
+    };
+    let mut reader = Watched::new(rt.stdin());
+    let mut writer = Watched::new(output);
+    run(rt.alloc(), &mut reader, &mut writer)
+}
