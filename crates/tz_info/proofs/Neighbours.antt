@@ -5,7 +5,8 @@ use Rattle.naive_base.specs.Year.{floor_div, year_start, days_in_year, LiesIn}
 use Rattle.naive_base.proofs.Floor.{floors}
 use Rattle.naive_base.proofs.Years.{year_step, days_at_least, starts_rise}
 use Rattle.tz_info.specs.RuleDays.{IsRuleDay, rule_day}
-use Rattle.tz_info.specs.Rules.{Alternate, IsAlternateRule, IsWithinDay, IsWithinWeek}
+use Rattle.offset_core.specs.Offset.{IsWithinDay}
+use Rattle.tz_info.specs.Rules.{Alternate, IsAlternateRule, IsWithinWeek}
 use Rattle.tz_info.specs.Moments.{moment, IsYearOf, IsInSomeYear, IsDstAt, start_in, end_in}
 use Rattle.tz_info.specs.Turns.{IsAmid, is_between, is_dst_by_one, is_in_three}
 use Rattle.tz_info.specs.declared.rule.alternate.DayTime.{DayTime}

@@ -1,7 +1,8 @@
 -- The numbers of a rule that a TZ text spells are in their limits.
 use Rattle.std.proofs.Common.{◌≡◌, ℕ, ℤ, pos, ◌+ℤ◌, ◌≤ℤ◌, ◌≤◌, arith, sym, subst, List, Bool, true, false, not, inl, inr}
 use Rattle.std.proofs.lemmas.Int.{ints}
-use Rattle.tz_info.specs.Rules.{Alternate, IsAlternate, IsWithinDay, IsWithinWeek}
+use Rattle.offset_core.specs.Offset.{IsWithinDay}
+use Rattle.tz_info.specs.Rules.{Alternate, IsAlternate, IsWithinWeek}
 use Rattle.tz_info.specs.RuleDays.{IsRuleDay}
 use Rattle.tz_info.specs.Pieces.{seconds_of, time_limit, slash, Optional, Offset, Time, Date, Day, DstOffset}
 use Rattle.tz_info.specs.TzTexts.{IsAlternateText}

@@ -1,5 +1,6 @@
 -- Rules with two types (POSIX.1 section 8.3: `std`, `dst`, and when each begins).
 use Rattle.std.specs.Prelude.{ℤ, pos, neg_ℤ, ◌<ℤ◌}
+use Rattle.offset_core.specs.Offset.{IsWithinDay}
 use Rattle.tz_info.specs.LocalTypes.{LocalType}
 use Rattle.tz_info.specs.RuleDays.{IsRuleDay}
 use Rattle.tz_info.specs.declared.rule.alternate.DayTime.{DayTime}
@@ -10,10 +11,6 @@ pub record Alternate : Type 0 where
   pub dst : LocalType
   pub start : DayTime
   pub end : DayTime
-
--- an offset strictly within a day
-abbrev pub IsWithinDay : ℤ → Type 0
-IsWithinDay offset = (neg_ℤ (pos 86_400) <ℤ offset) × (offset <ℤ pos 86_400)
 
 -- a day time strictly within a week
 abbrev pub IsWithinWeek : ℤ → Type 0

@@ -198,6 +198,3 @@ fn number(digits: &[u8], max: u32) -> Result<u32, Error>
     }
     Ok(n as u32)
 }
-
-#[cfg(test)]
-mod tests;

@@ -13,8 +13,6 @@ mod footer;
 mod header;
 mod numbers;
 mod reader;
-#[cfg(test)]
-mod tests;
 mod types;
 
 use crate::error::Error;

@@ -3,8 +3,6 @@
 mod alternate;
 mod day;
 pub(crate) mod reader;
-#[cfg(test)]
-mod tests;
 mod transition_rule;
 mod wall_clock;
 

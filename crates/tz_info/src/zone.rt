@@ -6,8 +6,6 @@ mod lookup;
 mod posix;
 pub(crate) mod probes;
 mod table;
-#[cfg(test)]
-mod tests;
 mod time_zone;
 mod transition;
 mod wall_clock;

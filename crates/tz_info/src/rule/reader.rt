@@ -12,8 +12,6 @@ ghost use Rattle.tz_info.specs.declared.rule.transition_rule.TransitionRule.{Tra
 mod clock;
 mod date;
 mod name;
-#[cfg(test)]
-mod tests;
 mod text;
 
 use crate::cursor::Cursor;

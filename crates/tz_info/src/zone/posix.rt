@@ -58,6 +58,3 @@ fn types_of(alloc: Global, rule: &TransitionRule) -> Result<Vec<LocalTimeType>, 
         ]?),
     }
 }
-
-#[cfg(test)]
-mod tests;

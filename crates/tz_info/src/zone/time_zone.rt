@@ -4,7 +4,7 @@ ghost use Rattle.std.specs.Prelude.{◌≡◌, pos, ◌<◌, length, IsTrue, ◌
 ghost use Rattle.tz_info.specs.Errors.{number_of};
 ghost use Rattle.tz_info.specs.Leaps.{AreLeapSeconds, IsLeapTime, IsLeapTimeRefused, IsUnixTime, IsUnixTimeRefused};
 ghost use Rattle.tz_info.specs.LocalTypes.{IsUtOffset};
-ghost use Rattle.tz_info.specs.Zones.{Zone, IsValid, Agrees, plain_zone, zone_of_rule, zone_of_type};
+ghost use Rattle.tz_info.specs.Zones.{Zone, IsValid, Agrees, IsRuleOrNone, plain_zone, zone_of_rule, zone_of_type};
 
 use crate::error::Error;
 use crate::local_time_type::LocalTimeType;
@@ -169,6 +169,20 @@ impl TimeZone {
         self.local_types.len()
     }
 
+    /// The types of local time that the zone lists. Its rule may have others.
+    pub fn local_time_types(&self) -> &[LocalTimeType]
+        ensures types { result.now ≡ self.now.types }
+        // The zone is a valid one, and its rule's numbers are in their limits.
+        ensures valid { IsValid self.now }
+        ensures rule { IsRuleOrNone self.now.rule }
+    {
+        // Only the rule's own calls tell that its numbers are in their limits.
+        if let Some(TransitionRule::Alternate(turns)) = &self.last_rule {
+            let _rule = turns.std();
+        }
+        &self.local_types
+    }
+
     /// How many leap seconds the zone has.
     pub fn leap_count(&self) -> usize
         ensures { result ≡ length self.now.leaps }
@@ -262,40 +276,4 @@ fn is_same_type(a: &LocalTimeType, b: &LocalTimeType) -> bool
     ensures { IsTrue result ↔ (a.now ≡ b.now) }
 {
     *a == *b
-}
-
-#[cfg(test)]
-mod tests {
-    use super::*;
-    use std::test::Fail;
-
-    #[test]
-    fn zones_of_one_type(rt: HostRuntime) -> Result<(), Fail> {
-        let utc = TimeZone::utc(rt.alloc())?;
-        assert_eq!(rt; utc.find_local_time_type(i64::MAX)?.offset(), 0);
-        assert_eq!(rt;
-            (utc.transition_count(), utc.type_count(), utc.leap_count()),
-            (0, 1, 0)
-        );
-        assert!(rt; utc.rule().is_none());
-
-        let fixed = TimeZone::fixed(rt.alloc(), -36_000)?;
-        assert_eq!(rt; fixed.find_local_time_type(0)?.offset(), -36_000);
-        assert_eq!(rt;
-            TimeZone::fixed(rt.alloc(), i32::MIN)
-                .err()
-                .map(|e| e.number()),
-            Some(3)
-        );
-        Ok(())
-    }
-
-    #[test]
-    fn a_zone_with_a_rule(rt: HostRuntime) -> Result<(), Fail> {
-        let rule = TransitionRule::from(LocalTimeType::utc());
-        let zone = TimeZone::with_rule(vec![in rt.alloc(); LocalTimeType::utc()]?, Some(rule));
-        assert_eq!(rt; zone.rule(), Some(&rule));
-        assert_eq!(rt; zone.find_local_time_type(i64::MIN)?.name(), None);
-        Ok(())
-    }
 }

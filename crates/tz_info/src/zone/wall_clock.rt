@@ -144,6 +144,3 @@ impl TimeZone {
         }
     }
 }
-
-#[cfg(test)]
-mod tests;

@@ -1,8 +1,9 @@
 //! The offsets and the times of day of a TZ text: `hh[:mm[:ss]]` with a sign or without.
 
 ghost use Rattle.std.specs.Prelude.{◌≡◌, ◌≤◌, ◌<ℤ◌, ◌≤ℤ◌, pos, neg_ℤ, not, Ok, IfOk};
+ghost use Rattle.offset_core.specs.Offset.{IsWithinDay};
 ghost use Rattle.tz_info.specs.Fronts.{Gives};
-ghost use Rattle.tz_info.specs.Rules.{IsWithinDay, IsWithinWeek};
+ghost use Rattle.tz_info.specs.Rules.{IsWithinWeek};
 ghost use Rattle.tz_info.specs.Readings.{sign_at, seconds_at, minutes_seconds_at, others_at, hours_minutes_seconds_at, seconds_within, duration_at, offset_at, time_sign_at, time_at, optional_time_at};
 
 use crate::cursor::Cursor;

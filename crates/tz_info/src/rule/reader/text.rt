@@ -1,8 +1,9 @@
 //! The whole of a TZ text.
 
 ghost use Rattle.std.specs.Prelude.{◌≡◌, IfOk};
+ghost use Rattle.offset_core.specs.Offset.{IsWithinDay};
 ghost use Rattle.tz_info.specs.Fronts.{Gives};
-ghost use Rattle.tz_info.specs.Rules.{IsWithinDay, IsWithinWeek};
+ghost use Rattle.tz_info.specs.Rules.{IsWithinWeek};
 ghost use Rattle.tz_info.specs.Readings.{is_end, more_at, end_at, next_hour_of, given_offset_at, dst_offset_at, named_type_of, fixed_at, alternate_at, days_at, named_types_of, rule_at, text_at};
 
 use crate::cursor::Cursor;

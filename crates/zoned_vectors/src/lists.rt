@@ -1,43 +1,9 @@
 //! Zones of lists: which lists make one, leap times, and the type at an instant.
 
-use crate::error::Error;
-use crate::local_time_type::LocalTimeType;
-use crate::rule::TransitionRule;
-use crate::zone::probes::Probes;
-use crate::zone::{LeapSecond, TimeZone, Transition};
+use crate::vectors::LEAP_SECONDS;
 use std::alloc::Global;
 use std::test::Fail;
-
-/// The leap seconds from 1972 to 2016: leap times and corrections.
-const LEAP_SECONDS: [(i64, i32); 27] = [
-    (78_796_800, 1),
-    (94_694_401, 2),
-    (126_230_402, 3),
-    (157_766_403, 4),
-    (189_302_404, 5),
-    (220_924_805, 6),
-    (252_460_806, 7),
-    (283_996_807, 8),
-    (315_532_808, 9),
-    (362_793_609, 10),
-    (394_329_610, 11),
-    (425_865_611, 12),
-    (489_024_012, 13),
-    (567_993_613, 14),
-    (631_152_014, 15),
-    (662_688_015, 16),
-    (709_948_816, 17),
-    (741_484_817, 18),
-    (773_020_818, 19),
-    (820_454_419, 20),
-    (867_715_220, 21),
-    (915_148_821, 22),
-    (1_136_073_622, 23),
-    (1_230_768_023, 24),
-    (1_341_100_824, 25),
-    (1_435_708_825, 26),
-    (1_483_228_826, 27),
-];
+use tz_info::{Error, LeapSecond, LocalTimeType, Probes, TimeZone, Transition, TransitionRule};
 
 /// The zone of those transitions, types of those offsets, leap seconds, and a fixed rule of that offset.
 fn zone(
@@ -88,6 +54,22 @@ fn offset_at(zone: &TimeZone, unix_time: i64) -> Result<i32, Error> {
         Ok(local) => Ok(local.offset()),
         Err(e) => Err(e),
     }
+}
+
+#[test]
+fn zones_of_one_type(rt: HostRuntime) -> Result<(), Fail> {
+    let utc = TimeZone::utc(rt.alloc())?;
+    assert_eq!(rt; utc.find_local_time_type(i64::MAX)?.offset(), 0);
+    let counts = (utc.transition_count(), utc.type_count(), utc.leap_count());
+    assert_eq!(rt; counts, (0, 1, 0));
+    assert!(rt; utc.rule().is_none());
+
+    let fixed = TimeZone::fixed(rt.alloc(), -36_000)?;
+    assert_eq!(rt; fixed.find_local_time_type(0)?.offset(), -36_000);
+    assert_eq!(rt; fixed.find_local_time_type(0)?.name(), None);
+    let least = TimeZone::fixed(rt.alloc(), i32::MIN);
+    assert_eq!(rt; least.err().map(|e| e.number()), Some(3));
+    Ok(())
 }
 
 #[test]
@@ -144,7 +126,7 @@ fn the_lists_of_a_zone(rt: HostRuntime) -> Result<(), Fail> {
 fn utc_with_leap_seconds(alloc: Global) -> Result<TimeZone, Error> {
     let mut leaps = Vec::new(alloc);
     for (leap_time, correction) in LEAP_SECONDS {
-        leaps.push(LeapSecond::new(leap_time, correction))?;
+        leaps.push(LeapSecond::new(i64::from(leap_time), correction))?;
     }
     leap_zone(alloc, &leaps)
 }

@@ -1,4 +1,6 @@
-use super::Cursor;
+//! Cursors: runs, tags, numbers, and where a refused call leaves one.
+
+use tz_info::Cursor;
 
 #[test]
 fn runs_and_tags(rt: HostRuntime) {

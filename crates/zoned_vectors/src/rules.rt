@@ -1,34 +1,8 @@
-use super::*;
-use crate::local_time_type::LocalTimeType;
+//! Rules: their days, and the type in force at an instant.
+
+use crate::values::{alternate, julian_0, julian_1, month_weekday, nameless};
 use std::process::Abort;
-
-fn julian_1(rt: &impl Abort, n: u16) -> RuleDay {
-    match RuleDay::julian_1(n) {
-        Ok(day) => day,
-        Err(_) => panic!(rt; "no day J{n}"),
-    }
-}
-
-fn julian_0(rt: &impl Abort, n: u16) -> RuleDay {
-    match RuleDay::julian_0(n) {
-        Ok(day) => day,
-        Err(_) => panic!(rt; "no day {n}"),
-    }
-}
-
-fn month_weekday(rt: &impl Abort, month: u8, week: u8, weekday: u8) -> RuleDay {
-    match RuleDay::month_weekday(month, week, weekday) {
-        Ok(day) => day,
-        Err(_) => panic!(rt; "no day M{month}.{week}.{weekday}"),
-    }
-}
-
-fn local(rt: &impl Abort, ut_offset: i32, is_dst: bool) -> LocalTimeType {
-    match LocalTimeType::new(ut_offset, is_dst, None) {
-        Ok(local) => local,
-        Err(_) => panic!(rt; "no offset {ut_offset}"),
-    }
-}
+use tz_info::{RuleDay, TransitionRule};
 
 /// The rule of two offsets, each with the day and the day time at which its type ends.
 fn rule_of(
@@ -38,12 +12,9 @@ fn rule_of(
     start: (RuleDay, i32),
     end: (RuleDay, i32),
 ) -> TransitionRule {
-    let std = local(rt, std_offset, false);
-    let dst = local(rt, dst_offset, true);
-    match AlternateTime::new(std, dst, start.0, start.1, end.0, end.1) {
-        Ok(rule) => TransitionRule::from(rule),
-        Err(_) => panic!(rt; "no rule"),
-    }
+    let std = nameless(rt, std_offset, false);
+    let dst = nameless(rt, dst_offset, true);
+    alternate(rt, std, dst, start, end)
 }
 
 /// The offset at the second and whether it is daylight saving time, or the number of the refusal.
@@ -172,7 +143,7 @@ fn years_that_no_rule_answers_in(rt: HostRuntime) {
     assert_eq!(rt; type_at(&east, 67_767_976_233_532_799), Err(9));
     assert_eq!(rt; type_at(&east, 67_767_976_170_460_800), Err(9));
     assert!(rt; type_at(&east, 67_767_976_170_460_799).is_ok());
-    let fixed = TransitionRule::from(local(&rt, -36_000, false));
+    let fixed = TransitionRule::from(nameless(&rt, -36_000, false));
     assert_eq!(rt; type_at(&fixed, i64::MIN), Ok((-36_000, false)));
     assert_eq!(rt; type_at(&fixed, i64::MAX), Ok((-36_000, false)));
 }

@@ -1,0 +1,24 @@
+//! Tests over the crates of time zones, by values that come from outside: what TZ texts, files and lists give, the types in
+//! force at instants, and wall clocks.
+#![tactic(auto)]
+
+#[cfg(test)]
+mod cursors;
+#[cfg(test)]
+mod files;
+#[cfg(test)]
+mod lists;
+#[cfg(test)]
+mod names;
+#[cfg(test)]
+mod rules;
+#[cfg(test)]
+mod text_zones;
+#[cfg(test)]
+mod texts;
+#[cfg(test)]
+mod values;
+#[cfg(test)]
+mod vectors;
+#[cfg(test)]
+mod wall_clocks;
