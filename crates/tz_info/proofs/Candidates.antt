@@ -1,6 +1,6 @@
 -- The candidates of a wall clock: each second that shows a local time is that time less the offset of a type of the zone's
 -- list or of its rule.
-use Rattle.std.proofs.Common.{Bool, true, false, ◌≡◌, ℕ, ◌<◌, ◌≤◌, ◌+◌, ◌*◌, ◌^◌, ℤ, ◌+ℤ◌, ◌-ℤ◌, Option, Some, None, List, length, get_or, slice_get, ◌⊎◌, inl, inr, ⊎_elim, arith, refl, sym, ◌∙◌, ap, subst}
+use Rattle.std.proofs.Common.{Bool, true, false, ◌≡◌, ℕ, ◌<◌, ◌≤◌, ◌+◌, ◌*◌, ◌^◌, ℤ, ◌-ℤ◌, Option, Some, None, List, length, get_or, slice_get, ◌⊎◌, inl, inr, ⊎_elim, arith, sym, ◌∙◌, ap, subst}
 use Rattle.std.proofs.Math.Nat.{mul-le-mul}
 use Rattle.std.proofs.lemmas.Int.{ints}
 use Rattle.std.proofs.lemmas.Bool.{cases_lt}
@@ -14,7 +14,6 @@ use Rattle.tz_info.specs.RuleTypes.{RuleAt}
 use Rattle.tz_info.specs.WallClocks.{Shows}
 use Rattle.tz_info.specs.Spans.{IsSpan, IsAsked, IsSeen, answer_of}
 use Rattle.tz_info.specs.Zones.{Zone, TypeAt, IsTypeOf, HasType}
-use Rattle.tz_info.specs.declared.rule.transition_rule.TransitionRule.{TransitionRule}
 use Rattle.tz_info.specs.declared.rule.transition_rule.TransitionRule.TheVariants.{Fixed, Alternate}
 use Rattle.tz_info.specs.declared.span.Span.{Span}
 use Rattle.tz_info.proofs.SpanLaws.{asked_span, equal_span, first_asked, last_asked, span_answer, AskedOf, shown_at}

@@ -1,5 +1,5 @@
 -- A number has one binary digit more than its half.
-use Rattle.std.proofs.Common.{◌≡◌, ℕ, zero, suc, ◌+◌, ◌*◌, ◌/◌, ◌^◌, ◌<◌, ◌≤◌, arith, refl, ap}
+use Rattle.std.proofs.Common.{◌≡◌, ℕ, zero, suc, ◌+◌, ◌/◌, ◌^◌, ◌<◌, ◌≤◌, arith, refl, ap}
 use Rattle.std.proofs.Math.Nat.{pow-suc}
 use Rattle.tz_info.specs.Digits.{digits, digits_within}
 

@@ -1,12 +1,11 @@
 -- Leap times rise weakly with Unix times, none is refused near now, and where corrections count 1, 2, 3 and so on each Unix
 -- time is that of its leap time.
-use Rattle.std.proofs.Common.{◌≡◌, ℕ, zero, suc, ◌+◌, ◌*◌, ◌<◌, ◌≤◌, arith, refl, ap, ◌∙◌, sym, add-one, List, [], ◌∷◌, length, get_or, take, map, true, false, cond, ℤ, pos, neg_ℤ, ◌+ℤ◌, ◌-ℤ◌, ◌≤ℤ◌, ◌<ℤ◌, int_le, int_lt, inl, inr}
+use Rattle.std.proofs.Common.{◌≡◌, ℕ, zero, suc, ◌*◌, ◌<◌, ◌≤◌, arith, refl, ap, ◌∙◌, sym, add-one, List, [], ◌∷◌, length, get_or, take, cond, ℤ, pos, neg_ℤ, ◌+ℤ◌, ◌-ℤ◌, ◌≤ℤ◌, ◌<ℤ◌, int_le, int_lt, inl, inr}
 use Rattle.std.specs.List.{count_by, filter}
 use Rattle.std.proofs.lemmas.Int.{ints, by_lt_z}
-use Rattle.std.proofs.lemmas.List.{get_or_default}
 use Rattle.std.proofs.lemmas.List.Sums.{sum_by-cons, count_by-le-length}
 use Rattle.tz_info.specs.Lists.{last_else}
-use Rattle.tz_info.specs.Leaps.{IsOneStep, AreLeapSeconds, AreCounted, corrections, thresholds, passed_count, correction_at, correction_before, IsLeapTime, IsLeapTimeRefused, IsUnixTime}
+use Rattle.tz_info.specs.Leaps.{AreLeapSeconds, AreCounted, corrections, thresholds, passed_count, correction_before, IsLeapTime, IsLeapTimeRefused, IsUnixTime}
 use Rattle.tz_info.specs.declared.zone.leap_second.LeapSecond.{LeapSecond}
 use Rattle.tz_info.proofs.Prefixes.{filter_first, last_taken, mapped_at, le_true, le_false, lt_true, lt_false}
 use Rattle.tz_info.proofs.LeapEntries.{Follow, follow, follow_tail, threshold_apart, threshold_count, threshold_at}

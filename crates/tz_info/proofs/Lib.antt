@@ -36,3 +36,4 @@ pub mod TypeLaws
 pub mod FooterLaws
 pub mod TzFileLaws
 pub mod ZoneFileLaws
+pub mod FileZoneLaws

@@ -1,10 +1,9 @@
 -- The transitions at or before a leap time, and the type in force there.
-use Rattle.std.proofs.Common.{◌≡◌, ℕ, suc, ◌+◌, ◌-◌, ◌<◌, ◌≤◌, arith, refl, ap, ◌∙◌, sym, List, [], ◌∷◌, length, get_or, take, map, ℤ, inl, inr, ◌⊎◌, length-take, Result, Ok, Err, MatchResult}
+use Rattle.std.proofs.Common.{◌≡◌, ℕ, suc, ◌-◌, ◌<◌, ◌≤◌, arith, refl, ap, ◌∙◌, List, [], ◌∷◌, length, get_or, take, ℤ, length-take, Result, Ok, Err, MatchResult}
 use Rattle.tz_info.specs.Leaps.{IsLeapTime}
-use Rattle.tz_info.specs.Lists.{last_else}
 use Rattle.tz_info.specs.LocalTypes.{LocalType}
 use Rattle.tz_info.specs.Transitions.{passed}
-use Rattle.tz_info.specs.Zones.{Zone, HasType, RuleOrType, IsRefusedBy, IsBeforeLast, IsFromLast, index_at, TypeAtLeapTime, TypeAt, IsTypeRefused, by_rule}
+use Rattle.tz_info.specs.Zones.{Zone, HasType, RuleOrType, IsRefusedBy, IsFromLast, index_at, TypeAtLeapTime, TypeAt, IsTypeRefused, by_rule}
 use Rattle.tz_info.specs.declared.zone.transition.Transition.{Transition}
 use Rattle.tz_info.proofs.Prefixes.{last_taken}
 

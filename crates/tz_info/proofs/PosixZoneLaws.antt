@@ -1,5 +1,5 @@
 -- What a TZ text gives is a zone whose rule's numbers are in their limits.
-use Rattle.std.proofs.Common.{rules, ◌≡◌, ℕ, ◌<◌, refl, sym, subst, List, length, Bool, false, Option, Some, None, inl, inr, arith}
+use Rattle.std.proofs.Common.{rules, ℕ, ◌<◌, sym, subst, List, length, Bool, false, Option, Some, None, inl, inr, arith}
 use Rattle.tz_info.specs.LocalTypes.{LocalType}
 use Rattle.tz_info.specs.RuleTypes.{IsRule}
 use Rattle.tz_info.specs.Zones.{Zone, IsValid, IsRuleOrNone, zone_of_rule}

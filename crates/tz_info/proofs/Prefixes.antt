@@ -1,5 +1,5 @@
 -- Lists whose first n items pass a test and whose others do not, and functions that rise from place to place.
-use Rattle.std.proofs.Common.{◌≡◌, ℕ, zero, suc, ◌+◌, ◌-◌, ◌<◌, ◌≤◌, arith, refl, ap, ◌∙◌, sym, add-zero, add-suc, List, [], ◌∷◌, length, get_or, take, map, Bool, true, false, cond, ℤ, ◌≤ℤ◌, ◌<ℤ◌, int_le, int_lt}
+use Rattle.std.proofs.Common.{◌≡◌, ℕ, zero, suc, ◌+◌, ◌-◌, ◌<◌, ◌≤◌, arith, refl, ap, ◌∙◌, add-zero, add-suc, List, [], ◌∷◌, length, get_or, take, map, Bool, true, false, cond, ℤ, ◌≤ℤ◌, ◌<ℤ◌, int_le, int_lt}
 use Rattle.std.specs.List.{count_by, filter}
 use Rattle.std.proofs.lemmas.Int.{ints}
 use Rattle.std.proofs.lemmas.List.Sums.{sum_by-cons}

@@ -1,5 +1,5 @@
 -- A rule has one type at a second, or is refused there, and never both.
-use Rattle.std.proofs.Common.{◌≡◌, ℕ, ◌+◌, ◌*◌, ◌<◌, ◌≤◌, arith, ℤ, pos, neg_ℤ, Bool, not, ◌+ℤ◌, ◌-ℤ◌, ◌*ℤ◌, ◌≤ℤ◌, ◌<ℤ◌, refl, sym, ◌∙◌, ap, subst, inl, inr, ◌⊎◌, ◌↔◌}
+use Rattle.std.proofs.Common.{◌≡◌, arith, ℤ, pos, neg_ℤ, Bool, not, ◌+ℤ◌, ◌≤ℤ◌, refl, sym, ◌∙◌, ap, subst, inl, inr, ◌⊎◌}
 use Rattle.std.proofs.lemmas.Int.{by_lt_z}
 use Rattle.naive_base.specs.Year.{floor_div, year_start, year_of, LiesIn}
 use Rattle.naive_base.proofs.Floor.{floors}

@@ -1,6 +1,5 @@
 -- A binary search in transitions whose times rise.
-use Rattle.std.proofs.Common.{◌≡◌, ℕ, ℤ, ◌+◌, ◌-◌, ◌<◌, ◌≤◌, arith, refl, ap, ◌∙◌, sym, List, length, get_or, take, true, false, ◌≤ℤ◌, ◌<ℤ◌, inl, inr, int_le}
-use Rattle.std.specs.List.{filter}
+use Rattle.std.proofs.Common.{◌≡◌, ℕ, ℤ, ◌+◌, ◌-◌, ◌<◌, ◌≤◌, arith, ap, ◌∙◌, sym, List, length, get_or, take, ◌≤ℤ◌, ◌<ℤ◌, inl, inr, int_le}
 use Rattle.std.proofs.lemmas.List.{get_or_default}
 use Rattle.std.proofs.lemmas.Bool.{cases_lt}
 use Rattle.std.proofs.lemmas.Int.{ints}

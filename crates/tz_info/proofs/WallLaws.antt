@@ -1,6 +1,5 @@
 -- What follows from a wall clock's answer.
-use Rattle.std.proofs.Common.{◌≡◌, ℤ, ◌+ℤ◌, refl, subst, sym, FitsSigned}
-use Rattle.std.specs.Int.{w64}
+use Rattle.std.proofs.Common.{ℤ, subst, sym}
 use Rattle.offset_core.specs.WallAnswer.{IsWallAnswer}
 use Rattle.offset_core.specs.declared.local_result.LocalResult.{LocalResult}
 use Rattle.offset_core.specs.declared.local_result.LocalResult.TheVariants.{None, Single, Ambiguous}

@@ -1,5 +1,5 @@
 -- At each second a zone has one type, of its list or of its rule, or it is refused, and never both.
-use Rattle.std.proofs.Common.{◌≡◌, ℕ, zero, suc, ◌<◌, ◌≤◌, ◌+◌, ◌-◌, ℤ, pos, neg_ℤ, ◌+ℤ◌, Option, Some, None, List, [], ◌∷◌, length, map, get_or, int_le, ◌⊎◌, inl, inr, ⊎_elim, arith, refl, sym, ◌∙◌, ap, slice_get, w64}
+use Rattle.std.proofs.Common.{◌≡◌, ℕ, zero, suc, ◌<◌, ◌≤◌, ℤ, pos, neg_ℤ, ◌+ℤ◌, Option, Some, None, List, [], ◌∷◌, length, map, get_or, int_le, ◌⊎◌, inl, inr, ⊎_elim, arith, refl, sym, ◌∙◌, ap, slice_get, w64}
 use Rattle.std.proofs.lemmas.Int.{ints, by_lt_z}
 use Rattle.std.proofs.lemmas.Bool.{cases_lt}
 use Rattle.std.proofs.lemmas.List.Sums.{length-filter, count_by-le-length}
@@ -8,7 +8,7 @@ use Rattle.tz_info.specs.Leaps.{AreLeapSeconds, corrections, passed_count, corre
 use Rattle.tz_info.specs.Lists.{last_else}
 use Rattle.tz_info.specs.LocalTypes.{LocalType}
 use Rattle.tz_info.specs.Transitions.{passed, AreTransitions}
-use Rattle.tz_info.specs.Zones.{Zone, HasType, IsValid, RuleOrElse, IsRefusedBy, index_at, IsBeforeLast, IsFromLast, TypeAtLeapTime, TypeAt, IsTypeRefused, by_leap_time, by_rule, IsRuleOrNone, IsTypeOf, zone_of_rule}
+use Rattle.tz_info.specs.Zones.{Zone, HasType, IsValid, RuleOrElse, IsRefusedBy, index_at, IsBeforeLast, IsFromLast, TypeAt, IsTypeRefused, by_leap_time, by_rule, IsRuleOrNone, IsTypeOf, zone_of_rule}
 use Rattle.tz_info.specs.declared.rule.transition_rule.TransitionRule.{TransitionRule}
 use Rattle.tz_info.specs.declared.zone.leap_second.LeapSecond.{LeapSecond}
 use Rattle.tz_info.specs.declared.zone.transition.Transition.{Transition}

@@ -1,5 +1,5 @@
 -- Local time types (RFC 8536 section 3.2, "local time type record"; the offset counts east of UTC).
-use Rattle.std.specs.Prelude.{ℕ, ℤ, pos, neg_ℤ, ◌<ℤ◌, ◌≤ℤ◌, Bool, false, List, Option, None}
+use Rattle.std.specs.Prelude.{ℕ, ℤ, pos, neg_ℤ, ◌≤ℤ◌, Bool, false, List, Option, None}
 
 -- what a local time type shows: seconds east of UTC, whether it is daylight saving time, and its name if it has one
 pub record LocalType : Type 0 where

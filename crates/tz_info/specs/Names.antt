@@ -1,6 +1,6 @@
 -- Names of local time types: the "time zone designations" of RFC 8536 section 3.2, and the `std` and `dst` of a TZ text
 -- (POSIX.1 section 8.3). They are three to seven letters, digits, `+` or `-` of ASCII.
-use Rattle.std.specs.Prelude.{ℕ, ◌≡◌, ◌+◌, ◌-◌, ◌<◌, ◌≤◌, ◌==◌, nat_le, Bool, true, ◌&&◌, ◌||◌, List, Option, Some, None, length, take, slice_index, ◌++◌}
+use Rattle.std.specs.Prelude.{ℕ, ◌≡◌, ◌-◌, ◌<◌, ◌≤◌, ◌==◌, nat_le, Bool, true, ◌&&◌, ◌||◌, List, Option, Some, None, length, take, slice_index, ◌++◌}
 use Rattle.std.proofs.Common.{arith, get_or, sym, ◌∙◌}
 use Rattle.std.proofs.lemmas.Grind.{same_number_lists, common_steps}
 use Rattle.std.proofs.Math.ListN.{replicate}

@@ -1,5 +1,5 @@
 -- Time zones (RFC 8536 section 3.2: a file's transitions, local time types and leap seconds; section 3.3: its footer's rule).
-use Rattle.std.specs.Prelude.{ℕ, ℤ, ◌≡◌, ◌<◌, ◌-◌, ◌⊎◌, List, [], ◌∷◌, length, map, slice_get, Option, Some, None, IfSome}
+use Rattle.std.specs.Prelude.{ℕ, ℤ, ◌≡◌, ◌<◌, ◌-◌, List, [], ◌∷◌, length, map, slice_get, Option, Some, None, IfSome}
 use Rattle.tz_info.specs.Leaps.{AreLeapSeconds, IsLeapTime, IsLeapTimeRefused, IsUnixTime}
 use Rattle.tz_info.specs.Lists.{last_else}
 use Rattle.tz_info.specs.LocalTypes.{LocalType, plain_type}

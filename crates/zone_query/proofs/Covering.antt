@@ -6,10 +6,11 @@ use Rattle.std.proofs.lemmas.List.{append-nil}
 use Rattle.std.proofs.lemmas.List.Elements.{All-nil, All-cons, All-head, All-tail}
 use Rattle.tz_info.specs.Zones.{Zone, IsValid, IsRuleOrNone}
 use Rattle.tz_info.proofs.ZoneLaws.{type_decided}
+use Rattle.tz_info.proofs.FileZoneLaws.{file_rule_fits}
 use Rattle.tz_info.proofs.PosixZoneLaws.{posix_zone_valid}
 use Rattle.zone_query.specs.Answers.{AnswersLine, AnswersLines, type_text, wall_text, refusal_text}
 use Rattle.zone_query.specs.Lines.{HasNoNewline, IsCut, ended_lines}
-use Rattle.zone_query.specs.Questions.{Query, Text, At, Wall, Asks}
+use Rattle.zone_query.specs.Questions.{Query, Text, Data, At, Wall, Asks}
 use Rattle.zone_query.specs.Runs.{AnswersBefore, BeginsAnswers}
 use Rattle.zone_query.specs.Steps.{Answered, AnswersLast}
 use Rattle.zone_query.proofs.Deciding.{asks_or_bad}
@@ -24,6 +25,8 @@ IsGiven (Some zone) = IsValid zone × IsRuleOrNone zone.rule
 pub line_gives : (z : Option Zone) (line answer : List ℕ) (after : Option Zone) → IsGiven z → AnswersLine z line answer after → IsGiven after
 line_gives z line answer after given (inl (Text text, asks, inl found)) = subst IsGiven (sym found.3) (posix_zone_valid text found.0 found.1)
 line_gives z line answer after given (inl (Text text, asks, inr refused)) = subst IsGiven (sym refused.3) given
+line_gives z line answer after given (inl (Data bytes, asks, inl found)) = subst IsGiven (sym found.3) (found.1.1, file_rule_fits bytes found.0 found.1.0)
+line_gives z line answer after given (inl (Data bytes, asks, inr refused)) = subst IsGiven (sym refused.3) given
 line_gives z line answer after given (inl (At seconds, asks, told)) = subst IsGiven (sym told.1) given
 line_gives z line answer after given (inl (Wall local, asks, told)) = subst IsGiven (sym told.1) given
 line_gives z line answer after given (inr bad) = subst IsGiven (sym bad.2) given
@@ -35,6 +38,7 @@ lines_give z (line ∷ lines) output after given h = lines_give h.1 lines h.2 af
 -- each line has an answer that leaves the zone
 query_covered : (z : Option Zone) (line : List ℕ) (query : Query) → IsGiven z → Asks line query → (answer : List ℕ) × AnswersLine z line answer z
 query_covered z line (Text text) given asks = (refusal_text 17, inl (Text text, asks, inr (17, inl refl, refl, refl)))
+query_covered z line (Data bytes) given asks = (refusal_text 17, inl (Data bytes, asks, inr (17, inl refl, refl, refl)))
 query_covered None line (At seconds) given asks = (codes "no zone", inl (At seconds, asks, (refl, refl)))
 query_covered (Some zone) line (At seconds) given asks = elim (type_decided zone seconds given.0 given.1) [
   | inl found ↦ (type_text found.0, inl (At seconds, asks, (inl (found.0, found.1, refl), refl)))

@@ -1,4 +1,6 @@
 pub mod Digits
+pub mod HexLaws
+pub mod ZoneAnswers
 pub mod Standing
 pub mod Bytes
 pub mod Stopping

@@ -3,6 +3,7 @@ use Rattle.std.proofs.Common.{◌≡◌, ◌==◌, ℕ, ◌<◌, refl, ap, sym, 
 use Rattle.std.specs.Io.KnownBytes.{Appends}
 use Rattle.std.proofs.lemmas.Bool.Decides.{nat_tests}
 use Rattle.std.proofs.lemmas.List.{append-nil, length-append, take-append-drop, nil_from_length}
+use Rattle.std.proofs.lemmas.Result.{on_ok_weaker}
 use Rattle.tz_info.specs.Zones.{Zone}
 use Rattle.zone_query.specs.Answers.{AnswersLine}
 use Rattle.zone_query.specs.Lines.{HasNoNewline, without_return}
@@ -18,6 +19,10 @@ no_items b n xs e h k = let none : length xs ≡ 0 = grind (arith, nat_tests) in
 
 pub some_items : (b : Bool) (n : ℕ) (xs : List ℕ) → b ≡ (n == 0) → b ≡ false → n ≡ length xs → 0 < length xs
 some_items b n xs e h k = grind (arith, nat_tests)
+
+-- an answer that was written
+pub reply_made : (r : Result (Unit {0}) RunError) (f : Bool) (a c : Option (List ℕ)) (z : Option Zone) (line bytes answer : List ℕ) (after : Option Zone) → AnswersLine z line answer after → bytes ≡ answer ++ codes "\n" → OnOk r ((f ≡ false) × Appends a c bytes) → OnOk r (Replies f a c z line after)
+reply_made r f a c z line bytes answer after h k ok = on_ok_weaker r (λ written. (written.0, (answer, h, subst (Appends a c) k written.1))) ok
 
 -- an answer that was written in part
 pub reply_stops : (r : Result (Unit {0}) RunError) (f : Bool) (a c : Option (List ℕ)) (z : Option Zone) (line bytes answer : List ℕ) (after : Option Zone) → AnswersLine z line answer after → bytes ≡ answer ++ codes "\n" → IfErr r (λ e. (e ≡ errors.Write) × (f ≡ true) × ((n : ℕ) × Appends a c (take n bytes))) → IfErr r (StopsAt f a c z line)

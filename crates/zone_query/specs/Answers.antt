@@ -6,11 +6,12 @@ use Rattle.offset_core.specs.declared.local_result.LocalResult.{LocalResult}
 use Rattle.offset_core.specs.declared.local_result.LocalResult.TheVariants as results
 use Rattle.tz_info.specs.LocalTypes.{LocalType}
 use Rattle.tz_info.specs.PosixZones.{IsPosixZone, IsPosixFault}
+use Rattle.tz_info.specs.TzFiles.{IsTzFile, IsZoneFault}
 use Rattle.tz_info.specs.WallClocks.{Shows}
-use Rattle.tz_info.specs.Zones.{Zone, TypeAt, IsTypeRefused}
+use Rattle.tz_info.specs.Zones.{Zone, IsValid, TypeAt, IsTypeRefused}
 use Rattle.tz_info.specs.declared.rule.transition_rule.TransitionRule.{TransitionRule}
 use Rattle.tz_info.specs.declared.rule.transition_rule.TransitionRule.TheVariants as rules
-use Rattle.zone_query.specs.Questions.{Query, Text, At, Wall, Asks, IsBadLine}
+use Rattle.zone_query.specs.Questions.{Query, Text, Data, At, Wall, Asks, IsBadLine}
 
 abbrev pub mark_text : Bool → List ℕ
 mark_text true = codes "dst"
@@ -43,12 +44,20 @@ zone_text zone =
 abbrev pub refusal_text : ℕ → List ℕ
 refusal_text number = codes "refused " ++ decimal number
 
--- the text gives a zone, which is the zone from here on; or it is refused, by a fault that stands in it or for want of
--- memory (17), and the earlier zone stays
+-- a zone is read, which is the zone from here on; or it is refused, by a fault that stands in what was to be read or for
+-- want of memory (17), and the earlier zone stays
+abbrev pub AnswersRead : (Zone → Type 0) → (ℕ → Type 0) → Option Zone → List ℕ → Option Zone → Type 0
+AnswersRead is_zone is_fault zone answer after =
+    ((found : Zone) × is_zone found × (answer ≡ zone_text found) × (after ≡ Some found))
+    ⊎ ((number : ℕ) × ((number ≡ 17) ⊎ is_fault number) × (answer ≡ refusal_text number) × (after ≡ zone))
+
+-- a TZ text is read
 abbrev pub AnswersText : Option Zone → List ℕ → List ℕ → Option Zone → Type 0
-AnswersText zone text answer after =
-    ((found : Zone) × IsPosixZone text found × (answer ≡ zone_text found) × (after ≡ Some found))
-    ⊎ ((number : ℕ) × ((number ≡ 17) ⊎ IsPosixFault text number) × (answer ≡ refusal_text number) × (after ≡ zone))
+AnswersText zone text answer after = AnswersRead (IsPosixZone text) (IsPosixFault text) zone answer after
+
+-- the bytes of a file are read
+abbrev pub AnswersData : Option Zone → List ℕ → List ℕ → Option Zone → Type 0
+AnswersData zone bytes answer after = AnswersRead (λ found. IsTzFile bytes found × IsValid found) (IsZoneFault bytes) zone answer after
 
 -- the type in force at that second, or the refusal of the second
 abbrev pub AnswersAt : Option Zone → ℤ → List ℕ → Type 0
@@ -65,6 +74,7 @@ AnswersWall (Some zone) local answer =
 
 abbrev pub AnswersQuery : Option Zone → Query → List ℕ → Option Zone → Type 0
 AnswersQuery zone (Text text) answer after = AnswersText zone text answer after
+AnswersQuery zone (Data bytes) answer after = AnswersData zone bytes answer after
 AnswersQuery zone (At seconds) answer after = AnswersAt zone seconds answer × (after ≡ zone)
 AnswersQuery zone (Wall local) answer after = AnswersWall zone local answer × (after ≡ zone)
 

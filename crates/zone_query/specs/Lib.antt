@@ -2,6 +2,7 @@ pub mod Ends
 pub mod Watch
 pub mod Numerals
 pub mod Words
+pub mod Hex
 pub mod Questions
 pub mod QuestionView
 pub mod Answers

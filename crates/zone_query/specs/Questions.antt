@@ -6,13 +6,16 @@ use Rattle.naive_base.specs.Clock.{IsClock, clock_second}
 use Rattle.naive_base.specs.Date.{IsDate, day_number}
 use Rattle.naive_base.specs.Range.{IsYearInRange}
 use Rattle.naive_base.specs.Reading.{reading_at}
+use Rattle.zone_query.specs.Hex.{IsHex}
 use Rattle.zone_query.specs.Numerals.{IsInteger}
 use Rattle.zone_query.specs.Words.{AreNumbers}
 
--- a question: to read a TZ text as the zone, for the type in force at a Unix time, or for the types that are in force
--- when a clock shows a local time: the seconds from 1970-01-01 00:00:00 on the clock, every day counted as 86,400
+-- a question: to read a TZ text or the bytes of a TZif file as the zone, for the type in force at a Unix time, or for the
+-- types that are in force when a clock shows a local time: the seconds from 1970-01-01 00:00:00 on the clock, every day
+-- counted as 86,400
 pub data Query : Type 0 where
   Text : List ℕ → Query
+  Data : List ℕ → Query
   At : ℤ → Query
   Wall : ℤ → Query
 
@@ -41,6 +44,7 @@ pub record IsLocalTime (text : List ℕ) (local : ℤ) : Type 0 where
 -- the line asks this
 abbrev pub Asks : List ℕ → Query → Type 0
 Asks line (Text text) = (line ≡ codes "text " ++ text) × IsUtf8 text
+Asks line (Data bytes) = (digits : List ℕ) × (line ≡ codes "data " ++ digits) × IsHex digits bytes
 Asks line (At seconds) = (number : List ℕ) × (line ≡ codes "at " ++ number) × IsInteger number seconds × FitsSigned w64 seconds
 Asks line (Wall local) = (text : List ℕ) × (line ≡ codes "wall " ++ text) × IsLocalTime text local
 

@@ -1,8 +1,12 @@
 //! The answer to a line.
 
-ghost use Rattle.std.specs.Prelude.{◌≡◌, ℕ, List, [], ◌∷◌, ◌++◌, OnOk, string_bytes, Some};
+ghost use Rattle.std.specs.Prelude.{◌≡◌, ℕ, List, [], ◌∷◌, ◌++◌, ◌⊎◌, OnOk, IfOk, IfErr, MatchResult, string_bytes, Some};
 ghost use Rattle.naive_base.specs.NaiveDateTime.{reading};
-ghost use Rattle.zone_query.specs.Answers.{AnswersLine, AnswersText, AnswersAt, AnswersWall, type_text, wall_text, zone_text, rule_text, refusal_text};
+ghost use Rattle.tz_info.specs.Errors.{number_of};
+ghost use Rattle.tz_info.specs.TzFiles.{IsTzFile, IsZoneFault};
+ghost use Rattle.tz_info.specs.Zones.{IsValid};
+ghost use Rattle.zone_query.specs.Hex.{bytes_of};
+ghost use Rattle.zone_query.specs.Answers.{AnswersLine, AnswersAt, AnswersWall, type_text, wall_text, zone_text, rule_text, refusal_text};
 
 use crate::question::Question;
 use naive_base::NaiveDateTime;
@@ -10,10 +14,10 @@ use offset_core::MappedLocalTime;
 use std::alloc::{AllocError, Global};
 use std::fmt;
 use std::fmt::Write;
-use tz_info::{LocalTimeType, TimeZone, TransitionRule};
+use tz_info::{Error, LocalTimeType, TimeZone, TransitionRule};
 
-/// Puts the answer to a line in place of what `out` holds, with a newline behind it. A text that is accepted sets the
-/// zone.
+/// Puts the answer to a line in place of what `out` holds, with a newline behind it. A text or a file that is accepted sets
+/// the zone.
 pub fn answer(
     alloc: Global,
     zone: &mut Option<TimeZone>,
@@ -24,23 +28,38 @@ pub fn answer(
 {
     out.clear();
     match Question::parse(line) {
-        Some(Question::Text(text)) => set_zone(alloc, zone, text, out),
+        Some(Question::Text(text)) => set_zone(zone, TimeZone::from_posix_tz(alloc, text), out),
+        Some(Question::Data(digits)) => set_zone(zone, read_file(alloc, digits), out),
         Some(Question::At(seconds)) => tell_type(zone, seconds, out),
         Some(Question::Wall(local)) => tell_types(zone, local, out),
         None => writeln!(out, "bad line"),
     }
 }
 
-// Reads a TZ text as the zone.
+// The zone of the file whose bytes hex digits spell.
+fn read_file(alloc: Global, digits: &[u8]) -> Result<TimeZone, Error>
+    ensures found { IfOk result (λ z. IsTzFile (bytes_of digits.now) z × IsValid z) }
+    ensures fault { IfErr result (λ e. (number_of e ≡ 17) ⊎ IsZoneFault (bytes_of digits.now) (number_of e)) }
+{
+    match hex::decode(alloc, digits) {
+        Ok(bytes) => TimeZone::from_tz_data(alloc, bytes.as_slice()),
+        // A line whose digits spell no bytes asks nothing, so there was no memory.
+        Err(_) => Err(Error::OutOfMemory),
+    }
+}
+
+// Takes the zone that was read, if there is one.
 fn set_zone(
-    alloc: Global,
     zone: &mut Option<TimeZone>,
-    text: &str,
+    read: Result<TimeZone, Error>,
     out: &mut String,
 ) -> Result<(), AllocError>
-    ensures { OnOk result ((answer : List ℕ) × (string_bytes out.new ≡ string_bytes out.old ++ (answer ++ 10 ∷ [])) × AnswersText zone.old text.now answer zone.new) }
+    ensures { OnOk result ((answer : List ℕ) × (string_bytes out.new ≡ string_bytes out.old ++ (answer ++ 10 ∷ []))
+        × MatchResult read
+        (λ found. (answer ≡ zone_text found) × (zone.new ≡ Some found))
+        (λ fault. (answer ≡ refusal_text (number_of fault)) × (zone.new ≡ zone.old))) }
 {
-    match TimeZone::from_posix_tz(alloc, text) {
+    match read {
         Ok(found) => {
             writeln!(out, "{}", Accepted(&found))?;
             *zone = Some(found);

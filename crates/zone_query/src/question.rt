@@ -4,6 +4,7 @@ ghost use Rattle.std.specs.Prelude.{◌≡◌, ℤ, MatchOption};
 ghost use Rattle.naive_base.specs.NaiveDateTime.{reading};
 ghost use Rattle.zone_query.specs.Questions.{IsLocalTime};
 
+use crate::hex_digits::spell_bytes;
 use crate::numerals::{integer, small_integer};
 use crate::words::{next_number, split_word};
 use naive_base::{NaiveDate, NaiveDateTime};
@@ -14,6 +15,8 @@ use std::str;
 pub enum Question<'a> {
     /// `text T`: to read this TZ text, and to take its zone from here on.
     Text(&'a str),
+    /// `data HEX`: to read a TZif file, whose bytes these hex digits spell, and to take its zone from here on.
+    Data(&'a [u8]),
     /// `at SECS`: for the local time type in force at this Unix time.
     At(i64),
     /// `wall Y M D h m s`: for the local time types in force when a clock shows this date and time.
@@ -26,8 +29,8 @@ impl<'a> Question<'a> {
 
     /// The question that a line asks, or `None` for a bad line.
     ///
-    /// A text that isn't UTF-8 makes a bad line, and so does a number that doesn't fit its type, and a date or a time that
-    /// doesn't exist.
+    /// A text that isn't UTF-8 makes a bad line, and so do digits that are no hex digits or odd in number, a number that
+    /// doesn't fit its type, and a date or a time that doesn't exist.
     pub fn parse(line: &'a [u8]) -> Option<Question<'a>>
         ensures { MatchOption result (IsBadLine line.now) (λ question. Asks line.now (query_of question)) }
     {
@@ -36,6 +39,9 @@ impl<'a> Question<'a> {
                 Ok(text) => Some(Question::Text(text)),
                 Err(_) => None,
             };
+        }
+        if let Some(digits) = line.strip_prefix(b"data ") {
+            return spell_bytes(digits).then_some(Question::Data(digits));
         }
         if let Some(number) = line.strip_prefix(b"at ") {
             return match integer(number) {

@@ -1,3 +1,5 @@
+mod files;
+
 use super::{RunError, Watched, run};
 use std::alloc::{AllocError, Global};
 use std::io;

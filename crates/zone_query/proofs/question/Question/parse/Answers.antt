@@ -6,5 +6,5 @@ use Rattle.zone_query.proofs.question.Question.parse.Goals as goal
 
 pub returns-in-None-local_time : goal.returns-in-None-local_time
 returns-in-None-local_time c =
-    let behind = rw c.in-Some-strip_prefix-2.is at (strip_prefix_is Decides-eqb c.args.line.now (codes "wall ") c.strip_prefix-3.result c.strip_prefix-3.ensures.cases) in
-    bad_wall c.args.line.now c.in-Some-strip_prefix-2.text.now behind c.in-None-local_time.ensures
+    let behind = rw c.in-Some-strip_prefix-3.is at (strip_prefix_is Decides-eqb c.args.line.now (codes "wall ") c.strip_prefix-4.result c.strip_prefix-4.ensures.cases) in
+    bad_wall c.args.line.now c.in-Some-strip_prefix-3.text.now behind c.in-None-local_time.ensures

@@ -1,6 +1,5 @@
-use Rattle.std.proofs.Common.{arith, inl, ◌≡◌, ◌+◌, ◌≤◌, pos, ◌+ℤ◌, to_z-of_z, sym, ◌∙◌, ap}
+use Rattle.std.proofs.Common.{arith, inl, ◌≡◌, ◌+◌, to_z-of_z, sym, ◌∙◌}
 use Rattle.std.proofs.lemmas.Int.{ints}
-use Rattle.naive_base.specs.Date.{day_number}
 use Rattle.tz_info.specs.RuleDays.{rule_day, IsRuleDay}
 use Rattle.tz_info.specs.declared.rule.day.DayForm.TheVariants.{MonthWeekday}
 use Rattle.tz_info.proofs.RuleDays.{number_after}

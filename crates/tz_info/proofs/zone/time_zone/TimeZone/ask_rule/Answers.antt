@@ -1,4 +1,4 @@
-use Rattle.std.proofs.Common.{to_z-of_z, ap, sym, ◌∙◌}
+use Rattle.std.proofs.Common.{ap, sym, ◌∙◌}
 use Rattle.tz_info.specs.Zones.{Zone}
 use Rattle.tz_info.proofs.Candidates.{without_rule}
 use Rattle.tz_info.proofs.zone.time_zone.TimeZone.ask_rule.Goals as goal

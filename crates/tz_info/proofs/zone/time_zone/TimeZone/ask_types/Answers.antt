@@ -1,4 +1,4 @@
-use Rattle.std.proofs.Common.{arith, ℕ, length, ap, ◌≡◌, ◌∙◌, ◌+◌, w32, to_z-of_z, ◌≤◌, ◌^◌}
+use Rattle.std.proofs.Common.{arith, length, ap, ◌≡◌, ◌∙◌, ◌+◌, w32, to_z-of_z, ◌≤◌, ◌^◌}
 use mir.Val.{SFits}
 use Rattle.std.proofs.lemmas.Int.{ints}
 use Rattle.tz_info.specs.Digits.{digits}

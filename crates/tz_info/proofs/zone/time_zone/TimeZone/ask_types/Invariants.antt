@@ -1,4 +1,4 @@
-use Rattle.std.proofs.Common.{length, ◌≤◌, ◌+◌, ◌*◌}
+use Rattle.std.proofs.Common.{length, ◌+◌, ◌*◌}
 use Rattle.tz_info.specs.Counts.{RoseWithin}
 use Rattle.tz_info.specs.Digits.{digits}
 use Rattle.tz_info.specs.Spans.{IsSpan, IsSeen}

@@ -5,7 +5,7 @@ use Rattle.tz_info.specs.Errors.{number_of}
 use Rattle.tz_info.specs.LocalTypes.{LocalType}
 use Rattle.tz_info.specs.declared.zone.transition.Transition.{Transition}
 use Rattle.tz_info.proofs.DigitLaws.{digits-le}
-use Rattle.tz_info.proofs.PassedTransitions.{ArePassed, at_first, at_middle, at_last}
+use Rattle.tz_info.proofs.PassedTransitions.{ArePassed, at_middle, at_last}
 use Rattle.tz_info.proofs.zone.time_zone.TimeZone.at_leap_time.Goals as goal
 
 pub read-latest-requires-clause-room : goal.read-latest-requires-clause-room

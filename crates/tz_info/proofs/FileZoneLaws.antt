@@ -1,0 +1,18 @@
+-- The numbers of a file's rule are in their limits.
+use Rattle.std.proofs.Common.{ℕ, List, Bool, Option, Some, None}
+use Rattle.tz_info.specs.Footers.{IsFooter, SaysRule}
+use Rattle.tz_info.specs.TzFiles.{HasRule, IsTzFile}
+use Rattle.tz_info.specs.Zones.{Zone, IsRuleOrNone}
+use Rattle.tz_info.specs.declared.rule.transition_rule.TransitionRule.{TransitionRule}
+use Rattle.tz_info.proofs.PosixZoneLaws.{text_rule_fits}
+
+said_rule_fits : (extended : Bool) (text : List ℕ) (rule : Option TransitionRule) → SaysRule extended text rule → IsRuleOrNone rule
+said_rule_fits extended text None says = tt
+said_rule_fits extended text (Some rule) says = text_rule_fits extended text rule says.1
+
+footer_rule_fits : (extended : Bool) (footer : Option (List ℕ)) (rule : Option TransitionRule) → HasRule extended footer rule → IsRuleOrNone rule
+footer_rule_fits extended None rule none = rw none tt
+footer_rule_fits extended (Some bytes) rule footer = said_rule_fits extended footer.text rule footer.says
+
+pub file_rule_fits : (bytes : List ℕ) (zone : Zone) → IsTzFile bytes zone → IsRuleOrNone zone.rule
+file_rule_fits bytes zone file = footer_rule_fits file.0.extended file.0.footer zone.rule file.2.rule

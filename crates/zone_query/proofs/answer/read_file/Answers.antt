@@ -1,0 +1,17 @@
+use Rattle.std.proofs.Common.{◌≡◌, ◌⊎◌, ◌∙◌, inr}
+use Rattle.std.proofs.lemmas.Result.{IfErr-weaker}
+use Rattle.tz_info.specs.Errors.{number_of}
+use Rattle.tz_info.specs.TzFiles.{IsZoneFault}
+use Rattle.zone_query.specs.Hex.{bytes_of}
+use Rattle.zone_query.proofs.HexLaws.{decoded}
+use Rattle.zone_query.proofs.answer.read_file.Goals as goal
+
+pub returns-in-Ok-clause-found : goal.returns-in-Ok-clause-found
+returns-in-Ok-clause-found c =
+    let bytes = c.as_slice.ensures.value ∙ decoded c.args.digits.now c.in-Ok.bytes.items c.in-Ok.ensures.ok in
+    rw bytes at c.from_tz_data.ensures.found
+
+pub returns-in-Ok-clause-fault : goal.returns-in-Ok-clause-fault
+returns-in-Ok-clause-fault c =
+    let bytes = c.as_slice.ensures.value ∙ decoded c.args.digits.now c.in-Ok.bytes.items c.in-Ok.ensures.ok in
+    IfErr-weaker c.from_tz_data.result (λ e. IsZoneFault (bytes_of c.args.digits.now) (number_of e)) (λ e. (number_of e ≡ 17) ⊎ IsZoneFault (bytes_of c.args.digits.now) (number_of e)) (λ e fault. inr fault) (rw bytes at c.from_tz_data.ensures.fault)
