@@ -10,10 +10,11 @@ use Rattle.tz_info.proofs.FileZoneLaws.{file_rule_fits}
 use Rattle.tz_info.proofs.PosixZoneLaws.{posix_zone_valid}
 use Rattle.zone_query.specs.Answers.{AnswersLine, AnswersLines, type_text, wall_text, refusal_text}
 use Rattle.zone_query.specs.Lines.{HasNoNewline, IsCut, ended_lines}
-use Rattle.zone_query.specs.Questions.{Query, Text, Data, At, Wall, Asks}
+use Rattle.zone_query.specs.Questions.{Query, Text, Data, At, Wall, Show, Asks}
 use Rattle.zone_query.specs.Runs.{AnswersBefore, BeginsAnswers}
 use Rattle.zone_query.specs.Steps.{Answered, AnswersLast}
 use Rattle.zone_query.proofs.Deciding.{asks_or_bad}
+use Rattle.zone_query.proofs.Showing.{show_covered}
 use Rattle.zone_query.proofs.WallTimes.{wall_decided}
 use Rattle.zone_query.proofs.Standing.{answered_join, answers_all}
 
@@ -29,6 +30,7 @@ line_gives z line answer after given (inl (Data bytes, asks, inl found)) = subst
 line_gives z line answer after given (inl (Data bytes, asks, inr refused)) = subst IsGiven (sym refused.3) given
 line_gives z line answer after given (inl (At seconds, asks, told)) = subst IsGiven (sym told.1) given
 line_gives z line answer after given (inl (Wall local, asks, told)) = subst IsGiven (sym told.1) given
+line_gives z line answer after given (inl (Show seconds nanos, asks, told)) = subst IsGiven (sym told.1) given
 line_gives z line answer after given (inr bad) = subst IsGiven (sym bad.2) given
 
 pub lines_give : (z : Option Zone) (lines : List (List ℕ)) (output : List ℕ) (after : Option Zone) → IsGiven z → AnswersLines z lines output after → IsGiven after
@@ -48,6 +50,10 @@ query_covered None line (Wall local) given asks = (codes "no zone", inl (Wall lo
 query_covered (Some zone) line (Wall local) given asks =
     let types = wall_decided zone local given.0 given.1 in
     (wall_text types.0, inl (Wall local, asks, ((types.0, types.1, refl), refl)))
+query_covered None line (Show seconds nanos) given asks = (codes "no zone", inl (Show seconds nanos, asks, (refl, refl)))
+query_covered (Some zone) line (Show seconds nanos) given asks =
+    let shown = show_covered zone seconds nanos given.0 given.1 in
+    (shown.0, inl (Show seconds nanos, asks, (shown.1, refl)))
 
 pub line_covered : (z : Option Zone) (line : List ℕ) → IsGiven z → (answer : List ℕ) × AnswersLine z line answer z
 line_covered z line given = elim (asks_or_bad line) [

@@ -9,9 +9,10 @@ use Rattle.std.proofs.lemmas.List.{append_cancel_left}
 use Rattle.std.proofs.lemmas.Str.{IsUtf8-from_is_utf8, is_utf8-from_IsUtf8}
 use Rattle.zone_query.specs.Hex.{IsHex}
 use Rattle.zone_query.specs.Numerals.{IsInteger}
-use Rattle.zone_query.specs.Questions.{Query, Text, Data, At, Wall, Asks, IsBadLine, IsLocalTime}
+use Rattle.zone_query.specs.Questions.{Query, Text, Data, At, Wall, Show, Asks, IsBadLine, IsLocalTime, IsTimestamp}
 use Rattle.zone_query.proofs.HexLaws as hex
 use Rattle.zone_query.proofs.LocalTimes.{local_time}
+use Rattle.zone_query.proofs.Timestamps.{timestamp}
 use Rattle.zone_query.proofs.Spelling.{begins, spelled, spelled_once}
 
 -- whether there is something of which p holds
@@ -53,11 +54,13 @@ bad : (line : List ℕ)
     → ((bytes rest : List ℕ) → line ≡ codes "data " ++ rest → IsHex rest bytes → ⊥)
     → ((seconds : ℤ) (rest : List ℕ) → line ≡ codes "at " ++ rest → IsInteger rest seconds × FitsSigned w64 seconds → ⊥)
     → ((local : ℤ) (rest : List ℕ) → line ≡ codes "wall " ++ rest → IsLocalTime rest local → ⊥)
+    → ((stamp : ℤ × ℕ) (rest : List ℕ) → line ≡ codes "show " ++ rest → IsTimestamp rest stamp.0 stamp.1 → ⊥)
     → IsBadLine line
-bad line no_text no_data no_at no_wall (Text text) h = no_text text text h.0 (refl, h.1)
-bad line no_text no_data no_at no_wall (Data bytes) h = no_data bytes h.0 h.1 h.2
-bad line no_text no_data no_at no_wall (At seconds) h = no_at seconds h.0 h.1 (h.2, h.3)
-bad line no_text no_data no_at no_wall (Wall local) h = no_wall local h.0 h.1 h.2
+bad line no_text no_data no_at no_wall no_show (Text text) h = no_text text text h.0 (refl, h.1)
+bad line no_text no_data no_at no_wall no_show (Data bytes) h = no_data bytes h.0 h.1 h.2
+bad line no_text no_data no_at no_wall no_show (At seconds) h = no_at seconds h.0 h.1 (h.2, h.3)
+bad line no_text no_data no_at no_wall no_show (Wall local) h = no_wall local h.0 h.1 h.2
+bad line no_text no_data no_at no_wall no_show (Show seconds nanos) h = no_show (seconds, nanos) h.0 h.1 h.2
 
 pub asks_or_bad : (line : List ℕ) → ((query : Query) × Asks line query) ⊎ IsBadLine line
 asks_or_bad line = elim (word_and (λ (rest text : List ℕ). (rest ≡ text) × IsUtf8 text) text_decided (codes "text ") line) [
@@ -68,7 +71,10 @@ asks_or_bad line = elim (word_and (λ (rest text : List ℕ). (rest ≡ text) ×
       | inl s ↦ inl (At s.0, (s.1, s.2, s.3.0, s.3.1))
       | inr no_at ↦ elim (word_and IsLocalTime local_time (codes "wall ") line) [
         | inl l ↦ inl (Wall l.0, (l.1, l.2, l.3))
-        | inr no_wall ↦ inr (bad line no_text no_data no_at no_wall)
+        | inr no_wall ↦ elim (word_and (λ (rest : List ℕ) (stamp : ℤ × ℕ). IsTimestamp rest stamp.0 stamp.1) timestamp (codes "show ") line) [
+          | inl s ↦ inl (Show s.0.0 s.0.1, (s.1, s.2, s.3))
+          | inr no_show ↦ inr (bad line no_text no_data no_at no_wall no_show)
+        ]
       ]
     ]
   ]
@@ -84,3 +90,11 @@ bad_wall line text e none (Text other) h = apart line 119 116 _ _ (λ q. absurd 
 bad_wall line text e none (Data bytes) h = apart line 119 100 _ _ (λ q. absurd (omega (arith, q))) e h.1
 bad_wall line text e none (At seconds) h = apart line 119 97 _ _ (λ q. absurd (omega (arith, q))) e h.1
 bad_wall line text e none (Wall local) h = none local (subst (λ (t : List ℕ). IsLocalTime t local) (append_cancel_left (codes "wall ") h.0 text (sym h.1 ∙ e)) h.2)
+bad_wall line text e none (Show seconds nanos) h = apart line 119 115 _ _ (λ q. absurd (omega (arith, q))) e h.1
+
+pub bad_show : (line text : List ℕ) → line ≡ codes "show " ++ text → ((seconds : ℤ) (nanos : ℕ) → IsTimestamp text seconds nanos → ⊥) → IsBadLine line
+bad_show line text e none (Text other) h = apart line 115 116 _ _ (λ q. absurd (omega (arith, q))) e h.0
+bad_show line text e none (Data bytes) h = apart line 115 100 _ _ (λ q. absurd (omega (arith, q))) e h.1
+bad_show line text e none (At seconds) h = apart line 115 97 _ _ (λ q. absurd (omega (arith, q))) e h.1
+bad_show line text e none (Wall local) h = apart line 115 119 _ _ (λ q. absurd (omega (arith, q))) e h.1
+bad_show line text e none (Show seconds nanos) h = none seconds nanos (subst (λ (t : List ℕ). IsTimestamp t seconds nanos) (append_cancel_left (codes "show ") h.0 text (sym h.1 ∙ e)) h.2)

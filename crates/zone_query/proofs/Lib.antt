@@ -7,6 +7,8 @@ pub mod Stopping
 pub mod Spelling
 pub mod Cutting
 pub mod LocalTimes
+pub mod Timestamps
+pub mod Showing
 pub mod WallTimes
 pub mod Deciding
 pub mod Covering

@@ -1,9 +1,12 @@
 -- What may answer a line, by the latest zone that an earlier line gave, and the zone that the line leaves.
 use Rattle.std.specs.Prelude.{◌≡◌, ℕ, ℤ, List, [], ◌∷◌, ◌++◌, ◌⊎◌, Bool, true, false, Option, Some, None, length, codes, decimal}
 use Rattle.std.specs.Fmt.{signed_decimal}
+use Rattle.offset_core.specs.Offset.{offset_text}
 use Rattle.offset_core.specs.WallAnswer.{IsWallAnswer}
 use Rattle.offset_core.specs.declared.local_result.LocalResult.{LocalResult}
 use Rattle.offset_core.specs.declared.local_result.LocalResult.TheVariants as results
+use Rattle.naive_base.specs.Reading.{Reading, ahead}
+use Rattle.naive_base.specs.Text.{reading_text}
 use Rattle.tz_info.specs.LocalTypes.{LocalType}
 use Rattle.tz_info.specs.PosixZones.{IsPosixZone, IsPosixFault}
 use Rattle.tz_info.specs.TzFiles.{IsTzFile, IsZoneFault}
@@ -11,7 +14,9 @@ use Rattle.tz_info.specs.WallClocks.{Shows}
 use Rattle.tz_info.specs.Zones.{Zone, IsValid, TypeAt, IsTypeRefused}
 use Rattle.tz_info.specs.declared.rule.transition_rule.TransitionRule.{TransitionRule}
 use Rattle.tz_info.specs.declared.rule.transition_rule.TransitionRule.TheVariants as rules
-use Rattle.zone_query.specs.Questions.{Query, Text, Data, At, Wall, Asks, IsBadLine}
+use Rattle.zoned_ref.specs.Offsets.{IsNarrow}
+use Rattle.zoned_time.specs.Stamps.{IsStamp, of_secs}
+use Rattle.zone_query.specs.Questions.{Query, Text, Data, At, Wall, Show, Asks, IsBadLine}
 
 abbrev pub mark_text : Bool → List ℕ
 mark_text true = codes "dst"
@@ -30,6 +35,10 @@ abbrev pub wall_text : LocalResult LocalType → List ℕ
 wall_text results.None = codes "none"
 wall_text (results.Single t) = codes "single " ++ type_text t
 wall_text (results.Ambiguous first last) = codes "ambiguous " ++ type_text first ++ codes ", " ++ type_text last
+
+-- a reading of UTC as a clock shows it that is so many seconds ahead, and that offset: `YYYY-MM-DD HH:MM:SS +HH:MM`
+abbrev pub instant_text : Reading → ℤ → List ℕ
+instant_text utc offset = reading_text 32 (ahead utc offset) ++ codes " " ++ offset_text offset
 
 abbrev pub rule_text : Option TransitionRule → List ℕ
 rule_text None = codes "none"
@@ -72,11 +81,22 @@ AnswersWall None local answer = answer ≡ codes "no zone"
 AnswersWall (Some zone) local answer =
     (types : LocalResult LocalType) × IsWallAnswer (Shows (TypeAt zone) local) types × (answer ≡ wall_text types)
 
+-- what the zone's clocks show at those seconds and nanoseconds; or that some clock of the zone is a day or more away from
+-- UTC, or else that no timestamp is so
+abbrev pub AnswersShow : Option Zone → ℤ → ℕ → List ℕ → Type 0
+AnswersShow None seconds nanos answer = answer ≡ codes "no zone"
+AnswersShow (Some zone) seconds nanos answer =
+    (¬ (IsNarrow zone) × (answer ≡ codes "wide zone"))
+    ⊎ (IsNarrow zone × ¬ (IsStamp (of_secs seconds nanos)) × (answer ≡ codes "out of range"))
+    ⊎ (IsNarrow zone × IsStamp (of_secs seconds nanos)
+    × ((t : LocalType) × TypeAt zone seconds t × (answer ≡ instant_text (of_secs seconds nanos) t.offset)))
+
 abbrev pub AnswersQuery : Option Zone → Query → List ℕ → Option Zone → Type 0
 AnswersQuery zone (Text text) answer after = AnswersText zone text answer after
 AnswersQuery zone (Data bytes) answer after = AnswersData zone bytes answer after
 AnswersQuery zone (At seconds) answer after = AnswersAt zone seconds answer × (after ≡ zone)
 AnswersQuery zone (Wall local) answer after = AnswersWall zone local answer × (after ≡ zone)
+AnswersQuery zone (Show seconds nanos) answer after = AnswersShow zone seconds nanos answer × (after ≡ zone)
 
 -- the answer to a line, without its newline
 abbrev pub AnswersLine : Option Zone → List ℕ → List ℕ → Option Zone → Type 0

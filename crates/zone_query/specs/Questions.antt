@@ -10,14 +10,15 @@ use Rattle.zone_query.specs.Hex.{IsHex}
 use Rattle.zone_query.specs.Numerals.{IsInteger}
 use Rattle.zone_query.specs.Words.{AreNumbers}
 
--- a question: to read a TZ text or the bytes of a TZif file as the zone, for the type in force at a Unix time, or for the
--- types that are in force when a clock shows a local time: the seconds from 1970-01-01 00:00:00 on the clock, every day
--- counted as 86,400
+-- a question: to read a TZ text or the bytes of a TZif file as the zone; for the type in force at a Unix time; for the
+-- types that are in force when a clock shows a local time, the seconds from 1970-01-01 00:00:00 on the clock, every day
+-- counted as 86,400; or for what the zone's clocks show at a Unix time, and nanoseconds beside it
 pub data Query : Type 0 where
   Text : List ℕ → Query
   Data : List ℕ → Query
   At : ℤ → Query
   Wall : ℤ → Query
+  Show : ℤ → ℕ → Query
 
 -- the calendar has the date, its year is in range, and a clock has the hands
 abbrev pub Exists : ℤ → (m d h min s : ℕ) → Type 0
@@ -41,12 +42,22 @@ pub record IsLocalTime (text : List ℕ) (local : ℤ) : Type 0 where
   pub exists : Exists y m d h min s
   pub shown : local ≡ (reading_at (day_number y m d) (clock_second h min s) 0).s
 
+-- the text is seconds of 64 bits and, behind one space, nanoseconds of 32 bits
+pub record IsTimestamp (text : List ℕ) (seconds : ℤ) (nanos : ℕ) : Type 0 where
+  pub first : List ℕ
+  pub others : List ℕ
+  pub whole : text ≡ first ++ others
+  pub seconds_spelled : IsInteger first seconds
+  pub seconds_fit : FitsSigned w64 seconds
+  pub nanos_spelled : AreNumbers others (nanos ∷ [])
+
 -- the line asks this
 abbrev pub Asks : List ℕ → Query → Type 0
 Asks line (Text text) = (line ≡ codes "text " ++ text) × IsUtf8 text
 Asks line (Data bytes) = (digits : List ℕ) × (line ≡ codes "data " ++ digits) × IsHex digits bytes
 Asks line (At seconds) = (number : List ℕ) × (line ≡ codes "at " ++ number) × IsInteger number seconds × FitsSigned w64 seconds
 Asks line (Wall local) = (text : List ℕ) × (line ≡ codes "wall " ++ text) × IsLocalTime text local
+Asks line (Show seconds nanos) = (text : List ℕ) × (line ≡ codes "show " ++ text) × IsTimestamp text seconds nanos
 
 -- the line asks nothing
 abbrev pub IsBadLine : List ℕ → Type 0

@@ -1,12 +1,15 @@
 //! The answer to a line.
 
-ghost use Rattle.std.specs.Prelude.{◌≡◌, ℕ, List, [], ◌∷◌, ◌++◌, ◌⊎◌, OnOk, IfOk, IfErr, MatchResult, string_bytes, Some};
+ghost use Rattle.std.specs.Prelude.{◌≡◌, ℕ, List, [], ◌∷◌, ◌++◌, ◌⊎◌, OnOk, IfOk, IfErr, IfSome, MatchResult, codes, string_bytes, Some};
 ghost use Rattle.naive_base.specs.NaiveDateTime.{reading};
+ghost use Rattle.naive_base.specs.Text.{reading_text};
+ghost use Rattle.zoned_time.specs.DateTime.{zoned};
+ghost use Rattle.zoned_time.specs.Zoned.{local_of};
 ghost use Rattle.tz_info.specs.Errors.{number_of};
 ghost use Rattle.tz_info.specs.TzFiles.{IsTzFile, IsZoneFault};
 ghost use Rattle.tz_info.specs.Zones.{IsValid};
 ghost use Rattle.zone_query.specs.Hex.{bytes_of};
-ghost use Rattle.zone_query.specs.Answers.{AnswersLine, AnswersAt, AnswersWall, type_text, wall_text, zone_text, rule_text, refusal_text};
+ghost use Rattle.zone_query.specs.Answers.{AnswersLine, AnswersAt, AnswersWall, AnswersShow, type_text, wall_text, zone_text, rule_text, refusal_text};
 
 use crate::question::Question;
 use naive_base::NaiveDateTime;
@@ -15,6 +18,8 @@ use std::alloc::{AllocError, Global};
 use std::fmt;
 use std::fmt::Write;
 use tz_info::{Error, LocalTimeType, TimeZone, TransitionRule};
+use zoned_ref::TimeZoneRef;
+use zoned_time::{DateTime, TimeZone as Zone};
 
 /// Puts the answer to a line in place of what `out` holds, with a newline behind it. A text or a file that is accepted sets
 /// the zone.
@@ -32,6 +37,9 @@ pub fn answer(
         Some(Question::Data(digits)) => set_zone(zone, read_file(alloc, digits), out),
         Some(Question::At(seconds)) => tell_type(zone, seconds, out),
         Some(Question::Wall(local)) => tell_types(zone, local, out),
+        Some(Question::Show(seconds, nanoseconds)) => {
+            tell_instant(zone, seconds, nanoseconds, out)
+        }
         None => writeln!(out, "bad line"),
     }
 }
@@ -97,6 +105,38 @@ fn tell_types(
         Ok(found) => writeln!(out, "{}", ShownAll(found)),
         Err(fault) => writeln!(out, "refused {}", fault.number()),
     }
+}
+
+// Tells what the zone's clocks show at a timestamp.
+fn tell_instant(
+    zone: &Option<TimeZone>,
+    seconds: i64,
+    nanoseconds: u32,
+    out: &mut String,
+) -> Result<(), AllocError>
+    ensures { OnOk result ((answer : List ℕ) × (string_bytes out.new ≡ string_bytes out.old ++ (answer ++ 10 ∷ [])) × AnswersShow zone.now seconds nanoseconds answer) }
+{
+    let Some(zone) = zone else {
+        return writeln!(out, "no zone");
+    };
+    let Some(zone) = TimeZoneRef::new(zone) else {
+        return writeln!(out, "wide zone");
+    };
+    match zone.timestamp_opt(seconds, nanoseconds) {
+        MappedLocalTime::Single(instant) => write_instant(&instant, out),
+        _ => writeln!(out, "out of range"),
+    }
+}
+
+// Writes an instant as its zone's clocks show it. Every zone will do: the borrow checker does not cover yet that an instant
+// of a borrowed zone is formatted where that borrow is in sight.
+fn write_instant<Tz: Zone>(instant: &DateTime<Tz>, out: &mut String) -> Result<(), AllocError>
+where
+    Tz::Offset: fmt::Display,
+    ensures { IfSome (Tz.Offset.output (zoned instant.now).offset) (λ offset.
+        OnOk result (string_bytes out.new ≡ string_bytes out.old ++ ((reading_text 32 (local_of Tz.Offset.seconds (zoned instant.now)) ++ codes " " ++ offset) ++ 10 ∷ []))) }
+{
+    writeln!(out, "{instant}")
 }
 
 // A zone that was accepted: `ok TRANSITIONS TYPES LEAPS RULE`.

@@ -1,8 +1,8 @@
 //! A line as a question.
 
-ghost use Rattle.std.specs.Prelude.{◌≡◌, ℤ, MatchOption};
+ghost use Rattle.std.specs.Prelude.{◌≡◌, ℕ, ℤ, MatchOption};
 ghost use Rattle.naive_base.specs.NaiveDateTime.{reading};
-ghost use Rattle.zone_query.specs.Questions.{IsLocalTime};
+ghost use Rattle.zone_query.specs.Questions.{IsLocalTime, IsTimestamp};
 
 use crate::hex_digits::spell_bytes;
 use crate::numerals::{integer, small_integer};
@@ -21,6 +21,8 @@ pub enum Question<'a> {
     At(i64),
     /// `wall Y M D h m s`: for the local time types in force when a clock shows this date and time.
     Wall(NaiveDateTime),
+    /// `show SECS NANOS`: for what the zone's clocks show at this Unix time, so many nanoseconds behind it.
+    Show(i64, u32),
 }
 
 impl<'a> Question<'a> {
@@ -55,6 +57,12 @@ impl<'a> Question<'a> {
                 None => None,
             };
         }
+        if let Some(text) = line.strip_prefix(b"show ") {
+            return match timestamp(text) {
+                Some((seconds, nanoseconds)) => Some(Question::Show(seconds, nanoseconds)),
+                None => None,
+            };
+        }
         None
     }
 }
@@ -74,4 +82,17 @@ fn local_time(text: &[u8]) -> Option<NaiveDateTime>
         return None;
     }
     NaiveDate::from_ymd_opt(year, month, day)?.and_hms_opt(hour, minute, second)
+}
+
+// The seconds and the nanoseconds `SECS NANOS`.
+fn timestamp(text: &[u8]) -> Option<(i64, u32)>
+    ensures { MatchOption result ((seconds : ℤ) (nanos : ℕ) → ¬ (IsTimestamp text.now seconds nanos)) (λ p. IsTimestamp text.now p.0 p.1) }
+{
+    let (word, rest) = split_word(text);
+    let seconds = integer(word)?;
+    let (nanoseconds, rest) = next_number(rest)?;
+    if !rest.is_empty() {
+        return None;
+    }
+    Some((seconds, nanoseconds))
 }

@@ -1,4 +1,5 @@
 mod files;
+mod instants;
 
 use super::{RunError, Watched, run};
 use std::alloc::{AllocError, Global};
@@ -160,7 +161,7 @@ fn tells_lines_apart(rt: HostRuntime) {
         (b"at 9223372036854775808\n", "bad line\n"),
         (b"at -9223372036854775808\n", "no zone\n"),
         (b"at -9223372036854775809\n", "bad line\n"),
-        (b"show 0 0\n", "bad line\n"),
+        (b"tell 0 0\n", "bad line\n"),
     ];
     for (input, output) in rows {
         expect_answers(&rt, rt.alloc(), input, output);

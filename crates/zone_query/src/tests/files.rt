@@ -38,11 +38,6 @@ const JERUSALEM: &str = "545a696633000000000000000000000000000000\
     000000007fe817800000001c200000495354000101\
     0a4953542d324944542c4d332e342e342f32362c4d31302e352e300a";
 
-/// One type, a whole day ahead of UTC.
-const DAY_AHEAD: &str = "545a696600000000000000000000000000000000\
-    000000000000000000000000000000000000000100000004\
-    00015180000041424300";
-
 /// A header of 4,294,967,295 types, and no more.
 const MANY_TYPES: &str = "545a696600000000000000000000000000000000\
     00000000000000000000000000000000ffffffff00000001";
@@ -143,11 +138,6 @@ fn answers_files(rt: HostRuntime) -> Result<(), Fail> {
             JERUSALEM,
             "wall 2038 3 26 2 0 0\nwall 2038 3 26 3 0 0\n",
             "ok 1 1 0 alternate\nnone\nsingle 10800 dst IDT\n",
-        ),
-        (
-            DAY_AHEAD,
-            "at 0\nwall 1970 1 2 0 0 0\n",
-            "ok 0 1 0 none\n86400 std ABC\nsingle 86400 std ABC\n",
         ),
     ];
     for (file, lines, answers) in rows {

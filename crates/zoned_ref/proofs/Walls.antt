@@ -1,0 +1,55 @@
+-- The wall clock's answer over all seconds of 64 bits is the one over the range that zones answer in: whoever shows a
+-- reading is less than a day away from it.
+use Rattle.std.proofs.Common.{◌≡◌, ℤ, pos, neg_ℤ, ◌+ℤ◌, arith, refl, sym, ap, ◌∙◌}
+use Rattle.std.proofs.lemmas.Int.{ints}
+use Rattle.offset_core.specs.declared.local_result.LocalResult.{LocalResult}
+use Rattle.offset_core.specs.declared.local_result.LocalResult.TheVariants.{Single, Ambiguous, None}
+use Rattle.offset_core.specs.LocalResult.{map_of}
+use Rattle.offset_core.specs.Offset.{IsWithinDay}
+use Rattle.offset_core.specs.WallAnswer.{IsWallAnswer}
+use Rattle.offset_core.proofs.WallAnswers.{IsWallAnswer-map_of}
+use Rattle.naive_base.specs.Range.{IsWide}
+use Rattle.tz_info.specs.LocalTypes.{LocalType}
+use Rattle.tz_info.specs.WallClocks as types
+use Rattle.tz_info.specs.Zones.{Zone, TypeAt}
+use Rattle.tz_info.proofs.ZoneLaws.{type_once}
+use Rattle.zoned_time.specs.Zone as offsets
+use Rattle.zoned_ref.specs.Offsets.{IsNarrow, AreOffsetsOf}
+use Rattle.zoned_ref.proofs.Offsets.{type_within}
+
+shown_by_type : (z : Zone) (off : ℤ → ℤ) (l : ℤ) → IsNarrow z → AreOffsetsOf z off → IsWide l → (u : ℤ) (t : LocalType) → types.Shows (TypeAt z) l u t → offsets.Shows off l u t.offset
+shown_by_type z off l narrow of_zone wide u t s =
+    let day = type_within z u t narrow s.type in
+    let shown : u +ℤ t.offset ≡ l = s.shown in
+    let inside : offsets.IsZoneSecond u = (omega (arith, ints, wide, day), omega (arith, ints, wide, day)) in
+    let there = of_zone u inside in
+    record { in_zone = inside; offset = ap (λ y. y.offset) (type_once z u t there.type s.type there.in_force) ∙ sym there.offset; shown = shown }
+
+shown_by_offset : (z : Zone) (off : ℤ → ℤ) (l : ℤ) → AreOffsetsOf z off → (u k : ℤ) → offsets.Shows off l u k → (t : LocalType) × types.Shows (TypeAt z) l u t
+shown_by_offset z off l of_zone u k s =
+    let there = of_zone u s.in_zone in
+    let inside = s.in_zone in
+    let same : k ≡ there.type.offset = s.offset ∙ there.offset in
+    (there.type, record { fits = omega (arith, ints, inside); type = there.in_force; shown = rw (← same) s.shown })
+
+pub zone_wall : (z : Zone) (off : ℤ → ℤ) (l : ℤ) → IsNarrow z → AreOffsetsOf z off → IsWide l → (answer : LocalResult LocalType) → IsWallAnswer (types.Shows (TypeAt z) l) answer → IsWallAnswer (offsets.Shows off l) (map_of (λ t. t.offset) answer)
+zone_wall z off l narrow of_zone wide =
+    IsWallAnswer-map_of (types.Shows (TypeAt z) l) (offsets.Shows off l) (λ t. t.offset) (shown_by_type z off l narrow of_zone wide) (shown_by_offset z off l of_zone)
+
+-- each type of the answer is within a day
+pub each_within : (z : Zone) (l : ℤ) → IsNarrow z → (answer : LocalResult LocalType) → IsWallAnswer (types.Shows (TypeAt z) l) answer → offsets.Each (λ t. IsWithinDay t.offset) answer
+each_within z l narrow None wall = tt
+each_within z l narrow (Single t) wall = type_within z wall.second t narrow wall.shown.type
+each_within z l narrow (Ambiguous a b) wall = (type_within z wall.first a narrow wall.at_first.type, type_within z wall.last b narrow wall.at_last.type)
+
+-- and their offsets are what the zone gives
+pub one_given : {O : Type 0} (seconds : O → ℤ) (home : O → ℤ → ℤ) (z : Zone) (off : ℤ → ℤ) (l : ℤ) (t : LocalType) (o : O) → IsNarrow z → AreOffsetsOf z off → IsWide l
+    → seconds o ≡ t.offset → home o ≡ off → IsWallAnswer (types.Shows (TypeAt z) l) (Single t) → offsets.AreOffsetsFor seconds home off l (Single o)
+one_given seconds home z off l t o narrow of_zone wide same home_is wall =
+    record { wall = rw same (zone_wall z off l narrow of_zone wide (Single t) wall); same_home = λ u inside. rw home_is refl }
+
+pub two_given : {O : Type 0} (seconds : O → ℤ) (home : O → ℤ → ℤ) (z : Zone) (off : ℤ → ℤ) (l : ℤ) (a b : LocalType) (o p : O) → IsNarrow z → AreOffsetsOf z off → IsWide l
+    → seconds o ≡ a.offset → seconds p ≡ b.offset → home o ≡ off → home p ≡ off
+    → IsWallAnswer (types.Shows (TypeAt z) l) (Ambiguous a b) → offsets.AreOffsetsFor seconds home off l (Ambiguous o p)
+two_given seconds home z off l a b o p narrow of_zone wide first last first_home last_home wall =
+    record { wall = rw (first, last) (zone_wall z off l narrow of_zone wide (Ambiguous a b) wall); same_home = ((λ u inside. rw first_home refl), (λ u inside. rw last_home refl)) }

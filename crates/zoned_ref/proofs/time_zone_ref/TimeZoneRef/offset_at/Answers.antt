@@ -1,0 +1,23 @@
+use Rattle.std.proofs.Common.{refl, sym, ap, ◌∙◌, to_z-of_z}
+use Rattle.tz_info.proofs.ZoneLaws.{type_once, type_not_refused}
+use Rattle.zoned_ref.proofs.Offsets.{type_within}
+use Rattle.zoned_ref.proofs.time_zone_ref.TimeZoneRef.offset_at.Goals as goal
+
+pub new-requires : goal.new-requires
+new-requires c = let fits = c.ranges.second in
+    type_within c.zone.result.now c.args.second c.in-Ok.found.now c.zone.ensures.narrow (simp to_z-of_z at c.in-Ok.ensures)
+
+pub unreachable-requires : goal.unreachable-requires
+unreachable-requires c = let fits = c.ranges.second in
+    let there = c.zone.ensures.offsets c.args.second c.requires in
+    let refused = simp to_z-of_z at c.in-Err.ensures in
+    type_not_refused c.zone.result.now c.args.second there.type there.in_force refused.1
+
+pub returns : goal.returns
+returns c = let fits = c.ranges.second in
+    let there = c.zone.ensures.offsets c.args.second c.requires in
+    let same = type_once c.zone.result.now c.args.second c.in-Ok.found.now there.type (simp to_z-of_z at c.in-Ok.ensures) there.in_force in
+    record {
+      there = c.new.ensures.seconds ∙ ap (λ t. t.offset) same ∙ sym there.offset;
+      same_home = λ u inside. rw c.new.ensures.zone refl;
+    }

@@ -1,0 +1,9 @@
+use Rattle.std.proofs.Common.{subst}
+use Rattle.naive_base.specs.NaiveDateTime.{reading}
+use Rattle.tz_info.specs.Zones.{Zone}
+use Rattle.zoned_ref.specs.WallClock.{Tells}
+use Rattle.zoned_ref.proofs.wall_clock.WallClock.from_posix_tz.Goals as goal
+
+pub returns-in-Ok-clause-only : goal.returns-in-Ok-clause-only
+returns-in-Ok-clause-only c = λ z of_text.
+    subst (λ (y : Zone). Tells y (reading c.args.local.now) c.in_zone.result) (c.in-Ok.ensures.only z of_text) c.in_zone.ensures.told

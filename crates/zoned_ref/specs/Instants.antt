@@ -1,0 +1,30 @@
+-- The instants at which the clocks of a parsed zone show a reading.
+use Rattle.std.specs.Prelude.{ℤ, Option}
+use Rattle.std.specs.Prelude.{Some as some, None as none}
+use Rattle.offset_core.specs.declared.local_result.LocalResult.{LocalResult}
+use Rattle.offset_core.specs.LocalResult.{map_of}
+use Rattle.offset_core.specs.WallAnswer.{IsWallAnswer}
+use Rattle.naive_base.specs.Reading.{Reading}
+use Rattle.tz_info.specs.LocalTypes.{LocalType}
+use Rattle.tz_info.specs.WallClocks.{Shows}
+use Rattle.tz_info.specs.Zones.{Zone, TypeAt}
+use Rattle.zoned_time.specs.Relocal.{AreInstantsOf}
+use Rattle.zoned_time.specs.Zoned.{Zoned}
+use Rattle.zoned_ref.specs.Offsets.{IsNarrow}
+
+-- an instant, with the offset in plain seconds
+abbrev pub in_seconds : {O : Type 0} → (O → ℤ) → Zoned O → Zoned ℤ
+in_seconds seconds d = record { utc = d.utc; offset = seconds d.offset }
+
+-- the types in force at the first and at the last second of 64 bits at which the clocks of the zone show l
+abbrev pub AreTypesFor : Zone → Reading → LocalResult LocalType → Type 0
+AreTypesFor z l types = IsWallAnswer (Shows (TypeAt z) l.s) types
+
+-- each of their offsets gives its instant; where the UTC reading of one is out of range there is none
+abbrev pub AreInstantsAt : Reading → LocalResult LocalType → LocalResult (Zoned ℤ) → Type 0
+AreInstantsAt l types instants = AreInstantsOf (λ k. k) l (map_of (λ t. t.offset) types) instants
+
+-- instants are told of a narrow zone, and of no other
+abbrev pub AreInstantsFor : Zone → Reading → Option (LocalResult (Zoned ℤ)) → Type 0
+AreInstantsFor z l (some instants) = IsNarrow z × ((types : LocalResult LocalType) → AreTypesFor z l types → AreInstantsAt l types instants)
+AreInstantsFor z l none = IsNarrow z → ⊥

@@ -1,0 +1,17 @@
+-- What a `ZoneOffset` shows.
+use Rattle.std.specs.Prelude.{ℤ}
+use Rattle.offset_core.specs.declared.fixed_offset.FixedOffset.{FixedOffset}
+use Rattle.offset_core.specs.FixedOffset.{seconds_of}
+use Rattle.zoned_ref.specs.TimeZoneRef.{off_of}
+use Rattle.zoned_ref.specs.declared.zone_offset.ZoneOffset.{ZoneOffset}
+
+-- the offset as nothing but its seconds
+abbrev pub fixed_of : ZoneOffset → FixedOffset
+fixed_of o = o.fixed
+
+abbrev pub ahead_of : ZoneOffset → ℤ
+ahead_of o = seconds_of (fixed_of o)
+
+-- the offsets of the zone that it came from
+abbrev pub home_of : ZoneOffset → ℤ → ℤ
+home_of o = off_of o.zone

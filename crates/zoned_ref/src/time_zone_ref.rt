@@ -1,0 +1,92 @@
+//! Parsed zones, borrowed.
+ghost use Rattle.std.specs.Prelude.{◌≡◌, ◌↔◌, IsTrue, IsSome, IfSome, All, ℤ};
+ghost use Rattle.offset_core.specs.Offset.{IsWithinDay};
+ghost use Rattle.zoned_time.specs.Zone.{IsZoneSecond};
+ghost use Rattle.zoned_ref.specs.OffsetAt.{offset_at};
+ghost use Rattle.zoned_ref.specs.Offsets.{IsNarrow, HasOffsets, AreOffsetsOf, rule_types};
+
+use offset_core::FixedOffset;
+use tz_info::{LocalTimeType, TransitionRule};
+
+/// A parsed time zone as a zone of [`DateTime`](zoned_time::DateTime)s: at each instant it has the offset of the type of
+/// local time that is in force then.
+///
+/// It borrows the parsed zone, and so does each instant that it gives; none of them can be used once that zone is gone.
+///
+/// ```
+/// let parsed = tz_info::TimeZone::from_posix_tz(alloc, "EST5EDT,M3.2.0,M11.1.0")?;
+/// let new_york = TimeZoneRef::new(&parsed)?;
+/// new_york.timestamp(1_636_264_800, 0); // 2021-11-07 01:00:00 -05:00
+/// new_york.with_ymd_and_hms(2021, 11, 7, 1, 30, 0).earliest(); // 2021-11-07 01:30:00 -04:00
+/// new_york.with_ymd_and_hms(2021, 3, 14, 2, 30, 0); // none: it lies in a gap
+/// ```
+#[derive(Clone, Copy)]
+pub struct TimeZoneRef<'a> {
+    zone: &'a tz_info::TimeZone,
+    pub ghost narrow: { IsNarrow zone.now },
+    pub ghost offsets: { ∥ HasOffsets zone.now ∥₁ },
+    pub ghost within_day: { (u : ℤ) → IsZoneSecond u → IsWithinDay (offset_at zone.now offsets u) },
+}
+
+impl<'a> TimeZoneRef<'a> {
+    ghost use Rattle.zoned_ref.specs.TimeZoneRef.{zone_of, off_of};
+
+    /// That zone, or `None` where a type that it lists, or a type of its rule, is a day (86,400 seconds) or more away from
+    /// UTC. A rule of one type may have one that the zone doesn't list.
+    pub fn new(zone: &'a tz_info::TimeZone) -> Option<TimeZoneRef<'a>>
+        ensures some { IsSome result ↔ IsNarrow zone.now }
+        ensures zone { IfSome result (λ r. zone_of r ≡ zone.now) }
+        // Its offsets are those of the types in force.
+        ensures offsets { IfSome result (λ r. AreOffsetsOf zone.now (off_of r)) }
+    {
+        has_offsets(zone);
+        if is_narrow(zone) {
+            Some(TimeZoneRef { zone })
+        } else {
+            None
+        }
+    }
+
+    /// The parsed zone.
+    pub fn zone(&self) -> &'a tz_info::TimeZone
+        ensures zone { result.now ≡ zone_of self.now }
+        ensures narrow { IsNarrow result.now }
+        // The offsets of any borrowed zone are those of the types in force.
+        ensures offsets { AreOffsetsOf result.now (off_of self.now) }
+    {
+        has_offsets(self.zone);
+        self.zone
+    }
+}
+
+// Leap times that leave 64 bits, and years that no rule answers in, are far away from the seconds that a zone of `DateTime`s
+// is asked for. This does nothing: its contract is a law.
+fn has_offsets(zone: &tz_info::TimeZone)
+    ensures { HasOffsets zone.now }
+{
+    let _types = zone.local_time_types();
+}
+
+fn is_narrow(zone: &tz_info::TimeZone) -> bool
+    ensures { IsTrue result ↔ IsNarrow zone.now }
+{
+    zone.local_time_types().iter().all(is_within_day) && has_narrow_rule(zone)
+}
+
+fn has_narrow_rule(zone: &tz_info::TimeZone) -> bool
+    ensures { IsTrue result ↔ All (λ t. IsWithinDay t.offset) (rule_types zone.now.rule) }
+{
+    match zone.rule() {
+        None => true,
+        Some(TransitionRule::Fixed(only)) => is_within_day(only),
+        Some(TransitionRule::Alternate(turns)) => {
+            is_within_day(turns.std()) && is_within_day(turns.dst())
+        }
+    }
+}
+
+fn is_within_day(local_type: &LocalTimeType) -> bool
+    ensures { IsTrue result ↔ IsWithinDay local_type.now.offset }
+{
+    FixedOffset::east_opt(local_type.offset()).is_some()
+}

@@ -1,0 +1,136 @@
+//! When the clocks of a zone show a reading: from the bytes of a file, or a TZ text, to the instants.
+ghost use Rattle.std.specs.Prelude.{◌≡◌, ◌⊎◌, IfOk, IfErr, MatchResult, option_map};
+ghost use Rattle.offset_core.specs.FixedOffset.{seconds_of};
+ghost use Rattle.offset_core.specs.LocalResult.{map_of};
+ghost use Rattle.naive_base.specs.NaiveDateTime.{reading};
+ghost use Rattle.tz_info.specs.Counts.{HasRoom};
+ghost use Rattle.tz_info.specs.Errors.{number_of};
+ghost use Rattle.tz_info.specs.FilePieces.{FilePieces, HasPieces};
+ghost use Rattle.tz_info.specs.PosixZones.{IsPosixZone, IsPosixFault};
+ghost use Rattle.tz_info.specs.TzFiles.{IsTzFile, IsZoneFault};
+ghost use Rattle.tz_info.specs.Zones.{Zone, IsValid};
+ghost use Rattle.tz_info.specs.declared.error.Error.TheVariants.{OutOfMemory};
+ghost use Rattle.zoned_time.specs.DateTime.{zoned};
+ghost use Rattle.zoned_ref.specs.Instants.{in_seconds, AreInstantsFor};
+
+use crate::TimeZoneRef;
+use naive_base::NaiveDateTime;
+use offset_core::{FixedOffset, LocalResult};
+use std::alloc::Global;
+use tz_info::{Error, LocalTimeType, Probes};
+use zoned_time::{DateTime, TimeZone};
+
+/// What the clocks of a zone say of a reading.
+#[derive(Clone, Copy, Debug)]
+pub struct WallClock {
+    /// The types in force when they show it.
+    pub types: LocalResult<LocalTimeType>,
+    /// The instants when they show it, with the offsets of those types. `None` for a zone that [`TimeZoneRef::new`] does
+    /// not take.
+    pub instants: Option<LocalResult<DateTime<FixedOffset>>>,
+}
+
+impl WallClock {
+    ghost use Rattle.zoned_ref.specs.WallClock.{Tells, IsCounted};
+
+    /// What the clocks of a TZif file's zone say of a reading.
+    ///
+    /// # Errors
+    ///
+    /// Those of [`TimeZone::from_tz_data`](tz_info::TimeZone::from_tz_data).
+    pub fn from_tz_data(
+        alloc: Global,
+        bytes: &[u8],
+        local: &NaiveDateTime,
+        probes: &mut Probes,
+    ) -> Result<WallClock, Error>
+        requires { HasRoom probes.old }
+        // What is told, and how many looks it took, is that of the file's zone.
+        ensures found { IfOk result (λ told. (z : Zone) × IsTzFile bytes.now z × IsValid z × Tells z (reading local.now) told × IsCounted z probes.old probes.new) }
+        // Of a file that has a valid zone it is told, unless memory runs out.
+        ensures only { (z : Zone) → IsTzFile bytes.now z → IsValid z → MatchResult result (λ told. Tells z (reading local.now) told) (λ e. e ≡ OutOfMemory) }
+        // Where the file is refused, what the number says stands in it.
+        ensures fault { IfErr result (λ e. IsZoneFault bytes.now (number_of e)) }
+        // Memory is asked for only where every piece of the file is there.
+        ensures memory { IfErr result (λ e. e ≡ OutOfMemory → (p : FilePieces) × HasPieces bytes.now p) }
+        ensures kept { IfErr result (λ _. probes.new ≡ probes.old) }
+    {
+        match tz_info::TimeZone::from_tz_data(alloc, bytes) {
+            Ok(zone) => Ok(WallClock::in_zone(&zone, local, probes)),
+            Err(e) => Err(e),
+        }
+    }
+
+    /// What the clocks of a TZ text's zone say of a reading.
+    ///
+    /// # Errors
+    ///
+    /// Those of [`TimeZone::from_posix_tz`](tz_info::TimeZone::from_posix_tz).
+    pub fn from_posix_tz(
+        alloc: Global,
+        text: &str,
+        local: &NaiveDateTime,
+        probes: &mut Probes,
+    ) -> Result<WallClock, Error>
+        requires { HasRoom probes.old }
+        // What is told, and how many looks it took, is that of the text's zone.
+        ensures found { IfOk result (λ told. (z : Zone) × IsPosixZone text.now z × Tells z (reading local.now) told × IsCounted z probes.old probes.new) }
+        // Of a text that has a zone it is told, unless memory runs out.
+        ensures only { (z : Zone) → IsPosixZone text.now z → MatchResult result (λ told. Tells z (reading local.now) told) (λ e. number_of e ≡ 17) }
+        // Where the text is refused, what the number says stands in it, or there is no memory.
+        ensures fault { IfErr result (λ e. (number_of e ≡ 17) ⊎ IsPosixFault text.now (number_of e)) }
+        ensures kept { IfErr result (λ _. probes.new ≡ probes.old) }
+    {
+        match tz_info::TimeZone::from_posix_tz(alloc, text) {
+            Ok(zone) => Ok(WallClock::in_zone(&zone, local, probes)),
+            Err(e) => Err(e),
+        }
+    }
+
+    /// What the clocks of the zone say of a reading.
+    ///
+    /// In New York clocks were set back from 02:00 to 01:00 on 7 November 2021. Of 01:30 that day it tells EDT and EST, and
+    /// the instants `2021-11-07 01:30:00 -04:00` and `2021-11-07 01:30:00 -05:00`.
+    pub fn in_zone(
+        zone: &tz_info::TimeZone,
+        local: &NaiveDateTime,
+        probes: &mut Probes,
+    ) -> WallClock
+        requires { HasRoom probes.old }
+        ensures told { Tells zone.now (reading local.now) result }
+        ensures cost { IsCounted zone.now probes.old probes.new }
+    {
+        match zone.find_local_time_type_from_local_counted(*local, probes) {
+            Ok(types) => WallClock {
+                types,
+                instants: instants(zone, local),
+            },
+            Err(_) => unreachable!(),
+        }
+    }
+}
+
+// The instants when the clocks of a narrow zone show the reading.
+fn instants(
+    zone: &tz_info::TimeZone,
+    local: &NaiveDateTime,
+) -> Option<LocalResult<DateTime<FixedOffset>>>
+    ensures { AreInstantsFor zone.now (reading local.now) (option_map (map_of (λ d. in_seconds seconds_of (zoned d))) result) }
+{
+    let zone = TimeZoneRef::new(zone)?;
+    Some(fixed_offsets(zone.from_local_datetime(local)))
+}
+
+fn fixed_offsets<Tz: TimeZone>(
+    instants: LocalResult<DateTime<Tz>>,
+) -> LocalResult<DateTime<FixedOffset>>
+    ensures { map_of (λ d. in_seconds seconds_of (zoned d)) result ≡ map_of (λ d. in_seconds Tz.Offset.seconds (zoned d)) instants }
+{
+    match instants {
+        LocalResult::None => LocalResult::None,
+        LocalResult::Single(only) => LocalResult::Single(only.fixed_offset()),
+        LocalResult::Ambiguous(first, last) => {
+            LocalResult::Ambiguous(first.fixed_offset(), last.fixed_offset())
+        }
+    }
+}
