@@ -1,165 +1,228 @@
 #!/usr/bin/env python3
-"""Gives the TZ text of every TZif file of a tz database to zoneq, and compares what it answers with Python's zoneinfo.
+"""Gives every TZif file of a tz database to zoneq, and compares what it answers with Python's zoneinfo.
 
 usage: tools/compare_with_zoneinfo.py [ZONEQ [FOLDER]]
 
-ZONEQ is the built program (crates/zoneq/out/zoneq), FOLDER the database (/usr/share/zoneinfo). The text stands in a file's
-footer and says what follows the last transition, so a hundred instants from 2088 to 2148 are asked of each (the last
-transition that a file of 2025 lists is Morocco's in 2087), half of them near changes of the offset, and the wall clocks that
-show there. Files with leap seconds are left out: zoneinfo takes their
-times for Unix times. Prints one line for each difference and each text that is refused, and the counts.
+ZONEQ is the built program (crates/zoneq/out/zoneq), FOLDER the database (/usr/share/zoneinfo). Each file goes in whole, as
+a `data` line. Then a hundred instants from 1900 to 2100 are asked of it, half of them near changes: by `at` and `show`, and
+by `wall` the clocks that show there or up to an hour beside. Of a wall clock zoneinfo tells by its two folds whether none,
+one or two instants show it, and `show` is compared with the local time that Python prints.
+
+A file with leap seconds counts its changes in leap time, and zoneinfo would take that for Unix time. Its answers are
+compared with zoneinfo's for the file of the same zone without them (`right/Asia/Tokyo` with `Asia/Tokyo`): at Unix seconds
+both zones have the same offsets. Such files may end without a rule, and then are asked up to the first change that they
+don't list. A file without such a twin is read, and no more.
+
+Prints each difference with the reason that is known for it, and the counts.
 """
 
 import random
+import struct
 import subprocess
 import sys
-from collections import Counter
+from collections import Counter, namedtuple
 from datetime import datetime, timedelta, timezone
 from pathlib import Path
 from zoneinfo import ZoneInfo
 
 EPOCH = datetime(1970, 1, 1, tzinfo=timezone.utc)
-FIRST = int((datetime(2088, 1, 1, tzinfo=timezone.utc) - EPOCH).total_seconds())
-LAST = int((datetime(2148, 1, 1, tzinfo=timezone.utc) - EPOCH).total_seconds())
+FIRST = int((datetime(1900, 1, 1, tzinfo=timezone.utc) - EPOCH).total_seconds())
+LAST = int((datetime(2100, 1, 1, tzinfo=timezone.utc) - EPOCH).total_seconds())
+HOUR = 3_600
+DAY = 24 * HOUR
+WEEK = 7 * DAY
 INSTANTS = 100
+HEADER = 44
+# Nanoseconds past the second, and the digits of a second that Python is told to print.
+FRACTIONS = [(0, "seconds"), (250_000_000, "milliseconds"), (1_000, "microseconds"), (999_999_000, "microseconds")]
+
+# A line for zoneq, the answer by zoneinfo, and the instant that it is about (None for a `data` line).
+Question = namedtuple("Question", "source kind line want instant")
+
+
+class File:
+    """What has to be known of a TZif file to ask about it: leap seconds, times of transitions, whether a rule follows."""
+
+    def __init__(self, content):
+        self.content = content
+        self.version = 1 if content[4] == 0 else int(content[4:5])
+        # From version 2 on the second block decides.
+        start, letter = (0, "i") if self.version == 1 else (self.first_block_end(), "q")
+        _, _, self.leap_seconds, count, _, _ = self.counts(start)
+        self.transitions = struct.unpack_from(f">{count}{letter}", content, start + HEADER)
+        self.has_rule = self.version > 1 and not content.endswith(b"\n\n")
+
+    def counts(self, start):
+        """The counts of the header at `start`: UT/local, standard/wall, leap seconds, transitions, types, name bytes."""
+        return struct.unpack_from(">6I", self.content, start + 20)
+
+    def first_block_end(self):
+        ut, standard, leap_seconds, transitions, types, names = self.counts(0)
+        return HEADER + transitions * 5 + types * 6 + names + leap_seconds * 8 + standard + ut
+
+
+class Source:
+    """A file of the database, and the zone that zoneinfo makes of it or of its twin without leap seconds."""
+
+    def __init__(self, path, folder):
+        self.path = path
+        self.file = File(path.read_bytes())
+        self.has_leap_seconds = self.file.leap_seconds > 0
+        twin = folder / Path(*path.relative_to(folder).parts[1:]) if self.has_leap_seconds else path
+        self.zone = None
+        if is_tzif(twin) and File(twin.read_bytes()).leap_seconds == 0:
+            with twin.open("rb") as content:
+                self.zone = ZoneInfo.from_file(content)
+            self.transitions = File(twin.read_bytes()).transitions
+
+    def local(self, second, nanos=0):
+        return (EPOCH + timedelta(seconds=second, microseconds=nanos // 1_000)).astimezone(self.zone)
+
+    def halve(self, low, high):
+        """The second at which the offset of `low` ends, where `high` has another."""
+        before = self.local(low).utcoffset()
+        while high - low > 1:
+            middle = (low + high) // 2
+            if self.local(middle).utcoffset() == before:
+                low = middle
+            else:
+                high = middle
+        return high
+
+    def changes(self):
+        """The transitions, and past the last one the changes of the offset found from week to week."""
+        found = [second for second in self.transitions if FIRST <= second < LAST]
+        for second in range(max([FIRST, *found]), LAST - WEEK, WEEK):
+            if self.local(second).utcoffset() != self.local(second + WEEK).utcoffset():
+                found.append(self.halve(second, second + WEEK))
+        return found
+
+    def instants(self, chance):
+        changes, last = self.changes(), LAST
+        if not self.file.has_rule:
+            listed = max(self.file.transitions, default=FIRST)
+            last = min([change - DAY for change in changes if change > listed] + [LAST])
+            changes = [change for change in changes if change < last]
+        seconds = [chance.randrange(FIRST, last) for _ in range(INSTANTS // 2)]
+        while len(seconds) < INSTANTS:
+            if changes:
+                seconds.append(chance.choice(changes) + chance.choice([-HOUR - 1, -1, 0, 1, HOUR // 2, HOUR - 1]))
+            else:
+                seconds.append(chance.randrange(FIRST, last))
+        return seconds
+
+    def questions(self, chance):
+        yield Question(self, "data", f"data {self.file.content.hex()}", "ok", None)
+        if self.zone is None:
+            return
+        for second in self.instants(chance):
+            local = self.local(second)
+            yield Question(self, "at", f"at {second}", type_of(local), second)
+            nanos, digits = chance.choice(FRACTIONS)
+            yield Question(self, "show", f"show {second} {nanos}", printed(self.local(second, nanos), digits), second)
+            reading = local.replace(tzinfo=None, fold=0) + timedelta(seconds=chance.choice([-HOUR, -1, 0, 0, 1, HOUR]))
+            fields = f"{reading.year} {reading.month} {reading.day} {reading.hour} {reading.minute} {reading.second}"
+            yield Question(self, "wall", f"wall {fields}", wall_of(self.zone, reading), second)
 
 
 def is_tzif(path):
+    if not path.is_file():
+        return False
     with path.open("rb") as file:
         return file.read(4) == b"TZif"
 
 
-def has_leap_seconds(content):
-    # The leap count of the first header: the third of the six counts behind the magic, the version and the unused bytes.
-    return int.from_bytes(content[28:32], "big") > 0
+def type_of(local):
+    """The type in force, as zoneq writes it. zoneinfo keeps no DST mark, but a DST offset, which is 0 for standard time."""
+    mark = "dst" if local.dst() else "std"
+    return f"{int(local.utcoffset().total_seconds())} {mark} {local.tzname()}"
 
 
-def footer(content):
-    """The TZ text between the last two newlines, or None."""
-    if content[4:5] < b"2" or not content.endswith(b"\n"):
-        return None
-    text = content[:-1].rpartition(b"\n")[2].decode()
-    return text or None
-
-
-def at(zone, second):
-    return (EPOCH + timedelta(seconds=second)).astimezone(zone)
-
-
-def offset_at(zone, second):
-    return int(at(zone, second).utcoffset().total_seconds())
-
-
-def changes(zone):
-    """Seconds at which zoneinfo changes the offset, found by halving from week to week."""
-    found = []
-    step = 86_400 * 7
-    before = offset_at(zone, FIRST)
-    for second in range(FIRST + step, LAST, step):
-        after = offset_at(zone, second)
-        if after != before:
-            low, high = second - step, second
-            while high - low > 1:
-                middle = (low + high) // 2
-                if offset_at(zone, middle) == before:
-                    low = middle
-                else:
-                    high = middle
-            found.append(high)
-        before = after
-    return found
-
-
-def instants(zone, chance):
-    near = changes(zone)
-    seconds = [chance.randrange(FIRST, LAST) for _ in range(INSTANTS // 2)]
-    while len(seconds) < INSTANTS:
-        if near:
-            seconds.append(chance.choice(near) + chance.choice([-3601, -1, 0, 1, 1800, 3599]))
-        else:
-            seconds.append(chance.randrange(FIRST, LAST))
-    return seconds
+def printed(local, digits):
+    """Python's own text of a local time, with a space before the offset."""
+    text = local.isoformat(" ", digits)
+    sign = max(text.rfind("+"), text.rfind("-"))
+    return f"{text[:sign]} {text[sign:]}"
 
 
 def wall_of(zone, reading):
-    """What zoneinfo says of a wall clock: the offsets of the folds that come back to it."""
-    offsets = []
+    """What zoneinfo says of a wall clock: the types at the instants of the folds that come back to it."""
+    showing = {}
     for fold in (0, 1):
-        value = reading.replace(tzinfo=zone, fold=fold)
-        back = value.astimezone(timezone.utc).astimezone(zone)
-        if back.replace(tzinfo=None) == reading:
-            offsets.append(int(value.utcoffset().total_seconds()))
-    if not offsets:
-        return "none"
-    if len(set(offsets)) == 1:
-        return f"single {offsets[0]}"
-    return f"ambiguous {offsets[0]} {offsets[1]}"
+        instant = reading.replace(tzinfo=zone, fold=fold).astimezone(timezone.utc)
+        local = instant.astimezone(zone)
+        if local.replace(tzinfo=None, fold=0) == reading:
+            showing[instant] = type_of(local)
+    types = ", ".join(showing[instant] for instant in sorted(showing))
+    return f"{['none', 'single', 'ambiguous'][len(showing)]} {types}".strip()
 
 
-def offsets_in(answer):
-    """`single -18000 std EST` without marks and names."""
-    word, _, rest = answer.partition(" ")
-    return " ".join([word] + [part.split()[0] for part in rest.split(",") if part])
+def reason(question, answer):
+    """What is known to make zoneinfo answer otherwise."""
+    source, instant = question.source, question.instant
+    if answer == "bad line" or instant is None:
+        return "not answered"
+    if answer.replace(" dst ", " std ") == question.want.replace(" dst ", " std "):
+        return "zoneinfo keeps no DST mark, and the DST offset here is 0"
+    if source.transitions and instant < source.transitions[0] + HOUR:
+        return "before the first transition zoneinfo takes the first type that isn't DST"
+    near = [second for second in source.transitions if abs(second - instant) <= DAY]
+    if len(near) > 1:
+        return "zoneinfo tells offsets by wall clock and fold, and changes are so close that three instants show one clock"
+    if source.file.has_rule and len({(EPOCH + timedelta(seconds=instant + shift)).year for shift in (-DAY, DAY)}) > 1:
+        return "zoneinfo takes a rule's year from the wall clock, and the order of the rule's changes turns at the new year"
+    return "not explained"
+
+
+def ask(program, questions):
+    lines = "".join(f"{question.line}\n" for question in questions)
+    run = subprocess.run([program], input=lines.encode(), capture_output=True, check=True)
+    answers = run.stdout.decode().splitlines()
+    assert len(answers) == len(questions), f"{len(questions)} lines, {len(answers)} answers"
+    return answers
+
+
+def agrees(question, answer):
+    return answer.startswith("ok ") if question.kind == "data" else answer == question.want
+
+
+def report(title, sources, results):
+    """Counts of the files of one sort; `results` are (question, whether the answers agree)."""
+    asked = Counter(question.kind for question, _ in results)
+    same = Counter(question.kind for question, same in results if same)
+    versions = Counter(source.file.version for source in sources)
+    listed = ", ".join(f"{versions[version]} of version {version}" for version in sorted(versions))
+    print(f"files {title}: {asked['data']} ({listed or 'none'}), read: {same['data']}")
+    print(f"    not compared: {sum(source.zone is None for source in sources)}")
+    for kind, name in (("at", "instants"), ("show", "local times shown"), ("wall", "wall clocks")):
+        print(f"    {name}: {asked[kind]} asked, {same[kind]} the same")
+    walls = Counter(question.want.split()[0] for question, _ in results if question.kind == "wall")
+    print("        of them " + ", ".join(f"{walls[word]} {word}" for word in ("none", "single", "ambiguous")))
 
 
 def main():
     program = sys.argv[1] if len(sys.argv) > 1 else "crates/zoneq/out/zoneq"
     folder = Path(sys.argv[2] if len(sys.argv) > 2 else "/usr/share/zoneinfo")
     chance = random.Random(2026)
-    lines, wanted = [], []
-    left_out = Counter()
-    for path in sorted(path for path in folder.rglob("*") if path.is_file() and is_tzif(path)):
-        content = path.read_bytes()
-        text = footer(content)
-        if has_leap_seconds(content):
-            left_out["leap seconds"] += 1
-            continue
-        if text is None:
-            left_out["no text"] += 1
-            continue
-        with path.open("rb") as file:
-            zone = ZoneInfo.from_file(file)
-        lines.append(f"text {text}")
-        wanted.append((path, "text", text))
-        for second in instants(zone, chance):
-            local = at(zone, second)
-            lines.append(f"at {second}")
-            wanted.append((path, "at", f"{int(local.utcoffset().total_seconds())} {local.tzname()}"))
-            reading = local.replace(tzinfo=None) + timedelta(seconds=chance.choice([-3600, -1, 0, 0, 1, 3600]))
-            lines.append(
-                f"wall {reading.year} {reading.month} {reading.day} {reading.hour} {reading.minute} {reading.second}"
-            )
-            wanted.append((path, "wall", wall_of(zone, reading)))
-    run = subprocess.run([program], input="\n".join(lines).encode() + b"\n", capture_output=True, check=True)
-    answers = run.stdout.decode().splitlines()
-    assert len(answers) == len(lines), f"{len(lines)} lines, {len(answers)} answers"
-    asked, same = Counter(), Counter()
-    accepted = False
-    for line, answer, (path, kind, want) in zip(lines, answers, wanted):
-        if kind == "text":
-            asked[kind] += 1
-            accepted = answer.startswith("ok ")
-            if accepted:
-                same[kind] += 1
-            else:
-                print(f"{path}: {want}: {answer}")
-            continue
-        if not accepted:
-            continue
-        asked[kind] += 1
-        if kind == "at":
-            parts = answer.split()
-            answer = f"{parts[0]} {parts[2]}" if len(parts) == 3 else answer
-        else:
-            answer = offsets_in(answer)
-        if answer == want:
-            same[kind] += 1
-        else:
-            print(f"{path}: {line}: zoneq {answer}, zoneinfo {want}")
-    print(f"left out: {dict(left_out)}")
-    print(f"texts: {asked['text']}, read: {same['text']}")
-    print(f"instants: {asked['at']} asked, {same['at']} the same")
-    print(f"wall clocks: {asked['wall']} asked, {same['wall']} the same")
+    sources = [Source(path, folder) for path in sorted(folder.rglob("*")) if is_tzif(path)]
+    questions = [question for source in sources for question in source.questions(chance)]
+    results, reasons = [], Counter()
+    for question, answer in zip(questions, ask(program, questions)):
+        same = agrees(question, answer)
+        results.append((question, same))
+        if not same:
+            why = reason(question, answer)
+            reasons[why] += 1
+            line = question.line if question.kind != "data" else "data"
+            print(f"{question.source.path}: {line}: zoneq {answer}, zoneinfo {question.want}: {why}")
+    for leap_seconds, title in ((False, "without leap seconds"), (True, "with leap seconds")):
+        report(
+            title,
+            [source for source in sources if source.has_leap_seconds == leap_seconds],
+            [(question, same) for question, same in results if question.source.has_leap_seconds == leap_seconds],
+        )
+    for why, count in reasons.most_common():
+        print(f"{count} differences: {why}")
 
 
 if __name__ == "__main__":

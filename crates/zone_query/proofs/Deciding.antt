@@ -1,10 +1,9 @@
 -- Every line asks something or is a bad line.
-use Rattle.std.proofs.Common.{◌≡◌, ℕ, ℤ, ◌<◌, ◌⊎◌, inl, inr, refl, sym, ◌∙◌, subst, List, ◌∷◌, ◌++◌, codes, arith, ◌^◌}
+use Rattle.std.proofs.Common.{◌≡◌, ℕ, ℤ, ◌⊎◌, inl, inr, refl, sym, ◌∙◌, subst, List, ◌∷◌, ◌++◌, codes, arith}
 use Rattle.std.specs.Prelude.{FitsSigned}
 use Rattle.std.specs.Int.{w64}
-use Rattle.std.specs.Int.Signed.{mag}
 use Rattle.std.specs.Str.{IsUtf8, is_utf8}
-use Rattle.std.proofs.lemmas.Bool.{cases_lt, cases_Bool, true≢false}
+use Rattle.std.proofs.lemmas.Bool.{cases_Bool, true≢false}
 use Rattle.std.proofs.lemmas.List.{append_cancel_left}
 use Rattle.std.proofs.lemmas.Str.{IsUtf8-from_is_utf8, is_utf8-from_IsUtf8}
 use Rattle.zone_query.specs.Hex.{IsHex}
@@ -13,7 +12,7 @@ use Rattle.zone_query.specs.Questions.{Query, Text, Data, At, Wall, Show, Asks, 
 use Rattle.zone_query.proofs.HexLaws as hex
 use Rattle.zone_query.proofs.LocalTimes.{local_time}
 use Rattle.zone_query.proofs.Timestamps.{timestamp}
-use Rattle.zone_query.proofs.Spelling.{begins, spelled, spelled_once}
+use Rattle.zone_query.proofs.Spelling.{begins, spelled_in_64_bits}
 
 -- whether there is something of which p holds
 abbrev IsDecided : {X : Type 0} → (X → Type 0) → Type 0
@@ -37,16 +36,7 @@ text_decided rest = elim (cases_Bool (is_utf8 rest)) [
 ]
 
 at_decided : (rest : List ℕ) → IsDecided (λ seconds. IsInteger rest seconds × FitsSigned w64 seconds)
-at_decided rest = elim (spelled rest) [
-  | inl number ↦ elim (cases_lt (mag number.0) (2 ^ 63)) [
-    | inl small ↦ inl (number.0, (number.1, record { sfits = small }))
-    | inr large ↦ inr (λ z h.
-        let value = spelled_once rest z number.0 h.0 number.1 in
-        let small : mag number.0 < 2 ^ 63 = subst (λ (y : ℤ). mag y < 2 ^ 63) value h.1.sfits in
-        absurd (omega (arith, small, large)))
-  ]
-  | inr none ↦ inr (λ z h. none z h.0)
-]
+at_decided rest = elim (spelled_in_64_bits rest) [ inl z ↦ inl (z.0, (z.1, z.2)) | inr none ↦ inr (λ z h. none z h.0 h.1) ]
 
 -- a line that asks in none of the ways
 bad : (line : List ℕ)

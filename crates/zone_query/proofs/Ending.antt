@@ -6,8 +6,8 @@ use Rattle.std.proofs.lemmas.List.{append-nil, length-append}
 use Rattle.tz_info.specs.Zones.{Zone}
 use Rattle.zone_query.specs.Runs.{Answers, StopsWith}
 use Rattle.zone_query.specs.Steps.{Answered, AnswersLast, StopsIn, StopsAtLast}
-use Rattle.zone_query.specs.declared.session.RunError.{RunError}
-use Rattle.zone_query.specs.declared.session.RunError.TheVariants as errors
+use Rattle.zone_query.specs.declared.runs.RunError.{RunError}
+use Rattle.zone_query.specs.declared.runs.RunError.TheVariants as errors
 use Rattle.zone_query.proofs.Bytes.{appends_join, consumes_join}
 use Rattle.zone_query.proofs.Standing.{answered_join, answers_all}
 use Rattle.zone_query.proofs.Covering.{begins_answers, answers_before}

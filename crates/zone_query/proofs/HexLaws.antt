@@ -10,6 +10,7 @@ use Rattle.hex.specs.Hex.{decode_of, decode_pairs, hex_digit_value, is_hex_digit
 use Rattle.hex.proofs.HexLemmas.{decode_of-even, decode_of-ok, decode_of-same}
 use Rattle.hex.proofs.Pairs.{cons_byte, decode_pairs-ok_pair}
 use Rattle.zone_query.specs.Hex.{IsHex, bytes_of}
+use Rattle.zone_query.proofs.Spelling.{all_digits}
 
 -- pairs of digits spell bytes
 pub pairs_spell : (digits : List ℕ) → length digits % 2 ≡ 0 → AllDigits 16 digits → IsHex digits (bytes_of digits)
@@ -49,17 +50,10 @@ all_hex_from (c ∷ digits) each = (each 0 (omega arith), all_hex_from digits (�
 pub each_spells : (digits : List ℕ) → length digits % 2 ≡ 0 → ((k : ℕ) → k < length digits → digit_value (get_or digits k 0) < 16) → IsHex digits (bytes_of digits)
 each_spells digits even each = pairs_spell digits even (all_hex_from digits each)
 
-all_hex : (digits : List ℕ) → AllDigits 16 digits ⊎ (AllDigits 16 digits → ⊥)
-all_hex [] = inl tt
-all_hex (c ∷ digits) = elim (cases_lt (digit_value c) 16) [
-  | inl digit ↦ elim (all_hex digits) [ inl all ↦ inl (digit, all) | inr not ↦ inr (λ h. not h.1) ]
-  | inr not ↦ inr (λ h. absurd (omega (arith, h.0, not)))
-]
-
 -- whether digits spell bytes
 pub spelled : (digits : List ℕ) → ((bytes : List ℕ) × IsHex digits bytes) ⊎ ((bytes : List ℕ) → IsHex digits bytes → ⊥)
 spelled digits = elim (cases_lt (length digits % 2) 1) [
-  | inl even ↦ elim (all_hex digits) [
+  | inl even ↦ elim (all_digits 16 digits) [
     | inl all ↦ inl (bytes_of digits, pairs_spell digits (omega (arith, even)) all)
     | inr not ↦ inr (λ bytes h. not (spelled_by_digits digits bytes h).1)
   ]

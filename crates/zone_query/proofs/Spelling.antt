@@ -1,6 +1,9 @@
 -- Which texts spell a number, and that none spells two.
-use Rattle.std.proofs.Common.{◌≡◌, ℕ, ℤ, pos, neg_ℤ, ◌⊎◌, inl, inr, refl, ap, sym, ◌∙◌, subst, List, [], ◌∷◌, ◌++◌, length, codes, arith}
+use Rattle.std.proofs.Common.{◌≡◌, ℕ, ◌<◌, ◌^◌, ℤ, pos, neg_ℤ, ◌⊎◌, inl, inr, refl, ap, sym, ◌∙◌, subst, List, [], ◌∷◌, ◌++◌, length, codes, arith}
+use Rattle.std.specs.Prelude.{FitsSigned}
 use Rattle.std.specs.Char.{digit_value}
+use Rattle.std.specs.Int.{w64}
+use Rattle.std.specs.Int.Signed.{mag}
 use Rattle.std.specs.Str.Parse.{AllDigits, IsNumeral, digits_value}
 use Rattle.std.proofs.lemmas.Bool.{cases_eq, cases_lt}
 use Rattle.std.proofs.lemmas.List.{append_cancel_left}
@@ -18,16 +21,16 @@ begins (c ∷ front) (d ∷ line) = elim (cases_eq d c) [
   | inr other ↦ inr (λ rest e. let head : d ≡ c = cc in other head)
 ]
 
-all_digits : (text : List ℕ) → AllDigits 10 text ⊎ (AllDigits 10 text → ⊥)
-all_digits [] = inl tt
-all_digits (c ∷ text) = elim (cases_lt (digit_value c) 10) [
-  | inl digit ↦ elim (all_digits text) [ inl all ↦ inl (digit, all) | inr not ↦ inr (λ h. not h.1) ]
+pub all_digits : (radix : ℕ) (text : List ℕ) → AllDigits radix text ⊎ (AllDigits radix text → ⊥)
+all_digits radix [] = inl tt
+all_digits radix (c ∷ text) = elim (cases_lt (digit_value c) radix) [
+  | inl digit ↦ elim (all_digits radix text) [ inl all ↦ inl (digit, all) | inr not ↦ inr (λ h. not h.1) ]
   | inr not ↦ inr (λ h. absurd (omega (arith, h.0, not)))
 ]
 
 pub numeral : (text : List ℕ) → IsNumeral 10 text ⊎ (IsNumeral 10 text → ⊥)
 numeral text = elim (cases_lt 0 (length text)) [
-  | inl some ↦ elim (all_digits text) [ inl all ↦ inl (some, all) | inr not ↦ inr (λ h. not h.1) ]
+  | inl some ↦ elim (all_digits 10 text) [ inl all ↦ inl (some, all) | inr not ↦ inr (λ h. not h.1) ]
   | inr none ↦ inr (λ h. absurd (omega (arith, h.0, none)))
 ]
 
@@ -64,4 +67,17 @@ spelled_once text y z h k = elim h [
         let same = append_cancel_left (codes "-") minus.0 minus'.0 (sym minus.2 ∙ minus'.2) in
         minus.4 ∙ ap (λ n. neg_ℤ (pos n)) (sym minus.3.1 ∙ ap (digits_value 10) same ∙ minus'.3.1) ∙ sym minus'.4
   ]
+]
+
+-- whether a text spells a whole number of 64 bits
+pub spelled_in_64_bits : (text : List ℕ) → ((z : ℤ) × IsInteger text z × FitsSigned w64 z) ⊎ ((z : ℤ) → IsInteger text z → FitsSigned w64 z → ⊥)
+spelled_in_64_bits text = elim (spelled text) [
+  | inl number ↦ elim (cases_lt (mag number.0) (2 ^ 63)) [
+    | inl small ↦ inl (number.0, number.1, record { sfits = small })
+    | inr large ↦ inr (λ z h fits.
+        let value = spelled_once text z number.0 h number.1 in
+        let small : mag number.0 < 2 ^ 63 = subst (λ (y : ℤ). mag y < 2 ^ 63) value fits.sfits in
+        absurd (omega (arith, small, large)))
+  ]
+  | inr none ↦ inr (λ z h fits. none z h)
 ]

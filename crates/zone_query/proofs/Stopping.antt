@@ -8,8 +8,8 @@ use Rattle.tz_info.specs.Zones.{Zone}
 use Rattle.zone_query.specs.Answers.{AnswersLine}
 use Rattle.zone_query.specs.Lines.{HasNoNewline, without_return}
 use Rattle.zone_query.specs.Steps.{Answered, AnswersLast, Replies, StopsAt, StopsIn, StopsAtLast}
-use Rattle.zone_query.specs.declared.session.RunError.{RunError}
-use Rattle.zone_query.specs.declared.session.RunError.TheVariants as errors
+use Rattle.zone_query.specs.declared.runs.RunError.{RunError}
+use Rattle.zone_query.specs.declared.runs.RunError.TheVariants as errors
 use Rattle.zone_query.proofs.Bytes.{appends_join}
 use Rattle.zone_query.proofs.Standing.{answered_line, answered_more, answered_join}
 

@@ -1,15 +1,13 @@
 -- Which texts are a timestamp.
-use Rattle.std.proofs.Common.{◌≡◌, ℕ, ℤ, ◌<◌, ◌^◌, ◌⊎◌, inl, inr, refl, sym, ◌∙◌, subst, List, [], ◌∷◌, length, arith}
+use Rattle.std.proofs.Common.{◌≡◌, ℕ, ℤ, ◌⊎◌, inl, inr, refl, sym, ◌∙◌, subst, List, [], ◌∷◌, length, arith}
 use Rattle.std.specs.Prelude.{FitsSigned}
 use Rattle.std.specs.Int.{w64}
-use Rattle.std.specs.Int.Signed.{mag}
-use Rattle.std.proofs.lemmas.Bool.{cases_lt}
 use Rattle.zone_query.specs.Numerals.{IsInteger}
 use Rattle.zone_query.specs.Questions.{IsTimestamp}
 use Rattle.zone_query.specs.Words.{AreNumbers}
 use Rattle.zone_query.proofs.Cutting.{IsSplit, word_once, word_of, no_space_in_integer, numbers_end_word}
 use Rattle.zone_query.proofs.LocalTimes.{LacksNumbers, numbers}
-use Rattle.zone_query.proofs.Spelling.{spelled, spelled_once}
+use Rattle.zone_query.proofs.Spelling.{spelled_in_64_bits}
 
 -- the words of a timestamp
 words_of : (text word rest : List ℕ) (seconds : ℤ) (nanos : ℕ) → IsSplit text word rest → IsTimestamp text seconds nanos → IsInteger word seconds × FitsSigned w64 seconds × AreNumbers rest (nanos ∷ [])
@@ -32,18 +30,12 @@ by_numbers text word rest seconds split spells fits (n ∷ []) e are = ((seconds
 by_numbers text word rest seconds split spells fits (n ∷ m ∷ ns) e are = absurd (omega (arith, e))
 
 timestamp_in : (text word rest : List ℕ) → IsSplit text word rest → ((stamp : ℤ × ℕ) × IsTimestamp text stamp.0 stamp.1) ⊎ ((stamp : ℤ × ℕ) → IsTimestamp text stamp.0 stamp.1 → ⊥)
-timestamp_in text word rest split = elim (spelled word) [
-  | inl number ↦ elim (cases_lt (mag number.0) (2 ^ 63)) [
-    | inl small ↦ elim (numbers 1 rest) [
-      | inl ns ↦ inl (by_numbers text word rest number.0 split number.1 (record { sfits = small }) ns.0 ns.1 ns.2)
-      | inr none ↦ inr (λ stamp. no_nanos text word rest split none stamp.0 stamp.1)
-    ]
-    | inr large ↦ inr (λ stamp. no_seconds text word rest split (λ z spells fits.
-        let value = spelled_once word z number.0 spells number.1 in
-        let small : mag number.0 < 2 ^ 63 = subst (λ (y : ℤ). mag y < 2 ^ 63) value fits.sfits in
-        absurd (omega (arith, small, large))) stamp.0 stamp.1)
+timestamp_in text word rest split = elim (spelled_in_64_bits word) [
+  | inl seconds ↦ elim (numbers 1 rest) [
+    | inl ns ↦ inl (by_numbers text word rest seconds.0 split seconds.1 seconds.2 ns.0 ns.1 ns.2)
+    | inr none ↦ inr (λ stamp. no_nanos text word rest split none stamp.0 stamp.1)
   ]
-  | inr none ↦ inr (λ stamp. no_seconds text word rest split (λ z spells fits. none z spells) stamp.0 stamp.1)
+  | inr none ↦ inr (λ stamp. no_seconds text word rest split none stamp.0 stamp.1)
 ]
 
 -- whether a text is a timestamp

@@ -4,8 +4,8 @@ use Rattle.std.specs.Io.KnownBytes.{Appends}
 use Rattle.tz_info.specs.Zones.{Zone}
 use Rattle.zone_query.specs.Answers.{AnswersLine, AnswersLines}
 use Rattle.zone_query.specs.Lines.{IsCut, ended_lines}
-use Rattle.zone_query.specs.declared.session.RunError.{RunError}
-use Rattle.zone_query.specs.declared.session.RunError.TheVariants as errors
+use Rattle.zone_query.specs.declared.runs.RunError.{RunError}
+use Rattle.zone_query.specs.declared.runs.RunError.TheVariants as errors
 
 -- the lines that the bytes end are answered by the output; they leave a zone, and the beginning of a line
 pub record Answered (zone : Option Zone) (begun bytes output : List ℕ) (after : Option Zone) (rest : List ℕ) : Type 0 where

@@ -12,11 +12,11 @@ mod hex_digits;
 mod lines;
 mod numerals;
 mod question;
-mod session;
+mod runs;
 mod watched;
 mod words;
 
-pub use session::{RunError, run};
+pub use runs::{RunError, run};
 pub use watched::Watched;
 
 #[cfg(test)]

@@ -1,5 +1,5 @@
 -- A valid zone has one offset at each second that zones answer in.
-use Rattle.std.proofs.Common.{◌≡◌, ℕ, zero, suc, ◌<◌, ℤ, pos, neg_ℤ, ◌<ℤ◌, Bool, true, false, List, [], ◌∷◌, All, slice_get, Option, Some, None, refl, sym, ◌∙◌, subst, arith, inl, inr, ◌⊎◌}
+use Rattle.std.proofs.Common.{◌≡◌, ℕ, zero, suc, ℤ, Bool, true, false, List, [], ◌∷◌, All, slice_get, Option, Some, None, refl, ◌∙◌, subst, arith, inl, inr}
 use Rattle.std.proofs.Math.Logic.{∥∥₁_elim}
 use Rattle.std.proofs.lemmas.Int.{ints}
 use Rattle.std.specs.Coded.{Coded-set, coded_ℤ}

@@ -4,7 +4,7 @@ use Rattle.std.specs.Prelude.{◌≡◌, ℤ, pos, neg_ℤ}
 use Rattle.std.specs.Coded.{Coded-set, coded_ℤ}
 use Rattle.std.specs.Int.Signed.{clash_ℤ}
 use Rattle.std.proofs.Common.{sym, ap, ◌∙◌}
-use Rattle.std.proofs.Math.Logic.{∥∥₁_prop, ∥∥₁_elim, ∥∥₁_map}
+use Rattle.std.proofs.Math.Logic.{∥∥₁_prop, ∥∥₁_elim}
 use Rattle.std.proofs.lemmas.Int.{by_lt_z}
 use mathlib.Core.HLevel.{Σ_prop_path}
 use Rattle.tz_info.specs.Zones.{Zone}

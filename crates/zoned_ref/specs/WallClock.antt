@@ -1,6 +1,5 @@
 -- What a `WallClock` shows.
-use Rattle.std.specs.Prelude.{ℕ, ◌+◌, ◌*◌, ℤ, length, Option, option_map}
-use Rattle.offset_core.specs.declared.local_result.LocalResult.{LocalResult}
+use Rattle.std.specs.Prelude.{◌+◌, ◌*◌, length, option_map}
 use Rattle.offset_core.specs.LocalResult.{map_of}
 use Rattle.offset_core.specs.FixedOffset.{seconds_of}
 use Rattle.naive_base.specs.Reading.{Reading}
@@ -8,7 +7,6 @@ use Rattle.tz_info.specs.Counts.{Counts, RoseWithin}
 use Rattle.tz_info.specs.Digits.{digits}
 use Rattle.tz_info.specs.Zones.{Zone}
 use Rattle.zoned_time.specs.DateTime.{zoned}
-use Rattle.zoned_time.specs.Zoned.{Zoned}
 use Rattle.zoned_ref.specs.Instants.{in_seconds, AreTypesFor, AreInstantsFor}
 use Rattle.zoned_ref.specs.declared.wall_clock.WallClock.{WallClock}
 

@@ -1,4 +1,8 @@
-//! A parsed time zone as a zone of zoned time: [`TimeZoneRef`] borrows it.
+//! Parsed time zones as zones of zoned time.
+//!
+//! [`TimeZoneRef`] borrows a zone that `tz_info` read from a file or a text, and is a [`TimeZone`](zoned_time::TimeZone): what
+//! `zoned_time` proves of every lawful zone holds of it, with the offsets of the types of local time in force.
+//! [`WallClock`] goes the whole way, from bytes to the instants at which a clock shows a reading.
 #![tactic(auto)]
 
 mod lookup;

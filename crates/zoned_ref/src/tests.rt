@@ -1,7 +1,5 @@
 //! Real zones and odd ones, from their bytes to instants, and back to what clocks show.
 
-ghost use Rattle.std.specs.Prelude.{◌<◌};
-
 use crate::{TimeZoneRef, WallClock, ZoneOffset};
 use naive_base::{NaiveDate, NaiveDateTime};
 use offset_core::{FixedOffset, LocalResult};
@@ -13,37 +11,18 @@ use tz_info::{LeapSecond, LocalTimeType, Probes, Transition, TransitionRule};
 use zoned_time::{DateTime, Offset, TimeZone, Utc};
 
 /// America/Guayaquil, version 1: set forward from -05:14 to -05:00 at the end of 1930.
-const GUAYAQUIL: &str = "545a696600000000000000000000000000000000\
-    000000020000000200000000000000010000000200000008\
-    b6a4421801ffffb6680000ffffb9b00004514d54004543540000000000";
+const GUAYAQUIL: &[u8] = b"TZif\x00\x00\x00\x00\x00\x00\x00\x00\x00\x00\x00\x00\x00\x00\x00\x00\
+    \x00\x00\x00\x02\x00\x00\x00\x02\x00\x00\x00\x00\x00\x00\x00\x01\x00\x00\x00\x02\x00\x00\x00\x08\
+    \xb6\xa4B\x18\x01\xff\xff\xb6h\x00\x00\xff\xff\xb9\xb0\x00\x04\
+    QMT\x00ECT\x00\x00\x00\x00\x00";
 
 /// One type, ABC, a whole day ahead of UTC.
-const DAY_AHEAD: &str = "545a696600000000000000000000000000000000\
-    000000000000000000000000000000000000000100000004\
-    00015180000041424300";
+const DAY_AHEAD: &[u8] = b"TZif\x00\x00\x00\x00\x00\x00\x00\x00\x00\x00\x00\x00\x00\x00\x00\x00\
+    \x00\x00\x00\x00\x00\x00\x00\x00\x00\x00\x00\x00\x00\x00\x00\x00\x00\x00\x00\x01\x00\x00\x00\x04\
+    \x00\x01Q\x80\x00\x00ABC\x00";
 
 /// New York since 2007.
 const NEW_YORK: &str = "EST5EDT,M3.2.0,M11.1.0";
-
-/// A digit's value; the files have no others.
-fn digit(byte: u8) -> u8
-    ensures { result < 16 }
-{
-    match byte {
-        b'0'..=b'9' => byte - b'0',
-        b'a'..=b'f' => byte - b'a' + 10,
-        _ => 0,
-    }
-}
-
-fn bytes_of(alloc: Global, hex: &str) -> Result<Vec<u8>, AllocError> {
-    let digits = hex.as_bytes();
-    let mut bytes = Vec::new(alloc);
-    for k in 0..digits.len() / 2 {
-        bytes.push(16 * digit(digits[2 * k]) + digit(digits[2 * k + 1]))?;
-    }
-    Ok(bytes)
-}
 
 fn of_text(rt: &impl Abort, alloc: Global, text: &str) -> tz_info::TimeZone {
     match tz_info::TimeZone::from_posix_tz(alloc, text) {
@@ -105,6 +84,20 @@ fn debug_text_of<Tz: TimeZone>(
     instant: &DateTime<Tz>,
 ) -> Result<String, AllocError> {
     format!(in alloc; "{instant:?}")
+}
+
+/// The offset of a zone at an instant.
+fn offset_at<Tz: TimeZone>(zone: &Tz, utc: &NaiveDateTime) -> FixedOffset {
+    zone.offset_from_utc_datetime(utc).fix()
+}
+
+/// The offsets of a zone at the midnight that begins a date: by UTC, and by its clocks.
+fn offsets_on<Tz: TimeZone>(zone: &Tz, date: &NaiveDate) -> (i32, LocalResult<i32>) {
+    let by_clocks = zone.offset_from_local_date(date);
+    (
+        zone.offset_from_utc_date(date).fix().local_minus_utc(),
+        by_clocks.map(|offset| offset.fix().local_minus_utc()),
+    )
 }
 
 /// The Unix times of instants.
@@ -189,29 +182,30 @@ fn a_gap_and_a_fold(rt: HostRuntime) {
 }
 
 #[test]
-fn what_clocks_show(rt: HostRuntime) -> Result<(), Fail> {
-    let new_york = of_text(&rt, rt.alloc(), NEW_YORK);
-    let zone = TimeZoneRef::new(&new_york).ok_or("a narrow zone")?;
-    let after_the_fold = zone
-        .timestamp_opt(1_636_264_800, 0)
-        .single()
-        .ok_or("an instant")?;
+fn an_instant_behind_a_fold(rt: HostRuntime) -> Result<(), Fail> {
+    let parsed = of_text(&rt, rt.alloc(), NEW_YORK);
+    let zone = TimeZoneRef::new(&parsed).ok_or("a narrow zone")?;
+    let instant = zone.timestamp(1_636_264_800, 0);
     assert_eq!(rt;
-        text_of(rt.alloc(), &after_the_fold)?.as_str(),
+        text_of(rt.alloc(), &instant)?.as_str(),
         "2021-11-07 01:00:00 -05:00"
     );
     assert_eq!(rt;
-        debug_text_of(rt.alloc(), &after_the_fold)?.as_str(),
+        debug_text_of(rt.alloc(), &instant)?.as_str(),
         "2021-11-07T01:00:00-05:00"
     );
+    Ok(())
+}
 
-    let utc = of_text(&rt, rt.alloc(), "UTC0");
-    let zone = TimeZoneRef::new(&utc).ok_or("a narrow zone")?;
-    let leap_second = DateTime::<Utc>::from_timestamp(1_483_228_799, 1_500_000_000)
+#[test]
+fn a_leap_second(rt: HostRuntime) -> Result<(), Fail> {
+    let parsed = of_text(&rt, rt.alloc(), "UTC0");
+    let zone = TimeZoneRef::new(&parsed).ok_or("a narrow zone")?;
+    let instant = DateTime::<Utc>::from_timestamp(1_483_228_799, 1_500_000_000)
         .ok_or("a stamp")?
         .with_timezone(&zone);
     assert_eq!(rt;
-        text_of(rt.alloc(), &leap_second)?.as_str(),
+        text_of(rt.alloc(), &instant)?.as_str(),
         "2016-12-31 23:59:60.500 +00:00"
     );
     assert!(rt; zone.timestamp_opt(0, 1_000_000_000).single().is_none());
@@ -248,57 +242,39 @@ fn an_offset_leads_back_to_its_zone(rt: HostRuntime) -> Result<(), Fail> {
     assert_eq!(rt; summer.fix().local_minus_utc(), -14_400);
 
     let back = TimeZoneRef::from_offset(&summer);
-    let winter = back.offset_from_utc_datetime(&reading(&rt, 1_636_264_800));
-    assert_eq!(rt; winter.fix().local_minus_utc(), -18_000);
+    let winter = offset_at(&back, &reading(&rt, 1_636_264_800));
+    assert_eq!(rt; winter.local_minus_utc(), -18_000);
 
-    let moved = zone.timestamp(1_636_263_000, 0).timezone();
-    assert_eq!(rt;
-        moved.timestamp(1_636_264_800, 0).offset().fix(),
-        winter.fix()
-    );
-    assert_eq!(rt; moved.zone().rule(), parsed.rule());
+    let home = zone.timestamp(1_636_263_000, 0).timezone();
+    assert_eq!(rt; offset_at(&home, &reading(&rt, 1_636_264_800)), winter);
+    assert_eq!(rt; home.zone().rule(), parsed.rule());
     Ok(())
 }
 
 #[test]
 fn a_date_means_midnight(rt: HostRuntime) -> Result<(), Fail> {
-    // at -04:00 from 1970-01-02 00:00:00 UTC on, 20:00 of the day before
-    let turn = [Transition::new(86_400, 1)];
-    let parsed = of_lists(&rt, rt.alloc(), &turn, &[0, -14_400], &[], None)?;
+    let new_day = [Transition::new(86_400, 1)];
+    // clocks are set back to 20:00 when the second day begins, and so begin it four hours later
+    let parsed = of_lists(&rt, rt.alloc(), &new_day, &[0, -14_400], &[], None)?;
     let zone = TimeZoneRef::new(&parsed).ok_or("a narrow zone")?;
-    for (day, of_utc, of_clocks) in [
-        (1, LocalResult::Single(0), LocalResult::Single(0)),
-        (
-            2,
-            LocalResult::Single(-14_400),
-            LocalResult::Single(-14_400),
-        ),
-    ] {
-        let date = NaiveDate::from_ymd_opt(1970, 1, day).ok_or("a date")?;
-        let offset = zone.offset_from_utc_date(&date);
-        assert_eq!(rt; LocalResult::Single(offset.fix().local_minus_utc()), of_utc);
-        let found = zone.offset_from_local_date(&date);
-        assert_eq!(rt;
-            found.map(|offset| offset.fix().local_minus_utc()),
-            of_clocks
-        );
-    }
-    // and at +04:00 from then on, in whose gap that midnight lies
-    let parsed = of_lists(&rt, rt.alloc(), &turn, &[0, 14_400], &[], None)?;
-    let zone = TimeZoneRef::new(&parsed).ok_or("a narrow zone")?;
-    let date = NaiveDate::from_ymd_opt(1970, 1, 2).ok_or("a date")?;
-    let found = zone.offset_from_local_date(&date);
+    let day = NaiveDate::from_ymd_opt(1970, 1, 1).ok_or("a date")?;
+    assert_eq!(rt; offsets_on(&zone, &day), (0, LocalResult::Single(0)));
+    let day = NaiveDate::from_ymd_opt(1970, 1, 2).ok_or("a date")?;
     assert_eq!(rt;
-        found.map(|offset| offset.fix().local_minus_utc()),
-        LocalResult::None
+        offsets_on(&zone, &day),
+        (-14_400, LocalResult::Single(-14_400))
     );
+
+    // clocks are set forward to 04:00 then, and never show that midnight
+    let parsed = of_lists(&rt, rt.alloc(), &new_day, &[0, 14_400], &[], None)?;
+    let zone = TimeZoneRef::new(&parsed).ok_or("a narrow zone")?;
+    assert_eq!(rt; offsets_on(&zone, &day), (14_400, LocalResult::None));
     Ok(())
 }
 
 #[test]
 fn a_zone_with_a_clock_a_day_ahead(rt: HostRuntime) -> Result<(), Fail> {
-    let bytes = bytes_of(rt.alloc(), DAY_AHEAD)?;
-    let Ok(parsed) = tz_info::TimeZone::from_tz_data(rt.alloc(), bytes.as_slice()) else {
+    let Ok(parsed) = tz_info::TimeZone::from_tz_data(rt.alloc(), DAY_AHEAD) else {
         panic!(rt; "no zone");
     };
     assert_eq!(rt; parsed.local_time_types().len(), 1);
@@ -384,7 +360,6 @@ fn the_ends_of_the_range(rt: HostRuntime) -> Result<(), Fail> {
 
 #[test]
 fn from_a_file_to_instants(rt: HostRuntime) -> Result<(), Fail> {
-    let bytes = bytes_of(rt.alloc(), GUAYAQUIL)?;
     for (date, time, name, instants) in [
         (
             (1930, 12, 31),
@@ -403,7 +378,7 @@ fn from_a_file_to_instants(rt: HostRuntime) -> Result<(), Fail> {
     ] {
         let local = clock(&rt, date, time);
         let mut probes = Probes::new();
-        let read = WallClock::from_tz_data(rt.alloc(), bytes.as_slice(), &local, &mut probes);
+        let read = WallClock::from_tz_data(rt.alloc(), GUAYAQUIL, &local, &mut probes);
         let Ok(told) = read else {
             panic!(rt; "no zone");
         };
@@ -427,7 +402,7 @@ fn from_a_file_to_instants(rt: HostRuntime) -> Result<(), Fail> {
 
 #[test]
 fn from_bytes_that_are_no_zone(rt: HostRuntime) -> Result<(), Fail> {
-    let mut bytes = bytes_of(rt.alloc(), GUAYAQUIL)?;
+    let mut bytes = GUAYAQUIL.to_vec(rt.alloc())?;
     bytes.push(0)?;
     let mut probes = Probes::new();
     let local = NaiveDateTime::default();

@@ -11,7 +11,8 @@ use tz_info::{LocalTimeType, TransitionRule};
 /// A parsed time zone as a zone of [`DateTime`](zoned_time::DateTime)s: at each instant it has the offset of the type of
 /// local time that is in force then.
 ///
-/// It borrows the parsed zone, and so does each instant that it gives; none of them can be used once that zone is gone.
+/// It borrows the parsed zone, and so does each instant that it gives: none of them can be used once that zone is gone.
+/// [`DateTime::fixed_offset`](zoned_time::DateTime::fixed_offset) gives an instant that prints alike and borrows nothing.
 ///
 /// ```
 /// let parsed = tz_info::TimeZone::from_posix_tz(alloc, "EST5EDT,M3.2.0,M11.1.0")?;
@@ -23,6 +24,8 @@ use tz_info::{LocalTimeType, TransitionRule};
 #[derive(Clone, Copy)]
 pub struct TimeZoneRef<'a> {
     zone: &'a tz_info::TimeZone,
+    // Every zone has the second of these facts. It stands here so that the third one, and all that is said of a zone of
+    // `DateTime`s, can speak of its offset at a second.
     pub ghost narrow: { IsNarrow zone.now },
     pub ghost offsets: { ∥ HasOffsets zone.now ∥₁ },
     pub ghost within_day: { (u : ℤ) → IsZoneSecond u → IsWithinDay (offset_at zone.now offsets u) },

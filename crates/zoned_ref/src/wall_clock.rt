@@ -20,20 +20,25 @@ use std::alloc::Global;
 use tz_info::{Error, LocalTimeType, Probes};
 use zoned_time::{DateTime, TimeZone};
 
-/// What the clocks of a zone say of a reading.
+/// When the clocks of a zone show a reading.
+///
+/// In New York clocks were set back from 02:00 to 01:00 on 7 November 2021. Of 01:30 that day it tells EDT and EST, and the
+/// instants `2021-11-07 01:30:00 -04:00` and `2021-11-07 01:30:00 -05:00`; of 02:30 on 14 March, which lies in a gap, that
+/// there are none.
 #[derive(Clone, Copy, Debug)]
 pub struct WallClock {
     /// The types in force when they show it.
     pub types: LocalResult<LocalTimeType>,
-    /// The instants when they show it, with the offsets of those types. `None` for a zone that [`TimeZoneRef::new`] does
-    /// not take.
+    /// The instants when they show it, at the offsets of those types; none at all where one of them is out of the range of
+    /// [`DateTime`]. `None` where the zone is one that [`TimeZoneRef::new`] doesn't take.
     pub instants: Option<LocalResult<DateTime<FixedOffset>>>,
 }
 
 impl WallClock {
     ghost use Rattle.zoned_ref.specs.WallClock.{Tells, IsCounted};
 
-    /// What the clocks of a TZif file's zone say of a reading.
+    /// When the clocks of a TZif file's zone show a reading. Of the looks at the zone those that find the types are counted,
+    /// as [`WallClock::in_zone`] says.
     ///
     /// # Errors
     ///
@@ -61,7 +66,8 @@ impl WallClock {
         }
     }
 
-    /// What the clocks of a TZ text's zone say of a reading.
+    /// When the clocks of a TZ text's zone show a reading. Of the looks at the zone those that find the types are counted, as
+    /// [`WallClock::in_zone`] says.
     ///
     /// # Errors
     ///
@@ -87,10 +93,9 @@ impl WallClock {
         }
     }
 
-    /// What the clocks of the zone say of a reading.
-    ///
-    /// In New York clocks were set back from 02:00 to 01:00 on 7 November 2021. Of 01:30 that day it tells EDT and EST, and
-    /// the instants `2021-11-07 01:30:00 -04:00` and `2021-11-07 01:30:00 -05:00`.
+    /// When the clocks of the zone show a reading. Finding the types takes at most types + 2 questions to the rule and, with
+    /// `digits` for the number of binary digits, `(types + 2) * (digits(transitions) + 2)` looks at transitions, which
+    /// `probes` counts.
     pub fn in_zone(
         zone: &tz_info::TimeZone,
         local: &NaiveDateTime,

@@ -1,6 +1,6 @@
 use Rattle.std.proofs.Common.{◌∙◌}
 use Rattle.zone_query.proofs.Stopping.{reply_made, reply_stops}
-use Rattle.zone_query.proofs.session.reply.Goals as goal
+use Rattle.zone_query.proofs.runs.reply.Goals as goal
 
 pub returns-in-Ok-clause-ok : goal.returns-in-Ok-clause-ok
 returns-in-Ok-clause-ok g c =

@@ -1,7 +1,7 @@
 use Rattle.std.proofs.Common.{arith, take, subst, List, ℕ}
 use Rattle.std.specs.Io.KnownBytes.{Appends}
 use Rattle.zone_query.proofs.Bytes.{appends_more, still_works}
-use Rattle.zone_query.proofs.session.write_all.Goals as goal
+use Rattle.zone_query.proofs.runs.write_all.Goals as goal
 
 pub loop-written-preserved : goal.loop-written-preserved
 loop-written-preserved g c =

@@ -1,6 +1,6 @@
 use Rattle.std.proofs.Common.{length, ◌-◌, ◌≤◌, ◌≡◌, false, take}
 use Rattle.std.specs.Io.KnownBytes.{Appends}
-use Rattle.zone_query.proofs.session.write_all.Given as goal
+use Rattle.zone_query.proofs.runs.write_all.Given as goal
 
 abbrev pub invariant-loop-written : goal.invariant-loop-written
 invariant-loop-written g l = record {

@@ -2,7 +2,7 @@ use Rattle.std.proofs.Common.{arith, take, [], ◌++◌, None}
 use Rattle.zone_query.proofs.Bytes.{appends_join, consumes_join, still_works}
 use Rattle.zone_query.proofs.Standing.{answered_join}
 use Rattle.zone_query.proofs.Ending.{not_failed, ended_now, block_stopped, reader_ended}
-use Rattle.zone_query.proofs.session.run.Goals as goal
+use Rattle.zone_query.proofs.runs.run.Goals as goal
 
 pub loop-preserved : goal.loop-preserved
 loop-preserved g c =
