@@ -89,8 +89,9 @@ pub trait TimeZone: Sized + Copy {
         }
     }
 
-    /// [`TimeZone::from_local_datetime`] of a date and a time, as `zone.with_ymd_and_hms(2021, 11, 7, 1, 30, 0).earliest()`. `None` also where the date isn't one of the calendar in the
-    /// years -262143 to 262142, or a day has no such hour, minute or second.
+    /// [`TimeZone::from_local_datetime`] of a date and a time, as `zone.with_ymd_and_hms(2021, 11, 7, 1, 30, 0).earliest()`.
+    /// `None` also where the date isn't one of the calendar in the years -262143 to 262142, or a day has no such hour, minute
+    /// or second.
     final fn with_ymd_and_hms(
         &self,
         year: i32,
