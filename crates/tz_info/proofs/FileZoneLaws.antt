@@ -1,6 +1,6 @@
 -- The numbers of a file's rule are in their limits.
 use Rattle.std.proofs.Common.{ℕ, List, Bool, Option, Some, None}
-use Rattle.tz_info.specs.Footers.{IsFooter, SaysRule}
+use Rattle.tz_info.specs.Footers.{SaysRule}
 use Rattle.tz_info.specs.TzFiles.{HasRule, IsTzFile}
 use Rattle.tz_info.specs.Zones.{Zone, IsRuleOrNone}
 use Rattle.tz_info.specs.declared.rule.transition_rule.TransitionRule.{TransitionRule}

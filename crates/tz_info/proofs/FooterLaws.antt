@@ -6,17 +6,18 @@ use Rattle.std.proofs.lemmas.Str.{is_utf8-from_IsUtf8, IsUtf8-from_is_utf8}
 use Rattle.std.proofs.Math.Seq.{get_or-append_seam}
 use Rattle.std.specs.List.{list_any}
 use Rattle.std.specs.Str.{is_utf8}
-use Rattle.std.specs.Char.{is_ascii_whitespace}
 use Rattle.tz_info.specs.Fronts.{Gives}
 use Rattle.tz_info.specs.FileContents.{is_zero, HasNoZero}
 use Rattle.tz_info.specs.TzTexts.{IsTzText}
 use Rattle.tz_info.specs.TzFaults.{IsTextFault}
 use Rattle.tz_info.specs.Readings.{text_at}
-use Rattle.tz_info.specs.Footers.{IsBetweenNewlines, IsSpace, BeginsBare, EndsBare, IsTrimmed, SaysRule, IsFooter, FooterFault, Not_utf8, No_newlines, Colon, Zero, In_text}
-use Rattle.tz_info.specs.FooterReading.{trimmed_front, unless_space, trimmed_back, trimmed, is_between_newlines, is_no_text, rule_in, rule_or_none, text_or_none, footer_at}
+use Rattle.tz_info.specs.Trims.{IsTrimmed}
+use Rattle.tz_info.specs.Footers.{IsBetweenNewlines, SaysRule, IsFooter, FooterFault, Not_utf8, No_newlines, Colon, Zero, In_text}
+use Rattle.tz_info.specs.FooterReading.{trimmed, is_between_newlines, is_no_text, rule_in, rule_or_none, text_or_none, footer_at}
 use Rattle.tz_info.specs.declared.error.Error.{Error}
 use Rattle.tz_info.specs.declared.rule.transition_rule.TransitionRule.{TransitionRule}
 use Rattle.tz_info.proofs.TextLaws.{text_law}
+use Rattle.tz_info.proofs.TrimLaws.{trim_again, trim_is}
 use Rattle.tz_info.proofs.ReadLaws.{bind_ok, bind_err, ok_same, err_same, choose, test_ok, test_err, and_true}
 
 -- ---- newlines
@@ -45,70 +46,6 @@ between_again bytes h =
   where
     both : (x y : ℕ) → x ≡ 10 → y ≡ 10 → ((x == 10) && (y == 10)) ≡ true
     both x y a b = rw (a, b) refl
-
--- ---- white space
-space_front : (before rest : List ℕ) → IsSpace before → trimmed_front (before ++ rest) ≡ trimmed_front rest
-space_front [] rest h = refl
-space_front (b ∷ bs) rest h = rw h.0 (space_front bs rest h.1)
-
-space_is_none : (after : List ℕ) → IsSpace after → trimmed_front after ≡ []
-space_is_none [] h = refl
-space_is_none (b ∷ bs) h = rw h.0 (space_is_none bs h.1)
-
-space_back : (after : List ℕ) → IsSpace after → trimmed_back after ≡ []
-space_back [] h = refl
-space_back (b ∷ bs) h = rw (space_back bs h.1, h.0) refl
-
-back_again : (text after : List ℕ) → EndsBare text → IsSpace after → trimmed_back (text ++ after) ≡ text
-back_again [] after e s = space_back after s
-back_again (b ∷ []) after e s = rw (space_back after s, e) refl
-back_again (b ∷ c ∷ cs) after e s = ap (λ t. unless_space b t) (back_again (c ∷ cs) after e s)
-
-front_again : (text after : List ℕ) → BeginsBare text → EndsBare text → IsSpace after → trimmed_back (trimmed_front (text ++ after)) ≡ text
-front_again [] after b e s = ap trimmed_back (space_is_none after s)
-front_again (x ∷ xs) after b e s = rw b (back_again (x ∷ xs) after e s)
-
-trim_again : (bytes text : List ℕ) → IsTrimmed bytes text → trimmed bytes ≡ text
-unfolding trimmed
-trim_again bytes text h =
-    ap (λ s. trimmed_back (trimmed_front s)) h.whole ∙ (ap trimmed_back (space_front h.before (text ++ h.after) h.space_before) ∙ front_again text h.after h.first h.last h.space_after)
-
-front_takes : (bytes : List ℕ) → (before : List ℕ) × (bytes ≡ before ++ trimmed_front bytes) × IsSpace before × BeginsBare (trimmed_front bytes)
-front_takes [] = ([], refl, tt, tt)
-front_takes (b ∷ bs) = elim (is_ascii_whitespace b) as (λ t. is_ascii_whitespace b ≡ t → (before : List ℕ) × (b ∷ bs ≡ before ++ cond t (trimmed_front bs) (b ∷ bs)) × IsSpace before × BeginsBare (cond t (trimmed_front bs) (b ∷ bs))) [
-  | true ↦ λ e. let r = front_takes bs in (b ∷ r.0, ap (λ s. b ∷ s) r.1, (e, r.2), r.3)
-  | false ↦ λ e. ([], refl, tt, e)
-] refl
-
-back_step : (b : ℕ) (bs text after : List ℕ) → bs ≡ text ++ after → IsSpace after → EndsBare text
-    → (behind : List ℕ) × (b ∷ bs ≡ unless_space b text ++ behind) × IsSpace behind × EndsBare (unless_space b text)
-back_step b bs [] after w s e = elim (is_ascii_whitespace b) as (λ t. is_ascii_whitespace b ≡ t → (behind : List ℕ) × (b ∷ bs ≡ cond t [] (b ∷ []) ++ behind) × IsSpace behind × EndsBare (cond t [] (b ∷ []))) [
-  | true ↦ λ k. (b ∷ bs, refl, (k, subst IsSpace (sym w) s), tt)
-  | false ↦ λ k. (after, ap (λ x. b ∷ x) w, s, k)
-] refl
-back_step b bs (c ∷ cs) after w s e = (after, ap (λ x. b ∷ x) w, s, e)
-
-back_takes : (bytes : List ℕ) → (after : List ℕ) × (bytes ≡ trimmed_back bytes ++ after) × IsSpace after × EndsBare (trimmed_back bytes)
-back_takes [] = ([], refl, tt, tt)
-back_takes (b ∷ bs) = let r = back_takes bs in back_step b bs (trimmed_back bs) r.0 r.1 r.2 r.3
-
-still_bare : (text after : List ℕ) → BeginsBare (text ++ after) → BeginsBare text
-still_bare [] after h = tt
-still_bare (b ∷ bs) after h = h
-
-trim_is : (bytes : List ℕ) → IsTrimmed bytes (trimmed bytes)
-unfolding trimmed
-trim_is bytes =
-    let f = front_takes bytes in let b = back_takes (trimmed_front bytes) in
-    record {
-      before = f.0;
-      after = b.0;
-      whole = f.1 ∙ ap (λ s. f.0 ++ s) b.1;
-      space_before = f.2;
-      space_after = b.2;
-      first = still_bare (trimmed_back (trimmed_front bytes)) b.0 (subst BeginsBare b.1 f.3);
-      last = b.3;
-    }
 
 -- ---- the text
 or_false : (a b : Bool) → (a || b) ≡ false → (a ≡ false) × (b ≡ false)

@@ -1,7 +1,6 @@
 -- The zone of a TZ text.
-use Rattle.std.proofs.Common.{◌≡◌, ℕ, pos, refl, ap, ◌∙◌, sym, subst, List, [], length, Bool, false, ◌∷◌, ◌==◌, Ok, Err, Result, inl, inr, ◌⊎◌, ◌≢◌, IfOk, IfErr, MatchResult}
-use Rattle.std.specs.Str.{IsTrimAscii}
-use Rattle.std.proofs.lemmas.Str.Ascii.{trim_ascii_is}
+use Rattle.std.proofs.Common.{◌≡◌, ℕ, pos, ap, ◌∙◌, sym, subst, List, [], length, Bool, false, ◌∷◌, ◌==◌, Ok, Err, Result, inl, inr, ◌⊎◌, ◌≢◌, IfOk, IfErr, MatchResult}
+use Rattle.tz_info.specs.Trims.{IsTrimmed}
 use Rattle.tz_info.specs.Errors.{number_of}
 use Rattle.tz_info.specs.Zones.{Zone, plain_zone}
 use Rattle.tz_info.specs.TzTexts.{IsTzText}
@@ -9,10 +8,7 @@ use Rattle.tz_info.specs.PosixZones.{IsZoneOfText, IsPosixZone, IsPosixFault, po
 use Rattle.tz_info.specs.declared.error.Error.{Error}
 use Rattle.tz_info.specs.declared.rule.transition_rule.TransitionRule.{TransitionRule}
 use Rattle.tz_info.proofs.TextLaws.{one_rule}
-
--- a text is trimmed in one way
-one_trimmed : (text a b : List ℕ) → IsTrimAscii text a → IsTrimAscii text b → a ≡ b
-one_trimmed text a b p q = trim_ascii_is text a _ refl p ∙ sym (trim_ascii_is text b _ refl q)
+use Rattle.tz_info.proofs.TrimLaws.{one_trimmed}
 
 same_rule : (text : List ℕ) (y z : Zone) (p : IsZoneOfText text y) (q : IsZoneOfText text z) → p.rule ≡ q.rule
 same_rule text y z p q = one_rule false q.trimmed p.rule q.rule (subst (λ (t : List ℕ). IsTzText false t p.rule) (one_trimmed text p.trimmed q.trimmed p.trims q.trims) p.spells) q.spells
@@ -28,7 +24,7 @@ pub empty_found : (text : List ℕ) (r : Result Zone Error) → text ≡ [] → 
 empty_found text (Ok z) e h = inl (e, h)
 empty_found text (Err x) e h = tt
 
-pub zone_found : (text trimmed : List ℕ) (rule : TransitionRule) (r : Result Zone Error) → text ≢ [] → IsTrimAscii text trimmed → IsTzText false trimmed rule → MatchResult r (λ z. z ≡ posix_zone rule) (λ e. number_of e ≡ 17) → IfOk r (λ z. IsPosixZone text z)
+pub zone_found : (text trimmed : List ℕ) (rule : TransitionRule) (r : Result Zone Error) → text ≢ [] → IsTrimmed text trimmed → IsTzText false trimmed rule → MatchResult r (λ z. z ≡ posix_zone rule) (λ e. number_of e ≡ 17) → IfOk r (λ z. IsPosixZone text z)
 zone_found text trimmed rule (Ok z) some trims spells h = inr (record { some = some; trimmed = trimmed; rule = rule; trims = trims; spells = spells; zone = h })
 zone_found text trimmed rule (Err x) some trims spells h = tt
 
@@ -46,7 +42,7 @@ memory_fault text (Ok y) h = tt
 memory_fault text (Err x) h = inl h
 
 -- a text whose trimmed bytes spell no rule has no zone
-pub no_zone : (text trimmed : List ℕ) → text ≢ [] → IsTrimAscii text trimmed → ((rule : TransitionRule) → IsTzText false trimmed rule → ⊥) → (z : Zone) → IsPosixZone text z → ⊥
+pub no_zone : (text trimmed : List ℕ) → text ≢ [] → IsTrimmed text trimmed → ((rule : TransitionRule) → IsTzText false trimmed rule → ⊥) → (z : Zone) → IsPosixZone text z → ⊥
 no_zone text trimmed some trims none z p = elim p [
   | inl a ↦ some a.0
   | inr a ↦ none a.rule (subst (λ (t : List ℕ). IsTzText false t a.rule) (one_trimmed text a.trimmed trimmed a.trims trims) a.spells)

@@ -1,9 +1,81 @@
 -- White space at both ends of bytes.
-use Rattle.std.proofs.Common.{◌≡◌, ℕ, zero, suc, ◌-◌, ◌<◌, ◌≤◌, List, [], ◌∷◌, length, drop, take, slice_index, false, arith, refl, sym}
+use Rattle.std.proofs.Common.{◌≡◌, ℕ, zero, suc, ◌-◌, ◌<◌, ◌≤◌, List, [], ◌∷◌, ◌++◌, length, drop, take, min, slice_index, true, false, cond, arith, refl, sym, ap, ◌∙◌, subst, inl, inr}
+use Rattle.std.proofs.lemmas.Bool.{cases_lt, true≢false}
+use Rattle.std.proofs.lemmas.List.{length-take}
 use Rattle.std.specs.Char.{is_ascii_whitespace}
-use Rattle.std.specs.Str.{IsAsciiWhitespaceBelow, IsAsciiWhitespaceFrom, IsTrimAsciiStart, IsTrimAsciiEnd}
-use Rattle.tz_info.specs.FooterReading.{trimmed_front, trimmed_back}
+use Rattle.std.specs.Str.{IsAsciiWhitespaceBelow, IsAsciiWhitespaceFrom, IsTrimAsciiStart, IsTrimAsciiEnd, IsTrimAscii}
+use Rattle.tz_info.specs.Trims.{IsSpace, BeginsBare, EndsBare, IsTrimmed}
+use Rattle.tz_info.specs.FooterReading.{trimmed_front, unless_space, trimmed_back, trimmed}
 
+-- ---- what is trimmed, and how it is found
+space_front : (before rest : List ℕ) → IsSpace before → trimmed_front (before ++ rest) ≡ trimmed_front rest
+space_front [] rest h = refl
+space_front (b ∷ bs) rest h = rw h.0 (space_front bs rest h.1)
+
+space_is_none : (after : List ℕ) → IsSpace after → trimmed_front after ≡ []
+space_is_none [] h = refl
+space_is_none (b ∷ bs) h = rw h.0 (space_is_none bs h.1)
+
+space_back : (after : List ℕ) → IsSpace after → trimmed_back after ≡ []
+space_back [] h = refl
+space_back (b ∷ bs) h = rw (space_back bs h.1, h.0) refl
+
+back_again : (text after : List ℕ) → EndsBare text → IsSpace after → trimmed_back (text ++ after) ≡ text
+back_again [] after e s = space_back after s
+back_again (b ∷ []) after e s = rw (space_back after s, e) refl
+back_again (b ∷ c ∷ cs) after e s = ap (λ t. unless_space b t) (back_again (c ∷ cs) after e s)
+
+front_again : (text after : List ℕ) → BeginsBare text → EndsBare text → IsSpace after → trimmed_back (trimmed_front (text ++ after)) ≡ text
+front_again [] after b e s = ap trimmed_back (space_is_none after s)
+front_again (x ∷ xs) after b e s = rw b (back_again (x ∷ xs) after e s)
+
+pub trim_again : (bytes text : List ℕ) → IsTrimmed bytes text → trimmed bytes ≡ text
+unfolding trimmed
+trim_again bytes text h =
+    ap (λ s. trimmed_back (trimmed_front s)) h.whole ∙ (ap trimmed_back (space_front h.before (text ++ h.after) h.space_before) ∙ front_again text h.after h.first h.last h.space_after)
+
+front_takes : (bytes : List ℕ) → (before : List ℕ) × (bytes ≡ before ++ trimmed_front bytes) × IsSpace before × BeginsBare (trimmed_front bytes)
+front_takes [] = ([], refl, tt, tt)
+front_takes (b ∷ bs) = elim (is_ascii_whitespace b) as (λ t. is_ascii_whitespace b ≡ t → (before : List ℕ) × (b ∷ bs ≡ before ++ cond t (trimmed_front bs) (b ∷ bs)) × IsSpace before × BeginsBare (cond t (trimmed_front bs) (b ∷ bs))) [
+  | true ↦ λ e. let r = front_takes bs in (b ∷ r.0, ap (λ s. b ∷ s) r.1, (e, r.2), r.3)
+  | false ↦ λ e. ([], refl, tt, e)
+] refl
+
+back_step : (b : ℕ) (bs text after : List ℕ) → bs ≡ text ++ after → IsSpace after → EndsBare text
+    → (behind : List ℕ) × (b ∷ bs ≡ unless_space b text ++ behind) × IsSpace behind × EndsBare (unless_space b text)
+back_step b bs [] after w s e = elim (is_ascii_whitespace b) as (λ t. is_ascii_whitespace b ≡ t → (behind : List ℕ) × (b ∷ bs ≡ cond t [] (b ∷ []) ++ behind) × IsSpace behind × EndsBare (cond t [] (b ∷ []))) [
+  | true ↦ λ k. (b ∷ bs, refl, (k, subst IsSpace (sym w) s), tt)
+  | false ↦ λ k. (after, ap (λ x. b ∷ x) w, s, k)
+] refl
+back_step b bs (c ∷ cs) after w s e = (after, ap (λ x. b ∷ x) w, s, e)
+
+back_takes : (bytes : List ℕ) → (after : List ℕ) × (bytes ≡ trimmed_back bytes ++ after) × IsSpace after × EndsBare (trimmed_back bytes)
+back_takes [] = ([], refl, tt, tt)
+back_takes (b ∷ bs) = let r = back_takes bs in back_step b bs (trimmed_back bs) r.0 r.1 r.2 r.3
+
+still_bare : (text after : List ℕ) → BeginsBare (text ++ after) → BeginsBare text
+still_bare [] after h = tt
+still_bare (b ∷ bs) after h = h
+
+pub trim_is : (bytes : List ℕ) → IsTrimmed bytes (trimmed bytes)
+unfolding trimmed
+trim_is bytes =
+    let f = front_takes bytes in let b = back_takes (trimmed_front bytes) in
+    record {
+      before = f.0;
+      after = b.0;
+      whole = f.1 ∙ ap (λ s. f.0 ++ s) b.1;
+      space_before = f.2;
+      space_after = b.2;
+      first = still_bare (trimmed_back (trimmed_front bytes)) b.0 (subst BeginsBare b.1 f.3);
+      last = b.3;
+    }
+
+-- bytes are trimmed in one way
+pub one_trimmed : (bytes a b : List ℕ) → IsTrimmed bytes a → IsTrimmed bytes b → a ≡ b
+one_trimmed bytes a b p q = sym (trim_again bytes a p) ∙ trim_again bytes b q
+
+-- ---- what std's calls give
 front_drop : (n : ℕ) (s : List ℕ) → n ≤ length s → IsAsciiWhitespaceBelow s n → (n < length s → is_ascii_whitespace (slice_index s n) ≡ false) → drop n s ≡ trimmed_front s
 front_drop zero [] l w e = refl
 front_drop zero (b ∷ bs) l w e = rw (e (omega arith)) refl
@@ -23,9 +95,27 @@ back_take (suc (suc n)) (b ∷ c ∷ cs) l w e =
     let same = back_take (suc n) (c ∷ cs) (omega arith) (λ i h k. w (suc i) (omega arith) (omega arith)) (λ m h. e (suc m) (omega arith)) in
     rw (← same) refl
 
--- what std's calls give
 pub front_is : (s r : List ℕ) → IsTrimAsciiStart s r → r ≡ trimmed_front s
 front_is s r t = let l = t.2 in rw t.1 (front_drop t.0 s (omega arith) t.3 t.4)
 
 pub back_is : (s r : List ℕ) → IsTrimAsciiEnd s r → r ≡ trimmed_back s
 back_is s r t = rw t.1 (back_take t.0 s t.3 t.4 (λ m h. let k : t.0 - 1 ≡ m = omega arith in rw k at (t.5 (omega arith))))
+
+-- no white space is behind the end
+behind_end : (s : List ℕ) → slice_index s (length s) ≡ 0
+behind_end [] = refl
+behind_end (b ∷ bs) = behind_end bs
+
+within : (m : ℕ) (s : List ℕ) → IsAsciiWhitespaceBelow s m → m ≤ length s
+within m s below = elim (cases_lt (length s) m) [
+  | inl past ↦ absurd (true≢false (sym (below (length s) past) ∙ ap is_ascii_whitespace (behind_end s)))
+  | inr inside ↦ omega (arith, inside)
+]
+
+pub trims_both : (s r : List ℕ) → IsTrimAscii s r → IsTrimmed s r
+unfolding trimmed
+trims_both s r t =
+    let front = front_drop t.0 s (within t.0 s t.2) t.2 t.3 in
+    let least : length r ≡ min (length r) (length (drop t.0 s)) = ap length t.1 ∙ length-take (length r) (drop t.0 s) in
+    let back = back_take (length r) (drop t.0 s) (omega arith) t.4 (λ m h. let k : length r - 1 ≡ m = omega arith in rw k at (t.5 (omega arith))) in
+    subst (IsTrimmed s) (sym (t.1 ∙ (back ∙ ap trimmed_back front))) (trim_is s)

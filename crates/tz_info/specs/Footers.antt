@@ -1,8 +1,8 @@
 -- The footer of a TZif file (RFC 8536 section 3.3).
-use Rattle.std.specs.Prelude.{ℕ, ◌≡◌, ◌≢◌, Bool, true, false, List, [], ◌∷◌, ◌++◌, slice_index, Option, Some, None}
+use Rattle.std.specs.Prelude.{ℕ, ◌≡◌, ◌≢◌, Bool, List, [], ◌∷◌, ◌++◌, slice_index, Option, Some, None}
 use Rattle.std.specs.Str.{IsUtf8}
-use Rattle.std.specs.Char.{is_ascii_whitespace}
 use Rattle.tz_info.specs.FileContents.{HasNoZero}
+use Rattle.tz_info.specs.Trims.{IsTrimmed}
 use Rattle.tz_info.specs.TzTexts.{IsTzText}
 use Rattle.tz_info.specs.TzFaults.{IsTextFault}
 use Rattle.tz_info.specs.declared.rule.transition_rule.TransitionRule.{TransitionRule}
@@ -13,31 +13,6 @@ pub record IsBetweenNewlines (bytes : List ℕ) : Type 0 where
   pub before_last : List ℕ
   pub starts : bytes ≡ 10 ∷ after_first
   pub ends : bytes ≡ before_last ++ (10 ∷ [])
-
--- spaces, tabs, line feeds, form feeds and carriage returns alone
-abbrev pub IsSpace : List ℕ → Type 0
-IsSpace [] = Unit {0}
-IsSpace (b ∷ bs) = (is_ascii_whitespace b ≡ true) × IsSpace bs
-
--- no white space in front, and none at the end
-abbrev pub BeginsBare : List ℕ → Type 0
-BeginsBare [] = Unit {0}
-BeginsBare (b ∷ bs) = is_ascii_whitespace b ≡ false
-
-abbrev pub EndsBare : List ℕ → Type 0
-EndsBare [] = Unit {0}
-EndsBare (b ∷ []) = is_ascii_whitespace b ≡ false
-EndsBare (b ∷ c ∷ cs) = EndsBare (c ∷ cs)
-
--- the text between the white space at both ends
-pub record IsTrimmed (bytes text : List ℕ) : Type 0 where
-  pub before : List ℕ
-  pub after : List ℕ
-  pub whole : bytes ≡ before ++ (text ++ after)
-  pub space_before : IsSpace before
-  pub space_after : IsSpace after
-  pub first : BeginsBare text
-  pub last : EndsBare text
 
 -- no text is no rule
 abbrev pub SaysRule : Bool → List ℕ → Option TransitionRule → Type 0

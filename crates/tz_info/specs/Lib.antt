@@ -19,6 +19,7 @@ pub mod Fronts
 pub mod Pieces
 pub mod TzTexts
 pub mod TzFaults
+pub mod Trims
 pub mod PosixZones
 pub mod Readings
 pub mod FileHeaders

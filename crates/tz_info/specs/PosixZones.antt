@@ -1,8 +1,8 @@
 -- The zones of TZ texts (POSIX.1 section 8.3, "TZ").
 use Rattle.std.specs.Prelude.{ℕ, pos, ◌≡◌, ◌≢◌, ◌⊎◌, false, List, [], ◌∷◌, Some}
-use Rattle.std.specs.Str.{IsTrimAscii}
 use Rattle.tz_info.specs.LocalTypes.{LocalType}
 use Rattle.tz_info.specs.Zones.{Zone, plain_zone, zone_of_rule}
+use Rattle.tz_info.specs.Trims.{IsTrimmed}
 use Rattle.tz_info.specs.TzTexts.{IsTzText}
 use Rattle.tz_info.specs.TzFaults.{IsTextFault}
 use Rattle.tz_info.specs.declared.rule.transition_rule.TransitionRule.{TransitionRule}
@@ -23,7 +23,7 @@ pub record IsZoneOfText (text : List ℕ) (z : Zone) : Type 0 where
   pub some : text ≢ []
   pub trimmed : List ℕ
   pub rule : TransitionRule
-  pub trims : IsTrimAscii text trimmed
+  pub trims : IsTrimmed text trimmed
   pub spells : IsTzText false trimmed rule
   pub zone : z ≡ posix_zone rule
 
@@ -35,5 +35,5 @@ IsPosixZone text z = ((text ≡ []) × (z ≡ plain_zone (pos 0))) ⊎ IsZoneOfT
 pub record IsPosixFault (text : List ℕ) (n : ℕ) : Type 0 where
   pub some : text ≢ []
   pub trimmed : List ℕ
-  pub trims : IsTrimAscii text trimmed
+  pub trims : IsTrimmed text trimmed
   pub fault : IsTextFault false trimmed n
