@@ -187,9 +187,6 @@ impl Session {
         ensures ok { OnOk result (self.new.begun.items ≡ self.old.begun.items ++ bytes.now) }
         ensures err { OnErr result (0 < length bytes.now) }
     {
-        if bytes.is_empty() {
-            return Ok(());
-        }
         self.begun.extend_from_slice(bytes)
     }
 
