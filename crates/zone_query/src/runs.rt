@@ -73,13 +73,13 @@ pub fn run<R: Read, W: Write>(
         × (reader.new.failed ≡ false) × (writer.new.failed ≡ false) × Answers input output)
         (λ e. StopsWith reader.new.failed writer.new.failed reader.new.reads e input output) }
 {
-    let mut session = Session::new(alloc);
+    let mut dialogue = Dialogue::new(alloc);
     let mut block = [0; BLOCK];
     for _ in 0..u64::MAX {
         match reader.read(&mut block) {
             Err(_) => return Err(RunError::Read),
-            Ok(0) => return session.finish(writer),
-            Ok(n) => match session.take_block(writer, &block[..n]) {
+            Ok(0) => return dialogue.finish(writer),
+            Ok(n) => match dialogue.take_block(writer, &block[..n]) {
                 Ok(()) => {}
                 Err(e) => return Err(e),
             },
@@ -90,7 +90,7 @@ pub fn run<R: Read, W: Write>(
 
 // What a run keeps from one block of its input to the next.
 #[derive(Drop)]
-struct Session {
+struct Dialogue {
     alloc: Global,
     // The latest zone that a line gave.
     zone: Option<TimeZone>,
@@ -100,12 +100,12 @@ struct Session {
     answer: String,
 }
 
-impl Session {
-    fn new(alloc: Global) -> Session
+impl Dialogue {
+    fn new(alloc: Global) -> Dialogue
         ensures zone { result.zone ≡ None }
         ensures begun { result.begun.items ≡ [] }
     {
-        Session {
+        Dialogue {
             alloc,
             zone: None,
             begun: Vec::new(alloc),

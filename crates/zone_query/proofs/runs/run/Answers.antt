@@ -24,7 +24,7 @@ loop-preserved g c =
         f.1 ++ t.0,
         consumes_join (r c.args.reader.now.inner) (r c.loop.reader.inner) (r c.read.new.self.inner) f.0 given f.2 c.in-Ok.ensures.bytes.0,
         appends_join (w c.args.writer.now.inner) (w c.loop.writer.inner) (w c.take_block.new.writer.inner) f.1 t.0 f.3 t.2,
-        answered_join None [] f.0 f.1 c.loop.session.zone c.loop.session.begun.items given t.0 c.take_block.new.self.zone c.take_block.new.self.begun.items f.4 t.1,
+        answered_join None [] f.0 f.1 c.loop.dialogue.zone c.loop.dialogue.begun.items given t.0 c.take_block.new.self.zone c.take_block.new.self.begun.items f.4 t.1,
       );
     }
 
@@ -34,7 +34,7 @@ returns-in-Err-take_block g c =
     let r = g.R.Read.remaining in
     let kept = c.loop.invariant in
     let f = kept.answered in
-    block_stopped c.read.new.self.failed c.take_block.new.writer.failed c.read.new.self.reads (r c.args.reader.now.inner) (r c.loop.reader.inner) (r c.read.new.self.inner) (w c.args.writer.now.inner) (w c.loop.writer.inner) (w c.take_block.new.writer.inner) f.0 f.1 c.loop.session.zone c.loop.session.begun.items (take c.in-Ok.n c.read.new.buf) c.in-Err-take_block.e
+    block_stopped c.read.new.self.failed c.take_block.new.writer.failed c.read.new.self.reads (r c.args.reader.now.inner) (r c.loop.reader.inner) (r c.read.new.self.inner) (w c.args.writer.now.inner) (w c.loop.writer.inner) (w c.take_block.new.writer.inner) f.0 f.1 c.loop.dialogue.zone c.loop.dialogue.begun.items (take c.in-Ok.n c.read.new.buf) c.in-Err-take_block.e
     (not_failed c.read.new.self.failed c.loop.reader.failed c.in-Ok.ensures.failed kept.reader_works) f.2 f.3 f.4 c.in-Ok.ensures.bytes.0 c.in-Err-take_block.ensures.err
 
 pub returns-in-Ok-eq0 : goal.returns-in-Ok-eq0
@@ -45,7 +45,7 @@ returns-in-Ok-eq0 g c =
     let f = kept.answered in
     let read = c.in-Ok-eq0 in
     let none = read.field-0-test in
-    reader_ended c.read.new.self.ended c.read.new.self.failed c.finish.new.writer.failed c.read.new.self.reads (r c.args.reader.now.inner) (r c.loop.reader.inner) (r c.read.new.self.inner) (w c.args.writer.now.inner) (w c.loop.writer.inner) (w c.finish.new.writer.inner) f.0 f.1 c.loop.session.zone c.loop.session.begun.items c.read.new.buf c.finish.result
+    reader_ended c.read.new.self.ended c.read.new.self.failed c.finish.new.writer.failed c.read.new.self.reads (r c.args.reader.now.inner) (r c.loop.reader.inner) (r c.read.new.self.inner) (w c.args.writer.now.inner) (w c.loop.writer.inner) (w c.finish.new.writer.inner) f.0 f.1 c.loop.dialogue.zone c.loop.dialogue.begun.items c.read.new.buf c.finish.result
     (ended_now c.read.new.self.ended c.loop.reader.ended read.field-0 _ read.ensures.ended kept.goes_on none kept.room)
     (read.ensures.bytes.1 none (omega (arith, c.read.auto.buf)))
     (not_failed c.read.new.self.failed c.loop.reader.failed read.ensures.failed kept.reader_works)

@@ -14,5 +14,5 @@ invariant-loop g l = record {
   answered : (input : List ℕ) × (output : List ℕ)
       × Consumes (g.R.Read.remaining l.fn.reader.inner) (g.R.Read.remaining l.reader.inner) input
       × Appends (g.W.Write.contents l.fn.writer.inner) (g.W.Write.contents l.writer.inner) output
-      × Answered None [] input output l.session.zone l.session.begun.items;
+      × Answered None [] input output l.dialogue.zone l.dialogue.begun.items;
 }

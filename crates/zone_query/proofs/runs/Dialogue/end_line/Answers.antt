@@ -2,7 +2,7 @@ use Rattle.std.proofs.Common.{◌≡◌, ◌++◌, ◌∙◌, List, ℕ, ap, sym
 use Rattle.zone_query.specs.Lines.{without_return}
 use Rattle.zone_query.specs.Steps.{StopsAt}
 use Rattle.zone_query.proofs.Stopping.{no_items, same_reply}
-use Rattle.zone_query.proofs.runs.Session.end_line.Goals as goal
+use Rattle.zone_query.proofs.runs.Dialogue.end_line.Goals as goal
 
 pub returns-then-is_empty-clause-ok : goal.returns-then-is_empty-clause-ok
 returns-then-is_empty-clause-ok g c =

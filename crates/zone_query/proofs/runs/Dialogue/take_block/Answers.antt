@@ -1,6 +1,6 @@
 use Rattle.zone_query.proofs.Bytes.{appends_kept}
 use Rattle.zone_query.proofs.Stopping.{flush_stops}
-use Rattle.zone_query.proofs.runs.Session.take_block.Goals as goal
+use Rattle.zone_query.proofs.runs.Dialogue.take_block.Goals as goal
 
 pub returns-in-Ok-clause-err : goal.returns-in-Ok-clause-err
 returns-in-Ok-clause-err g c =

@@ -1,7 +1,7 @@
 use Rattle.std.proofs.Common.{◌≡◌, false, length, List, ℕ, ◌++◌}
 use Rattle.std.specs.Io.KnownBytes.{Appends}
 use Rattle.zone_query.specs.Steps.{Answered}
-use Rattle.zone_query.proofs.runs.Session.answer_lines.Given as goal
+use Rattle.zone_query.proofs.runs.Dialogue.answer_lines.Given as goal
 
 abbrev pub invariant-loop-piece : goal.invariant-loop-piece
 invariant-loop-piece g l = record {

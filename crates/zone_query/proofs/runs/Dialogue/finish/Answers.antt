@@ -4,7 +4,7 @@ use Rattle.zone_query.specs.Answers.{AnswersLine}
 use Rattle.zone_query.specs.Steps.{StopsAt}
 use Rattle.zone_query.proofs.Bytes.{appends_kept}
 use Rattle.zone_query.proofs.Stopping.{some_items, last_answered, last_flush_stops, last_stops}
-use Rattle.zone_query.proofs.runs.Session.finish.Goals as goal
+use Rattle.zone_query.proofs.runs.Dialogue.finish.Goals as goal
 
 pub returns-in-Ok-clause-ok : goal.returns-in-Ok-clause-ok
 returns-in-Ok-clause-ok g c =

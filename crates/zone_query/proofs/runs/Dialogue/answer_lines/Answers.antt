@@ -2,7 +2,7 @@ use Rattle.std.proofs.Common.{[], ◌++◌, refl, codes}
 use Rattle.zone_query.proofs.Bytes.{appends_same, appends_join}
 use Rattle.zone_query.proofs.Standing.{answered_none}
 use Rattle.zone_query.proofs.Stopping.{line_taken, line_stops, rest_kept}
-use Rattle.zone_query.proofs.runs.Session.answer_lines.Goals as goal
+use Rattle.zone_query.proofs.runs.Dialogue.answer_lines.Goals as goal
 
 pub loop-piece-init : goal.loop-piece-init
 loop-piece-init g c = record {
