@@ -7,12 +7,10 @@ use Rattle.tz_info.specs.LocalTypes.{LocalType}
 use Rattle.tz_info.specs.WallClocks.{Shows}
 use Rattle.tz_info.specs.Spans.{IsSpan, widened, IsAsked, answer_of}
 use Rattle.tz_info.specs.declared.span.Span.{Span}
+use Rattle.tz_info.proofs.Prefixes.{lt_false}
 
 lt_true : (a b : ℤ) → a <ℤ b → int_lt a b ≡ true
 lt_true a b h = grind (arith, ints)
-
-lt_false : (a b : ℤ) → b ≤ℤ a → int_lt a b ≡ false
-lt_false a b h = grind (arith, ints)
 
 -- q takes what p takes, and at most the second c besides
 pub record Adds (p q : ℤ → LocalType → Type 0) (c : ℤ) : Type 0 where

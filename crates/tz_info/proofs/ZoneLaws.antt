@@ -76,7 +76,7 @@ type_listed z u t a = ⊎_elim
     (λ h. or_else_listed z.rule z u (index_at z a.leap_time) t (a.in_force.from_last h))
     (before_or_from_last z a.leap_time)
 
-fits_or_not : (a : ℤ) → SFits w64 a ⊎ (SFits w64 a → ⊥)
+pub fits_or_not : (a : ℤ) → SFits w64 a ⊎ (SFits w64 a → ⊥)
 fits_or_not a = by_lt_z a (neg_ℤ (pos 9_223_372_036_854_775_808))
     (λ low. inr (λ f. omega (arith, ints)))
     (λ h. by_lt_z (pos 9_223_372_036_854_775_807) a (λ high. inr (λ f. omega (arith, ints))) (λ l. inl (omega (arith, ints))))

@@ -11,7 +11,7 @@ use Rattle.tz_info.specs.WallClocks.{Shows}
 use Rattle.tz_info.specs.Zones.{Zone, IsValid, IsRuleOrNone, TypeAt}
 use Rattle.tz_info.specs.declared.span.Span.{Span}
 use Rattle.tz_info.proofs.SpanLaws.{Adds, widened_span, span_answer}
-use Rattle.tz_info.proofs.ZoneLaws.{type_once, type_not_refused, type_decided}
+use Rattle.tz_info.proofs.ZoneLaws.{fits_or_not, type_once, type_not_refused, type_decided}
 
 -- each second shows a type, or shows none
 abbrev IsDecided : (ℤ → LocalType → Type 0) → Type 0
@@ -55,11 +55,6 @@ fits_to u f = omega (arith, ints)
 
 same_or_not : (a b : ℤ) → (a ≡ b) ⊎ (a ≡ b → ⊥)
 same_or_not a b = by_lt_z a b (λ l. inr (λ e. absurd (omega (arith, ints, l, e)))) (λ g. by_lt_z b a (λ l. inr (λ e. absurd (omega (arith, ints, l, e)))) (λ l. inl (omega (arith, ints, g, l))))
-
-fits_or_not : (u : ℤ) → FitsSigned w64 u ⊎ (FitsSigned w64 u → ⊥)
-fits_or_not u = by_lt_z u (neg_ℤ (pos 9_223_372_036_854_775_808))
-    (λ low. inr (λ f. omega (arith, ints)))
-    (λ from. by_lt_z u (pos 9_223_372_036_854_775_808) (λ to. inl (omega (arith, ints))) (λ high. inr (λ f. omega (arith, ints))))
 
 both_z : (u offset local : ℤ) → (FitsSigned w64 u × (u +ℤ offset ≡ local)) ⊎ (FitsSigned w64 u × (u +ℤ offset ≡ local) → ⊥)
 both_z u offset local = elim (fits_or_not u) [

@@ -1,7 +1,6 @@
 //! Answers questions on a time zone: lines from standard input, a line of answer to each on standard output.
 #![tactic(auto)]
 
-use std::io;
 use std::io::BufWriter;
 use std::process::ExitCode;
 use zone_query::{RunError, Watched, run};
