@@ -15,7 +15,7 @@ use Rattle.naive_base.proofs.Years.{floor_mod_parts}
 use Rattle.naive_base.proofs.Dates.{date_is}
 use Rattle.naive_base.proofs.Ranges.{wide_year}
 use Rattle.naive_base.proofs.Readings.{same_second, seconds_in_wide}
-use Rattle.offset_core.proofs.Digits.{split_left, split_right, length-in_digits, in_digits_once}
+use Rattle.offset_core.proofs.ForCallers.{split_left, split_right, length-in_digits, in_digits_once}
 use Rattle.naive_base.proofs.Digits.{heads_alike, tails_alike, cut_at, four_digits-alike, IsNumeric, byte_and, IsNumeric-append, in_digits-numeric, four_digits-numeric}
 
 -- Years: one with its sign is no year of four digits.

@@ -2,10 +2,10 @@
 use Rattle.std.proofs.Common.{◌≡◌, ℕ, suc, ◌+◌, ◌<◌, ◌≤◌, arith, ℤ, pos, ◌+ℤ◌, ◌-ℤ◌}
 use Rattle.naive_base.specs.Year.{is_leap, days_in_year, year_start, LiesIn}
 use Rattle.naive_base.specs.Date.{day_number}
-use Rattle.naive_base.specs.Cycle.{days_of_years, number_from_march}
+use Rattle.naive_base.specs.Steps.Cycle.{days_of_years, number_from_march}
 use Rattle.naive_base.proofs.Floor.{floors}
 use Rattle.naive_base.proofs.Years.{year_step}
-use Rattle.naive_base.proofs.Months.{leap_day, months_early, months_late}
+use Rattle.naive_base.proofs.MonthDays.{leap_day, months_early, months_late}
 
 -- the n-th year from that January on
 next_start : (y : ℤ) (n : ℕ) → y +ℤ pos 2_147_484_000 ≡ pos n

@@ -7,9 +7,9 @@ use Rattle.naive_base.specs.Month.{days_in_month, days_of_months, place_from}
 use Rattle.naive_base.specs.Date.{IsDate, day_number, day_of_year, month_of, day_of_month}
 use Rattle.naive_base.proofs.Floor.{floors}
 use Rattle.naive_base.proofs.Years.{year_step, lies_in, one_year, gap_of, starts_rise, day_of_years}
-use Rattle.naive_base.specs.Cycle.{days_of_years}
+use Rattle.naive_base.specs.Steps.Cycle.{days_of_years}
 use Rattle.naive_base.proofs.Cycle.{days_with_leap, january_start, year_found}
-use Rattle.naive_base.proofs.Months.{leap_day, leap_at_most, months_early, months_late, march_place, late_day, first_months}
+use Rattle.naive_base.proofs.MonthDays.{leap_day, leap_at_most, months_early, months_late, march_place, late_day, first_months}
 
 -- Later months begin later.
 

@@ -6,7 +6,7 @@ use Rattle.std.proofs.lemmas.Bool.{cases_lt}
 use Rattle.std.proofs.lemmas.Bool.Decides.{nat_tests}
 use Rattle.std.proofs.Math.Nat.{pow-suc}
 use Rattle.offset_core.specs.Digits.{in_digits}
-use Rattle.offset_core.proofs.Digits.{length-in_digits, in_digits_once}
+use Rattle.offset_core.proofs.ForCallers.{length-in_digits, in_digits_once}
 use Rattle.naive_base.specs.Text.{four_digits}
 
 pub heads_alike : (x y : ℕ) (a b : List ℕ) → x ∷ a ≡ y ∷ b → x ≡ y

@@ -1,6 +1,6 @@
 pub mod Floor
 pub mod Years
-pub mod Months
+pub mod MonthDays
 pub mod Cycle
 pub mod Dates
 pub mod Weekdays
@@ -10,3 +10,5 @@ pub mod Digits
 pub mod Readings
 pub mod Alike
 pub mod Values
+pub mod Orders
+pub mod ForCallers

@@ -1,16 +1,16 @@
 -- The days of the years in range.
-use Rattle.std.proofs.Common.{◌≡◌, ℕ, arith, refl, ℤ, pos, neg_ℤ, ◌+ℤ◌}
+use Rattle.std.proofs.Common.{◌≡◌, ℕ, ◌<◌, arith, refl, ℤ, pos, neg_ℤ, ◌+ℤ◌, ◌-ℤ◌}
 use Rattle.std.proofs.lemmas.Int.{by_lt_z}
-use Rattle.naive_base.specs.Year.{year_start, year_of}
+use Rattle.naive_base.specs.Year.{year_start, year_of, days_in_year}
 use Rattle.naive_base.specs.Date.{IsDate, day_number}
-use Rattle.naive_base.specs.Range.{IsYearInRange, IsDayInRange, IsWideDay, IsWideYear}
+use Rattle.naive_base.specs.Range.{IsYearInRange, IsInnerYear, IsDayInRange, IsWideDay, IsWideYear}
 use Rattle.naive_base.proofs.Floor.{floors}
-use Rattle.naive_base.proofs.Years.{lies_in, starts_rise}
+use Rattle.naive_base.proofs.Years.{lies_in, starts_rise, year_step}
 use Rattle.naive_base.proofs.Dates.{date_between}
 
-first_day : year_start (neg_ℤ (pos 262_143)) ≡ neg_ℤ (pos 96_465_292)
+first_day_is : year_start (neg_ℤ (pos 262_143)) ≡ neg_ℤ (pos 96_465_292)
 unfolding year_start
-first_day = refl
+first_day_is = refl
 
 end_day : year_start (pos 262_142 +ℤ pos 1) ≡ pos 95_026_237
 unfolding year_start
@@ -19,7 +19,22 @@ end_day = refl
 pub date_in_years : (y : ℤ) (m d : ℕ) → IsYearInRange y → IsDate y m d → IsDayInRange (day_number y m d)
 date_in_years y m d fits date =
     let between = date_between (neg_ℤ (pos 262_143)) (pos 262_142) y m d fits.0 fits.1 date in
-    (omega (arith, floors, first_day), omega (arith, floors, end_day))
+    (omega (arith, floors, first_day_is), omega (arith, floors, end_day))
+
+second_year : year_start (neg_ℤ (pos 262_142)) ≡ neg_ℤ (pos 96_464_927)
+unfolding year_start
+second_year = refl
+
+last_year_start : year_start (pos 262_141 +ℤ pos 1) ≡ pos 95_025_872
+unfolding year_start
+last_year_start = refl
+
+-- a day away from a date of the inner years is still in range
+pub inner_date : (y : ℤ) (m d : ℕ) → IsInnerYear y → IsDate y m d
+    → IsDayInRange (day_number y m d -ℤ pos 1) × IsDayInRange (day_number y m d +ℤ pos 1)
+inner_date y m d fits date =
+    let between = date_between (neg_ℤ (pos 262_142)) (pos 262_141) y m d fits.0 fits.1 date in
+    ((omega (arith, floors, second_year), omega (arith, floors, last_year_start)), (omega (arith, floors, second_year), omega (arith, floors, last_year_start)))
 
 first_wide : year_start (neg_ℤ (pos 262_144)) ≡ neg_ℤ (pos 96_465_658)
 unfolding year_start
@@ -40,7 +55,7 @@ wide_year day wide =
 pub years_in_range : (day : ℤ) → IsDayInRange day → IsYearInRange (year_of day)
 years_in_range day within =
     let y = year_of day in let lies = lies_in day in (
-      by_lt_z y (neg_ℤ (pos 262_143)) (λ less. let rise = starts_rise (y +ℤ pos 1) (neg_ℤ (pos 262_143)) (omega (arith, floors)) in absurd (omega (arith, floors, first_day))) (λ more. more),
+      by_lt_z y (neg_ℤ (pos 262_143)) (λ less. let rise = starts_rise (y +ℤ pos 1) (neg_ℤ (pos 262_143)) (omega (arith, floors)) in absurd (omega (arith, floors, first_day_is))) (λ more. more),
       by_lt_z (pos 262_142) y (λ less. let rise = starts_rise (pos 262_142 +ℤ pos 1) y (omega (arith, floors)) in absurd (omega (arith, floors, end_day))) (λ more. more),
     )
 
@@ -49,4 +64,11 @@ days_in_range day fits =
     let y = year_of day in let lies = lies_in day in
     let low = starts_rise (neg_ℤ (pos 262_143)) y fits.0 in
     let high = starts_rise (y +ℤ pos 1) (pos 262_142 +ℤ pos 1) (omega (arith, floors)) in
-    (omega (arith, floors, first_day), omega (arith, floors, end_day))
+    (omega (arith, floors, first_day_is), omega (arith, floors, end_day))
+
+pub day_in_years : (y : ℤ) (n : ℕ) → IsYearInRange y → n < days_in_year y → IsDayInRange (year_start y +ℤ pos n)
+day_in_years y n h k =
+    let low = starts_rise (neg_ℤ (pos 262_143)) y h.0 in
+    let high = starts_rise (y +ℤ pos 1) (pos 262_142 +ℤ pos 1) (omega (arith, floors)) in
+    let step = year_step y in
+    (omega (arith, floors, first_day_is), omega (arith, floors, end_day))

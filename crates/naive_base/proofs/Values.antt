@@ -1,5 +1,5 @@
 -- Dates, times and readings are what they show.
-use Rattle.std.proofs.Common.{◌≡◌, ℕ, ℤ, ap, subst}
+use Rattle.std.proofs.Common.{◌≡◌, ◌∙◌, refl, sym, ℕ, zero, suc, ℤ, ap, subst}
 use Rattle.std.proofs.Props.{props}
 use Rattle.naive_base.specs.declared.date.NaiveDate.{NaiveDate}
 use Rattle.naive_base.specs.declared.time.NaiveTime.{NaiveTime}
@@ -8,6 +8,9 @@ use Rattle.naive_base.specs.Range.{IsWideDay, IsTime, IsReading}
 use Rattle.naive_base.specs.NaiveDate.{day_of}
 use Rattle.naive_base.specs.NaiveTime.{second_of, fraction_of}
 use Rattle.naive_base.specs.NaiveDateTime.{reading}
+use Rattle.naive_base.specs.Weekday.{weekday_number}
+use Rattle.naive_base.specs.declared.weekday.Weekday.{Weekday}
+use Rattle.naive_base.specs.declared.weekday.Weekday.TheVariants.{Mon, Tue, Wed, Thu, Fri, Sat, Sun}
 
 IsWideDay-once : (day : ℤ) → IsProp (IsWideDay day)
 IsWideDay-once day = hlevel props
@@ -35,3 +38,25 @@ same_reading a b seconds fractions =
     let SameAt : ℤ → ℕ → Type 0 = λ s f. (is_reading : IsReading s f) → a ≡ record { secs = s; frac = f; in_range = is_reading } in
     let at_a : SameAt (reading a).s (reading a).f = λ is_reading. ap (λ r. record a { in_range = r }) (IsReading-once (reading a).s (reading a).f a.in_range is_reading) in
     subst (λ (s : ℤ). SameAt s (reading b).f) seconds (subst (SameAt (reading a).s) fractions at_a) b.in_range
+
+weekday_at : ℕ → Weekday
+weekday_at zero = Sun
+weekday_at (suc zero) = Mon
+weekday_at (suc (suc zero)) = Tue
+weekday_at (suc (suc (suc zero))) = Wed
+weekday_at (suc (suc (suc (suc zero)))) = Thu
+weekday_at (suc (suc (suc (suc (suc zero))))) = Fri
+weekday_at (suc (suc (suc (suc (suc (suc n)))))) = Sat
+
+weekday_back : (w : Weekday) → weekday_at (weekday_number w) ≡ w
+unfolding weekday_at
+weekday_back Mon = refl
+weekday_back Tue = refl
+weekday_back Wed = refl
+weekday_back Thu = refl
+weekday_back Fri = refl
+weekday_back Sat = refl
+weekday_back Sun = refl
+
+pub same_weekday : (a b : Weekday) → weekday_number a ≡ weekday_number b → a ≡ b
+same_weekday a b numbers = sym (weekday_back a) ∙ ap weekday_at numbers ∙ weekday_back b

@@ -15,7 +15,8 @@ day_number y m d = year_start y +ℤ pos (days_of_months (is_leap y) (m - 1) + (
 unfoldable pub day_of_year : ℤ → ℕ
 day_of_year day = unsigned_abs (day -ℤ year_start (year_of day))
 
--- the date of a day
+-- the date of a day, in closed form: `dates_law` proves that the calendar has it, that its number is the day, and that no
+-- other date has that number
 unfoldable pub month_of : ℤ → ℕ
 month_of day = (place_in_year (is_leap (year_of day)) (day_of_year day)).0
 

@@ -1,5 +1,5 @@
 -- What a `NaiveDate` shows.
-use Rattle.std.specs.Prelude.{◌≡◌, ℕ, List, ℤ, Option, Some, None}
+use Rattle.std.specs.Prelude.{◌≡◌, ℕ, List, ℤ, Option, Some, None, option_map}
 use Rattle.naive_base.specs.Year.{year_of}
 use Rattle.naive_base.specs.Date.{IsDate, day_number, month_of, day_of_month}
 use Rattle.naive_base.specs.Range.{IsYearInRange, IsDayInRange}
@@ -19,6 +19,10 @@ IsDateOf y m d None = IsYearInRange y → IsDate y m d → ⊥
 abbrev pub IsDateOfDay : ℤ → Option NaiveDate → Type 0
 IsDateOfDay day (Some date) = IsDayInRange day × (day_of date ≡ day)
 IsDateOfDay day None = IsDayInRange day → ⊥
+
+-- the date on the day given, or none where none is given
+abbrev pub IsDateOn : Option ℤ → Option NaiveDate → Type 0
+IsDateOn day answer = option_map day_of answer ≡ day
 
 -- the bytes of its `Display` and of its `Debug`
 abbrev pub printed_date : NaiveDate → List ℕ

@@ -1,8 +1,9 @@
 -- What a `NaiveDateTime` shows.
-use Rattle.std.specs.Prelude.{◌≡◌, ℕ, ℤ, List, Option, Some, None}
+use Rattle.std.specs.Prelude.{◌≡◌, ℕ, ℤ, List, Option, Some, None, option_map}
 use Rattle.naive_base.specs.Clock.{IsFraction}
 use Rattle.naive_base.specs.Range.{IsInRange}
-use Rattle.naive_base.specs.Reading.{Reading, reading_at}
+use Rattle.naive_base.specs.Reading.{Reading, reading_at, day_at, second_at}
+use Rattle.naive_base.specs.Fields.{TimeOfDay, reading_on}
 use Rattle.naive_base.specs.Text.{reading_text}
 use Rattle.naive_base.specs.declared.datetime.NaiveDateTime.{NaiveDateTime}
 
@@ -20,6 +21,18 @@ abbrev pub IsReadingOn : ℤ → Type 0 → ℕ → ℕ → Option NaiveDateTime
 IsReadingOn day on_clock second f (Some datetime) =
     on_clock × IsFraction second f × (reading datetime ≡ reading_at day second f)
 IsReadingOn day on_clock second f None = on_clock → IsFraction second f → ⊥
+
+-- the day that it shows
+abbrev pub day_shown_by : NaiveDateTime → ℤ
+day_shown_by datetime = day_at (reading datetime)
+
+-- a reading's time on the day given, or none where none is given
+abbrev pub IsReadingOnDay : Reading → Option ℤ → Option NaiveDateTime → Type 0
+IsReadingOnDay old day answer = option_map reading answer ≡ option_map (λ n. reading_at n (second_at old) old.f) day
+
+-- a reading's day at the time given, or none where none is given
+abbrev pub IsReadingAtTime : Reading → Option TimeOfDay → Option NaiveDateTime → Type 0
+IsReadingAtTime old time answer = option_map reading answer ≡ option_map (reading_on (day_at old)) time
 
 -- the bytes of its `Display`, with a space between the date and the time, and of its `Debug`, with a `T`
 abbrev pub printed_reading : NaiveDateTime → List ℕ

@@ -1,5 +1,6 @@
 -- What a `NaiveTime` shows.
 use Rattle.std.specs.Prelude.{◌≡◌, ℕ, List, Option, Some, None}
+use Rattle.naive_base.specs.Fields.{TimeOfDay}
 use Rattle.naive_base.specs.Clock.{IsFraction}
 use Rattle.naive_base.specs.Text.{time_text}
 use Rattle.naive_base.specs.declared.time.NaiveTime.{NaiveTime}
@@ -21,3 +22,7 @@ IsTimeOf on_clock second f None = on_clock → IsFraction second f → ⊥
 -- the bytes of its `Display` and of its `Debug`
 abbrev pub printed_time : NaiveTime → List ℕ
 printed_time time = time_text (second_of time) (fraction_of time)
+
+-- its time of day
+abbrev pub time_of : NaiveTime → TimeOfDay
+time_of time = record { second = time.secs; fraction = time.frac }

@@ -1,13 +1,39 @@
 -- The range of dates and readings, and the buffer day at either end of it.
 use Rattle.std.specs.Prelude.{ℕ, ◌<◌, ℤ, pos, neg_ℤ, ◌≤ℤ◌}
+use Rattle.naive_base.specs.Reading.{Reading}
+
+-- the first and the last year of the range
+abbrev pub first_year : ℤ
+first_year = neg_ℤ (pos 262_143)
+
+abbrev pub last_year : ℤ
+last_year = pos 262_142
+
+-- the first day of the first year, and the last day of the last
+abbrev pub first_day : ℤ
+first_day = neg_ℤ (pos 96_465_292)
+
+abbrev pub last_day : ℤ
+last_day = pos 95_026_236
+
+-- the first second of the first day, and the last second of the last
+abbrev pub first_second : ℤ
+first_second = neg_ℤ (pos 8_334_601_228_800)
+
+abbrev pub last_second : ℤ
+last_second = pos 8_210_266_876_799
 
 -- the years of the range
 abbrev pub IsYearInRange : ℤ → Type 0
-IsYearInRange y = (neg_ℤ (pos 262_143) ≤ℤ y) × (y ≤ℤ pos 262_142)
+IsYearInRange y = (first_year ≤ℤ y) × (y ≤ℤ last_year)
 
--- the days of those years
+-- all of them but the first and the last: a day away from a date of these years is still in range
+abbrev pub IsInnerYear : ℤ → Type 0
+IsInnerYear y = (neg_ℤ (pos 262_142) ≤ℤ y) × (y ≤ℤ pos 262_141)
+
+-- the days of the years in range
 abbrev pub IsDayInRange : ℤ → Type 0
-IsDayInRange day = (neg_ℤ (pos 96_465_292) ≤ℤ day) × (day ≤ℤ pos 95_026_236)
+IsDayInRange day = (first_day ≤ℤ day) × (day ≤ℤ last_day)
 
 -- with the years of the buffer days
 abbrev pub IsWideYear : ℤ → Type 0
@@ -19,7 +45,7 @@ IsWideDay day = (neg_ℤ (pos 96_465_293) ≤ℤ day) × (day ≤ℤ pos 95_026_
 
 -- the seconds of the days in range
 abbrev pub IsInRange : ℤ → Type 0
-IsInRange s = (neg_ℤ (pos 8_334_601_228_800) ≤ℤ s) × (s ≤ℤ pos 8_210_266_876_799)
+IsInRange s = (first_second ≤ℤ s) × (s ≤ℤ last_second)
 
 -- the seconds in range or on a buffer day
 abbrev pub IsWide : ℤ → Type 0
@@ -32,3 +58,14 @@ IsReading s f = IsWide s × (f < 2_000_000_000)
 -- what a time of day holds
 abbrev pub IsTime : ℕ → ℕ → Type 0
 IsTime s f = (s < 86_400) × (f < 2_000_000_000)
+
+-- 1970-01-01 00:00:00
+abbrev pub epoch : Reading
+epoch = record { s = pos 0; f = 0 }
+
+-- the first reading in range, and the last that is no leap second
+abbrev pub first_reading : Reading
+first_reading = record { s = first_second; f = 0 }
+
+abbrev pub last_reading : Reading
+last_reading = record { s = last_second; f = 999_999_999 }

@@ -31,7 +31,8 @@ LiesIn day y = (year_start y ≤ℤ day) × (day <ℤ year_start (y +ℤ pos 1))
 abbrev pub mean_year : ℤ → ℤ
 mean_year day = floor_div (day *ℤ pos 400) 146097 +ℤ pos 1970
 
--- the year that the day lies in: the mean year or one of its neighbours
+-- the year that the day lies in, in closed form: the mean year or one of its neighbours. `years_law` proves that the day
+-- lies in it, and in no other
 unfoldable pub year_of : ℤ → ℤ
 year_of day =
     if int_lt day (year_start (mean_year day)) then mean_year day -ℤ pos 1

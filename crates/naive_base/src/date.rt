@@ -1,12 +1,16 @@
 //! Dates.
-ghost use Rattle.std.specs.Prelude.{◌≡◌, ◌+◌, ◌*◌, pos, ◌+ℤ◌, ◌-ℤ◌, ◌*ℤ◌};
+ghost use Rattle.std.specs.Prelude.{◌≡◌, ◌↔◌, IsTrue, IfSome, ◌+◌, ◌*◌, ◌≤◌, pos, ◌+ℤ◌, ◌-ℤ◌, ◌*ℤ◌};
 ghost use Rattle.naive_base.specs.Year.{floor_div, year_of};
 ghost use Rattle.naive_base.specs.Date.{IsDate, day_number, month_of, day_of_month};
-ghost use Rattle.naive_base.specs.Range.{IsYearInRange, IsDayInRange, IsWideDay, IsWide};
+ghost use Rattle.naive_base.specs.Range.{IsYearInRange, IsWideYear, IsDayInRange, IsInRange, IsWideDay, IsWide};
 ghost use Rattle.naive_base.specs.Clock.{IsClock, clock_second};
 ghost use Rattle.naive_base.specs.Reading.{reading_at, day_at, second_at};
 
+mod fields;
+mod moves;
+
 use crate::calendar::{self, YearMonthDay};
+use crate::range::{FIRST_DAY, FIRST_YEAR, LAST_DAY, LAST_YEAR};
 use crate::{NaiveDateTime, NaiveTime};
 
 /// A day of the proleptic Gregorian calendar, in the years -262143 to 262142.
@@ -20,14 +24,6 @@ pub struct NaiveDate {
     pub ghost in_range: { IsWideDay day },
 }
 
-const FIRST_YEAR: i32 = -262_143;
-
-const LAST_YEAR: i32 = 262_142;
-
-const FIRST_DAY: i64 = -96_465_292;
-
-const LAST_DAY: i64 = 95_026_236;
-
 // 1970-01-01, where 0001-01-01 is day 1.
 const EPOCH_FROM_CE: i64 = 719_163;
 
@@ -35,7 +31,7 @@ fn day_in_range(year: i32, month: u32, day: u32) -> i32
     requires year { IsYearInRange year }
     requires date { IsDate year month day }
     ensures value { result ≡ day_number year month day }
-    ensures bound { IsWideDay result }
+    ensures bound { IsDayInRange result }
 {
     calendar::day_number(year, month, day) as i32
 }
@@ -48,7 +44,8 @@ impl NaiveDate {
     /// The date of a year, a month from 1 and a day of the month from 1. `None` where the calendar has no such date, or
     /// the year is not one from -262143 to 262142.
     pub fn from_ymd_opt(year: i32, month: u32, day: u32) -> Option<NaiveDate>
-        ensures { IsDateOf year month day result }
+        ensures value { IsDateOf year month day result }
+        ensures in_range { IfSome result (λ d. IsDayInRange (day_of d)) }
     {
         if year < FIRST_YEAR || year > LAST_YEAR {
             return None;
@@ -60,10 +57,11 @@ impl NaiveDate {
     }
 
     // The date with these fields, which the calendar has.
-    fn of_ymd(year: i32, month: u32, day: u32) -> NaiveDate
+    pub(crate) fn of_ymd(year: i32, month: u32, day: u32) -> NaiveDate
         requires year { IsYearInRange year }
         requires date { IsDate year month day }
-        ensures { day_of result ≡ day_number year month day }
+        ensures value { day_of result ≡ day_number year month day }
+        ensures in_range { IsDayInRange (day_of result) }
     {
         NaiveDate {
             day: day_in_range(year, month, day),
@@ -76,7 +74,7 @@ impl NaiveDate {
         ensures { IsDateOfDay (days -ℤ pos 719_163) result }
     {
         let day = days as i64 - EPOCH_FROM_CE;
-        if day < FIRST_DAY || day > LAST_DAY {
+        if day < FIRST_DAY as i64 || day > LAST_DAY as i64 {
             return None;
         }
         Some(NaiveDate { day: day as i32 })
@@ -91,7 +89,8 @@ impl NaiveDate {
 
     /// The reading of a clock at that time of this day.
     pub fn and_time(&self, time: NaiveTime) -> NaiveDateTime
-        ensures value { reading result ≡ reading_at (day_of self.now) (second_of time) (fraction_of time) }
+        ensures value { reading result ≡ reading_at (day_of self.now) (second_of time)
+            (fraction_of time) }
         ensures day { day_at (reading result) ≡ day_of self.now }
         ensures second { second_at (reading result) ≡ second_of time }
     {
@@ -100,7 +99,10 @@ impl NaiveDate {
 
     /// The reading at an hour from 0 to 23, a minute and a second from 0 to 59 of this day. `None` for any other.
     pub fn and_hms_opt(&self, hour: u32, min: u32, sec: u32) -> Option<NaiveDateTime>
-        ensures { IsReadingOn (day_of self.now) (IsClock hour min sec) (clock_second hour min sec) 0 result }
+        ensures value { IsReadingOn (day_of self.now) (IsClock hour min sec)
+            (clock_second hour min sec) 0 result }
+        ensures in_range { IsDayInRange (day_of self.now) → IfSome result
+            (λ r. IsInRange (reading r).s) }
     {
         let time = NaiveTime::from_hms_opt(hour, min, sec)?;
         Some(self.and_time(time))
@@ -114,7 +116,10 @@ impl NaiveDate {
         sec: u32,
         milli: u32,
     ) -> Option<NaiveDateTime>
-        ensures { IsReadingOn (day_of self.now) (IsClock hour min sec) (clock_second hour min sec) (milli * 1_000_000) result }
+        ensures value { IsReadingOn (day_of self.now) (IsClock hour min sec)
+            (clock_second hour min sec) (milli * 1_000_000) result }
+        ensures in_range { IsDayInRange (day_of self.now) → IfSome result
+            (λ r. IsInRange (reading r).s) }
     {
         let time = NaiveTime::from_hms_milli_opt(hour, min, sec, milli)?;
         Some(self.and_time(time))
@@ -128,7 +133,10 @@ impl NaiveDate {
         sec: u32,
         micro: u32,
     ) -> Option<NaiveDateTime>
-        ensures { IsReadingOn (day_of self.now) (IsClock hour min sec) (clock_second hour min sec) (micro * 1_000) result }
+        ensures value { IsReadingOn (day_of self.now) (IsClock hour min sec)
+            (clock_second hour min sec) (micro * 1_000) result }
+        ensures in_range { IsDayInRange (day_of self.now) → IfSome result
+            (λ r. IsInRange (reading r).s) }
     {
         let time = NaiveTime::from_hms_micro_opt(hour, min, sec, micro)?;
         Some(self.and_time(time))
@@ -142,7 +150,10 @@ impl NaiveDate {
         sec: u32,
         nano: u32,
     ) -> Option<NaiveDateTime>
-        ensures { IsReadingOn (day_of self.now) (IsClock hour min sec) (clock_second hour min sec) nano result }
+        ensures value { IsReadingOn (day_of self.now) (IsClock hour min sec)
+            (clock_second hour min sec) nano result }
+        ensures in_range { IsDayInRange (day_of self.now) → IfSome result
+            (λ r. IsInRange (reading r).s) }
     {
         let time = NaiveTime::from_hms_nano_opt(hour, min, sec, nano)?;
         Some(self.and_time(time))
@@ -153,8 +164,17 @@ impl NaiveDate {
         ensures month { result.month ≡ month_of (day_of self.now) }
         ensures day { result.day ≡ day_of_month (day_of self.now) }
         ensures date { IsDate result.year result.month result.day }
+        ensures bound { IsWideYear result.year }
     {
-        calendar::date_of(self.day as i64)
+        calendar::date_of(self.number())
+    }
+
+    // The day number.
+    pub(crate) fn number(&self) -> i64
+        ensures value { result ≡ day_of self.now }
+        ensures bound { IsWideDay result }
+    {
+        self.day as i64
     }
 
     // The day that a second since the epoch lies in.
@@ -165,6 +185,19 @@ impl NaiveDate {
         NaiveDate {
             day: second.div_euclid(86_400) as i32,
         }
+    }
+
+    pub(crate) fn of_day(day: i64) -> NaiveDate
+        requires { IsWideDay day }
+        ensures { day_of result ≡ day }
+    {
+        NaiveDate { day: day as i32 }
+    }
+
+    pub(crate) fn is_day(&self, day: i64) -> bool
+        ensures { IsTrue result ↔ (day ≡ day_of self.now) }
+    {
+        self.day as i64 == day
     }
 
     // The seconds from the epoch to midnight.

@@ -1,12 +1,15 @@
 //! Readings of a clock.
-ghost use Rattle.std.specs.Prelude.{◌≡◌, ◌↔◌, ◌<◌, IsTrue, pos, ◌+ℤ◌, ◌-ℤ◌};
+ghost use Rattle.std.specs.Prelude.{◌≡◌, ◌↔◌, ◌<◌, IsTrue, SomeIff, option_map, pos, ◌+ℤ◌, ◌-ℤ◌};
 ghost use Rattle.offset_core.specs.FixedOffset.{seconds_of};
 ghost use Rattle.naive_base.specs.Range.{IsReading, IsInRange};
 ghost use Rattle.naive_base.specs.Reading.{reading_at, day_at, second_at, ahead, behind};
+ghost use Rattle.naive_base.specs.Stamp.{of_secs, IsStamp};
 
+mod fields;
 mod moves;
 
-use crate::{NaiveDate, NaiveTime};
+use crate::range::{FIRST_SECOND, LAST_SECOND};
+use crate::{NaiveDate, NaiveTime, Timelike};
 use offset_core::FixedOffset;
 
 /// What a clock shows, without a time zone: the seconds from 1970-01-01 00:00:00, every day counted as 86,400, and
@@ -22,10 +25,6 @@ pub struct NaiveDateTime {
     frac: u32,
     pub ghost in_range: { IsReading secs frac },
 }
-
-const FIRST_SECOND: i64 = -8_334_601_228_800;
-
-const LAST_SECOND: i64 = 8_210_266_876_799;
 
 impl NaiveDateTime {
     ghost use Rattle.naive_base.specs.NaiveDate.{day_of};
@@ -51,6 +50,18 @@ impl NaiveDateTime {
             secs: date.midnight() + time.num_seconds_from_midnight() as i64,
             frac: time.nanosecond(),
         }
+    }
+
+    /// The reading so many seconds after 1970-01-01 00:00:00, or before it for a negative number, and so many nanoseconds.
+    /// `None` where that isn't in range, or the nanoseconds are 2*10^9 or more, or, being 10^9 or more, don't follow the
+    /// last second of a minute.
+    pub fn from_timestamp_opt(secs: i64, nsecs: u32) -> Option<NaiveDateTime>
+        ensures { let r = of_secs secs nsecs in SomeIff (option_map reading result) (IsStamp r) r }
+    {
+        if nsecs >= 2_000_000_000 || (nsecs >= 1_000_000_000 && secs.rem_euclid(60) != 59) {
+            return None;
+        }
+        NaiveDateTime::at_second(secs, nsecs)
     }
 
     // The reading at a second, where it is in range.
@@ -91,13 +102,6 @@ impl NaiveDateTime {
         ensures { result ≡ (reading self.now).s }
     {
         self.secs
-    }
-
-    /// The nanoseconds from the start of that second, from 10^9 on those of the leap second after it.
-    pub fn nanosecond(&self) -> u32
-        ensures { result ≡ (reading self.now).f }
-    {
-        self.frac
     }
 
     /// What a clock shows that is ahead of this one by an offset. `None` where that isn't in range.

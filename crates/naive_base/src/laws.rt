@@ -1,7 +1,7 @@
-//! Laws of dates, times and readings: each function here is a law by its contract, and does nothing else.
+//! Theorems: each function is empty, its contract is proved; never called.
 ghost use Rattle.std.specs.Prelude.{◌≡◌, ◌↔◌, IsTrue, ◌<◌, ◌<ℤ◌, ℕ, ℤ, pos, neg_ℤ};
 ghost use Rattle.naive_base.specs.Year.{floor_div, year_of};
-ghost use Rattle.naive_base.specs.Range.{IsYearInRange, IsWideYear, IsDayInRange, IsWideDay, IsInRange, IsWide};
+ghost use Rattle.naive_base.specs.Range.{IsYearInRange, IsWideYear, IsDayInRange, IsWideDay, IsInRange, IsWide, first_reading, last_reading};
 ghost use Rattle.naive_base.specs.Reading.{Reading, reading_at, day_at, second_at, moved, difference, IsEarlier, IsEarlierTime, IsEarlierByDay};
 ghost use Rattle.naive_base.specs.NaiveDate.{day_of, printed_date};
 ghost use Rattle.naive_base.specs.NaiveTime.{second_of, fraction_of, printed_time};
@@ -10,7 +10,9 @@ ghost use Rattle.naive_base.specs.declared.date.NaiveDate.{NaiveDate as AnyDate}
 ghost use Rattle.naive_base.specs.declared.time.NaiveTime.{NaiveTime as AnyTime};
 ghost use Rattle.naive_base.specs.declared.datetime.NaiveDateTime.{NaiveDateTime as AnyReading};
 
-use crate::{NaiveDate, NaiveDateTime, NaiveTime};
+use crate::{NaiveDateTime, NaiveTime};
+
+pub mod comparisons;
 
 /// The range is that of the years -262143 to 262142, by days as by seconds, and the buffer days lie in the years beside it.
 pub fn range_law()
@@ -22,8 +24,8 @@ pub fn range_law()
 
 /// The constants: the least reading in range, the greatest that is no leap second, and midnight.
 pub fn constants() -> (NaiveDateTime, NaiveDateTime, NaiveTime)
-    ensures least { reading result.0 ≡ record { s = neg_ℤ (pos 8_334_601_228_800); f = 0 } }
-    ensures greatest { reading result.1 ≡ record { s = pos 8_210_266_876_799; f = 999_999_999 } }
+    ensures least { reading result.0 ≡ first_reading }
+    ensures greatest { reading result.1 ≡ last_reading }
     ensures midnight { (second_of result.2 ≡ 0) × (fraction_of result.2 ≡ 0) }
 {
     (NaiveDateTime::MIN, NaiveDateTime::MAX, NaiveTime::MIN)
@@ -33,29 +35,9 @@ pub fn constants() -> (NaiveDateTime, NaiveDateTime, NaiveTime)
 pub fn parts_law()
     ensures joined { (r : Reading) → reading_at (day_at r) (second_at r) r.f ≡ r }
     ensures parted { (day : ℤ) (second f : ℕ) → second < 86_400
-        → (day_at (reading_at day second f) ≡ day) × (second_at (reading_at day second f) ≡ second) }
+        → (day_at (reading_at day second f) ≡ day) × (second_at (reading_at day second f)
+        ≡ second) }
 {}
-
-/// Dates compare by their days.
-pub fn is_earlier_date(a: NaiveDate, b: NaiveDate) -> bool
-    ensures { IsTrue result ↔ (day_of a <ℤ day_of b) }
-{
-    a < b
-}
-
-/// Times compare by their seconds of the day, then by their nanoseconds.
-pub fn is_earlier_time(a: NaiveTime, b: NaiveTime) -> bool
-    ensures { IsTrue result ↔ IsEarlierTime (second_of a) (fraction_of a) (second_of b) (fraction_of b) }
-{
-    a < b
-}
-
-/// Readings compare by their seconds, then by their nanoseconds.
-pub fn is_earlier_reading(a: NaiveDateTime, b: NaiveDateTime) -> bool
-    ensures { IsTrue result ↔ IsEarlier (reading a) (reading b) }
-{
-    a < b
-}
 
 /// The order of readings is the order of their days and, on one day, of their times.
 pub fn order_law()
@@ -66,7 +48,8 @@ pub fn order_law()
 pub fn moves_law()
     ensures back { (r : Reading) (d : ℤ) → r.f < 1_000_000_000
         → ((moved r d).f < 1_000_000_000) × (moved (moved r d) (neg_ℤ d) ≡ r) }
-    ensures difference { (r : Reading) (d : ℤ) → r.f < 1_000_000_000 → difference (moved r d) r ≡ d }
+    ensures difference { (r : Reading) (d : ℤ) → r.f < 1_000_000_000 → difference (moved r d) r
+        ≡ d }
 {}
 
 /// What prints alike is equal, leap seconds aside: `23:59:60` follows any second 59 that prints as `23:59:59`.
@@ -74,8 +57,10 @@ pub fn print_law()
     ensures dates { (a b : AnyDate) → printed_date a ≡ printed_date b → a ≡ b }
     ensures times { (a b : AnyTime) → fraction_of a < 1_000_000_000 → fraction_of b < 1_000_000_000
         → printed_time a ≡ printed_time b → a ≡ b }
-    ensures readings { (a b : AnyReading) → (reading a).f < 1_000_000_000 → (reading b).f < 1_000_000_000
+    ensures readings { (a b : AnyReading) → (reading a).f < 1_000_000_000
+        → (reading b).f < 1_000_000_000
         → printed_reading a ≡ printed_reading b → a ≡ b }
-    ensures debugged { (a b : AnyReading) → (reading a).f < 1_000_000_000 → (reading b).f < 1_000_000_000
+    ensures debugged { (a b : AnyReading) → (reading a).f < 1_000_000_000
+        → (reading b).f < 1_000_000_000
         → debug_reading a ≡ debug_reading b → a ≡ b }
 {}

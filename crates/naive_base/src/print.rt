@@ -6,7 +6,7 @@ ghost use Rattle.naive_base.specs.NaiveDate.{printed_date};
 ghost use Rattle.naive_base.specs.NaiveTime.{printed_time};
 ghost use Rattle.naive_base.specs.NaiveDateTime.{printed_reading, debug_reading};
 
-use crate::{NaiveDate, NaiveDateTime, NaiveTime};
+use crate::{NaiveDate, NaiveDateTime, NaiveTime, Timelike};
 use std::fmt;
 
 impl fmt::Display for NaiveDate {
@@ -136,7 +136,8 @@ fn write_clock<W: fmt::Write>(
     requires hour { hour < 100 }
     requires minute { minute < 100 }
     requires second { second < 100 }
-    ensures { DisplaysOnOk W.write_str_gives f.old result (Some (clock_text hour minute second)) f.new }
+    ensures { DisplaysOnOk W.write_str_gives f.old result (Some (clock_text hour minute second))
+        f.new }
 {
     write!(f, "{hour:02}:{minute:02}:{second:02}")
 }

@@ -4,9 +4,12 @@ use crate::calendar::{
     days_in_month, days_in_year, is_date, is_day, is_leap_year, month_and_day, weekday_of, year_of,
     year_start,
 };
-use crate::{NaiveDate, NaiveDateTime, NaiveTime};
+use crate::{NaiveDate, NaiveDateTime, NaiveTime, Timelike};
 use offset_core::{FixedOffset, TimeDelta};
 use std::process::Abort;
+
+mod fields;
+mod moved_dates;
 
 fn reading(
     rt: &impl Abort,

@@ -4,6 +4,8 @@ ghost use Rattle.naive_base.specs.Year.{floor_mod};
 ghost use Rattle.naive_base.specs.Range.{IsTime};
 ghost use Rattle.naive_base.specs.Clock.{IsClock, clock_second};
 
+mod fields;
+
 /// A second of the day and nanoseconds, which from 10^9 on are those of a leap second after that second.
 ///
 /// Times compare and hash by the second, then the nanoseconds. A time prints as `23:59:59`, with a point and 3, 6 or 9
@@ -30,14 +32,16 @@ impl NaiveTime {
     }
 
     pub(crate) fn from_hms_milli_opt(hour: u32, min: u32, sec: u32, milli: u32) -> Option<NaiveTime>
-        ensures { IsTimeOf (IsClock hour min sec) (clock_second hour min sec) (milli * 1_000_000) result }
+        ensures { IsTimeOf (IsClock hour min sec) (clock_second hour min sec)
+            (milli * 1_000_000) result }
     {
         let nano = milli.checked_mul(1_000_000)?;
         NaiveTime::from_hms_nano_opt(hour, min, sec, nano)
     }
 
     pub(crate) fn from_hms_micro_opt(hour: u32, min: u32, sec: u32, micro: u32) -> Option<NaiveTime>
-        ensures { IsTimeOf (IsClock hour min sec) (clock_second hour min sec) (micro * 1_000) result }
+        ensures { IsTimeOf (IsClock hour min sec) (clock_second hour min sec)
+            (micro * 1_000) result }
     {
         let nano = micro.checked_mul(1_000)?;
         NaiveTime::from_hms_nano_opt(hour, min, sec, nano)
@@ -73,11 +77,12 @@ impl NaiveTime {
         self.secs
     }
 
-    /// The nanoseconds from the start of that second, from 10^9 on those of the leap second after it.
-    pub fn nanosecond(&self) -> u32
-        ensures { result ≡ fraction_of self.now }
+    pub(crate) fn at(secs: u32, frac: u32) -> NaiveTime
+        requires { IsTime secs frac }
+        ensures second { second_of result ≡ secs }
+        ensures fraction { fraction_of result ≡ frac }
     {
-        self.frac
+        NaiveTime { secs, frac }
     }
 
     // The time of day at a second since the epoch.

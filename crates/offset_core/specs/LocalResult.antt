@@ -1,5 +1,5 @@
 -- What a `LocalResult` holds, and what comes of asking a function for its values.
-use Rattle.std.specs.Prelude.{◌≡◌, Option}
+use Rattle.std.specs.Prelude.{◌≡◌, ⊤, Option}
 use Rattle.std.specs.Prelude.{Some as some, None as none}
 use Rattle.offset_core.specs.declared.local_result.LocalResult.{LocalResult}
 use Rattle.offset_core.specs.declared.local_result.LocalResult.TheVariants.{Single, Ambiguous, None}
@@ -21,6 +21,18 @@ abbrev pub latest_of : {T : Type 0} → LocalResult T → Option T
 latest_of (Single value) = some value
 latest_of (Ambiguous first last) = some last
 latest_of None = none
+
+-- answers of one kind, whose values are related in turn
+abbrev pub AreAlike : {T : Type 0} → (T → T → Type 0) → LocalResult T → LocalResult T → Type 0
+AreAlike R (Single a) (Single b) = R a b
+AreAlike R (Ambiguous a b) (Ambiguous c d) = R a c × R b d
+AreAlike R None None = ⊤
+AreAlike R (Single a) (Ambiguous c d) = ⊥
+AreAlike R (Single a) None = ⊥
+AreAlike R (Ambiguous a b) (Single c) = ⊥
+AreAlike R (Ambiguous a b) None = ⊥
+AreAlike R None (Single c) = ⊥
+AreAlike R None (Ambiguous c d) = ⊥
 
 -- each value replaced by its image
 abbrev pub map_of : {T U : Type 0} → (T → U) → LocalResult T → LocalResult U

@@ -1,5 +1,4 @@
-//! Laws of the definitions that the contracts of this crate cite. Each function here is a theorem: its
-//! contract holds, and it has no code.
+//! Theorems: each function is empty, its contract is proved; never called.
 ghost use Rattle.std.specs.Prelude.{◌≡◌, ℕ, ℤ, neg_ℤ, pos, ◌+ℤ◌, ◌*ℤ◌, Option, int_div, int_rem};
 ghost use Rattle.offset_core.specs.declared.fixed_offset.FixedOffset.{FixedOffset};
 ghost use Rattle.offset_core.specs.declared.local_result.LocalResult.{LocalResult};
@@ -9,6 +8,8 @@ ghost use Rattle.offset_core.specs.LocalResult.{single_of, earliest_of, latest_o
 ghost use Rattle.offset_core.specs.Nanoseconds.{nanos_per_second};
 ghost use Rattle.offset_core.specs.TimeDelta.{nanos_of, IsDeltaOfParts};
 ghost use Rattle.offset_core.specs.WallAnswer.{IsWallAnswer, IsNeverShown, IsShownOnce, IsShownBetween};
+
+pub mod comparisons;
 
 /// Where `single` gives a value, `earliest` and `latest` give it too.
 pub fn single_at_both_ends<T>()
@@ -27,7 +28,8 @@ pub fn east_is_west_of_negative()
 /// `num_seconds` and `subsec_nanos` of `new(secs, nanos)` make the total that these two make.
 pub fn parts_make_total()
     ensures { (secs : ℤ) (nanos : ℕ) (delta : TimeDelta) → IsDeltaOfParts secs nanos (Some delta)
-        → int_div (nanos_of delta) nanos_per_second *ℤ nanos_per_second +ℤ int_rem (nanos_of delta) nanos_per_second
+        → int_div (nanos_of delta) nanos_per_second *ℤ nanos_per_second +ℤ int_rem (nanos_of delta)
+        nanos_per_second
         ≡ secs *ℤ nanos_per_second +ℤ pos nanos }
 {}
 

@@ -2,11 +2,13 @@
 //! far a clock stands from UTC, and lengths of time.
 #![tactic(auto)]
 
+mod choice;
 mod fixed_offset;
 pub mod laws;
 mod local_result;
 mod time_delta;
 
+pub use choice::{Choice, FoldChoice, GapChoice};
 pub use fixed_offset::FixedOffset;
 pub use local_result::{LocalResult, MappedLocalTime};
 pub use time_delta::TimeDelta;

@@ -4,7 +4,7 @@ ghost use Rattle.offset_core.specs.Nanoseconds.{FitsTimeDelta};
 ghost use Rattle.offset_core.specs.TimeDelta.{nanos_of};
 ghost use Rattle.naive_base.specs.Year.{floor_div, floor_mod};
 ghost use Rattle.naive_base.specs.Reading.{total, of_total, moved, moved_leap, leap_between, difference};
-ghost use Rattle.naive_base.specs.Moves.{IsSmall, IsShort, IsWithin};
+ghost use Rattle.naive_base.specs.Steps.Moves.{IsSmall, IsShort, IsWithin};
 ghost use Rattle.naive_base.specs.NaiveDateTime.{reading, IsReadingOf};
 
 use crate::NaiveDateTime;
@@ -126,7 +126,8 @@ impl NaiveDateTime {
     // The same, where the leap second lies between.
     fn total_past(self, within: i128) -> i128
         requires { IsShort within }
-        ensures value { result ≡ (reading self).s *ℤ pos 1_000_000_000 +ℤ within -ℤ pos 1_000_000_000 }
+        ensures value { result ≡ (reading self).s *ℤ pos 1_000_000_000 +ℤ within -ℤ pos
+            1_000_000_000 }
         ensures bound { IsSmall result }
     {
         self.secs as i128 * NANOS_PER_SECOND + within - NANOS_PER_SECOND
@@ -150,7 +151,8 @@ impl NaiveDateTime {
     }
 
     fn seconds_from(self, rhs: NaiveDateTime) -> i64
-        ensures value { result ≡ (reading self).s -ℤ (reading rhs).s +ℤ leap_between (reading self) (reading rhs) }
+        ensures value { result ≡ (reading self).s -ℤ (reading rhs).s +ℤ leap_between (reading self)
+            (reading rhs) }
         ensures bound { IsWithin 20_000_000_000_000 result }
     {
         self.secs - rhs.secs + self.leap_seconds_from(rhs)

@@ -64,3 +64,10 @@ fn is_strictly_within_a_day(rt: HostRuntime) {
     }
     assert!(rt; FixedOffset::east(-3_600) == FixedOffset::west(3_600));
 }
+
+// A literal number needs no proof of its own.
+#[test]
+fn literals_are_taken_as_they_are(rt: HostRuntime) {
+    assert!(rt; FixedOffset::east_opt(3_600).unwrap() == FixedOffset::east(3_600));
+    assert!(rt; FixedOffset::west_opt(18_000).unwrap() == FixedOffset::west(18_000));
+}

@@ -121,3 +121,13 @@ fn shorter_lengths_come_first(rt: HostRuntime) {
     ];
     assert!(rt; lengths.is_sorted());
 }
+
+// A literal number needs no proof of its own.
+#[test]
+fn literals_are_taken_as_they_are(rt: HostRuntime) {
+    let hour = TimeDelta::try_hours(1).unwrap();
+    assert!(rt; hour == TimeDelta::new(3_600, 0).unwrap());
+    assert!(rt; hour.checked_add(&TimeDelta::hours(1)) == Some(TimeDelta::hours(2)));
+    assert!(rt; TimeDelta::try_days(-1).unwrap() < TimeDelta::zero());
+    assert!(rt; TimeDelta::try_milliseconds(5).unwrap() == TimeDelta::milliseconds(5));
+}

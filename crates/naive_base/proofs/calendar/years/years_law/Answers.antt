@@ -1,0 +1,10 @@
+use Rattle.naive_base.proofs.Years.{year_step, lies_in, one_year, day_of_years, year_of_days}
+use Rattle.naive_base.proofs.calendar.years.years_law.Goals as goal
+
+pub returns : goal.returns
+returns c = record {
+  step = year_step;
+  found = lies_in;
+  once = one_year;
+  fits = λ day y lies. (year_of_days day y lies, day_of_years day y lies);
+}

@@ -1,0 +1,26 @@
+-- Weeks of ISO 8601: a week runs from Monday to Sunday, and belongs to the year that its Thursday lies in, whose weeks are
+-- counted from 1.
+use Rattle.std.specs.Prelude.{◌≡◌, ℕ, ◌+◌, ◌/◌, ℤ, pos, ◌+ℤ◌, ◌-ℤ◌, ◌≤ℤ◌}
+use Rattle.naive_base.specs.Year.{year_of}
+use Rattle.naive_base.specs.Date.{day_of_year}
+use Rattle.naive_base.specs.Weekday.{weekday_of}
+use Rattle.naive_base.specs.declared.iso_week.IsoWeek.{IsoWeek}
+
+-- the Thursday of the week that a day lies in
+abbrev pub IsThursdayOf : ℤ → ℤ → Type 0
+IsThursdayOf day thursday =
+    (weekday_of thursday ≡ 4) × ((thursday -ℤ pos 3) ≤ℤ day) × (day ≤ℤ (thursday +ℤ pos 3))
+
+-- what an `IsoWeek` shows: its year, and its number there
+abbrev pub iso_year : IsoWeek → ℤ
+iso_year week = week.year
+
+abbrev pub iso_number : IsoWeek → ℕ
+iso_number week = week.week
+
+-- the week that a day lies in
+pub record IsWeekOf (day : ℤ) (week : IsoWeek) : Type 0 where
+  pub thursday : ℤ
+  pub in_week : IsThursdayOf day thursday
+  pub year : iso_year week ≡ year_of thursday
+  pub number : iso_number week ≡ day_of_year thursday / 7 + 1

@@ -1,0 +1,142 @@
+//! A date's fields, and dates with a field changed.
+ghost use Rattle.std.specs.Prelude.{◌≡◌, ◌-◌, ◌≤◌, pos, ◌+ℤ◌, ◌↔◌, IsTrue, SomeIff, option_map};
+ghost use Rattle.naive_base.specs.Range.{IsYearInRange};
+ghost use Rattle.naive_base.specs.Date.{day_number};
+ghost use Rattle.naive_base.specs.Year.{year_start, days_in_year};
+ghost use Rattle.naive_base.specs.Fields.{MayShow, MayShowOrdinal};
+ghost use Rattle.naive_base.specs.NaiveDate.{day_of, IsDateOn};
+
+use crate::range::{FIRST_YEAR, LAST_YEAR};
+use crate::{Datelike, IsoWeek, NaiveDate, Weekday, calendar};
+
+fn is_year(year: i32) -> bool
+    ensures { IsTrue result ↔ IsYearInRange year }
+{
+    FIRST_YEAR <= year && year <= LAST_YEAR
+}
+
+impl NaiveDate {
+    // The date with these fields, where this one may change to it.
+    pub(crate) fn changed(&self, year: i32, month: u32, day: u32) -> Option<NaiveDate>
+        ensures { SomeIff (option_map day_of result) (MayShow (day_of self.now) year month day)
+            (day_number year month day) }
+    {
+        if !calendar::is_date(year, month, day) {
+            return None;
+        }
+        if is_year(year) {
+            return Some(NaiveDate::of_ymd(year, month, day));
+        }
+        if self.is_day(calendar::day_number(year, month, day)) {
+            return Some(*self);
+        }
+        None
+    }
+
+    // The n-th day of that year, where this date may change to it.
+    fn on_ordinal(&self, year: i32, ordinal: u32) -> Option<NaiveDate>
+        ensures { SomeIff (option_map day_of result) (MayShowOrdinal (day_of self.now) year ordinal)
+            (year_start year +ℤ pos (ordinal - 1)) }
+    {
+        if ordinal == 0 || ordinal > calendar::days_in_year(year) {
+            return None;
+        }
+        if is_year(year) {
+            return Some(NaiveDate::of_ordinal(year, ordinal));
+        }
+        if self.is_day(day_of_ordinal(year, ordinal)) {
+            return Some(*self);
+        }
+        None
+    }
+
+    // The n-th day of a year in range, which has it.
+    fn of_ordinal(year: i32, ordinal: u32) -> NaiveDate
+        requires year { IsYearInRange year }
+        requires ordinal { (1 ≤ ordinal) × (ordinal ≤ days_in_year year) }
+        ensures { day_of result ≡ year_start year +ℤ pos (ordinal - 1) }
+    {
+        NaiveDate::of_day(day_of_ordinal(year, ordinal))
+    }
+}
+
+// The n-th day of a year.
+fn day_of_ordinal(year: i32, ordinal: u32) -> i64
+    requires { (1 ≤ ordinal) × (ordinal ≤ 366) }
+    ensures { result ≡ year_start year +ℤ pos (ordinal - 1) }
+{
+    calendar::year_start(year) + (ordinal as i64 - 1)
+}
+
+impl Datelike for NaiveDate {
+    ghost day_shown = { day_of };
+
+    ghost IsOnDay = { λ _. IsDateOn };
+
+    fn year(&self) -> i32 {
+        calendar::year_of(self.number())
+    }
+
+    fn month(&self) -> u32 {
+        self.year_month_day().month
+    }
+
+    fn month0(&self) -> u32 {
+        self.year_month_day().month - 1
+    }
+
+    fn day(&self) -> u32 {
+        self.year_month_day().day
+    }
+
+    fn day0(&self) -> u32 {
+        self.year_month_day().day - 1
+    }
+
+    fn ordinal(&self) -> u32 {
+        calendar::day_of_year(self.number()) + 1
+    }
+
+    fn ordinal0(&self) -> u32 {
+        calendar::day_of_year(self.number())
+    }
+
+    fn weekday(&self) -> Weekday {
+        Weekday::of_number(calendar::weekday_of(self.number()))
+    }
+
+    fn iso_week(&self) -> IsoWeek {
+        IsoWeek::of_day(self.number())
+    }
+
+    fn with_year(&self, year: i32) -> Option<NaiveDate> {
+        let date = self.year_month_day();
+        self.changed(year, date.month, date.day)
+    }
+
+    fn with_month(&self, month: u32) -> Option<NaiveDate> {
+        let date = self.year_month_day();
+        self.changed(date.year, month, date.day)
+    }
+
+    fn with_month0(&self, month0: u32) -> Option<NaiveDate> {
+        self.with_month(month0.checked_add(1)?)
+    }
+
+    fn with_day(&self, day: u32) -> Option<NaiveDate> {
+        let date = self.year_month_day();
+        self.changed(date.year, date.month, day)
+    }
+
+    fn with_day0(&self, day0: u32) -> Option<NaiveDate> {
+        self.with_day(day0.checked_add(1)?)
+    }
+
+    fn with_ordinal(&self, ordinal: u32) -> Option<NaiveDate> {
+        self.on_ordinal(calendar::year_of(self.number()), ordinal)
+    }
+
+    fn with_ordinal0(&self, ordinal0: u32) -> Option<NaiveDate> {
+        self.with_ordinal(ordinal0.checked_add(1)?)
+    }
+}

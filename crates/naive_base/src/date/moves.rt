@@ -1,0 +1,126 @@
+//! Dates moved by months and by days.
+ghost use Rattle.std.specs.Prelude.{◌≡◌, ◌≤◌, ℤ, pos, neg_ℤ, ◌+ℤ◌, ◌-ℤ◌, ◌*ℤ◌, ◌≤ℤ◌, SomeIff, option_map, min};
+ghost use Rattle.naive_base.specs.Months.{month_number, year_of_number, month_of_number, months_of, days_of};
+ghost use Rattle.naive_base.specs.Date.{IsDate, day_number, month_of, day_of_month};
+ghost use Rattle.naive_base.specs.Range.{IsWideYear};
+ghost use Rattle.naive_base.specs.Fields.{MayShowDay, IsMonthsLater, IsDaysLater, month_after};
+ghost use Rattle.naive_base.specs.Steps.Moves.{IsWithin, IsInMonth};
+ghost use Rattle.naive_base.specs.NaiveDate.{day_of, IsDateOn};
+
+use crate::range::{FIRST_DAY, LAST_DAY};
+use crate::{Days, Months, NaiveDate, calendar};
+
+impl NaiveDate {
+    /// The date so many months later: on the same day of the month, or on the month's last where it has fewer days. `None`
+    /// where the year is not one from -262143 to 262142, unless it is the date itself.
+    ///
+    /// A month after 2021-01-31 comes 2021-02-28.
+    pub fn checked_add_months(self, months: Months) -> Option<NaiveDate>
+        ensures { IsMonthsLater day_of IsDateOn (day_of self) (pos (months_of months)) result }
+    {
+        self.months_later(months.as_u32() as i64)
+    }
+
+    /// The date so many months earlier, by the rule of [`NaiveDate::checked_add_months`].
+    pub fn checked_sub_months(self, months: Months) -> Option<NaiveDate>
+        ensures { IsMonthsLater day_of IsDateOn (day_of self)
+            (neg_ℤ (pos (months_of months))) result }
+    {
+        self.months_later(opposite(months.as_u32()))
+    }
+
+    /// The date so many days later. `None` where the year is not one from -262143 to 262142, unless it is the date itself.
+    pub fn checked_add_days(self, days: Days) -> Option<NaiveDate>
+        ensures { IsDaysLater day_of IsDateOn (day_of self) (pos (days_of days)) result }
+    {
+        self.on_day(self.day as i128 + days.count() as i128)
+    }
+
+    /// The date so many days earlier. `None` where the year is not one from -262143 to 262142, unless it is the date
+    /// itself.
+    pub fn checked_sub_days(self, days: Days) -> Option<NaiveDate>
+        ensures { IsDaysLater day_of IsDateOn (day_of self) (neg_ℤ (pos (days_of days))) result }
+    {
+        self.on_day(self.day as i128 - days.count() as i128)
+    }
+
+    // That day, where this date may change to it.
+    fn on_day(self, day: i128) -> Option<NaiveDate>
+        ensures { SomeIff (option_map day_of result) (MayShowDay (day_of self) day) day }
+    {
+        if FIRST_DAY as i128 <= day && day <= LAST_DAY as i128 {
+            return Some(NaiveDate { day: day as i32 });
+        }
+        if self.day as i128 == day {
+            return Some(self);
+        }
+        None
+    }
+
+    fn months_later(self, by: i64) -> Option<NaiveDate>
+        requires { IsWithin 4_294_967_296 by }
+        ensures { let n = month_after (day_of self) by in
+            IsInMonth (day_of self) (year_of_number n) (month_of_number n)
+            (option_map day_of result) }
+    {
+        let (year, month) = self.month_after(by);
+        self.in_month(year, month)
+    }
+
+    // The year and the month so many months later.
+    fn month_after(self, by: i64) -> (i32, u32)
+        requires { IsWithin 4_294_967_296 by }
+        ensures year { result.0 ≡ year_of_number (month_after (day_of self) by) }
+        ensures month { result.1 ≡ month_of_number (month_after (day_of self) by) }
+    {
+        let number = self.number_after(by);
+        (year_of_number(number), month_of_number(number))
+    }
+
+    // The number of the month so many months later.
+    fn number_after(self, by: i64) -> i64
+        requires { IsWithin 4_294_967_296 by }
+        ensures value { result ≡ month_after (day_of self) by }
+        ensures bound { IsWithin 5_000_000_000 result }
+    {
+        let date = self.year_month_day();
+        number_of_month(date.year, date.month) + by
+    }
+
+    // In that month on the same day, or on its last.
+    fn in_month(self, year: i32, month: u32) -> Option<NaiveDate>
+        ensures { IsInMonth (day_of self) year month (option_map day_of result) }
+    {
+        let day = self.year_month_day().day;
+        self.changed(year, month, day.min(calendar::days_in_month(year, month)))
+    }
+}
+
+fn opposite(count: u32) -> i64
+    ensures { result ≡ neg_ℤ (pos count) }
+{
+    -(count as i64)
+}
+
+// The months from January of the year 0.
+fn number_of_month(year: i32, month: u32) -> i64
+    requires year { IsWideYear year }
+    requires month { (1 ≤ month) × (month ≤ 12) }
+    ensures value { result ≡ month_number year month }
+    ensures bound { IsWithin 4_000_000 result }
+{
+    year as i64 * 12 + (month as i64 - 1)
+}
+
+fn year_of_number(number: i64) -> i32
+    requires { IsWithin 5_000_000_000 number }
+    ensures { result ≡ year_of_number number }
+{
+    number.div_euclid(12) as i32
+}
+
+fn month_of_number(number: i64) -> u32
+    ensures { result ≡ month_of_number number }
+{
+    number.rem_euclid(12) as u32 + 1
+}

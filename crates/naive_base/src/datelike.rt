@@ -1,0 +1,104 @@
+//! Values that show a date.
+ghost use Rattle.std.specs.Prelude.{◌≡◌, ◌+◌, ℤ, Option};
+ghost use Rattle.naive_base.specs.Year.{year_of};
+ghost use Rattle.naive_base.specs.Date.{day_of_year, month_of, day_of_month};
+ghost use Rattle.naive_base.specs.Weekday.{weekday_of, weekday_number};
+ghost use Rattle.naive_base.specs.IsoWeek.{IsWeekOf};
+ghost use Rattle.naive_base.specs.Fields.{IsDateGiven, IsOrdinalGiven};
+
+use crate::{IsoWeek, Weekday};
+
+/// A value that shows a date.
+///
+/// A field is changed where the calendar has the new date, and its year is one from -262143 to 262142 or it is the date
+/// that the value shows anyhow. All else that the value shows stays.
+///
+/// ```text
+/// let date = NaiveDate::from_ymd_opt(2020, 2, 29)?;
+/// date.weekday() == Weekday::Sat
+/// date.iso_week().week() == 9
+/// date.with_month(3) == NaiveDate::from_ymd_opt(2020, 3, 29)
+/// date.with_year(2021) == None
+/// ```
+pub trait Datelike: Sized {
+    // the day that it shows
+    ghost day_shown: { Self → ℤ };
+
+    // the value that shows the day given, and all else as it was, where there is one; none where none is given
+    ghost IsOnDay: { Self → Option ℤ → Option Self → Type 0 };
+
+    /// The year, where the year 0 is the one before the year 1.
+    fn year(&self) -> i32
+        ensures { result ≡ year_of (day_shown self.now) };
+
+    /// The month, from 1.
+    fn month(&self) -> u32
+        ensures { result ≡ month_of (day_shown self.now) };
+
+    /// The month, from 0.
+    fn month0(&self) -> u32
+        ensures { result + 1 ≡ month_of (day_shown self.now) };
+
+    /// The day of the month, from 1.
+    fn day(&self) -> u32
+        ensures { result ≡ day_of_month (day_shown self.now) };
+
+    /// The day of the month, from 0.
+    fn day0(&self) -> u32
+        ensures { result + 1 ≡ day_of_month (day_shown self.now) };
+
+    /// The day of the year, from 1.
+    fn ordinal(&self) -> u32
+        ensures { result ≡ day_of_year (day_shown self.now) + 1 };
+
+    /// The day of the year, from 0.
+    fn ordinal0(&self) -> u32
+        ensures { result ≡ day_of_year (day_shown self.now) };
+
+    /// The day of the week.
+    fn weekday(&self) -> Weekday
+        ensures { weekday_number result ≡ weekday_of (day_shown self.now) };
+
+    /// The week by the rule of ISO 8601.
+    fn iso_week(&self) -> IsoWeek
+        ensures { IsWeekOf (day_shown self.now) result };
+
+    /// The same in another year.
+    fn with_year(&self, year: i32) -> Option<Self>
+        ensures { let day = day_shown self.now in
+            IsDateGiven day_shown (IsOnDay self.now) day year (month_of day)
+            (day_of_month day) result };
+
+    /// The same with another month, from 1.
+    fn with_month(&self, month: u32) -> Option<Self>
+        ensures { let day = day_shown self.now in
+            IsDateGiven day_shown (IsOnDay self.now) day (year_of day) month
+            (day_of_month day) result };
+
+    /// The same with another month, from 0.
+    fn with_month0(&self, month0: u32) -> Option<Self>
+        ensures { let day = day_shown self.now in
+            IsDateGiven day_shown (IsOnDay self.now) day (year_of day) (month0 + 1)
+            (day_of_month day) result };
+
+    /// The same with another day of the month, from 1.
+    fn with_day(&self, day: u32) -> Option<Self>
+        ensures { let old = day_shown self.now in
+            IsDateGiven day_shown (IsOnDay self.now) old (year_of old) (month_of old) day result };
+
+    /// The same with another day of the month, from 0.
+    fn with_day0(&self, day0: u32) -> Option<Self>
+        ensures { let old = day_shown self.now in
+            IsDateGiven day_shown (IsOnDay self.now) old (year_of old) (month_of old)
+            (day0 + 1) result };
+
+    /// The same on another day of the year, from 1.
+    fn with_ordinal(&self, ordinal: u32) -> Option<Self>
+        ensures { let day = day_shown self.now in
+            IsOrdinalGiven day_shown (IsOnDay self.now) day (year_of day) ordinal result };
+
+    /// The same on another day of the year, from 0.
+    fn with_ordinal0(&self, ordinal0: u32) -> Option<Self>
+        ensures { let day = day_shown self.now in
+            IsOrdinalGiven day_shown (IsOnDay self.now) day (year_of day) (ordinal0 + 1) result };
+}

@@ -1,0 +1,197 @@
+//! The fields of a reading's date and time, and readings with a field changed or moved by months and days.
+ghost use Rattle.std.specs.Prelude.{◌≡◌, pos, neg_ℤ, option_map};
+ghost use Rattle.naive_base.specs.Months.{months_of, days_of};
+ghost use Rattle.naive_base.specs.Reading.{reading_at, day_at, second_at};
+ghost use Rattle.naive_base.specs.Fields.{IsMonthsLater, IsDaysLater, reading_on, time_at};
+ghost use Rattle.naive_base.specs.NaiveDateTime.{reading, day_shown_by, IsReadingOnDay, IsReadingAtTime};
+
+use crate::{Datelike, Days, IsoWeek, Months, NaiveDateTime, Timelike, Weekday};
+
+impl Datelike for NaiveDateTime {
+    ghost day_shown = { day_shown_by };
+
+    ghost IsOnDay = { λ old. IsReadingOnDay (reading old) };
+
+    fn year(&self) -> i32 {
+        self.date().year()
+    }
+
+    fn month(&self) -> u32 {
+        self.date().month()
+    }
+
+    fn month0(&self) -> u32 {
+        self.date().month0()
+    }
+
+    fn day(&self) -> u32 {
+        self.date().day()
+    }
+
+    fn day0(&self) -> u32 {
+        self.date().day0()
+    }
+
+    fn ordinal(&self) -> u32 {
+        self.date().ordinal()
+    }
+
+    fn ordinal0(&self) -> u32 {
+        self.date().ordinal0()
+    }
+
+    fn weekday(&self) -> Weekday {
+        self.date().weekday()
+    }
+
+    fn iso_week(&self) -> IsoWeek {
+        self.date().iso_week()
+    }
+
+    fn with_year(&self, year: i32) -> Option<NaiveDateTime> {
+        match self.date().with_year(year) {
+            Some(date) => Some(date.and_time(self.time())),
+            None => None,
+        }
+    }
+
+    fn with_month(&self, month: u32) -> Option<NaiveDateTime> {
+        match self.date().with_month(month) {
+            Some(date) => Some(date.and_time(self.time())),
+            None => None,
+        }
+    }
+
+    fn with_month0(&self, month0: u32) -> Option<NaiveDateTime> {
+        match self.date().with_month0(month0) {
+            Some(date) => Some(date.and_time(self.time())),
+            None => None,
+        }
+    }
+
+    fn with_day(&self, day: u32) -> Option<NaiveDateTime> {
+        match self.date().with_day(day) {
+            Some(date) => Some(date.and_time(self.time())),
+            None => None,
+        }
+    }
+
+    fn with_day0(&self, day0: u32) -> Option<NaiveDateTime> {
+        match self.date().with_day0(day0) {
+            Some(date) => Some(date.and_time(self.time())),
+            None => None,
+        }
+    }
+
+    fn with_ordinal(&self, ordinal: u32) -> Option<NaiveDateTime> {
+        match self.date().with_ordinal(ordinal) {
+            Some(date) => Some(date.and_time(self.time())),
+            None => None,
+        }
+    }
+
+    fn with_ordinal0(&self, ordinal0: u32) -> Option<NaiveDateTime> {
+        match self.date().with_ordinal0(ordinal0) {
+            Some(date) => Some(date.and_time(self.time())),
+            None => None,
+        }
+    }
+}
+
+impl Timelike for NaiveDateTime {
+    ghost time_shown = { λ r. time_at (reading r) };
+
+    ghost IsAtTime = { λ old. IsReadingAtTime (reading old) };
+
+    fn hour(&self) -> u32 {
+        self.time().hour()
+    }
+
+    fn minute(&self) -> u32 {
+        self.time().minute()
+    }
+
+    fn second(&self) -> u32 {
+        self.time().second()
+    }
+
+    fn nanosecond(&self) -> u32 {
+        self.frac
+    }
+
+    fn with_hour(&self, hour: u32) -> Option<NaiveDateTime> {
+        match self.time().with_hour(hour) {
+            Some(time) => Some(self.date().and_time(time)),
+            None => None,
+        }
+    }
+
+    fn with_minute(&self, min: u32) -> Option<NaiveDateTime> {
+        match self.time().with_minute(min) {
+            Some(time) => Some(self.date().and_time(time)),
+            None => None,
+        }
+    }
+
+    fn with_second(&self, sec: u32) -> Option<NaiveDateTime> {
+        match self.time().with_second(sec) {
+            Some(time) => Some(self.date().and_time(time)),
+            None => None,
+        }
+    }
+
+    fn with_nanosecond(&self, nano: u32) -> Option<NaiveDateTime> {
+        match self.time().with_nanosecond(nano) {
+            Some(time) => Some(self.date().and_time(time)),
+            None => None,
+        }
+    }
+}
+
+impl NaiveDateTime {
+    /// The reading so many months later, at the same time of day: on the same day of the month, or on the month's last where
+    /// it has fewer days. `None` where the year is not one from -262143 to 262142, unless it is the reading itself.
+    pub fn checked_add_months(self, months: Months) -> Option<NaiveDateTime>
+        ensures { IsMonthsLater day_shown_by (IsReadingOnDay (reading self)) (day_shown_by self)
+            (pos (months_of months)) result }
+    {
+        match self.date().checked_add_months(months) {
+            Some(date) => Some(date.and_time(self.time())),
+            None => None,
+        }
+    }
+
+    /// The reading so many months earlier, by the rule of [`NaiveDateTime::checked_add_months`].
+    pub fn checked_sub_months(self, months: Months) -> Option<NaiveDateTime>
+        ensures { IsMonthsLater day_shown_by (IsReadingOnDay (reading self)) (day_shown_by self)
+            (neg_ℤ (pos (months_of months))) result }
+    {
+        match self.date().checked_sub_months(months) {
+            Some(date) => Some(date.and_time(self.time())),
+            None => None,
+        }
+    }
+
+    /// The reading so many days later, at the same time of day. `None` where the year is not one from -262143 to 262142,
+    /// unless it is the reading itself.
+    pub fn checked_add_days(self, days: Days) -> Option<NaiveDateTime>
+        ensures { IsDaysLater day_shown_by (IsReadingOnDay (reading self)) (day_shown_by self)
+            (pos (days_of days)) result }
+    {
+        match self.date().checked_add_days(days) {
+            Some(date) => Some(date.and_time(self.time())),
+            None => None,
+        }
+    }
+
+    /// The reading so many days earlier, by the rule of [`NaiveDateTime::checked_add_days`].
+    pub fn checked_sub_days(self, days: Days) -> Option<NaiveDateTime>
+        ensures { IsDaysLater day_shown_by (IsReadingOnDay (reading self)) (day_shown_by self)
+            (neg_ℤ (pos (days_of days))) result }
+    {
+        match self.date().checked_sub_days(days) {
+            Some(date) => Some(date.and_time(self.time())),
+            None => None,
+        }
+    }
+}

@@ -1,0 +1,58 @@
+//! Values that show a time of day.
+ghost use Rattle.std.specs.Prelude.{◌≡◌, ◌<◌, Option};
+ghost use Rattle.naive_base.specs.Clock.{hour_hand, minute_hand, second_hand};
+ghost use Rattle.naive_base.specs.Fields.{TimeOfDay, IsGiven, with_hour, with_minute, with_second, with_fraction};
+
+/// A value that shows a time of day.
+///
+/// A field is changed where the clock has its new value; all else that the value shows stays.
+///
+/// ```text
+/// let time = NaiveTime::from_hms_opt(23, 56, 4)?;
+/// time.minute() == 56
+/// time.with_hour(7) == NaiveTime::from_hms_opt(7, 56, 4)
+/// time.with_second(60) == None
+/// ```
+pub trait Timelike: Sized {
+    // the time that it shows
+    ghost time_shown: { Self → TimeOfDay };
+
+    // the value that shows the time given, and all else as it was, where there is one; none where none is given
+    ghost IsAtTime: { Self → Option TimeOfDay → Option Self → Type 0 };
+
+    /// The hour, from 0 to 23.
+    fn hour(&self) -> u32
+        ensures { result ≡ hour_hand (time_shown self.now).second };
+
+    /// The minute, from 0 to 59.
+    fn minute(&self) -> u32
+        ensures { result ≡ minute_hand (time_shown self.now).second };
+
+    /// The second of the minute, from 0 to 59, a leap second counted as the one before it.
+    fn second(&self) -> u32
+        ensures { result ≡ second_hand (time_shown self.now).second };
+
+    /// The nanoseconds from the start of that second, from 10^9 on those of the leap second after it.
+    fn nanosecond(&self) -> u32
+        ensures { result ≡ (time_shown self.now).fraction };
+
+    /// The same with another hour, from 0 to 23.
+    fn with_hour(&self, hour: u32) -> Option<Self>
+        ensures { IsGiven time_shown (IsAtTime self.now) (hour < 24)
+            (with_hour (time_shown self.now) hour) result };
+
+    /// The same with another minute, from 0 to 59.
+    fn with_minute(&self, min: u32) -> Option<Self>
+        ensures { IsGiven time_shown (IsAtTime self.now) (min < 60)
+            (with_minute (time_shown self.now) min) result };
+
+    /// The same with another second of the minute, from 0 to 59.
+    fn with_second(&self, sec: u32) -> Option<Self>
+        ensures { IsGiven time_shown (IsAtTime self.now) (sec < 60)
+            (with_second (time_shown self.now) sec) result };
+
+    /// The same with other nanoseconds, below 2*10^9: from 10^9 on those of a leap second, after whatever second.
+    fn with_nanosecond(&self, nano: u32) -> Option<Self>
+        ensures { IsGiven time_shown (IsAtTime self.now) (nano < 2_000_000_000)
+            (with_fraction (time_shown self.now) nano) result };
+}

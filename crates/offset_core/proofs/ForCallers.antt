@@ -1,0 +1,37 @@
+-- Lemmas for the crates above.
+use Rattle.std.proofs.Common.{◌≡◌, refl, Option, Some, None}
+use Rattle.std.specs.Prelude.{SomeIff, option_map}
+use Rattle.offset_core.specs.declared.local_result.LocalResult.{LocalResult}
+use Rattle.offset_core.specs.declared.local_result.LocalResult.TheVariants.{Single, Ambiguous, None as none}
+use Rattle.offset_core.specs.LocalResult.{map_of, all_or_none, IsAndThen}
+pub use Rattle.offset_core.proofs.Digits.{pad, split_left, split_right, length-in_digits, in_digits_once}
+pub use Rattle.offset_core.proofs.FixedOffsets.{one_offset}
+pub use Rattle.offset_core.proofs.WallAnswers.{IsWallAnswer-map_of, one_wall_answer}
+
+-- the values that are there, shown, are the shown ones that are there
+pub map_all : {D Z : Type 0} (show : D → Z) (x : LocalResult (Option D))
+    → map_of show (all_or_none x) ≡ all_or_none (map_of (option_map show) x)
+map_all show none = refl
+map_all show (Single (Some d)) = refl
+map_all show (Single None) = refl
+map_all show (Ambiguous (Some d) (Some e)) = refl
+map_all show (Ambiguous (Some d) None) = refl
+map_all show (Ambiguous None b) = refl
+
+-- what a closure gave for each value, where each of its calls keeps K, and gives v exactly where p holds
+pub and_then_told : {F O D Z : Type 0} (show : D → Z) (p : O → Type 0) (v : O → Z) (step : F → O → Option D → F → Type 0)
+    (f : F) (K : F → Type 0) (offsets : LocalResult O) (result : LocalResult D) → K f
+    → ((e g : F) (o : O) (d : Option D) → K e → step e o d g → K g × SomeIff (option_map show d) (p o) (v o))
+    → IsAndThen step f offsets result → IsAndThen (λ _ o d _. SomeIff d (p o) (v o)) (tt {0}) offsets (map_of show result)
+and_then_told show p v step f K none result k is h =
+    record { answers = none; asked = refl; kept = rw (h.kept, h.asked) refl }
+and_then_told show p v step f K (Single o) result k is h = let a = h.asked in record {
+  answers = Single (option_map show a.0);
+  asked = (option_map show a.0, tt, (is f a.1 o a.0 k a.2).1, refl);
+  kept = rw (h.kept, a.3) (map_all show (Single a.0));
+}
+and_then_told show p v step f K (Ambiguous o q) result k is h = let a = h.asked in let first = is f a.2 o a.0 k a.4 in record {
+  answers = Ambiguous (option_map show a.0) (option_map show a.1);
+  asked = (option_map show a.0, option_map show a.1, tt, tt, first.1, (is a.2 a.3 q a.1 first.0 a.5).1, refl);
+  kept = rw (h.kept, a.6) (map_all show (Ambiguous a.0 a.1));
+}

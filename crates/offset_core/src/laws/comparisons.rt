@@ -1,0 +1,52 @@
+//! Theorems: each function is empty, its contract is proved; never called.
+ghost use Rattle.std.specs.Prelude.{◌≡◌, ◌↔◌, IsTrue, ◌<ℤ◌, pos};
+ghost use Rattle.std.specs.Ordering.{int_cmp};
+ghost use Rattle.std.specs.Hash as fed;
+ghost use Rattle.offset_core.specs.declared.fixed_offset.FixedOffset.{FixedOffset as AnyOffset};
+ghost use Rattle.offset_core.specs.declared.local_result.LocalResult.{LocalResult as AnyResult};
+ghost use Rattle.offset_core.specs.declared.time_delta.TimeDelta.{TimeDelta as AnyDelta};
+ghost use Rattle.offset_core.specs.FixedOffset.{seconds_of};
+ghost use Rattle.offset_core.specs.LocalResult.{AreAlike};
+ghost use Rattle.offset_core.specs.TimeDelta.{nanos_of};
+
+use crate::{FixedOffset, LocalResult, TimeDelta};
+use std::hash::Hash;
+
+/// Offsets are equal exactly where their seconds are; a hash looks at the seconds, and a clone is the offset.
+pub fn fixed_offsets()
+    ensures equal { (a b : AnyOffset) → IsTrue (⟦<FixedOffset as PartialEq>⟧.eq a b)
+        ↔ (seconds_of a ≡ seconds_of b) }
+    ensures same { (a b : AnyOffset) → seconds_of a ≡ seconds_of b → a ≡ b }
+    ensures hashed { (a : AnyOffset) → ⟦<FixedOffset as Hash>⟧.hash_input a
+        ≡ fed.i32 (seconds_of a) }
+    ensures cloned { (a b : AnyOffset) → ⟦<FixedOffset as Clone>⟧.is_clone a b ↔ (a ≡ b) }
+{}
+
+/// Lengths of time are equal exactly where their nanoseconds are, and compare by these; a hash looks at the
+/// nanoseconds, and a clone is the length.
+pub fn time_deltas()
+    ensures equal { (a b : AnyDelta) → IsTrue (⟦<TimeDelta as PartialEq>⟧.eq a b)
+        ↔ (nanos_of a ≡ nanos_of b) }
+    ensures same { (a b : AnyDelta) → nanos_of a ≡ nanos_of b → a ≡ b }
+    ensures order { (a b : AnyDelta) → ⟦<TimeDelta as Ord>⟧.cmp a b
+        ≡ int_cmp (nanos_of a) (nanos_of b) }
+    ensures hashed { (a : AnyDelta) → ⟦<TimeDelta as Hash>⟧.hash_input a ≡ fed.i128 (nanos_of a) }
+    ensures cloned { (a b : AnyDelta) → ⟦<TimeDelta as Clone>⟧.is_clone a b ↔ (a ≡ b) }
+{}
+
+/// The longest length of time.
+pub fn longest_time_delta() -> TimeDelta
+    ensures { nanos_of result ≡ pos 9_223_372_036_854_775_807_000_000 }
+{
+    TimeDelta::MAX
+}
+
+/// Answers of a lookup are equal exactly where they are of one kind and their values are equal, and a clone is of one kind
+/// with clones of the values.
+pub fn local_results<T: PartialEq + Clone>()
+    ensures equal { (x y : AnyResult T)
+        → IsTrue (⟦<LocalResult<T> as PartialEq>⟧.eq x y) ↔ AreAlike
+        (λ a b. IsTrue (T.PartialEq.eq a b)) x y }
+    ensures cloned { (x y : AnyResult T) → ⟦<LocalResult<T> as Clone>⟧.is_clone x y
+        ↔ AreAlike T.Clone.is_clone x y }
+{}
