@@ -1,8 +1,9 @@
 -- Data blocks: what is read is spelled, what is spelled is read, and where it is refused bytes are wanting.
-use Rattle.std.proofs.Common.{◌≡◌, ℕ, ◌+◌, ◌*◌, refl, ap, ◌∙◌, subst, List, [], ◌∷◌, ◌++◌, Ok, Err}
+use Rattle.std.proofs.Common.{◌≡◌, ℕ, ◌+◌, ◌*◌, ◌≤◌, arith, refl, ap, ◌∙◌, sym, subst, List, [], ◌∷◌, ◌++◌, length, Result, Ok, Err}
+use Rattle.std.proofs.lemmas.List.{length-append}
 use Rattle.tz_info.specs.Fronts.{exact_at}
-use Rattle.tz_info.specs.FileBlocks.{Parts, in_order, IsBlock, BlockFault}
-use Rattle.tz_info.specs.FileReading.{block_at}
+use Rattle.tz_info.specs.FileBlocks.{Parts, in_order, IsBlock, block_size, BlockFault}
+use Rattle.tz_info.specs.Steps.FileReading.{block_at}
 use Rattle.tz_info.specs.declared.file.header.Counts.{Counts}
 use Rattle.tz_info.proofs.ReadLaws.{bind_ok, ok_same, exact_takes, exact_again, short_step, no_err}
 
@@ -51,3 +52,20 @@ block_fails w k bytes e h =
     short_step (k.transitions * w) bytes _ e _ (λ a. short_step k.transitions a.1 _ e _ (λ b. short_step (k.types * 6) b.1 _ e _ (λ c.
     short_step k.designations c.1 _ e _ (λ d. short_step (k.leap_seconds * (w + 4)) d.1 _ e _ (λ x. short_step k.standard_wall x.1 _ e _ (λ y.
     short_step k.ut_local y.1 _ e 0 (λ z. no_err _ e 0 z.1 _ refl))))))) h
+
+-- ---- where bytes are wanting, it is refused
+at_least : (x s : List ℕ) (n m : ℕ) → length x ≡ n → m ≤ length s → n + m ≤ length (x ++ s)
+at_least x s n m a b = let l = length-append x s in omega arith
+
+block_length : (w : ℕ) (k : Counts) (bytes : List ℕ) (p : Parts) (rest : List ℕ) → IsBlock w k bytes p rest → block_size w k ≤ length bytes
+block_length w k bytes p rest h =
+    subst (λ (s : List ℕ). block_size w k ≤ length s) (sym h.whole)
+    (at_least p.times _ _ _ h.times (at_least p.type_indexes _ _ _ h.type_indexes (at_least p.types _ _ _ h.types (at_least p.designations _ _ _ h.designations
+    (at_least p.leap_seconds _ _ _ h.leap_seconds (at_least p.standard_wall _ _ _ h.standard_wall (at_least p.ut_local rest _ 0 h.ut_local (omega arith))))))))
+
+block_answer : (w : ℕ) (k : Counts) (bytes : List ℕ) (n : ℕ) (r : Result (Parts × List ℕ) ℕ) → BlockFault w k bytes n → block_at w k bytes ≡ r → block_at w k bytes ≡ Err n
+block_answer w k bytes n (Ok x) fault h = let l = block_length w k bytes x.0 x.1 (block_takes w k bytes x h) in absurd (omega (arith, fault.1, l))
+block_answer w k bytes n (Err e) fault h = let f = block_fails w k bytes e h in h ∙ ap (λ (m : ℕ). Err m) (f.0 ∙ sym fault.0)
+
+pub block_refuses : (w : ℕ) (k : Counts) (bytes : List ℕ) (n : ℕ) → BlockFault w k bytes n → block_at w k bytes ≡ Err n
+block_refuses w k bytes n fault = block_answer w k bytes n (block_at w k bytes) fault refl

@@ -3,7 +3,7 @@ use Rattle.std.proofs.Common.{◌≡◌, ℕ, ℤ, arith, refl, sym, subst, List
 use Rattle.std.proofs.lemmas.Bool.Decides.{nat_tests}
 use Rattle.tz_info.specs.Pieces.{comma, dot, letter_J, letter_M, Number, date_max, day_max, MonthDate, JulianDate, DayNumber, Date, Day}
 use Rattle.tz_info.specs.TzFaults.{IsBadDay, MonthDateFault, JulianDateFault, DayNumberFault, DateFault, DayFault, DaysFault, Days}
-use Rattle.tz_info.specs.Readings.{checked_at, is_rule_day, rule_day_of, month_date_at, julian_date_at, day_number_at, date_at, day_at, days_at}
+use Rattle.tz_info.specs.Steps.Readings.{checked_at, is_rule_day, rule_day_of, month_date_at, julian_date_at, day_number_at, date_at, day_at, days_at}
 use Rattle.tz_info.specs.RuleDays.{IsRuleDay}
 use Rattle.tz_info.specs.declared.rule.day.DayForm.{DayForm}
 use Rattle.tz_info.specs.declared.rule.day.DayForm.TheVariants.{Julian1, Julian0, MonthWeekday}
@@ -42,6 +42,13 @@ day_err form rest n h = elim (is_rule_day form) as (λ t. is_rule_day form ≡ t
   | false ↦ λ t k. (λ fits. let e = rule_day_to form fits in cc, cc)
 ] refl h
 
+day_refused : (form : DayForm) (n : ℕ) → ¬ (IsRuleDay form) → n ≡ 13 → rule_day_of form ≡ Err n
+unfolding rule_day_of
+day_refused form n bad e = elim (is_rule_day form) as (λ t. is_rule_day form ≡ t → day_refused_unless t form ≡ Err n) [
+  | true ↦ λ t. absurd (bad (rule_day_from form t))
+  | false ↦ λ t. rw e refl
+] refl
+
 abbrev FormPiece : DayForm → List ℕ → DayForm → List ℕ → Type 0
 FormPiece form bytes x rest = (form ≡ x) × IsRuleDay form × (bytes ≡ rest)
 
@@ -50,6 +57,7 @@ form_law form = like_law (checked_law (rule_day_of form))
     (λ bytes x rest h. let d = day_ok form x h.0 in (d.0, d.1, h.1))
     (λ bytes x rest h. (day_again form x (sym h.0) (subst IsRuleDay h.0 h.1), h.2))
     (λ bytes n h. day_err form bytes n h)
+    (λ bytes n h. day_refused form n h.0 h.1)
 
 month_date_law : Law DayForm month_date_at MonthDate MonthDateFault
 unfolding month_date_at
@@ -70,6 +78,7 @@ month_date_law = like_law (then_law (int_law date_max) (λ m. then_law (byte_law
     })
     (λ bytes x rest h. (h.month, dot ∷ h.at_week, h.month_spelled, (tt, h.at_week, refl, (h.week, dot ∷ h.at_weekday, h.week_spelled, (tt, h.at_weekday, refl, (h.weekday, rest, h.weekday_spelled, (sym h.value, subst IsRuleDay h.value h.fits, refl)))))))
     (λ bytes n h. h)
+    (λ bytes n h. h)
 
 julian_date_law : Law DayForm julian_date_at JulianDate JulianDateFault
 unfolding julian_date_at
@@ -77,12 +86,14 @@ julian_date_law = like_law (then_law (int_law day_max) (λ n. form_law (Julian1 
     (λ bytes x rest h. record { n = h.0; spelled = subst (Number day_max bytes h.0) h.3.2 h.2; value = sym h.3.0; fits = subst IsRuleDay h.3.0 h.3.1 })
     (λ bytes x rest h. (h.n, rest, h.spelled, (sym h.value, subst IsRuleDay h.value h.fits, refl)))
     (λ bytes n h. h)
+    (λ bytes n h. h)
 
 day_number_law : Law DayForm day_number_at DayNumber DayNumberFault
 unfolding day_number_at
 day_number_law = like_law (then_law (int_law day_max) (λ n. form_law (Julian0 n)))
     (λ bytes x rest h. record { n = h.0; spelled = subst (Number day_max bytes h.0) h.3.2 h.2; value = sym h.3.0; fits = subst IsRuleDay h.3.0 h.3.1 })
     (λ bytes x rest h. (h.n, rest, h.spelled, (sym h.value, subst IsRuleDay h.value h.fits, refl)))
+    (λ bytes n h. h)
     (λ bytes n h. h)
 
 pub date_law : Law DayForm date_at Date DateFault
@@ -98,6 +109,7 @@ day_law extended = like_law (then_law date_law (λ d. made_law (timed d) (option
     (λ bytes x rest h. subst (λ (y : DayTime). Day extended bytes y rest) h.3.2 (record { after_date = h.1; date = h.2; time = h.3.1 }))
     (λ bytes x rest h. (x.day, h.after_date, h.date, (x.time, h.time, refl)))
     (λ bytes n h. h)
+    (λ bytes n h. h)
 
 abbrev both : DayTime → DayTime → DayTime × DayTime
 both start end = (start, end)
@@ -107,4 +119,5 @@ unfolding days_at
 days_law extended = like_law (then_law (day_law extended) (λ s. then_law (byte_law comma) (λ _. made_law (both s) (day_law extended))))
     (λ bytes x rest h. subst (λ (y : DayTime × DayTime). Days extended bytes y rest) h.3.3.2 (record { at_end = h.3.1; start = subst (Day extended bytes h.0) h.3.2 h.2; end = h.3.3.1 }))
     (λ bytes x rest h. (x.0, comma ∷ h.at_end, h.start, (tt, h.at_end, refl, (x.1, h.end, refl))))
+    (λ bytes n h. h)
     (λ bytes n h. h)

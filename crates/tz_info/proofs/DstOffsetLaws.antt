@@ -1,8 +1,8 @@
 -- The law of the offset of daylight saving time.
-use Rattle.std.proofs.Common.{◌≡◌, ℕ, ℤ, pos, ◌+ℤ◌, ◌≤ℤ◌, int_le, arith, refl, ap, ◌∙◌, sym, subst, List, [], ◌∷◌, Bool, true, false, cond, Ok, Err, Result, inl, inr, ◌⊎◌, ◌≢◌}
+use Rattle.std.proofs.Common.{◌≡◌, ℕ, ℤ, pos, ◌+ℤ◌, ◌≤ℤ◌, ◌<ℤ◌, int_le, arith, refl, ap, ◌∙◌, sym, subst, List, [], ◌∷◌, Bool, true, false, cond, Ok, Err, Result, inl, inr, ◌⊎◌, ◌≢◌}
 use Rattle.tz_info.specs.Pieces.{comma, Offset, NextHour, DstOffset}
 use Rattle.tz_info.specs.TzFaults.{ThenFault, ByteFault, OffsetFault, NextHourFault, EndsFault, GivenOffsetFault, DstOffsetFault}
-use Rattle.tz_info.specs.Readings.{checked_at, sign_at, hours_minutes_seconds_at, duration_at, offset_at, next_hour_of, more_at, given_offset_at, dst_offset_at}
+use Rattle.tz_info.specs.Steps.Readings.{checked_at, sign_at, hours_minutes_seconds_at, duration_at, offset_at, next_hour_of, more_at, given_offset_at, dst_offset_at}
 use Rattle.tz_info.proofs.PieceLaws.{Law, then_law, like_law, checked_law, marked_law, byte_law, ok_parts, made_law}
 use Rattle.std.proofs.lemmas.Int.{ints}
 use Rattle.tz_info.specs.Fronts.{int_at, optional_tag_at}
@@ -31,11 +31,18 @@ next_err std rest n h = elim (int_le (std +ℤ pos 3_600) (pos 86_399)) as (λ t
   | false ↦ λ t k. (grind (arith, ints), cc)
 ] refl h
 
+next_refused : (std : ℤ) (n : ℕ) → pos 86_399 <ℤ (std +ℤ pos 3_600) → n ≡ 6 → next_hour_of std ≡ Err n
+unfolding next_hour_of
+next_refused std n above e =
+    let t : int_le (std +ℤ pos 3_600) (pos 86_399) ≡ false = grind (arith, ints) in
+    rw (t, e) refl
+
 next_law : (std : ℤ) → Law ℤ (checked_at (next_hour_of std)) (NextHour std) (NextHourFault std)
 next_law std = like_law (checked_law (next_hour_of std))
     (λ bytes x rest h. let d = next_ok std x h.0 in record { value = d.0; limit = d.1; whole = h.1 })
     (λ bytes x rest h. (next_again std x h.value h.limit, h.whole))
     (λ bytes n h. next_err std bytes n h)
+    (λ bytes n h. next_refused std n h.0 h.1)
 
 abbrev More : List ℕ → Unit {0} → List ℕ → Type 0
 More bytes unit rest = (bytes ≢ []) × (bytes ≡ rest)
@@ -55,8 +62,12 @@ unfolding more_at
 more_fails [] n h = (refl, cc)
 more_fails (b ∷ bs) n h = cc
 
+more_refuses : (bytes : List ℕ) (n : ℕ) → EndsFault bytes n → more_at bytes ≡ Err n
+unfolding more_at
+more_refuses bytes n h = rw (h.0, h.1) refl
+
 more_law : Law (Unit {0}) more_at More EndsFault
-more_law = record { takes = more_takes; again = more_again; fails = more_fails }
+more_law = record { takes = more_takes; again = more_again; fails = more_fails; refuses = more_refuses }
 
 offset_none : offset_at [] ≡ Err 10
 unfolding offset_at sign_at duration_at hours_minutes_seconds_at int_at optional_tag_at
@@ -67,6 +78,9 @@ offset_some bytes z rest h e = let k = offset_law.again bytes z rest h in let m 
 
 abbrev keep : ℤ → Unit {0} → ℤ
 keep z unit = z
+
+abbrev BehindFault : List ℕ → ℕ → Type 0
+BehindFault = ThenFault Offset OffsetFault (λ _ behind m. EndsFault behind m ⊎ ((behind ≢ []) × ByteFault comma behind m))
 
 given_law : Law ℤ given_offset_at (λ bytes east rest. Offset bytes east (comma ∷ rest)) GivenOffsetFault
 unfolding given_offset_at
@@ -79,10 +93,25 @@ given_law = like_law (then_law more_law (λ _. then_law offset_law (λ z. then_l
     (λ bytes x rest h. (tt, bytes, (offset_some bytes x (comma ∷ rest) h, refl), (x, comma ∷ rest, h, (tt, comma ∷ rest, (λ e. cc, refl), (tt, refl, refl)))))
     (λ bytes n h. elim h [
       | inl a ↦ inl a
-      | inr b ↦ inr (subst (λ (y : List ℕ). ThenFault Offset OffsetFault (λ _ behind m. EndsFault behind m ⊎ ByteFault comma behind m) y n) (sym b.2.1) (elim b.3 [
-        | inl c ↦ inl c
-        | inr d ↦ inr (d.0, d.1, d.2, elim d.3 [ inl e ↦ inl e | inr f ↦ inr (subst (λ (y : List ℕ). ByteFault comma y n) (sym f.2.1) f.3) ])
-      ]))
+      | inr b ↦ inr (
+        b.2.0,
+        subst (λ (y : List ℕ). BehindFault y n) (sym b.2.1) (elim b.3 [
+          | inl c ↦ inl c
+          | inr d ↦ inr (d.0, d.1, d.2, elim d.3 [ inl e ↦ inl e | inr f ↦ inr (f.2.0, subst (λ (y : List ℕ). ByteFault comma y n) (sym f.2.1) f.3) ])
+        ]),
+      )
+    ])
+    (λ bytes n h. elim h [
+      | inl a ↦ inl a
+      | inr b ↦ inr (
+        tt,
+        bytes,
+        (b.0, refl),
+        elim b.1 [
+          | inl c ↦ inl c
+          | inr d ↦ inr (d.0, d.1, d.2, elim d.3 [ inl e ↦ inl e | inr f ↦ inr (tt, d.1, (f.0, refl), f.1) ])
+        ],
+      )
     ])
 
 pub dst_offset_law : (std : ℤ) → Law ℤ (dst_offset_at std) (DstOffset std) (DstOffsetFault std)

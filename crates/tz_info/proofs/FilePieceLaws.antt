@@ -1,18 +1,18 @@
 -- The pieces of a file: what is read is there, what is there is read, and where it is refused its fault stands.
 use Rattle.std.proofs.Common.{◌≡◌, ◌≢◌, ◌⊎◌, ℕ, refl, sym, subst, List, [], ◌∷◌, Bool, Ok, Err, Option, inl, inr}
-use Rattle.tz_info.specs.FileHeaders.{IsHeader}
-use Rattle.tz_info.specs.FileBlocks.{Parts, IsBlock}
+use Rattle.tz_info.specs.FileHeaders.{IsHeader, HeaderFault}
+use Rattle.tz_info.specs.FileBlocks.{Parts, IsBlock, BlockFault}
 use Rattle.tz_info.specs.FilePieces.{FilePieces, IsSecondHalf, IsAfterFirstBlock, HasPieces, PieceFault, First_header, First_block, More_bytes, Second_header, Second_block}
-use Rattle.tz_info.specs.FileReading.{header_at, block_at, later_version_at, after_version, pieces_at}
-use Rattle.tz_info.specs.FileLists.{HasLengths}
+use Rattle.tz_info.specs.Steps.FileReading.{header_at, block_at, later_version_at, after_version, pieces_at}
+use Rattle.tz_info.specs.Steps.FileLists.{HasLengths}
 use Rattle.tz_info.specs.declared.file.header.Place.TheVariants.{First, Second}
 use Rattle.tz_info.specs.declared.file.header.Version.{Version}
 use Rattle.tz_info.specs.declared.file.header.Version.TheVariants.{One, Two, Three}
 use Rattle.tz_info.specs.declared.file.header.Counts.{Counts}
 use Rattle.tz_info.specs.declared.file.header.Header.{Header}
 use Rattle.tz_info.proofs.ReadLaws.{bind_ok, bind_err, ok_same, err_same}
-use Rattle.tz_info.proofs.HeaderLaws.{header_takes, header_again, header_fails}
-use Rattle.tz_info.proofs.BlockLaws.{block_takes, block_again, block_fails}
+use Rattle.tz_info.proofs.HeaderLaws.{header_takes, header_again, header_fails, header_refuses}
+use Rattle.tz_info.proofs.BlockLaws.{block_takes, block_again, block_fails, block_refuses}
 
 second_takes : (bytes : List ℕ) (p : FilePieces) → later_version_at bytes ≡ Ok p → IsSecondHalf bytes p
 unfolding later_version_at
@@ -92,6 +92,33 @@ pieces_fails bytes e f = elim (bind_err (header_at First bytes) _ e f) [
     | inr b ↦ tail_fails a.0.0.version bytes b.0.1 a.0.0 a.0.1 b.0.0 e refl (header_takes First bytes a.0 a.1) (block_takes 4 a.0.0.counts a.0.1 b.0 b.1) b.2
   ]
 ]
+
+-- ---- where a fault stands, it is refused
+tail_refused : (v : Version) (c : Counts) (b : Parts) (rest : List ℕ) (n : ℕ) → v ≢ One → later_version_at rest ≡ Err n → after_version v c b rest ≡ Err n
+tail_refused One c b rest n later h = absurd (later refl)
+tail_refused Two c b rest n later h = h
+tail_refused Three c b rest n later h = h
+
+more_refused : (v : Version) (c : Counts) (p : Parts) (b : ℕ) (rest : List ℕ) → v ≡ One → after_version v c p (b ∷ rest) ≡ Err 5
+more_refused v c p b rest e = rw e refl
+
+second_header_refused : (rest : List ℕ) (n : ℕ) → HeaderFault Second rest n → later_version_at rest ≡ Err n
+unfolding later_version_at
+second_header_refused rest n h = rw (header_refuses Second rest n h) refl
+
+second_block_refused : (rest : List ℕ) (n : ℕ) (k : Header) (after : List ℕ) → IsHeader Second rest k after → BlockFault 8 k.counts after n → later_version_at rest ≡ Err n
+unfolding later_version_at
+second_block_refused rest n k after head h = rw (header_again Second rest k after head, block_refuses 8 k.counts after n h) refl
+
+pub pieces_refuses : (bytes : List ℕ) (n : ℕ) → PieceFault bytes n → pieces_at bytes ≡ Err n
+unfolding pieces_at
+pieces_refuses bytes n (First_header m h) = rw (header_refuses First bytes m h) refl
+pieces_refuses bytes n (First_block m h after head b) = rw (header_again First bytes h after head, block_refuses 4 h.counts after m b) refl
+pieces_refuses bytes n (More_bytes h after p b rest head one block) = rw (header_again First bytes h after head, block_again 4 h.counts after p (b ∷ rest) block) (more_refused h.version h.counts p b rest one)
+pieces_refuses bytes n (Second_header m h after p rest head later block fault) =
+    rw (header_again First bytes h after head, block_again 4 h.counts after p rest block) (tail_refused h.version h.counts p rest m later (second_header_refused rest m fault))
+pieces_refuses bytes n (Second_block m h after p rest k behind head later block second fault) =
+    rw (header_again First bytes h after head, block_again 4 h.counts after p rest block) (tail_refused h.version h.counts p rest m later (second_block_refused rest m k behind second fault))
 
 -- ---- lengths
 of_block : (w : ℕ) (x : Bool) (c : Counts) (bytes : List ℕ) (b : Parts) (rest : List ℕ) (o : Option (List ℕ)) → (w ≡ 4) ⊎ (w ≡ 8) → IsBlock w c bytes b rest → HasLengths (record { extended = x; time_size = w; counts = c; parts = b; footer = o })

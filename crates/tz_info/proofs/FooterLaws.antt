@@ -1,51 +1,56 @@
 -- Footers: what is read is spelled, what is spelled is read, and where it is refused its fault stands.
-use Rattle.std.proofs.Common.{◌≡◌, ◌≢◌, ℕ, ◌+◌, ◌-◌, ◌==◌, List, [], ◌∷◌, ◌++◌, length, get_or, slice_index, Result, Ok, Err, Option, Some, None, Bool, true, false, cond, ◌&&◌, ◌||◌, refl, sym, ap, ◌∙◌, subst, arith, inl, inr}
+use Rattle.std.proofs.Common.{◌≡◌, ◌≢◌, ℕ, ◌-◌, ◌==◌, List, [], ◌∷◌, ◌++◌, length, slice_index, Result, Ok, Err, Option, Some, None, Bool, true, false, cond, ◌&&◌, ◌||◌, refl, sym, ap, ◌∙◌, subst, arith, inl, inr}
 use Rattle.std.proofs.lemmas.Bool.Decides.{nat_tests}
 use Rattle.std.proofs.lemmas.List.{length-append}
 use Rattle.std.proofs.lemmas.Str.{is_utf8-from_IsUtf8, IsUtf8-from_is_utf8}
-use Rattle.std.proofs.Math.Seq.{get_or-append_seam}
-use Rattle.std.specs.List.{list_any}
+use Rattle.std.specs.Bool.{nat_eq}
+use Rattle.std.specs.List.{list_any, starts_with, ends_with}
 use Rattle.std.specs.Str.{is_utf8}
 use Rattle.tz_info.specs.Fronts.{Gives}
 use Rattle.tz_info.specs.FileContents.{is_zero, HasNoZero}
 use Rattle.tz_info.specs.TzTexts.{IsTzText}
 use Rattle.tz_info.specs.TzFaults.{IsTextFault}
-use Rattle.tz_info.specs.Readings.{text_at}
-use Rattle.tz_info.specs.Trims.{IsTrimmed}
-use Rattle.tz_info.specs.Footers.{IsBetweenNewlines, SaysRule, IsFooter, FooterFault, Not_utf8, No_newlines, Colon, Zero, In_text}
-use Rattle.tz_info.specs.FooterReading.{trimmed, is_between_newlines, is_no_text, rule_in, rule_or_none, text_or_none, footer_at}
+use Rattle.tz_info.specs.Steps.Readings.{text_at}
+use Rattle.tz_info.specs.Footers.{IsBetweenNewlines, SaysRule, HasText, IsFooter, FooterFault, Not_utf8, No_newlines, Colon, Zero, In_text}
+use Rattle.tz_info.specs.Steps.FooterReading.{trimmed, is_between_newlines, is_no_text, rule_in, rule_or_none, text_or_none, footer_at}
 use Rattle.tz_info.specs.declared.error.Error.{Error}
 use Rattle.tz_info.specs.declared.rule.transition_rule.TransitionRule.{TransitionRule}
 use Rattle.tz_info.proofs.TextLaws.{text_law}
 use Rattle.tz_info.proofs.TrimLaws.{trim_again, trim_is}
-use Rattle.tz_info.proofs.ReadLaws.{bind_ok, bind_err, ok_same, err_same, choose, test_ok, test_err, and_true}
+use Rattle.tz_info.proofs.ReadLaws.{bind_ok, bind_err, ok_same, err_same, choose, test_ok, test_err, and_true, false_unless, drop_front}
 
 -- ---- newlines
-last_is : (b : ℕ) (bs : List ℕ) → get_or (b ∷ bs) (length bs) 0 ≡ 10 → (front : List ℕ) × (b ∷ bs ≡ front ++ (10 ∷ []))
-last_is b [] h = ([], ap (λ x. x ∷ []) h)
-last_is b (c ∷ cs) h = let r = last_is c cs h in (b ∷ r.0, ap (λ s. b ∷ s) r.1)
+last_of : (b : ℕ) (bs : List ℕ) → (front : List ℕ) × (last : ℕ) × (b ∷ bs ≡ front ++ (last ∷ []))
+last_of b [] = ([], b, refl)
+last_of b (c ∷ cs) = let r = last_of c cs in (b ∷ r.0, r.1, ap (λ s. b ∷ s) r.2)
+
+ends_last : (front : List ℕ) (last : ℕ) → ends_with nat_eq (front ++ (last ∷ [])) (10 ∷ []) ≡ ((10 == last) && true)
+ends_last front last = let at : length (front ++ (last ∷ [])) - 1 ≡ length front = omega (arith, length-append front (last ∷ [])) in rw (at, drop_front front (last ∷ [])) refl
+
+is_ten : (b : ℕ) → ((10 == b) && true) ≡ true → b ≡ 10
+is_ten b h = let e = (and_true (10 == b) true h).0 in grind (arith, nat_tests)
 
 between_is : (bytes : List ℕ) → is_between_newlines bytes ≡ true → IsBetweenNewlines bytes
 between_is [] h = cc
 between_is (b ∷ bs) h =
-    let p = and_true (b == 10) (get_or (b ∷ bs) (length (b ∷ bs) - 1) 0 == 10) h in
-    let first = p.0 in let last = p.1 in
-    let ten : b ≡ 10 = grind (arith, nat_tests) in
-    let at : length (b ∷ bs) - 1 ≡ length bs = omega arith in
-    let end : get_or (b ∷ bs) (length (b ∷ bs) - 1) 0 ≡ 10 = grind (arith, nat_tests) in
-    let r = last_is b bs (ap (λ n. get_or (b ∷ bs) n 0) (sym at) ∙ end) in
-    record { after_first = bs; before_last = r.0; starts = ap (λ x. x ∷ bs) ten; ends = r.1 }
+    let p = and_true (starts_with nat_eq (b ∷ bs) (10 ∷ [])) (ends_with nat_eq (b ∷ bs) (10 ∷ [])) h in
+    let r = last_of b bs in
+    let ends : ends_with nat_eq (r.0 ++ (r.1 ∷ [])) (10 ∷ []) ≡ true = subst (λ (s : List ℕ). ends_with nat_eq s (10 ∷ []) ≡ true) r.2 p.1 in
+    record {
+      after_first = bs;
+      before_last = r.0;
+      starts = ap (λ x. x ∷ bs) (is_ten b p.0);
+      ends = r.2 ∙ ap (λ x. r.0 ++ (x ∷ [])) (is_ten r.1 (sym (ends_last r.0 r.1) ∙ ends));
+    }
+
+both_true : (a b : Bool) → a ≡ true → b ≡ true → (a && b) ≡ true
+both_true a b h k = rw (h, k) refl
 
 between_again : (bytes : List ℕ) → IsBetweenNewlines bytes → is_between_newlines bytes ≡ true
 between_again bytes h =
-    let first : get_or bytes 0 0 ≡ 10 = ap (λ (s : List ℕ). get_or s 0 0) h.starts in
-    let l : length bytes ≡ length h.before_last + 1 = ap length h.ends ∙ length-append h.before_last (10 ∷ []) in
-    let at : length bytes - 1 ≡ length h.before_last = omega arith in
-    let last : get_or bytes (length bytes - 1) 0 ≡ 10 = ap (λ n. get_or bytes n 0) at ∙ (ap (λ (s : List ℕ). get_or s (length h.before_last) 0) h.ends ∙ get_or-append_seam h.before_last 10 [] 0) in
-    both (get_or bytes 0 0) (get_or bytes (length bytes - 1) 0) first last
-  where
-    both : (x y : ℕ) → x ≡ 10 → y ≡ 10 → ((x == 10) && (y == 10)) ≡ true
-    both x y a b = rw (a, b) refl
+    both_true (starts_with nat_eq bytes (10 ∷ [])) (ends_with nat_eq bytes (10 ∷ []))
+    (ap (λ (s : List ℕ). starts_with nat_eq s (10 ∷ [])) h.starts)
+    (ap (λ (s : List ℕ). ends_with nat_eq s (10 ∷ [])) h.ends ∙ ends_last h.before_last 10)
 
 -- ---- the text
 or_false : (a b : Bool) → (a || b) ≡ false → (a ≡ false) × (b ≡ false)
@@ -102,7 +107,7 @@ rule_fails extended (b ∷ bs) e h = elim (bind_err (rule_in extended (b ∷ bs)
   | inr k ↦ let q = k.2 in cc
 ]
 
-text_refused : (extended : Bool) (bytes text : List ℕ) → IsTrimmed bytes text → is_no_text text ≡ true → FooterFault extended bytes 5
+text_refused : (extended : Bool) (bytes text : List ℕ) → HasText bytes text → is_no_text text ≡ true → FooterFault extended bytes 5
 text_refused extended bytes text t h = elim (slice_index text 0 == 58) as (λ b. (slice_index text 0 == 58) ≡ b → (b || list_any is_zero text) ≡ true → FooterFault extended bytes 5) [
   | true ↦ λ e k. Colon text t (grind (arith, nat_tests))
   | false ↦ λ e k. Zero text t (λ n. let q = no_zero_again text n in cc)
@@ -120,9 +125,7 @@ footer_takes extended bytes rule h =
           let n = or_false (slice_index (trimmed bytes) 0 == 58) (list_any is_zero (trimmed bytes)) k.0 in let colon = n.0 in
           record {
             text = trimmed bytes;
-            utf8 = IsUtf8-from_is_utf8 bytes u.0;
-            newlines = between_is bytes b.0;
-            trimmed = trim_is bytes;
+            has_text = record { utf8 = IsUtf8-from_is_utf8 bytes u.0; newlines = between_is bytes b.0; trimmed = trim_is bytes };
             no_colon = λ e. grind (arith, nat_tests);
             no_zero = no_zero_is (trimmed bytes) n.1;
             says = rule_takes extended (trimmed bytes) rule k.1;
@@ -133,17 +136,57 @@ pub footer_again : (extended : Bool) (bytes : List ℕ) (rule : Option Transitio
 unfolding footer_at
 footer_again extended bytes rule h =
     let n = h.no_colon in let colon : (slice_index h.text 0 == 58) ≡ false = grind (arith, nat_tests) in
-    rw (is_utf8-from_IsUtf8 bytes h.utf8, between_again bytes h.newlines, trim_again bytes h.text h.trimmed, colon, no_zero_again h.text h.no_zero) (rule_again extended h.text rule h.says)
+    let t = h.has_text in
+    rw (is_utf8-from_IsUtf8 bytes t.utf8, between_again bytes t.newlines, trim_again bytes h.text t.trimmed, colon, no_zero_again h.text h.no_zero) (rule_again extended h.text rule h.says)
 
 pub footer_fails : (extended : Bool) (bytes : List ℕ) (e : ℕ) → footer_at extended bytes ≡ Err e → FooterFault extended bytes e
 unfolding footer_at
 footer_fails extended bytes e h = elim (test_err (is_utf8 bytes) (cond (is_between_newlines bytes) (text_or_none extended (trimmed bytes)) (Err 5)) 16 e h) [
   | inl u ↦ subst (λ n. FooterFault extended bytes n) (sym u.1) (Not_utf8 (λ t. let q = is_utf8-from_IsUtf8 bytes t in let f = u.0 in cc))
   | inr u ↦ elim (test_err (is_between_newlines bytes) (text_or_none extended (trimmed bytes)) 5 e u.1) [
-    | inl b ↦ subst (λ n. FooterFault extended bytes n) (sym b.1) (No_newlines (λ t. let q = between_again bytes t in let f = b.0 in cc))
-    | inr b ↦ elim (choose (is_no_text (trimmed bytes)) (Err 5) (rule_or_none extended (trimmed bytes)) (Err e) b.1) [
-      | inl k ↦ subst (λ n. FooterFault extended bytes n) (err_same (Err 5) 5 e refl k.1) (text_refused extended bytes (trimmed bytes) (trim_is bytes) k.0)
-      | inr k ↦ let f = rule_fails extended (trimmed bytes) e k.1 in In_text (trimmed bytes) e (trim_is bytes) f.0 f.1
-    ]
+    | inl b ↦ subst (λ n. FooterFault extended bytes n) (sym b.1) (No_newlines (IsUtf8-from_is_utf8 bytes u.0) (λ t. let q = between_again bytes t in let f = b.0 in cc))
+    | inr b ↦
+        let has : HasText bytes (trimmed bytes) = record { utf8 = IsUtf8-from_is_utf8 bytes u.0; newlines = between_is bytes b.0; trimmed = trim_is bytes } in
+        elim (choose (is_no_text (trimmed bytes)) (Err 5) (rule_or_none extended (trimmed bytes)) (Err e) b.1) [
+          | inl k ↦ subst (λ n. FooterFault extended bytes n) (err_same (Err 5) 5 e refl k.1) (text_refused extended bytes (trimmed bytes) has k.0)
+          | inr k ↦
+              let n = or_false (slice_index (trimmed bytes) 0 == 58) (list_any is_zero (trimmed bytes)) k.0 in let colon = n.0 in
+              let f = rule_fails extended (trimmed bytes) e k.1 in
+              In_text (trimmed bytes) e has (λ q. grind (arith, nat_tests)) (no_zero_is (trimmed bytes) n.1) f.0 f.1
+        ]
   ]
 ]
+
+-- ---- where a fault stands, it is refused
+true_unless : (b : Bool) → (b ≡ false → ⊥) → b ≡ true
+true_unless true h = refl
+true_unless false h = absurd (h refl)
+
+or_true : (a b : Bool) → b ≡ true → (a || b) ≡ true
+or_true true b h = refl
+or_true false b h = h
+
+spelled_refused : (extended : Bool) (text : List ℕ) (n : ℕ) → IsTextFault extended text n → rule_in extended text ≡ Err n
+unfolding rule_in
+spelled_refused extended text n h = rw ((text_law extended).refuses text n h) refl
+
+rule_refused : (extended : Bool) (text : List ℕ) (n : ℕ) → text ≢ [] → IsTextFault extended text n → rule_or_none extended text ≡ Err n
+rule_refused extended [] n some h = absurd (some refl)
+rule_refused extended (b ∷ bs) n some h = rw (spelled_refused extended (b ∷ bs) n h) refl
+
+text_read : (extended : Bool) (bytes text : List ℕ) → HasText bytes text → footer_at extended bytes ≡ text_or_none extended text
+unfolding footer_at
+text_read extended bytes text h = rw (is_utf8-from_IsUtf8 bytes h.utf8, between_again bytes h.newlines, trim_again bytes text h.trimmed) refl
+
+footer_refuses : (extended : Bool) (bytes : List ℕ) (n : ℕ) → FooterFault extended bytes n → footer_at extended bytes ≡ Err n
+unfolding footer_at
+footer_refuses extended bytes n (Not_utf8 bad) = rw (false_unless (is_utf8 bytes) (λ t. bad (IsUtf8-from_is_utf8 bytes t))) refl
+footer_refuses extended bytes n (No_newlines u bad) = rw (is_utf8-from_IsUtf8 bytes u, false_unless (is_between_newlines bytes) (λ t. bad (between_is bytes t))) refl
+footer_refuses extended bytes n (Colon text has colon) = text_read extended bytes text has ∙ (let c : (slice_index text 0 == 58) ≡ true = grind (arith, nat_tests) in rw c refl)
+footer_refuses extended bytes n (Zero text has zero) = text_read extended bytes text has ∙ rw (or_true (slice_index text 0 == 58) (list_any is_zero text) (true_unless (list_any is_zero text) (λ t. zero (no_zero_is text t)))) refl
+footer_refuses extended bytes n (In_text text m has colon zero some fault) =
+    let c : (slice_index text 0 == 58) ≡ false = grind (arith, nat_tests) in
+    text_read extended bytes text has ∙ rw (c, no_zero_again text zero) (rule_refused extended text m some fault)
+
+pub fault_or_footer : (extended : Bool) (bytes : List ℕ) (n : ℕ) (rule : Option TransitionRule) → FooterFault extended bytes n → IsFooter extended bytes rule → ⊥
+fault_or_footer extended bytes n rule fault footer = let refused = footer_refuses extended bytes n fault in let read = footer_again extended bytes rule footer in cc

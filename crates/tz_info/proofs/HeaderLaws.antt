@@ -1,39 +1,39 @@
 -- Headers: what is read is spelled, what is spelled is read, and where it is refused its fault stands.
-use Rattle.std.proofs.Common.{◌≡◌, ◌≢◌, ℕ, ◌+◌, ◌<◌, ◌==◌, arith, refl, ap, ◌∙◌, sym, subst, List, [], ◌∷◌, ◌++◌, length, slice_index, true, false, not, ◌&&◌, ◌||◌, Ok, Err, inl, inr, ◌⊎◌}
+use Rattle.std.proofs.Common.{◌≡◌, ◌≢◌, ℕ, ◌+◌, ◌<◌, ◌≤◌, Result, ◌==◌, arith, refl, ap, ◌∙◌, sym, subst, List, [], ◌∷◌, ◌++◌, length, slice_index, true, false, not, ◌||◌, Ok, Err, inl, inr, ◌⊎◌}
 use Rattle.std.proofs.lemmas.Bool.Decides.{nat_tests}
 use Rattle.std.proofs.lemmas.List.{length-append}
-use Rattle.tz_info.specs.Fronts.{exact_at, be_u32_at}
-use Rattle.tz_info.specs.FileHeaders.{magic, StandsFor, MayStand, AreCounts, CountsAgree, IsHeader, HeaderFault, No_magic, Other_magic, No_version, First_version, Other_version, Too_short, Counts_disagree}
-use Rattle.tz_info.specs.FileReading.{is_magic, magic_at, first_version_at, version_of, version_at, counts_at, is_none_or_all, counts_agree, header_at}
+use Rattle.std.specs.Bool.{nat_eq}
+use Rattle.std.specs.Cmp.Lexicographic.{pointwise}
+use Rattle.tz_info.specs.Fronts.{exact_at, be_u32_at, ◌>>=◌}
+use Rattle.tz_info.specs.FileHeaders.{magic, IsNumber, StandsFor, MayStand, AreCounts, CountsAgree, IsHeader, HeaderFault, No_magic, Other_magic, No_version, First_version, Other_version, Too_short, Counts_disagree}
+use Rattle.tz_info.specs.Steps.FileReading.{is_magic, magic_at, first_version_at, version_of, version_at, counts_at, is_none_or_all, counts_agree, header_at}
 use Rattle.tz_info.specs.declared.file.header.Place.{Place}
 use Rattle.tz_info.specs.declared.file.header.Place.TheVariants.{First, Second}
 use Rattle.tz_info.specs.declared.file.header.Version.{Version}
 use Rattle.tz_info.specs.declared.file.header.Version.TheVariants.{One, Two, Three}
 use Rattle.tz_info.specs.declared.file.header.Counts.{Counts}
 use Rattle.tz_info.specs.declared.file.header.Header.{Header}
-use Rattle.tz_info.proofs.ReadLaws.{bind_ok, bind_err, ok_same, err_same, choose, guard_ok, guard_err, and_true, exact_takes, exact_again, exact_fails, no_err, number_takes, number_again, number_step}
+use Rattle.tz_info.proofs.ReadLaws.{bind_ok, bind_err, ok_same, err_same, choose, guard_ok, guard_err, and_true, exact_takes, exact_again, exact_fails, no_err, number_takes, number_again, number_step, exact_short, false_unless}
 
 -- ---- the magic bytes
-magic_is : (four : List ℕ) → length four ≡ 4 → is_magic four ≡ true → four ≡ magic
-magic_is [] l h = absurd (omega arith)
-magic_is (a ∷ []) l h = absurd (omega arith)
-magic_is (a ∷ b ∷ []) l h = absurd (omega arith)
-magic_is (a ∷ b ∷ c ∷ []) l h = absurd (omega arith)
-magic_is (a ∷ b ∷ c ∷ d ∷ []) l h =
-    let p = and_true ((a == 84) && (b == 90) && (c == 105)) (d == 102) h in
-    let q = and_true ((a == 84) && (b == 90)) (c == 105) p.0 in let r = and_true (a == 84) (b == 90) q.0 in
-    let e1 = r.0 in let e2 = r.1 in let e3 = q.1 in let e4 = p.1 in
-    let f1 : a ≡ 84 = grind (arith, nat_tests) in let f2 : b ≡ 90 = grind (arith, nat_tests) in
-    let f3 : c ≡ 105 = grind (arith, nat_tests) in let f4 : d ≡ 102 = grind (arith, nat_tests) in
-    rw (f1, f2, f3, f4) refl
-magic_is (a ∷ b ∷ c ∷ d ∷ e ∷ s) l h = absurd (omega arith)
+same_bytes : (xs ys : List ℕ) → pointwise nat_eq xs ys ≡ true → xs ≡ ys
+same_bytes [] [] h = refl
+same_bytes [] (y ∷ ys) h = cc
+same_bytes (x ∷ xs) [] h = cc
+same_bytes (x ∷ xs) (y ∷ ys) h =
+    let p = and_true (x == y) (pointwise nat_eq xs ys) h in
+    let first = p.0 in let e : x ≡ y = grind (arith, nat_tests) in
+    rw e (ap (λ zs. y ∷ zs) (same_bytes xs ys p.1))
+
+magic_is : (four : List ℕ) → is_magic four ≡ true → four ≡ magic
+magic_is four h = same_bytes four magic h
 
 magic_takes : (bytes rest : List ℕ) → magic_at bytes ≡ Ok rest → bytes ≡ magic ++ rest
 unfolding magic_at
 magic_takes bytes rest h =
     let a = bind_ok (exact_at 4 bytes) _ rest h in let t = exact_takes 4 bytes a.0 a.1 in
     let g = guard_ok (is_magic a.0.0) a.0.1 rest 5 a.2 in
-    t.0 ∙ (ap (λ x. x ++ a.0.1) (magic_is a.0.0 t.1 g.0) ∙ ap (λ r. magic ++ r) g.1)
+    t.0 ∙ (ap (λ x. x ++ a.0.1) (magic_is a.0.0 g.0) ∙ ap (λ r. magic ++ r) g.1)
 
 magic_again : (rest : List ℕ) → magic_at (magic ++ rest) ≡ Ok rest
 unfolding magic_at
@@ -274,3 +274,77 @@ header_fails place bytes e h = elim (bind_err (magic_at bytes) _ e h) [
         ]
   ]
 ]
+
+-- ---- where a fault stands, it is refused
+magic_short : (bytes : List ℕ) → length bytes < 4 → magic_at bytes ≡ Err 7
+unfolding magic_at
+magic_short bytes h = rw (exact_short 4 bytes h) refl
+
+magic_other : (four rest : List ℕ) → length four ≡ 4 → four ≢ magic → magic_at (four ++ rest) ≡ Err 5
+unfolding magic_at
+magic_other four rest l other = rw (exact_again 4 four rest l, false_unless (is_magic four) (λ t. other (magic_is four t))) refl
+
+version_none : (place : Place) → version_at place [] ≡ Err 7
+unfolding version_at
+version_none place = rw (exact_short 1 [] (omega arith)) refl
+
+version_first : (rest : List ℕ) → version_at Second (0 ∷ rest) ≡ Err 5
+unfolding version_at
+version_first rest = rw (exact_again 1 (0 ∷ []) rest refl) refl
+
+other_version : (place : Place) (byte : ℕ) → ((v : Version) → ¬ (StandsFor byte v)) → version_of place byte ≡ Err 14
+other_version place byte none =
+    let one = none One in let two = none Two in let three = none Three in
+    let a : (byte == 0) ≡ false = grind (arith, nat_tests) in
+    let b : (byte == 50) ≡ false = grind (arith, nat_tests) in
+    let c : (byte == 51) ≡ false = grind (arith, nat_tests) in
+    rw (a, b, c) refl
+
+version_other : (place : Place) (byte : ℕ) (rest : List ℕ) → ((v : Version) → ¬ (StandsFor byte v)) → version_at place (byte ∷ rest) ≡ Err 14
+unfolding version_at
+version_other place byte rest none = let e = other_version place byte none in rw (exact_again 1 (byte ∷ []) rest refl) (rw e refl)
+
+number_length : (bytes : List ℕ) (n : ℕ) (rest : List ℕ) → IsNumber bytes n rest → length bytes ≡ 4 + length rest
+number_length bytes n rest h = let l : length bytes ≡ length h.four + length rest = ap length h.whole ∙ length-append h.four rest in omega (arith, h.size, l)
+
+counts_length : (bytes : List ℕ) (c : Counts) (rest : List ℕ) → AreCounts bytes c rest → 24 ≤ length bytes
+counts_length bytes c rest h =
+    let a = number_length bytes c.ut_local h.after_ut_local h.ut_local in
+    let b = number_length h.after_ut_local c.standard_wall h.after_standard_wall h.standard_wall in
+    let d = number_length h.after_standard_wall c.leap_seconds h.after_leap_seconds h.leap_seconds in
+    let e = number_length h.after_leap_seconds c.transitions h.after_transitions h.transitions in
+    let f = number_length h.after_transitions c.types h.after_types h.types in
+    let g = number_length h.after_types c.designations rest h.designations in
+    omega (arith, a, b, d, e, f, g)
+
+counts_answer : (bytes : List ℕ) (r : Result (Counts × List ℕ) ℕ) → length bytes < 24 → counts_at bytes ≡ r → counts_at bytes ≡ Err 7
+counts_answer bytes (Ok x) l h = let k = counts_length bytes x.0 x.1 (counts_takes bytes x h) in absurd (omega arith)
+counts_answer bytes (Err e) l h = let k = counts_fails bytes e h in h ∙ ap (λ (n : ℕ). Err n) k.0
+
+rest_answer : {B : Type 0} (rest : List ℕ) (f : Counts × List ℕ → Result B ℕ) (r : Result (List ℕ × List ℕ) ℕ) → length rest < 39 → exact_at 15 rest ≡ r → (r >>= λ u. counts_at u.1 >>= f) ≡ Err 7
+rest_answer rest f (Ok x) l h =
+    let t = exact_takes 15 rest x h in
+    let k : length rest ≡ length x.0 + length x.1 = ap length t.0 ∙ length-append x.0 x.1 in
+    rw (counts_answer x.1 (counts_at x.1) (omega (arith, t.1, k)) refl) refl
+rest_answer rest f (Err e) l h = let k = exact_fails 15 rest e h in rw k.0 refl
+
+rest_short : {B : Type 0} (rest : List ℕ) (f : Counts × List ℕ → Result B ℕ) → length rest < 39 → (exact_at 15 rest >>= λ u. counts_at u.1 >>= f) ≡ Err 7
+rest_short rest f l = rest_answer rest f (exact_at 15 rest) l refl
+
+pub header_refuses : (place : Place) (bytes : List ℕ) (n : ℕ) → HeaderFault place bytes n → header_at place bytes ≡ Err n
+unfolding header_at
+header_refuses place bytes n (No_magic l) = rw (magic_short bytes l) refl
+header_refuses place bytes n (Other_magic four rest w l other) = rw (w, magic_other four rest l other) refl
+header_refuses place bytes n (No_version w) = rw (w, magic_again [], version_none place) refl
+header_refuses place bytes n (First_version rest w second) = rw (second, w, magic_again (0 ∷ rest), version_first rest) refl
+header_refuses place bytes n (Other_version version rest w none) = rw (w, magic_again (version ∷ rest), version_other place version rest none) refl
+header_refuses place bytes n (Too_short version v rest w stands may l) = rw (w, magic_again (version ∷ rest), version_again place version rest v stands may) (rest_short rest _ l)
+header_refuses place bytes n (Counts_disagree version v unused numbers rest c w stands may size counts disagree) =
+    rw (
+      w,
+      magic_again (version ∷ (unused ++ numbers)),
+      version_again place version (unused ++ numbers) v stands may,
+      exact_again 15 unused numbers size,
+      counts_again numbers c rest counts,
+      false_unless (counts_agree c) (λ t. disagree (agree_is c t)),
+    ) refl

@@ -5,13 +5,13 @@ use Rattle.std.specs.List.{count_by, filter}
 use Rattle.std.proofs.lemmas.Int.{ints, by_lt_z}
 use Rattle.std.proofs.lemmas.List.Sums.{sum_by-cons, count_by-le-length}
 use Rattle.tz_info.specs.Lists.{last_else}
-use Rattle.tz_info.specs.Leaps.{AreLeapSeconds, AreCounted, corrections, thresholds, passed_count, correction_before, IsLeapTime, IsLeapTimeRefused, IsUnixTime}
+use Rattle.tz_info.specs.Leaps.{AreLeapSeconds, AreCounted, corrections, thresholds, passed_count, correction_at, correction_before, IsLeapTime, IsLeapTimeRefused, IsUnixTime}
 use Rattle.tz_info.specs.declared.zone.leap_second.LeapSecond.{LeapSecond}
 use Rattle.tz_info.proofs.Prefixes.{filter_first, last_taken, mapped_at, le_true, le_false, lt_true, lt_false}
 use Rattle.tz_info.proofs.LeapEntries.{Follow, follow, follow_tail, threshold_apart, threshold_count, threshold_at}
 
 -- how many entries behind one of correction p are passed at u
-abbrev counted_from : ℤ → List LeapSecond → ℤ → ℕ
+abbrev pub counted_from : ℤ → List LeapSecond → ℤ → ℕ
 counted_from p es u = count_by (λ t. int_le t u) (thresholds p es)
 
 -- the next threshold comes later
@@ -54,6 +54,9 @@ sums_rise p u v (e ∷ es) f h = by_lt_z u (e.unix_leap_time -ℤ p)
     (elim (f.step e (omega arith)) [ inl k ↦ omega (arith, ints) | inr k ↦ omega (arith, ints) ])))
     (λ above. rw (summed_counted p u e es above, summed_counted p v e es (omega (arith, ints))) (sums_rise e.correction u v es (follow_tail p e es f) h))
 
+pub leap_sums_rise : (es : List LeapSecond) (u v : ℤ) → AreLeapSeconds es → u ≤ℤ v → (u +ℤ correction_at es u) ≤ℤ (v +ℤ correction_at es v)
+leap_sums_rise es u v valid h = sums_rise (pos 0) u v es (follow es valid) h
+
 pub leap_times_rise : (es : List LeapSecond) (u v x y : ℤ) → AreLeapSeconds es → u ≤ℤ v → IsLeapTime es u x → IsLeapTime es v y → x ≤ℤ y
 leap_times_rise es u v x y valid h a b = rw (a.sum, b.sum) (sums_rise (pos 0) u v es (follow es valid) h)
 
@@ -94,11 +97,11 @@ leap_times_answer es u valid low high r =
     r.leaves (omega (arith, ints))
 
 -- the passed entries are those whose thresholds are not above u
-record Split (p u : ℤ) (es : List LeapSecond) (k : ℕ) : Type 0 where
+pub record Split (p u : ℤ) (es : List LeapSecond) (k : ℕ) : Type 0 where
   pub passed : k < counted_from p es u → get_or (thresholds p es) k (pos 0) ≤ℤ u
   pub not_passed : counted_from p es u ≤ k → u <ℤ get_or (thresholds p es) k (pos 0)
 
-split : (p u : ℤ) (es : List LeapSecond) (k : ℕ) → Follow p es → k < length es → Split p u es k
+pub split : (p u : ℤ) (es : List LeapSecond) (k : ℕ) → Follow p es → k < length es → Split p u es k
 split p u [] k f h = absurd (omega arith)
 split p u (e ∷ es) zero f h = by_lt_z u (e.unix_leap_time -ℤ p)
     (λ below. let z = none_counted p u (e ∷ es) f (λ d m. below) in record { passed = λ l. absurd (omega arith); not_passed = λ l. below })

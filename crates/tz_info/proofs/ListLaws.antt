@@ -1,7 +1,7 @@
 -- Values by places.
 use Rattle.std.proofs.Common.{◌≡◌, ℕ, zero, suc, ◌<◌, List, Result, Ok, Err, refl, sym, arith, inl, inr, Bool, true, false, ◌&&◌}
 use Rattle.std.proofs.lemmas.Bool.{cases_lt}
-use Rattle.tz_info.specs.ContentReading.{values_below, all_below}
+use Rattle.tz_info.specs.Steps.ContentReading.{values_below, all_below}
 
 -- the first refusal is that of all
 pub first_refusal : {X : Type 0} (n i : ℕ) (read : ℕ → Result X ℕ) (xs : List X) (e : ℕ) → i < n → values_below i read ≡ Ok xs → read i ≡ Err e → values_below n read ≡ Err e

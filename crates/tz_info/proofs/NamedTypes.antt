@@ -6,7 +6,7 @@ use Rattle.tz_info.specs.Names.{is_name_byte, IsName, IsNameOrNone}
 use Rattle.tz_info.specs.LocalTypes.{LocalType, IsUtOffset}
 use Rattle.tz_info.specs.Errors.{number_of}
 use Rattle.tz_info.specs.Fronts.{Gives}
-use Rattle.tz_info.specs.Readings.{is_name, named_type_of}
+use Rattle.tz_info.specs.Steps.Readings.{is_name, named_type_of}
 use Rattle.tz_info.specs.declared.error.Error.{Error}
 
 all_are : (p : ℕ → Bool) (xs : List ℕ) → list_all p xs ≡ true → (i : ℕ) → i < length xs → p (get_or xs i 0) ≡ true

@@ -2,8 +2,7 @@
 use Rattle.std.proofs.Common.{◌≡◌, arith, ℤ, pos, Bool, true, false, not, cond, ◌||◌, ◌+ℤ◌, ◌-ℤ◌, ◌≤ℤ◌, ◌<ℤ◌, ◌*ℤ◌, refl, inl, inr, ◌⊎◌, ⊎_elim, int_lt, int_le, sym, ◌∙◌, ap}
 use Rattle.std.proofs.lemmas.Int.{by_lt_z, ints}
 use Rattle.naive_base.specs.Year.{floor_div, year_start}
-use Rattle.naive_base.proofs.Floor.{floors}
-use Rattle.naive_base.proofs.Years.{year_step, days_at_least, starts_rise}
+use Rattle.naive_base.proofs.ForCallers.{floors, year_step, days_at_least, starts_rise}
 use Rattle.tz_info.specs.RuleDays.{IsRuleDay}
 use Rattle.offset_core.specs.Offset.{IsWithinDay}
 use Rattle.tz_info.specs.Rules.{Alternate, IsAlternateRule, IsWithinWeek}

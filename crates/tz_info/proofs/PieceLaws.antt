@@ -4,14 +4,16 @@ use Rattle.std.proofs.lemmas.Bool.Decides.{nat_tests}
 use Rattle.tz_info.specs.Fronts.{is_digit, run_of, after_run, value_from, number_within, int_at, tag_at, optional_tag_at, ◌>>=◌}
 use Rattle.tz_info.specs.Pieces.{AllOf, NoneFirst, Without, Nothing, Marked, Number}
 use Rattle.tz_info.specs.TzFaults.{NoFault, ThenFault, MarkedFault, Byte, ByteFault, NumberFault}
-use Rattle.tz_info.specs.Readings.{nothing_at, checked_at, marked_at}
-use Rattle.tz_info.proofs.RunLaws.{within_is}
+use Rattle.tz_info.specs.Steps.Readings.{nothing_at, checked_at, marked_at}
+use Rattle.tz_info.proofs.RunLaws.{within_is, above_is}
 
--- reading gives P: what is read is spelled so, what is spelled so is read, and where it is refused its fault stands
+-- reading gives P: what is read is spelled so, what is spelled so is read, where it is refused its fault stands, and where
+-- a fault stands it is refused
 pub record Law (X : Type 0) (at : List ℕ → Result (X × List ℕ) ℕ) (P : List ℕ → X → List ℕ → Type 0) (F : List ℕ → ℕ → Type 0) : Type 0 where
   pub takes : (bytes : List ℕ) (x : X) (rest : List ℕ) → at bytes ≡ Ok (x, rest) → P bytes x rest
   pub again : (bytes : List ℕ) (x : X) (rest : List ℕ) → P bytes x rest → at bytes ≡ Ok (x, rest)
   pub fails : (bytes : List ℕ) (n : ℕ) → at bytes ≡ Err n → F bytes n
+  pub refuses : (bytes : List ℕ) (n : ℕ) → F bytes n → at bytes ≡ Err n
 
 pub bind_ok : {A B : Type 0} (r : Result A ℕ) (f : A → Result B ℕ) (y : B) → (r >>= f) ≡ Ok y → (x : A) × (r ≡ Ok x) × (f x ≡ Ok y)
 bind_ok (Ok x) f y h = (x, refl, h)
@@ -33,6 +35,10 @@ then_law {a = a} la lb = record {
     | inl e ↦ inl (la.fails bytes n e)
     | inr k ↦ inr (k.0.0, k.0.1, la.takes bytes k.0.0 k.0.1 k.1, (lb k.0.0).fails k.0.1 n k.2)
   ];
+  refuses = λ bytes n h. elim h [
+    | inl f ↦ rw (la.refuses bytes n f) refl
+    | inr k ↦ rw (la.again bytes k.0 k.1 k.2) ((lb k.0).refuses k.1 n k.3)
+  ];
 }
 
 -- one piece, and a value made of its value
@@ -40,11 +46,12 @@ abbrev pub Made : {X Y : Type 0} → (List ℕ → X → List ℕ → Type 0) �
 Made {X} P f bytes y rest = (x : X) × P bytes x rest × (f x ≡ y)
 
 -- the same reading under other names
-pub like_law : {X : Type 0} {at : List ℕ → Result (X × List ℕ) ℕ} {P Q : List ℕ → X → List ℕ → Type 0} {F G : List ℕ → ℕ → Type 0} → Law X at P F → ((bytes : List ℕ) (x : X) (rest : List ℕ) → P bytes x rest → Q bytes x rest) → ((bytes : List ℕ) (x : X) (rest : List ℕ) → Q bytes x rest → P bytes x rest) → ((bytes : List ℕ) (n : ℕ) → F bytes n → G bytes n) → Law X at Q G
-like_law law to from fault = record {
+pub like_law : {X : Type 0} {at : List ℕ → Result (X × List ℕ) ℕ} {P Q : List ℕ → X → List ℕ → Type 0} {F G : List ℕ → ℕ → Type 0} → Law X at P F → ((bytes : List ℕ) (x : X) (rest : List ℕ) → P bytes x rest → Q bytes x rest) → ((bytes : List ℕ) (x : X) (rest : List ℕ) → Q bytes x rest → P bytes x rest) → ((bytes : List ℕ) (n : ℕ) → F bytes n → G bytes n) → ((bytes : List ℕ) (n : ℕ) → G bytes n → F bytes n) → Law X at Q G
+like_law law to from fault refused = record {
   takes = λ bytes x rest h. to bytes x rest (law.takes bytes x rest h);
   again = λ bytes x rest h. law.again bytes x rest (from bytes x rest h);
   fails = λ bytes n h. fault bytes n (law.fails bytes n h);
+  refuses = λ bytes n h. law.refuses bytes n (refused bytes n h);
 }
 
 -- ---- nothing, or a value that may be refused
@@ -60,6 +67,7 @@ nothing_law v = record {
   takes = λ bytes x rest h. let p = ok_parts v x bytes rest h in (sym p.0, p.1);
   again = λ bytes x rest h. let a = h.0 in let b = h.1 in cc;
   fails = λ bytes n h. cc;
+  refuses = λ bytes n h. absurd h;
 }
 
 pub checked_law : {X : Type 0} (r : Result X ℕ) → Law X (checked_at r) (λ bytes x rest. (r ≡ Ok x) × (bytes ≡ rest)) (λ bytes n. r ≡ Err n)
@@ -67,11 +75,13 @@ checked_law (Ok v) = record {
   takes = λ bytes x rest h. let p = ok_parts v x bytes rest h in let e = p.0 in (cc, p.1);
   again = λ bytes x rest h. let a = h.0 in let b = h.1 in cc;
   fails = λ bytes n h. cc;
+  refuses = λ bytes n h. cc;
 }
 checked_law (Err m) = record {
   takes = λ bytes x rest h. cc;
   again = λ bytes x rest h. let a = h.0 in cc;
   fails = λ bytes n h. cc;
+  refuses = λ bytes n h. cc;
 }
 
 pub made_law : {X Y : Type 0} {a : List ℕ → Result (X × List ℕ) ℕ} {P : List ℕ → X → List ℕ → Type 0} {F : List ℕ → ℕ → Type 0} (f : X → Y) → Law X a P F → Law Y (λ bytes. a bytes >>= λ p. Ok (f p.0, p.1)) (Made P f) F
@@ -82,6 +92,7 @@ made_law {a = a} {P = P} f la = record {
       (k.0.0, subst (P bytes k.0.0) p.1 (la.takes bytes k.0.0 k.0.1 k.1), p.0);
   again = λ bytes y rest h. rw (la.again bytes h.0 rest h.1) (let e = h.2 in cc);
   fails = λ bytes n h. elim (bind_err (a bytes) _ n h) [ inl e ↦ la.fails bytes n e | inr k ↦ cc ];
+  refuses = λ bytes n h. rw (la.refuses bytes n h) refl;
 }
 
 -- ---- a byte
@@ -116,6 +127,10 @@ marked_law tag la lb = record {
     | inl s ↦ inl (s.0, s.1, la.fails s.0 n (rw s.2 at h))
     | inr s ↦ inr (s.0, lb.fails bytes n (rw s.1 at h))
   ];
+  refuses = λ bytes n h. elim h [
+    | inl s ↦ rw (s.1, tag_here tag s.0) (la.refuses s.0 n s.2)
+    | inr s ↦ rw (tag_not tag bytes s.0) (lb.refuses bytes n s.1)
+  ];
 }
 
 -- the byte that must come
@@ -146,11 +161,16 @@ byte_fails tag (b ∷ bs) n h = elim (b == tag) as (λ t. (b == tag) ≡ t → B
   | false ↦ λ e. let i : b ≢ tag = grind (arith, nat_tests) in let k = byte_not tag b bs i in (i, cc)
 ] refl
 
+byte_refuses : (tag : ℕ) (bytes : List ℕ) (n : ℕ) → ByteFault tag bytes n → tag_at (tag ∷ []) bytes ≡ Err n
+byte_refuses tag [] n h = rw h (byte_none tag)
+byte_refuses tag (b ∷ bs) n h = rw h.1 (byte_not tag b bs h.0)
+
 pub byte_law : (tag : ℕ) → Law (Unit {0}) (tag_at (tag ∷ [])) (Byte tag) (ByteFault tag)
 byte_law tag = record {
   takes = byte_takes tag;
   again = λ bytes u rest h. rw h (byte_here tag rest);
   fails = byte_fails tag;
+  refuses = byte_refuses tag;
 }
 
 -- ---- a number
@@ -209,5 +229,15 @@ int_fails max bytes n h = elim (bind_err (number_within max (run_of is_digit byt
   | inr x ↦ cc
 ]
 
+refused_number : (max : ℕ) (ds : List ℕ) → (length ds ≡ 0) ⊎ (max < value_from 0 ds) → number_within max ds ≡ Err 10
+refused_number max [] h = refl
+refused_number max (d ∷ ds) h = elim h [ inl none ↦ absurd (omega arith) | inr above ↦ above_is max (d ∷ ds) (omega arith) above ]
+
+int_refuses : (max : ℕ) (bytes : List ℕ) (n : ℕ) → NumberFault max bytes n → int_at max bytes ≡ Err n
+unfolding int_at
+int_refuses max bytes n h =
+    let e = run_again is_digit h.digits h.rest h.each h.longest in
+    rw (h.whole, e.0, e.1, refused_number max h.digits h.fault, h.number) refl
+
 pub int_law : (max : ℕ) → Law ℕ (int_at max) (Number max) (NumberFault max)
-int_law max = record { takes = int_takes max; again = int_again max; fails = int_fails max }
+int_law max = record { takes = int_takes max; again = int_again max; fails = int_fails max; refuses = int_refuses max }

@@ -1,13 +1,16 @@
 -- The zone of a TZ text.
-use Rattle.std.proofs.Common.{◌≡◌, ℕ, pos, ap, ◌∙◌, sym, subst, List, [], length, Bool, false, ◌∷◌, ◌==◌, Ok, Err, Result, inl, inr, ◌⊎◌, ◌≢◌, IfOk, IfErr, MatchResult}
+use Rattle.std.proofs.Common.{◌≡◌, ◌≤◌, arith, refl, true, ℕ, pos, ap, ◌∙◌, sym, subst, List, [], length, Bool, false, ◌∷◌, ◌==◌, Ok, Err, Result, inl, inr, ◌≢◌, IfOk, IfErr, MatchResult}
+use Rattle.std.proofs.lemmas.Bool.Decides.{nat_tests}
 use Rattle.tz_info.specs.Trims.{IsTrimmed}
 use Rattle.tz_info.specs.Errors.{number_of}
 use Rattle.tz_info.specs.Zones.{Zone, plain_zone}
+use Rattle.tz_info.specs.TzFaults.{IsTextFault}
 use Rattle.tz_info.specs.TzTexts.{IsTzText}
 use Rattle.tz_info.specs.PosixZones.{IsZoneOfText, IsPosixZone, IsPosixFault, posix_zone}
 use Rattle.tz_info.specs.declared.error.Error.{Error}
 use Rattle.tz_info.specs.declared.rule.transition_rule.TransitionRule.{TransitionRule}
-use Rattle.tz_info.proofs.TextLaws.{one_rule}
+use Rattle.tz_info.proofs.FaultNumbers.{text_low}
+use Rattle.tz_info.proofs.TextLaws.{one_rule, one_fault, refused_or_spelled}
 use Rattle.tz_info.proofs.TrimLaws.{one_trimmed}
 
 same_rule : (text : List ℕ) (y z : Zone) (p : IsZoneOfText text y) (q : IsZoneOfText text z) → p.rule ≡ q.rule
@@ -37,9 +40,17 @@ pub memory_of : (r : Result Zone Error) (P : Zone → Type 0) → MatchResult r 
 memory_of (Ok y) P h = tt
 memory_of (Err x) P h = h
 
-pub memory_fault : (text : List ℕ) (r : Result Zone Error) → IfErr r (λ e. number_of e ≡ 17) → IfErr r (λ e. (number_of e ≡ 17) ⊎ IsPosixFault text (number_of e))
-memory_fault text (Ok y) h = tt
-memory_fault text (Err x) h = inl h
+-- want of memory is answered where there is a zone alone
+pub empty_memory : (text : List ℕ) (r : Result Zone Error) → text ≡ [] → IfErr r (λ e. number_of e ≡ 17 → (z : Zone) × IsPosixZone text z)
+empty_memory text (Ok y) e = tt
+empty_memory text (Err x) e = λ m. (plain_zone (pos 0), inl (e, refl))
+
+pub zone_memory : (text trimmed : List ℕ) (rule : TransitionRule) (r : Result Zone Error) → text ≢ [] → IsTrimmed text trimmed → IsTzText false trimmed rule → IfErr r (λ e. number_of e ≡ 17 → (z : Zone) × IsPosixZone text z)
+zone_memory text trimmed rule (Ok y) some trims spells = tt
+zone_memory text trimmed rule (Err x) some trims spells = λ m. (posix_zone rule, inr (record { some = some; trimmed = trimmed; rule = rule; trims = trims; spells = spells; zone = refl }))
+
+pub refused_memory : (text trimmed : List ℕ) (n : ℕ) → IsTextFault false trimmed n → n ≡ 17 → (z : Zone) × IsPosixZone text z
+refused_memory text trimmed n fault m = let low = text_low false trimmed n fault in absurd (omega arith)
 
 -- a text whose trimmed bytes spell no rule has no zone
 pub no_zone : (text trimmed : List ℕ) → text ≢ [] → IsTrimmed text trimmed → ((rule : TransitionRule) → IsTzText false trimmed rule → ⊥) → (z : Zone) → IsPosixZone text z → ⊥
@@ -51,3 +62,20 @@ no_zone text trimmed some trims none z p = elim p [
 pub not_empty : (text : List ℕ) (b : Bool) → b ≡ (length text == 0) → b ≡ false → text ≢ []
 not_empty [] b h e k = cc
 not_empty (c ∷ cs) b h e k = cc
+
+pub is_empty : (text : List ℕ) (b : Bool) → b ≡ (length text == 0) → b ≡ true → text ≡ []
+is_empty [] b h e = refl
+is_empty (c ∷ cs) b h e = let k : (length (c ∷ cs) == 0) ≡ false = grind (arith, nat_tests) in cc
+
+-- ---- faults
+pub fault_or_zone : (text : List ℕ) (n : ℕ) (z : Zone) → IsPosixFault text n → IsPosixZone text z → ⊥
+fault_or_zone text n z fault zone = elim zone [
+  | inl a ↦ fault.some a.0
+  | inr a ↦ refused_or_spelled false fault.trimmed n a.rule fault.fault (subst (λ (t : List ℕ). IsTzText false t a.rule) (one_trimmed text a.trimmed fault.trimmed a.trims fault.trims) a.spells)
+]
+
+pub one_posix_fault : (text : List ℕ) (m n : ℕ) → IsPosixFault text m → IsPosixFault text n → m ≡ n
+one_posix_fault text m n p q = one_fault false q.trimmed m n (subst (λ (t : List ℕ). IsTextFault false t m) (one_trimmed text p.trimmed q.trimmed p.trims q.trims) p.fault) q.fault
+
+pub posix_low : (text : List ℕ) (n : ℕ) → IsPosixFault text n → n ≤ 16
+posix_low text n p = text_low false p.trimmed n p.fault

@@ -4,7 +4,7 @@ use Rattle.std.proofs.lemmas.Bool.Decides.{nat_tests}
 use Rattle.tz_info.specs.Fronts.{run_of, after_run, tag_at}
 use Rattle.tz_info.specs.Pieces.{less, greater, is_letter, is_not_greater, AllOf, NoneFirst, Quoted, Letters, Name}
 use Rattle.tz_info.specs.TzFaults.{NoFault, ByteFault, NameFault}
-use Rattle.tz_info.specs.Readings.{quoted_at, letters_at, name_at}
+use Rattle.tz_info.specs.Steps.Readings.{quoted_at, letters_at, name_at}
 use Rattle.tz_info.proofs.PieceLaws.{Law, marked_law, byte_law, run_splits, run_again, ok_parts, bind_ok, bind_err}
 
 letters_takes : (bytes text rest : List ℕ) → letters_at bytes ≡ Ok (text, rest) → Letters bytes text rest
@@ -24,7 +24,7 @@ unfolding letters_at
 letters_fails bytes n h = cc
 
 letters_law : Law (List ℕ) letters_at Letters NoFault
-letters_law = record { takes = letters_takes; again = letters_again; fails = letters_fails }
+letters_law = record { takes = letters_takes; again = letters_again; fails = letters_fails; refuses = λ bytes n h. absurd h }
 
 quoted_takes : (bytes text rest : List ℕ) → quoted_at bytes ≡ Ok (text, rest) → Quoted bytes text rest
 unfolding quoted_at
@@ -62,8 +62,16 @@ quoted_fails bytes n h = elim (bind_err (tag_at (greater ∷ []) (after_run is_n
   | inr k ↦ cc
 ]
 
+all_after : (p : ℕ → Bool) (bs : List ℕ) → AllOf p bs → after_run p bs ≡ []
+all_after p [] h = refl
+all_after p (b ∷ bs) h = rw h.0 (all_after p bs h.1)
+
+quoted_refuses : (bytes : List ℕ) (n : ℕ) → AllOf is_not_greater bytes × (n ≡ 7) → quoted_at bytes ≡ Err n
+unfolding quoted_at
+quoted_refuses bytes n h = rw (all_after is_not_greater bytes h.0, (byte_law greater).refuses [] 7 refl, h.1) refl
+
 quoted_law : Law (List ℕ) quoted_at Quoted (λ bytes n. AllOf is_not_greater bytes × (n ≡ 7))
-quoted_law = record { takes = quoted_takes; again = quoted_again; fails = quoted_fails }
+quoted_law = record { takes = quoted_takes; again = quoted_again; fails = quoted_fails; refuses = quoted_refuses }
 
 pub name_law : Law (List ℕ) name_at Name NameFault
 unfolding name_at

@@ -75,6 +75,15 @@ exact_fails n bytes e h =
     let g = short_err (nat_lt (length bytes) n) (take n bytes, drop n bytes) 7 e h in let t = g.0 in
     (g.1, grind (arith, nat_tests))
 
+pub exact_short : (n : ℕ) (bytes : List ℕ) → length bytes < n → exact_at n bytes ≡ Err 7
+unfolding exact_at
+exact_short n bytes h = let t : nat_lt (length bytes) n ≡ true = grind (arith, nat_tests) in rw t refl
+
+-- a test that can't come out so comes out otherwise
+pub false_unless : (b : Bool) → (b ≡ true → ⊥) → b ≡ false
+false_unless true h = absurd (h refl)
+false_unless false h = refl
+
 -- refused for want of bytes, at this part or at one behind it
 pub short_step : {B : Type 0} (n : ℕ) (bytes : List ℕ) (f : List ℕ × List ℕ → Result B ℕ) (e m : ℕ)
     → ((x : List ℕ × List ℕ) → f x ≡ Err e → (e ≡ 7) × (length x.1 < m))

@@ -4,7 +4,7 @@ use Rattle.std.proofs.lemmas.Bool.{cases_lt}
 use Rattle.std.proofs.lemmas.List.{length-append, get_or_append_left, take_more, length-take, length-drop, drop-drop, take-append-drop}
 use Rattle.std.proofs.Math.Seq.{get_or-append_seam, take-length, take-append_seam}
 use Rattle.tz_info.specs.FileContents.{AreRecords}
-use Rattle.tz_info.specs.ContentReading.{record_at, values_below}
+use Rattle.tz_info.specs.Steps.ContentReading.{record_at, values_below}
 use Rattle.tz_info.proofs.ReadLaws.{bind_ok, bind_err, ok_same, drop_front}
 
 -- ---- values at places

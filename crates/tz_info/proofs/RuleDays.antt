@@ -6,11 +6,7 @@ use Rattle.naive_base.specs.Year.{is_leap, days_in_year, year_start, LiesIn}
 use Rattle.naive_base.specs.Month.{days_in_month, days_of_months}
 use Rattle.naive_base.specs.Date.{day_number}
 use Rattle.naive_base.specs.Weekday.{weekday_of}
-use Rattle.naive_base.proofs.Floor.{floors}
-use Rattle.naive_base.proofs.Years.{year_step, starts_rise, days_at_least, days_at_most}
-use Rattle.naive_base.proofs.Months.{leap_day, leap_at_most, months_early, months_late, month_bounds}
-use Rattle.naive_base.proofs.Dates.{months_step, months_rise, months_all, place_is, date_lies, number_at}
-use Rattle.naive_base.proofs.Weekdays.{weekday_later, weekday_below}
+use Rattle.naive_base.proofs.ForCallers.{floors, year_step, starts_rise, days_at_least, days_at_most, leap_day, leap_at_most, months_early, months_late, month_bounds, months_step, months_rise, months_all, place_is, date_lies, number_at, weekday_later, weekday_below}
 use Rattle.tz_info.specs.RuleDays.{IsRuleDay, IsCommonDate, IsWeekdayOfMonth, IsDayOf, julian_place, weekday_place, rule_day}
 use Rattle.tz_info.specs.declared.rule.day.DayForm.{DayForm}
 use Rattle.tz_info.specs.declared.rule.day.DayForm.TheVariants.{Julian1, Julian0, MonthWeekday}

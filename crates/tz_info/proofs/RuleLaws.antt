@@ -2,8 +2,7 @@
 use Rattle.std.proofs.Common.{◌≡◌, arith, ℤ, pos, neg_ℤ, Bool, not, ◌+ℤ◌, ◌≤ℤ◌, refl, sym, ◌∙◌, ap, subst, inl, inr, ◌⊎◌}
 use Rattle.std.proofs.lemmas.Int.{by_lt_z}
 use Rattle.naive_base.specs.Year.{floor_div, year_start, year_of, LiesIn}
-use Rattle.naive_base.proofs.Floor.{floors}
-use Rattle.naive_base.proofs.Years.{lies_in, one_year, starts_rise}
+use Rattle.naive_base.proofs.ForCallers.{floors, lies_in, one_year, starts_rise}
 use Rattle.tz_info.specs.LocalTypes.{LocalType}
 use Rattle.tz_info.specs.Rules.{Alternate as AlternateRule, IsAlternateRule}
 use Rattle.tz_info.specs.Moments.{IsYearOf, IsDstAt, IsRuleYear, IsRuleTime, AlternateAt, IsAlternateRefused, start_in, end_in, type_when}

@@ -1,9 +1,8 @@
--- A binary search in transitions whose times rise.
-use Rattle.std.proofs.Common.{◌≡◌, ℕ, ℤ, ◌+◌, ◌-◌, ◌<◌, ◌≤◌, arith, ap, ◌∙◌, sym, List, length, get_or, take, ◌≤ℤ◌, ◌<ℤ◌, inl, inr, int_le}
-use Rattle.std.proofs.lemmas.List.{get_or_default}
+-- Where a search in transitions whose times rise comes to an end.
+use Rattle.std.proofs.Common.{◌≡◌, ℕ, ℤ, ◌+◌, ◌-◌, ◌<◌, ◌≤◌, arith, List, length, get_or, take, ◌≤ℤ◌, ◌<ℤ◌, inl, inr, int_le}
 use Rattle.std.proofs.lemmas.Bool.{cases_lt}
 use Rattle.std.proofs.lemmas.Int.{ints}
-use Rattle.tz_info.specs.Transitions.{AreRising, passed, AreTransitions, Stands}
+use Rattle.tz_info.specs.Transitions.{passed, AreTransitions, Stands}
 use Rattle.tz_info.specs.declared.zone.transition.Transition.{Transition}
 use Rattle.tz_info.proofs.Prefixes.{filter_first, le_true, le_false}
 
@@ -16,36 +15,6 @@ pub record Between (xs : List Transition) (v : ℤ) (low high : ℕ) : Type 0 wh
 
 pub all_between : (xs : List Transition) (v : ℤ) → Between xs v 0 (length xs)
 all_between xs v = record { ordered = omega arith; within = omega arith; below = λ k d h. absurd (omega arith); above = λ k d h l. absurd (omega arith) }
-
--- a look at a transition at or before v
-pub between_later : (xs : List Transition) (v : ℤ) (low middle high : ℕ) (x : Transition) → AreRising xs → Between xs v low high → middle < high → x ≡ get_or xs middle x → x.unix_leap_time ≤ℤ v → Between xs v (middle + 1) high
-between_later xs v low middle high x rising b h e le = let w = b.within in record {
-  ordered = omega arith;
-  within = b.within;
-  below = λ k d l.
-      let same : get_or xs middle d ≡ x = get_or_default xs middle d x (omega arith) ∙ sym e in
-      let times = ap (λ (t : Transition). t.unix_leap_time) same in
-      elim (cases_lt k middle) [
-        | inl m ↦ let r = rising k middle d m (omega arith) in omega (arith, ints)
-        | inr g ↦ let i : k ≡ middle = omega arith in rw i (omega (arith, ints))
-      ];
-  above = b.above;
-}
-
--- a look at a transition after v
-pub between_earlier : (xs : List Transition) (v : ℤ) (low middle high : ℕ) (x : Transition) → AreRising xs → Between xs v low high → low ≤ middle → middle < high → x ≡ get_or xs middle x → v <ℤ x.unix_leap_time → Between xs v low middle
-between_earlier xs v low middle high x rising b l h e lt = let w = b.within in record {
-  ordered = l;
-  within = omega arith;
-  below = b.below;
-  above = λ k d a m.
-      let same : get_or xs middle d ≡ x = get_or_default xs middle d x (omega arith) ∙ sym e in
-      let times = ap (λ (t : Transition). t.unix_leap_time) same in
-      elim (cases_lt middle k) [
-        | inl l ↦ let r = rising middle k d l m in omega (arith, ints)
-        | inr g ↦ let i : k ≡ middle = omega arith in rw i (omega (arith, ints))
-      ];
-}
 
 pub search_found : (xs : List Transition) (v : ℤ) (low high : ℕ) → high ≤ low → Between xs v low high → passed xs v ≡ take low xs
 search_found xs v low high h b =

@@ -8,7 +8,7 @@ use Rattle.tz_info.specs.Rules.{Alternate}
 use Rattle.tz_info.specs.Pieces.{Name, Offset, DstOffset}
 use Rattle.tz_info.specs.TzTexts.{IsNamed, IsTzText}
 use Rattle.tz_info.specs.TzFaults.{Days, IsBadName, TurnsFault, RuleFault, IsTextFault}
-use Rattle.tz_info.specs.Readings.{checked_at, name_at, letters_at, is_name, named_type_of, end_at, more_at, dst_offset_at, given_offset_at, fixed_at, named_types_of, alternate_at, rule_at, text_at}
+use Rattle.tz_info.specs.Steps.Readings.{checked_at, name_at, letters_at, is_name, named_type_of, end_at, more_at, dst_offset_at, given_offset_at, fixed_at, named_types_of, alternate_at, rule_at, text_at}
 use Rattle.tz_info.specs.declared.error.Error.{Error}
 use Rattle.tz_info.specs.declared.rule.alternate.DayTime.{DayTime}
 use Rattle.tz_info.specs.declared.rule.transition_rule.TransitionRule.{TransitionRule}
@@ -80,6 +80,31 @@ types_err std_name std_offset dst_name dst_offset n h = elim (bind_err (named_ty
   | inr k ↦ elim (bind_err (named_type_of dst_name true dst_offset) _ n k.2) [ inl e ↦ inr (named_err dst_name true dst_offset n e) | inr m ↦ cc ]
 ]
 
+named_refused : (name : List ℕ) (dst : Bool) (offset : ℤ) (n : ℕ) → IsBadName name n → named_type_of name dst offset ≡ Err n
+unfolding named_type_of
+named_refused name dst offset n h = elim (is_name name) as (λ b. is_name name ≡ b → type_refused_unless b (typed offset dst (Some name)) ≡ Err n) [
+  | true ↦ λ b. absurd (h.0 (name_from name b))
+  | false ↦ λ b. rw h.1 refl
+] refl
+
+-- a name is one that a type can have, or it is none
+named_or_not : (name : List ℕ) (dst : Bool) (offset : ℤ) → ((t : LocalType) × (named_type_of name dst offset ≡ Ok t)) ⊎ (named_type_of name dst offset ≡ Err 3)
+unfolding named_type_of
+named_or_not name dst offset = elim (is_name name) as (λ b. ((t : LocalType) × (type_refused_unless b (typed offset dst (Some name)) ≡ Ok t)) ⊎ (type_refused_unless b (typed offset dst (Some name)) ≡ Err 3)) [
+  | true ↦ inl (typed offset dst (Some name), refl)
+  | false ↦ inr refl
+]
+
+types_refused : (std_name : List ℕ) (std_offset : ℤ) (dst_name : List ℕ) (dst_offset : ℤ) (n : ℕ) → IsBadName std_name n ⊎ IsBadName dst_name n → named_types_of std_name std_offset dst_name dst_offset ≡ Err n
+unfolding named_types_of
+types_refused std_name std_offset dst_name dst_offset n h = elim h [
+  | inl a ↦ rw (named_refused std_name false std_offset n a) refl
+  | inr b ↦ elim (named_or_not std_name false std_offset) [
+    | inl k ↦ rw (k.1, named_refused dst_name true dst_offset n b) refl
+    | inr k ↦ rw (k, b.1) refl
+  ]
+]
+
 -- ---- the end
 abbrev End : List ℕ → Unit {0} → List ℕ → Type 0
 End bytes unit rest = (bytes ≡ []) × (rest ≡ [])
@@ -102,8 +127,13 @@ unfolding end_at
 end_fails [] n h = cc
 end_fails (b ∷ bs) n h = (λ e. cc, cc)
 
+end_refuses : (bytes : List ℕ) (n : ℕ) → EndFault bytes n → end_at bytes ≡ Err n
+unfolding end_at
+end_refuses [] n h = absurd (h.0 refl)
+end_refuses (b ∷ bs) n h = rw h.1 refl
+
 end_law : Law (Unit {0}) end_at End EndFault
-end_law = record { takes = end_takes; again = end_again; fails = end_fails }
+end_law = record { takes = end_takes; again = end_again; fails = end_fails; refuses = end_refuses }
 
 -- ---- behind the days
 abbrev turns_of : DayTime × DayTime → LocalType × LocalType → TransitionRule
@@ -120,6 +150,7 @@ tail_law std_name std_offset dst_name dst_offset days = like_law (then_law end_l
     (λ bytes rule rest h. let t = h.3 in (t.0, types_ok std_name std_offset dst_name dst_offset t.0 t.1.0, h.2.0, sym t.1.1 ∙ h.2.1, t.2))
     (λ bytes rule rest h. (tt, [], (h.2, refl), (h.0, (types_again std_name std_offset dst_name dst_offset h.0 h.1, sym h.3), h.4)))
     (λ bytes n h. elim h [ inl a ↦ inl a | inr b ↦ inr (b.2.0, types_err std_name std_offset dst_name dst_offset n b.3) ])
+    (λ bytes n h. elim h [ inl a ↦ inl a | inr b ↦ inr (tt, [], (b.0, refl), types_refused std_name std_offset dst_name dst_offset n b.1) ])
 
 -- ---- behind the offset of standard time
 record Turns (extended : Bool) (std_name : List ℕ) (std_offset : ℤ) (bytes : List ℕ) (a : Alternate) (rest : List ℕ) : Type 0 where
@@ -164,6 +195,7 @@ alternate_law extended std_name std_offset = like_law (then_law name_law (λ dst
     (alternate_to extended std_name std_offset)
     (alternate_from extended std_name std_offset)
     (λ bytes n h. h)
+    (λ bytes n h. h)
 
 alternate_none : (extended : Bool) (std_name : List ℕ) (std_offset : ℤ) → alternate_at extended std_name std_offset [] ≡ Err 15
 unfolding alternate_at name_at letters_at dst_offset_at given_offset_at more_at optional_tag_at
@@ -188,6 +220,10 @@ fixed_again std_name std_offset t h e = rw (named_again std_name false std_offse
 fixed_fails : (std_name : List ℕ) (std_offset : ℤ) (n : ℕ) → fixed_at std_name std_offset [] ≡ Err n → IsBadName std_name n
 unfolding fixed_at
 fixed_fails std_name std_offset n h = named_err std_name false std_offset n ((made_law rules.Fixed (checked_law (named_type_of std_name false std_offset))).fails [] n h)
+
+fixed_refused : (std_name : List ℕ) (std_offset : ℤ) (n : ℕ) → IsBadName std_name n → fixed_at std_name std_offset [] ≡ Err n
+unfolding fixed_at
+fixed_refused std_name std_offset n h = rw (named_refused std_name false std_offset n h) refl
 
 alternate_is_rule : (extended : Bool) (std_name : List ℕ) (std_offset : ℤ) (bytes : List ℕ) (rule : TransitionRule) (rest : List ℕ) → AlternatePiece extended std_name std_offset bytes rule rest → RulePiece extended std_name std_offset bytes rule rest
 alternate_is_rule extended std_name std_offset bytes (rules.Fixed t) rest h = absurd h
@@ -216,8 +252,13 @@ unfolding rule_at
 rule_fails extended std_name std_offset [] n h = inl (refl, fixed_fails std_name std_offset n h)
 rule_fails extended std_name std_offset (b ∷ bs) n h = inr (λ e. cc, (alternate_law extended std_name std_offset).fails (b ∷ bs) n h)
 
+rule_refuses : (extended : Bool) (std_name : List ℕ) (std_offset : ℤ) (bytes : List ℕ) (n : ℕ) → RuleFault extended std_name std_offset bytes n → rule_at extended std_name std_offset bytes ≡ Err n
+unfolding rule_at
+rule_refuses extended std_name std_offset [] n h = elim h [ inl a ↦ fixed_refused std_name std_offset n a.1 | inr b ↦ absurd (b.0 refl) ]
+rule_refuses extended std_name std_offset (b ∷ bs) n h = elim h [ inl a ↦ let e = a.0 in cc | inr c ↦ (alternate_law extended std_name std_offset).refuses (b ∷ bs) n c.1 ]
+
 rule_law : (extended : Bool) (std_name : List ℕ) (std_offset : ℤ) → Law TransitionRule (rule_at extended std_name std_offset) (RulePiece extended std_name std_offset) (RuleFault extended std_name std_offset)
-rule_law extended std_name std_offset = record { takes = rule_takes extended std_name std_offset; again = rule_again extended std_name std_offset; fails = rule_fails extended std_name std_offset }
+rule_law extended std_name std_offset = record { takes = rule_takes extended std_name std_offset; again = rule_again extended std_name std_offset; fails = rule_fails extended std_name std_offset; refuses = rule_refuses extended std_name std_offset }
 
 -- ---- the whole
 abbrev TextPiece : Bool → List ℕ → TransitionRule → List ℕ → Type 0
@@ -292,6 +333,7 @@ text_law extended = like_law (then_law name_law (λ name. then_law offset_law (�
     (text_to extended)
     (text_from extended)
     (λ bytes n h. h)
+    (λ bytes n h. h)
 
 -- ---- what a reader of a whole text answers
 pub found_by : (extended : Bool) (bytes rest : List ℕ) (r : Result TransitionRule Error) → Gives (λ rule. (rule, rest)) r (text_at extended bytes) → IfOk r (λ rule. IsTzText extended bytes rule)
@@ -305,6 +347,14 @@ only_by extended bytes rest (Err e) g rule h = let k = (text_law extended).again
 pub fault_by : (extended : Bool) (bytes rest : List ℕ) (r : Result TransitionRule Error) → Gives (λ rule. (rule, rest)) r (text_at extended bytes) → IfErr r (λ e. IsTextFault extended bytes (number_of e))
 fault_by extended bytes rest (Ok y) g = tt
 fault_by extended bytes rest (Err e) g = (text_law extended).fails bytes (number_of e) g
+
+-- a text with a fault spells no rule, and has no other fault
+pub refused_or_spelled : (extended : Bool) (bytes : List ℕ) (n : ℕ) (rule : TransitionRule) → IsTextFault extended bytes n → IsTzText extended bytes rule → ⊥
+refused_or_spelled extended bytes n rule fault spelled =
+    let refused = (text_law extended).refuses bytes n fault in let read = (text_law extended).again bytes rule [] (spelled, refl) in cc
+
+pub one_fault : (extended : Bool) (bytes : List ℕ) (m n : ℕ) → IsTextFault extended bytes m → IsTextFault extended bytes n → m ≡ n
+one_fault extended bytes m n p q = let a = (text_law extended).refuses bytes m p in let b = (text_law extended).refuses bytes n q in cc
 
 -- no bytes spell two rules
 pub one_rule : (extended : Bool) (bytes : List ℕ) (a b : TransitionRule) → IsTzText extended bytes a → IsTzText extended bytes b → a ≡ b

@@ -5,7 +5,7 @@ use Rattle.std.proofs.lemmas.List.{length-take}
 use Rattle.std.specs.Char.{is_ascii_whitespace}
 use Rattle.std.specs.Str.{IsAsciiWhitespaceBelow, IsAsciiWhitespaceFrom, IsTrimAsciiStart, IsTrimAsciiEnd, IsTrimAscii}
 use Rattle.tz_info.specs.Trims.{IsSpace, BeginsBare, EndsBare, IsTrimmed}
-use Rattle.tz_info.specs.FooterReading.{trimmed_front, unless_space, trimmed_back, trimmed}
+use Rattle.tz_info.specs.Steps.FooterReading.{trimmed_front, unless_space, trimmed_back, trimmed}
 
 -- ---- what is trimmed, and how it is found
 space_front : (before rest : List ℕ) → IsSpace before → trimmed_front (before ++ rest) ≡ trimmed_front rest

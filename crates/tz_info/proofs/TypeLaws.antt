@@ -10,7 +10,7 @@ use Rattle.tz_info.specs.LocalTypes.{LocalType, IsUtOffset}
 use Rattle.tz_info.specs.Names.{IsNameOrNone}
 use Rattle.tz_info.specs.Fronts.{Gives}
 use Rattle.tz_info.specs.FileContents.{is_zero, HasNoZero, StandsAt, designation_of, IsMark, offset_in, mark_in, place_in, least_offset, SpellsType, SpellTypes, TypeFault, Other_mark, Place_behind, No_end, Least_offset, Other_name, HasTypeFault}
-use Rattle.tz_info.specs.ContentReading.{record_at, values_below, is_name_or_none, type_of, mark_of, front_of, text_before_zero, designation_at, type_of_record, with_next_type, type_in}
+use Rattle.tz_info.specs.Steps.ContentReading.{record_at, values_below, is_name_or_none, type_of, mark_of, front_of, text_before_zero, designation_at, type_of_record, with_next_type, type_in}
 use Rattle.tz_info.specs.declared.error.Error.{Error}
 use Rattle.tz_info.specs.declared.error.Error.TheVariants.{OutOfMemory}
 use Rattle.tz_info.proofs.NamedTypes.{name_from, name_to}
@@ -68,7 +68,7 @@ text_takes names i x h =
       ends = subst HasNoZero same r.4;
     }
 
-text_again : (names : List ℕ) (i : ℕ) (x : List ℕ) → StandsAt names i x → designation_at names i ≡ Ok x
+pub text_again : (names : List ℕ) (i : ℕ) (x : List ℕ) → StandsAt names i x → designation_at names i ≡ Ok x
 unfolding designation_at text_before_zero
 text_again names i x s =
     let after : drop i names ≡ x ++ (0 ∷ s.after) = rw (s.whole, sym s.at) (drop_front s.before (x ++ (0 ∷ s.after))) in

@@ -6,10 +6,10 @@ use Rattle.tz_info.specs.FileHeaders.{HeaderFault, No_magic, Other_magic, No_ver
 use Rattle.tz_info.specs.FilePieces.{FilePieces, HasPieces, PieceFault, First_header, First_block, More_bytes, Second_header, Second_block}
 use Rattle.tz_info.specs.declared.file.header.Place.{Place}
 use Rattle.tz_info.specs.declared.file.header.Place.TheVariants.{First, Second}
-use Rattle.tz_info.specs.FileReading.{pieces_at}
-use Rattle.tz_info.specs.ContentReading.{GivesInMemory, values_below, transition_in, leap_second_in, type_in, indicators_of}
-use Rattle.tz_info.specs.FooterReading.{footer_of}
-use Rattle.tz_info.specs.FileLists.{zone_of, HasLengths, with_rule, with_types, lists_in, Reads}
+use Rattle.tz_info.specs.Steps.FileReading.{pieces_at}
+use Rattle.tz_info.specs.Steps.ContentReading.{GivesInMemory, values_below, transition_in, leap_second_in, type_in, indicators_of}
+use Rattle.tz_info.specs.Steps.FooterReading.{footer_of}
+use Rattle.tz_info.specs.Steps.FileLists.{zone_of, HasLengths, with_rule, with_types, lists_in, Reads}
 use Rattle.tz_info.specs.TzFiles.{HasRule, SayZone, IsTzFile, ContentFault, In_type, In_indicators, In_footer, IsFileFault, In_piece, In_contents, No_memory}
 use Rattle.tz_info.specs.declared.error.Error.{Error}
 use Rattle.tz_info.specs.declared.error.Error.TheVariants.{OutOfMemory}

@@ -55,7 +55,7 @@ type_not_refused z u t a (by_rule x of_second last refused) =
     or_else_not_refused z.rule (HasType z (index_at z a.leap_time) t) u t (a.in_force.from_last (rw e last)) refused
 
 -- what stands in a list
-listed_inside : {X : Type 0} (xs : List X) (i : ℕ) (x : X) → slice_get xs i ≡ Some x → i < length xs
+pub listed_inside : {X : Type 0} (xs : List X) (i : ℕ) (x : X) → slice_get xs i ≡ Some x → i < length xs
 listed_inside [] i x h = cc
 listed_inside (y ∷ xs) zero x h = omega arith
 listed_inside (y ∷ xs) (suc i) x h = let l = listed_inside xs i x h in omega arith

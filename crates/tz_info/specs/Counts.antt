@@ -1,24 +1,34 @@
 -- Counts of what lookups looked at.
-use Rattle.std.specs.Prelude.{ℕ, ◌+◌, ◌^◌, ◌<◌, ◌≤◌}
+use Rattle.std.specs.Prelude.{ℕ, ◌≡◌, ◌+◌, ◌^◌, ◌<◌, ◌≤◌}
 
--- how many looks at transitions there were, and how many questions to rules
+-- how many looks at transitions there were, how many questions to rules, and how many looks at pieces of an index
 pub record Counts : Type 0 where
   pub reads : ℕ
   pub rule_questions : ℕ
+  pub piece_reads : ℕ
 
 -- counts that a lookup may start from
 pub record HasRoom (c : Counts) : Type 0 where
   pub reads : c.reads < 2 ^ 120
   pub rule_questions : c.rule_questions < 2 ^ 120
+  pub piece_reads : c.piece_reads < 2 ^ 120
 
--- counts that one lookup of several may start from
-pub record HasInnerRoom (c : Counts) : Type 0 where
-  pub reads : c.reads < 2 ^ 121
-  pub rule_questions : c.rule_questions < 2 ^ 121
+-- the count can rise by that much more within 128 bits
+abbrev pub HasRoomFor : ℕ → ℕ → Type 0
+HasRoomFor more count = count + more < 2 ^ 128
 
--- the counts rose by at most so many reads and rule questions
+-- the counts rose by at most so many reads and rule questions, and no piece was looked at
 pub record RoseWithin (before after : Counts) (reads rule_questions : ℕ) : Type 0 where
   pub reads_kept : before.reads ≤ after.reads
   pub reads_most : after.reads ≤ before.reads + reads
+  pub questions_kept : before.rule_questions ≤ after.rule_questions
+  pub questions_most : after.rule_questions ≤ before.rule_questions + rule_questions
+  pub pieces_same : after.piece_reads ≡ before.piece_reads
+
+-- the counts rose by at most so many piece reads and rule questions, and no transition was looked at
+pub record RoseByPieces (before after : Counts) (piece_reads rule_questions : ℕ) : Type 0 where
+  pub reads_same : after.reads ≡ before.reads
+  pub pieces_kept : before.piece_reads ≤ after.piece_reads
+  pub pieces_most : after.piece_reads ≤ before.piece_reads + piece_reads
   pub questions_kept : before.rule_questions ≤ after.rule_questions
   pub questions_most : after.rule_questions ≤ before.rule_questions + rule_questions

@@ -19,11 +19,15 @@ abbrev pub SaysRule : Bool → List ℕ → Option TransitionRule → Type 0
 SaysRule extended text None = text ≡ []
 SaysRule extended text (Some rule) = (text ≢ []) × IsTzText extended text rule
 
-pub record IsFooter (extended : Bool) (bytes : List ℕ) (rule : Option TransitionRule) : Type 0 where
-  pub text : List ℕ
+-- UTF-8 that stands between newlines, and the text that it is without the white space at its ends
+pub record HasText (bytes text : List ℕ) : Type 0 where
   pub utf8 : IsUtf8 bytes
   pub newlines : IsBetweenNewlines bytes
   pub trimmed : IsTrimmed bytes text
+
+pub record IsFooter (extended : Bool) (bytes : List ℕ) (rule : Option TransitionRule) : Type 0 where
+  pub text : List ℕ
+  pub has_text : HasText bytes text
   pub no_colon : slice_index text 0 ≢ 58
   pub no_zero : HasNoZero text
   pub says : SaysRule extended text rule
@@ -31,7 +35,7 @@ pub record IsFooter (extended : Bool) (bytes : List ℕ) (rule : Option Transiti
 -- what is wrong with a footer, and the number of the refusal
 pub data FooterFault (extended : Bool) (bytes : List ℕ) : ℕ → Type 0 where
   Not_utf8 : ¬ (IsUtf8 bytes) → FooterFault extended bytes 16
-  No_newlines : ¬ (IsBetweenNewlines bytes) → FooterFault extended bytes 5
-  Colon : (text : List ℕ) → IsTrimmed bytes text → slice_index text 0 ≡ 58 → FooterFault extended bytes 5
-  Zero : (text : List ℕ) → IsTrimmed bytes text → ¬ (HasNoZero text) → FooterFault extended bytes 5
-  In_text : (text : List ℕ) (n : ℕ) → IsTrimmed bytes text → text ≢ [] → IsTextFault extended text n → FooterFault extended bytes n
+  No_newlines : IsUtf8 bytes → ¬ (IsBetweenNewlines bytes) → FooterFault extended bytes 5
+  Colon : (text : List ℕ) → HasText bytes text → slice_index text 0 ≡ 58 → FooterFault extended bytes 5
+  Zero : (text : List ℕ) → HasText bytes text → ¬ (HasNoZero text) → FooterFault extended bytes 5
+  In_text : (text : List ℕ) (n : ℕ) → HasText bytes text → slice_index text 0 ≢ 58 → HasNoZero text → text ≢ [] → IsTextFault extended text n → FooterFault extended bytes n

@@ -47,6 +47,10 @@ pub record IsLeapTime (entries : List LeapSecond) (u x : ℤ) : Type 0 where
   pub sum : x ≡ u +ℤ correction_at entries u
   pub fits : (k : ℕ) → k < passed_count entries u → FitsSigned w64 (u +ℤ slice_index_or (corrections entries) k (pos 0))
 
+-- a second near enough that it has a leap time, whatever the entries
+abbrev pub IsNear : ℤ → Type 0
+IsNear u = (neg_ℤ (pos 10_000_000_000_000) ≤ℤ u) × (u ≤ℤ pos 10_000_000_000_000)
+
 -- u with the correction of some passed entry does not fit 64 bits
 pub record IsLeapTimeRefused (entries : List LeapSecond) (u : ℤ) : Type 0 where
   pub place : ℕ

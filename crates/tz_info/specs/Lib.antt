@@ -6,6 +6,7 @@ pub mod Rules
 pub mod Moments
 pub mod Turns
 pub mod RuleTypes
+pub mod RuleEquality
 pub mod Lists
 pub mod Leaps
 pub mod Digits
@@ -13,7 +14,12 @@ pub mod Counts
 pub mod Transitions
 pub mod Zones
 pub mod WallClocks
+pub mod Gaps
 pub mod Spans
+pub mod Windows
+pub mod Looks
+pub mod Segments
+pub mod WallPieces
 pub mod ZoneEquality
 pub mod Fronts
 pub mod Pieces
@@ -21,14 +27,10 @@ pub mod TzTexts
 pub mod TzFaults
 pub mod Trims
 pub mod PosixZones
-pub mod Readings
 pub mod FileHeaders
 pub mod FileBlocks
 pub mod FileContents
 pub mod Footers
 pub mod FilePieces
 pub mod TzFiles
-pub mod FileReading
-pub mod ContentReading
-pub mod FooterReading
-pub mod FileLists
+pub mod Steps

@@ -130,7 +130,7 @@ pub record Duration (limit : ℕ) (negative : Bool) (bytes : List ℕ) (z : ℤ)
   pub seconds : s ≤ 59
   pub value : seconds_of negative h m s ≡ z
 
--- an offset, in seconds east of UTC: a text counts west, and so a minus leads east
+-- an offset, in seconds east of UTC: a text counts west, and so a minus leads east; its hours go to 23 (POSIX allows 24)
 pub record Offset (bytes : List ℕ) (east : ℤ) (rest : List ℕ) : Type 0 where
   pub is_minus : Bool
   pub unsigned : List ℕ

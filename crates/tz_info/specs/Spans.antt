@@ -1,10 +1,9 @@
 -- Spans: the first and the last of the seconds that were found to show a local time.
-use Rattle.std.specs.Prelude.{ℕ, ◌≡◌, ◌<◌, slice_get, ℤ, ◌+ℤ◌, ◌-ℤ◌, ◌≤ℤ◌, int_lt, if◌then◌else◌, ◌⊎◌, Option, Some as some, None as none}
+use Rattle.std.specs.Prelude.{◌≡◌, ℤ, ◌-ℤ◌, ◌≤ℤ◌, int_lt, if◌then◌else◌, ◌⊎◌, Option, Some as some, None as none}
 use Rattle.offset_core.specs.declared.local_result.LocalResult.{LocalResult}
 use Rattle.offset_core.specs.declared.local_result.LocalResult.TheVariants.{None, Single, Ambiguous}
 use Rattle.tz_info.specs.LocalTypes.{LocalType}
 use Rattle.tz_info.specs.WallClocks.{Shows}
-use Rattle.tz_info.specs.Zones.{Zone, TypeAt}
 use Rattle.tz_info.specs.declared.span.Span.{Span}
 
 -- the least and the greatest of the seconds that p takes
@@ -29,12 +28,3 @@ abbrev pub IsAsked : (ℤ → LocalType → Type 0) → ℤ → ℤ → Option S
 IsAsked in_force local offset before after =
     ((after ≡ before) × ((t : LocalType) → Shows in_force local (local -ℤ offset) t → ⊥))
     ⊎ ((t : LocalType) × Shows in_force local (local -ℤ offset) t × (after ≡ widened before (local -ℤ offset) t))
-
--- a second that shows the local time at the offset of one of the zone's first n types
-pub record IsSeen (z : Zone) (local : ℤ) (n : ℕ) (u : ℤ) (t : LocalType) : Type 0 where
-  pub shows : Shows (TypeAt z) local u t
-  pub place : ℕ
-  pub before : place < n
-  pub seen : LocalType
-  pub listed : slice_get z.types place ≡ some seen
-  pub met : u +ℤ seen.offset ≡ local

@@ -111,7 +111,7 @@ abbrev pub EndsFault : List ℕ → ℕ → Type 0
 EndsFault bytes n = (bytes ≡ []) × (n ≡ 15)
 
 abbrev pub GivenOffsetFault : List ℕ → ℕ → Type 0
-GivenOffsetFault bytes n = EndsFault bytes n ⊎ ThenFault Offset OffsetFault (λ _ behind m. EndsFault behind m ⊎ ByteFault comma behind m) bytes n
+GivenOffsetFault bytes n = EndsFault bytes n ⊎ ((bytes ≢ []) × ThenFault Offset OffsetFault (λ _ behind m. EndsFault behind m ⊎ ((behind ≢ []) × ByteFault comma behind m)) bytes n)
 
 abbrev pub DstOffsetFault : ℤ → List ℕ → ℕ → Type 0
 DstOffsetFault std = MarkedFault comma (NextHourFault std) GivenOffsetFault

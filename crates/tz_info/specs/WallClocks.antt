@@ -1,5 +1,5 @@
 -- Wall clocks: the Unix times at which a clock shows a local time.
-use Rattle.std.specs.Prelude.{◌≡◌, ℤ, ◌+ℤ◌, ◌≤ℤ◌, FitsSigned}
+use Rattle.std.specs.Prelude.{◌≡◌, ℤ, ◌+ℤ◌, ◌-ℤ◌, ◌≤ℤ◌, FitsSigned}
 use Rattle.std.specs.Int.{w64}
 use Rattle.offset_core.specs.declared.local_result.LocalResult.{LocalResult}
 use Rattle.offset_core.specs.declared.local_result.LocalResult.TheVariants.{None, Single, Ambiguous}
@@ -12,15 +12,14 @@ pub record Shows (in_force : ℤ → LocalType → Type 0) (local u : ℤ) (t : 
   pub type : in_force u t
   pub shown : u +ℤ t.offset ≡ local
 
--- each type of the answer is in force at some instant at which it shows the local time
+-- each type of the answer is in force at the instant at which a clock of it shows the local time: that time less its offset
 abbrev pub AreShown : (ℤ → LocalType → Type 0) → ℤ → LocalResult LocalType → Type 0
 AreShown in_force local None = Unit {0}
-AreShown in_force local (Single t) = (u : ℤ) × Shows in_force local u t
-AreShown in_force local (Ambiguous a b) = (first : ℤ) × (last : ℤ) × Shows in_force local first a × Shows in_force local last b
+AreShown in_force local (Single t) = Shows in_force local (local -ℤ t.offset) t
+AreShown in_force local (Ambiguous a b) = Shows in_force local (local -ℤ a.offset) a × Shows in_force local (local -ℤ b.offset) b
 
--- the instant u lies between those that the answer's types belong to
-abbrev pub IsShownAround : (ℤ → LocalType → Type 0) → ℤ → ℤ → LocalResult LocalType → Type 0
-IsShownAround in_force local u None = ⊥
-IsShownAround in_force local u (Single t) = Shows in_force local u t
-IsShownAround in_force local u (Ambiguous a b) =
-    (first : ℤ) × (last : ℤ) × Shows in_force local first a × Shows in_force local last b × (first ≤ℤ u) × (u ≤ℤ last)
+-- the instant u is that of the answer's type, or lies between those of its two
+abbrev pub IsAmongShown : ℤ → ℤ → LocalResult LocalType → Type 0
+IsAmongShown local u None = ⊥
+IsAmongShown local u (Single t) = u ≡ local -ℤ t.offset
+IsAmongShown local u (Ambiguous a b) = ((local -ℤ a.offset) ≤ℤ u) × (u ≤ℤ (local -ℤ b.offset))

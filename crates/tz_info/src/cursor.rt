@@ -5,7 +5,7 @@ ghost use Rattle.std.specs.Option.{option_copied};
 ghost use Rattle.tz_info.specs.Fronts.{Gives, exact_at, be_u32_at, tag_at, optional_tag_at, int_at, number_within, is_digit};
 ghost use Rattle.tz_info.specs.Pieces.{AllDigits};
 
-use crate::error::Error;
+use crate::error::{Error, Expected};
 use std::marker::Model;
 
 /// What is left of some bytes. Each call reads from the front, and what it gives is lent from those bytes. A call that
@@ -64,7 +64,7 @@ impl<'a> Cursor<'a> {
         ensures len { IfOk result (λ bytes. length bytes.now ≡ count) }
     {
         if self.rest.len() < count {
-            return Err(Error::UnexpectedEnd("more bytes"));
+            return Err(Error::UnexpectedEnd(Expected::MoreBytes));
         }
         let (front, rest) = self.rest.split_at(count);
         self.rest = rest;
@@ -81,27 +81,26 @@ impl<'a> Cursor<'a> {
         ensures value { Gives (λ n. (n, self.new)) result (be_u32_at self.old) }
         ensures err { OnErr result (self.new ≡ self.old) }
     {
-        match self.read_exact(4) {
-            Ok(bytes) => Ok(u32::from_be_bytes([bytes[0], bytes[1], bytes[2], bytes[3]])),
-            Err(e) => Err(e),
-        }
+        let bytes = self.read_exact(4)?;
+        Ok(u32::from_be_bytes([bytes[0], bytes[1], bytes[2], bytes[3]]))
     }
 
     /// Goes past a tag that must come.
     ///
     /// # Errors
     ///
-    /// [`Error::UnexpectedEnd`] if fewer bytes are left than the tag has, [`Error::MissingTag`] if others stand there.
+    /// [`Error::UnexpectedEnd`] if fewer bytes are left than the tag has, which is looked at first; [`Error::MissingTag`] if
+    /// others stand there.
     #[tactic(auto, unfolding(crate::specs::Fronts::tag_at))]
     pub fn read_tag(&mut self, tag: &[u8]) -> Result<(), Error>
         ensures value { Gives (λ unit. (unit, self.new)) result (tag_at tag.now self.old) }
         ensures err { OnErr result (self.new ≡ self.old) }
     {
         if self.rest.len() < tag.len() {
-            return Err(Error::UnexpectedEnd("a tag"));
+            return Err(Error::UnexpectedEnd(Expected::Tag));
         }
         if !self.rest.starts_with(tag) {
-            return Err(Error::MissingTag("another tag"));
+            return Err(Error::MissingTag(Expected::OtherBytes));
         }
         self.rest = &self.rest[tag.len()..];
         Ok(())
@@ -170,13 +169,9 @@ impl<'a> Cursor<'a> {
                 ensures { result ≡ is_digit b }
             { b.is_ascii_digit() },
         );
-        match number(digits, max) {
-            Ok(n) => {
-                self.rest = ahead.rest;
-                Ok(n)
-            }
-            Err(e) => Err(e),
-        }
+        let n = number(digits, max)?;
+        self.rest = ahead.rest;
+        Ok(n)
     }
 }
 
@@ -187,13 +182,13 @@ fn number(digits: &[u8], max: u32) -> Result<u32, Error>
     ensures limit { IfOk result (λ n. n ≤ max) }
 {
     if digits.is_empty() {
-        return Err(Error::ParseInt("a digit"));
+        return Err(Error::ParseInt(Expected::Digit));
     }
     let mut n = 0u64;
     for digit in digits {
         n = 10 * n + (*digit - b'0') as u64;
         if n > max as u64 {
-            return Err(Error::ParseInt("a number within its limit"));
+            return Err(Error::ParseInt(Expected::NumberWithinItsLimit));
         }
     }
     Ok(n as u32)

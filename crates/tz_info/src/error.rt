@@ -5,59 +5,193 @@ ghost use Rattle.tz_info.specs.Errors.{number_of};
 ghost use Rattle.tz_info.specs.declared.error.Error.TheVariants.{OutOfMemory};
 
 use std::alloc::{AllocError, AllocFailed};
+use std::fmt;
 use thiserror::Error;
 
-/// A refusal. Each variant but the last carries a short text of what was expected.
-#[derive(Debug, Drop, Error)]
+/// What was expected where something was refused. It prints as a short text.
+#[derive(Clone, Copy, Debug, PartialEq, Eq)]
+pub enum Expected {
+    /// More bytes.
+    MoreBytes,
+    /// A tag.
+    Tag,
+    /// Other bytes than those that stand there.
+    OtherBytes,
+    /// A digit.
+    Digit,
+    /// A number within its limit.
+    NumberWithinItsLimit,
+    /// Standard time where the time is UT.
+    StandardTimeWhereTimeIsUt,
+    /// A footer in UTF-8.
+    FooterInUtf8,
+    /// A footer between newlines.
+    FooterBetweenNewlines,
+    /// A TZ text in the footer.
+    TzTextInFooter,
+    /// Counts that agree.
+    CountsThatAgree,
+    /// TZif at the front of a header.
+    TZifAtFrontOfHeader,
+    /// Version 2 or 3 in a second header.
+    Version2Or3InSecondHeader,
+    /// Version 1, 2 or 3.
+    Version1To3,
+    /// Nothing after a block of version 1.
+    NothingAfterBlockOfVersion1,
+    /// 0 or 1 as a type's isdst.
+    ZeroOrOneAsIsDst,
+    /// A name within the designations.
+    NameWithinDesignations,
+    /// A 0 byte behind a name.
+    ZeroByteBehindName,
+    /// An offset above i32::MIN.
+    OffsetAboveI32Min,
+    /// A name of three to seven bytes.
+    NameOfThreeToSevenBytes,
+    /// Letters, digits, + or - in a name.
+    LettersDigitsPlusOrMinusInName,
+    /// Offsets within a day.
+    OffsetsWithinDay,
+    /// A start within a week.
+    StartWithinWeek,
+    /// An end within a week.
+    EndWithinWeek,
+    /// A year that the rule answers in.
+    YearThatRuleAnswersIn,
+    /// A day from J1 to J365.
+    DayFromJ1ToJ365,
+    /// A day from 0 to 365.
+    DayFrom0To365,
+    /// A month from 1 to 12.
+    MonthFrom1To12,
+    /// A week from 1 to 5.
+    WeekFrom1To5,
+    /// A weekday from 0 to 6.
+    WeekdayFrom0To6,
+    /// Hours, minutes and seconds within their limits.
+    HoursMinutesAndSecondsWithinTheirLimits,
+    /// An offset of daylight saving time within a day.
+    OffsetOfDaylightSavingTimeWithinDay,
+    /// Days when daylight saving time starts and ends.
+    DaysWhenDaylightSavingTimeStartsAndEnds,
+    /// Nothing behind the text.
+    NothingBehindText,
+    /// A leap time of 64 bits.
+    LeapTimeOf64Bits,
+    /// A leap time above i64::MIN.
+    LeapTimeAboveI64Min,
+    /// A Unix time of 64 bits.
+    UnixTimeOf64Bits,
+    /// Lists that make a zone.
+    ListsOfZone,
+}
+
+impl Expected {
+    /// What was expected, as a short text without a capital or a full stop.
+    pub fn as_str(self) -> &'static str {
+        match self {
+            Expected::MoreBytes => "more bytes",
+            Expected::Tag => "a tag",
+            Expected::OtherBytes => "other bytes",
+            Expected::Digit => "a digit",
+            Expected::NumberWithinItsLimit => "a number within its limit",
+            Expected::StandardTimeWhereTimeIsUt => "standard time where the time is UT",
+            Expected::FooterInUtf8 => "a footer in UTF-8",
+            Expected::FooterBetweenNewlines => "a footer between newlines",
+            Expected::TzTextInFooter => "a TZ text in the footer",
+            Expected::CountsThatAgree => "counts that agree",
+            Expected::TZifAtFrontOfHeader => "TZif at the front of a header",
+            Expected::Version2Or3InSecondHeader => "version 2 or 3 in a second header",
+            Expected::Version1To3 => "version 1, 2 or 3",
+            Expected::NothingAfterBlockOfVersion1 => "nothing after a block of version 1",
+            Expected::ZeroOrOneAsIsDst => "0 or 1 as a type's isdst",
+            Expected::NameWithinDesignations => "a name within the designations",
+            Expected::ZeroByteBehindName => "a 0 byte behind a name",
+            Expected::OffsetAboveI32Min => "an offset above i32::MIN",
+            Expected::NameOfThreeToSevenBytes => "a name of three to seven bytes",
+            Expected::LettersDigitsPlusOrMinusInName => "letters, digits, + or - in a name",
+            Expected::OffsetsWithinDay => "offsets within a day",
+            Expected::StartWithinWeek => "a start within a week",
+            Expected::EndWithinWeek => "an end within a week",
+            Expected::YearThatRuleAnswersIn => "a year that the rule answers in",
+            Expected::DayFromJ1ToJ365 => "a day from J1 to J365",
+            Expected::DayFrom0To365 => "a day from 0 to 365",
+            Expected::MonthFrom1To12 => "a month from 1 to 12",
+            Expected::WeekFrom1To5 => "a week from 1 to 5",
+            Expected::WeekdayFrom0To6 => "a weekday from 0 to 6",
+            Expected::HoursMinutesAndSecondsWithinTheirLimits =>
+                "hours, minutes and seconds within their limits",
+            Expected::OffsetOfDaylightSavingTimeWithinDay =>
+                "an offset of daylight saving time within a day",
+            Expected::DaysWhenDaylightSavingTimeStartsAndEnds =>
+                "days when daylight saving time starts and ends",
+            Expected::NothingBehindText => "nothing behind the text",
+            Expected::LeapTimeOf64Bits => "a leap time of 64 bits",
+            Expected::LeapTimeAboveI64Min => "a leap time above i64::MIN",
+            Expected::UnixTimeOf64Bits => "a Unix time of 64 bits",
+            Expected::ListsOfZone => "lists that make a zone",
+        }
+    }
+}
+
+impl fmt::Display for Expected {
+    fn fmt<W: fmt::Write>(&self, f: &mut fmt::Formatter<W>) -> fmt::Result {
+        f.write_str(self.as_str())
+    }
+}
+
+/// A refusal. Each variant but the last says what was expected.
+#[derive(Clone, Copy, Debug, PartialEq, Eq, Error)]
 pub enum Error {
     /// A date or time that does not exist. Kept for its name; no call answers it.
-    #[error("invalid date time: {0}")]
-    DateTime(&'static str),
+    #[error("invalid date time: expected {0}")]
+    DateTime(Expected),
     /// The instant asked of a zone has no type: its leap time or its rule's year is out of range.
-    #[error("no local time type: {0}")]
-    FindLocalTimeType(&'static str),
+    #[error("no local time type: expected {0}")]
+    FindLocalTimeType(Expected),
     /// An offset or a name that no local time type can have.
-    #[error("invalid local time type: {0}")]
-    LocalTimeType(&'static str),
+    #[error("invalid local time type: expected {0}")]
+    LocalTimeType(Expected),
     /// A slice that could not be taken. Kept for its name; no call answers it.
-    #[error("invalid slice: {0}")]
-    InvalidSlice(&'static str),
+    #[error("invalid slice: expected {0}")]
+    InvalidSlice(Expected),
     /// A fault in the form of a TZif file.
-    #[error("invalid TZif file: {0}")]
-    InvalidTzFile(&'static str),
+    #[error("invalid TZif file: expected {0}")]
+    InvalidTzFile(Expected),
     /// A time or an offset of a TZ text out of its limits, or bytes left over after it.
-    #[error("invalid TZ text: {0}")]
-    InvalidTzString(&'static str),
+    #[error("invalid TZ text: expected {0}")]
+    InvalidTzString(Expected),
     /// Fewer bytes than are asked for.
-    #[error("unexpected end: {0}")]
-    UnexpectedEnd(&'static str),
+    #[error("unexpected end: expected {0}")]
+    UnexpectedEnd(Expected),
     /// Another byte than the one that must come.
-    #[error("missing byte: {0}")]
-    MissingTag(&'static str),
+    #[error("missing tag: expected {0}")]
+    MissingTag(Expected),
     /// An instant outside the range that can be answered.
-    #[error("out of range: {0}")]
-    OutOfRange(&'static str),
+    #[error("out of range: expected {0}")]
+    OutOfRange(Expected),
     /// No digit, or a number over its limit.
-    #[error("invalid number: {0}")]
-    ParseInt(&'static str),
+    #[error("invalid number: expected {0}")]
+    ParseInt(Expected),
     /// A date time that cannot be projected. Kept for its name; no call answers it.
-    #[error("cannot project date time: {0}")]
-    ProjectDateTime(&'static str),
+    #[error("cannot project date time: expected {0}")]
+    ProjectDateTime(Expected),
     /// Lists that make no valid zone.
-    #[error("invalid time zone: {0}")]
-    TimeZone(&'static str),
+    #[error("invalid time zone: expected {0}")]
+    TimeZone(Expected),
     /// A value out of its limits in a rule.
-    #[error("invalid transition rule: {0}")]
-    TransitionRule(&'static str),
+    #[error("invalid transition rule: expected {0}")]
+    TransitionRule(Expected),
     /// A TZif version that is not read.
-    #[error("unsupported TZif version: {0}")]
-    UnsupportedTzFile(&'static str),
+    #[error("unsupported TZif version: expected {0}")]
+    UnsupportedTzFile(Expected),
     /// A TZ text that names daylight saving time and does not say when it starts and ends.
-    #[error("unsupported TZ text: {0}")]
-    UnsupportedTzString(&'static str),
+    #[error("unsupported TZ text: expected {0}")]
+    UnsupportedTzString(Expected),
     /// Bytes that are not UTF-8.
-    #[error("invalid UTF-8: {0}")]
-    Utf8(&'static str),
+    #[error("invalid UTF-8: expected {0}")]
+    Utf8(Expected),
     /// There was no memory for the zone.
     #[error("out of memory")]
     OutOfMemory,

@@ -25,7 +25,7 @@ impl TimeZone {
     /// version 2 on the second block does, with the TZ text of the footer, and of the first one only the header and the
     /// length count. In version 3 that text may have the extensions of RFC 8536 section 3.3.1.
     ///
-    /// Memory is asked for only once every block is known to be there.
+    /// Want of memory is answered only where every block is there.
     ///
     /// # Errors
     ///
@@ -40,15 +40,15 @@ impl TimeZone {
         // The zone is the file's, and valid.
         ensures found { IfOk result (λ z. IsTzFile bytes.now z × IsValid z) }
         // A file that has a valid zone gives it, unless memory runs out.
-        ensures only { (z : Zone) → IsTzFile bytes.now z → IsValid z → MatchResult result (λ y. y ≡ z) (λ e. e ≡ OutOfMemory) }
+        ensures only { (z : Zone) → IsTzFile bytes.now z → IsValid z
+            → MatchResult result (λ y. y ≡ z) (λ e. e ≡ OutOfMemory) }
         // Where it is refused, what the number says stands in the file.
         ensures fault { IfErr result (λ e. IsZoneFault bytes.now (number_of e)) }
-        // Memory is asked for only where every piece of the file is there.
-        ensures memory { IfErr result (λ e. e ≡ OutOfMemory → (p : FilePieces) × HasPieces bytes.now p) }
+        // Want of memory is answered only where every piece of the file is there.
+        ensures memory { IfErr result
+            (λ e. e ≡ OutOfMemory → (p : FilePieces) × HasPieces bytes.now p) }
     {
-        match read_lists(alloc, bytes) {
-            Ok(lists) => lists.into_zone(alloc),
-            Err(e) => Err(e),
-        }
+        let lists = read_lists(alloc, bytes)?;
+        lists.into_zone(alloc)
     }
 }

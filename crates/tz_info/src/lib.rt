@@ -4,18 +4,16 @@
 mod cursor;
 mod error;
 mod file;
-pub mod file_laws;
 pub mod laws;
 mod local_time_type;
 mod name;
 mod rule;
 mod span;
-pub mod text_laws;
 pub mod wall_laws;
 mod zone;
 
 pub use cursor::Cursor;
-pub use error::Error;
+pub use error::{Error, Expected};
 pub use local_time_type::LocalTimeType;
 pub use name::TimeZoneName;
 pub use rule::{AlternateTime, RuleDay, TransitionRule};

@@ -5,7 +5,7 @@ ghost use Rattle.tz_info.specs.LocalTypes.{LocalType, IsUtOffset, plain_type};
 ghost use Rattle.tz_info.specs.Names.{IsNameOrNone};
 ghost use Rattle.tz_info.specs.Errors.{number_of};
 
-use crate::error::Error;
+use crate::error::{Error, Expected};
 use crate::name::TimeZoneName;
 use std::marker::Model;
 
@@ -38,27 +38,22 @@ impl LocalTimeType {
     pub fn new(ut_offset: i32, is_dst: bool, name: Option<&[u8]>) -> Result<LocalTimeType, Error>
         ensures { let bytes = option_map (λ n. n.now) name.entry in
             MatchResult result
-            (λ t. IsUtOffset ut_offset × IsNameOrNone bytes × (t ≡ record { offset = ut_offset; dst = is_dst; name = bytes }))
+            (λ t. IsUtOffset ut_offset × IsNameOrNone bytes
+            × (t ≡ record { offset = ut_offset; dst = is_dst; name = bytes }))
             (λ e. (number_of e ≡ 3) × ¬ (IsUtOffset ut_offset × IsNameOrNone bytes)) }
     {
         if ut_offset == i32::MIN {
-            return Err(Error::LocalTimeType("an offset above i32::MIN"));
+            return Err(Error::LocalTimeType(Expected::OffsetAboveI32Min));
         }
-        match name {
-            None => Ok(LocalTimeType {
-                ut_offset,
-                is_dst,
-                designation: None,
-            }),
-            Some(bytes) => match TimeZoneName::new(bytes) {
-                Ok(name) => Ok(LocalTimeType {
-                    ut_offset,
-                    is_dst,
-                    designation: Some(name),
-                }),
-                Err(e) => Err(e),
-            },
-        }
+        let designation = match name {
+            Some(bytes) => Some(TimeZoneName::new(bytes)?),
+            None => None,
+        };
+        Ok(LocalTimeType {
+            ut_offset,
+            is_dst,
+            designation,
+        })
     }
 
     /// The type of that offset, in seconds east of UTC, which is not daylight saving time and has no name.
@@ -67,10 +62,11 @@ impl LocalTimeType {
     ///
     /// [`Error::LocalTimeType`] if the offset is `i32::MIN`.
     pub fn with_offset(ut_offset: i32) -> Result<LocalTimeType, Error>
-        ensures { MatchResult result (λ t. IsUtOffset ut_offset × (t ≡ plain_type ut_offset)) (λ e. (number_of e ≡ 3) × ¬ (IsUtOffset ut_offset)) }
+        ensures { MatchResult result (λ t. IsUtOffset ut_offset × (t ≡ plain_type ut_offset))
+            (λ e. (number_of e ≡ 3) × ¬ (IsUtOffset ut_offset)) }
     {
         if ut_offset == i32::MIN {
-            return Err(Error::LocalTimeType("an offset above i32::MIN"));
+            return Err(Error::LocalTimeType(Expected::OffsetAboveI32Min));
         }
         Ok(LocalTimeType {
             ut_offset,

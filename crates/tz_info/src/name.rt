@@ -7,11 +7,12 @@ ghost use Rattle.std.specs.Cmp.Lexicographic.{pointwise, nat_list_eq_equiv};
 ghost use Rattle.tz_info.specs.Names.{IsName, is_name_byte};
 ghost use Rattle.tz_info.specs.Errors.{number_of};
 
-use crate::error::Error;
+use crate::error::{Error, Expected};
 use std::fmt;
 use std::marker::Model;
 
-/// The name of a local time type, such as `CET` or `-03`: three to seven letters, digits, `+` or `-`.
+/// The name of a local time type, such as `CET` or `-03`: three to seven letters, digits, `+` or `-` (RFC 8536 section 3.2
+/// says that a name should have three to six).
 #[derive(Clone, Copy)]
 pub struct TimeZoneName {
     buffer: [u8; 7],
@@ -23,7 +24,7 @@ impl Model for TimeZoneName {
 
     ghost Value = { List ℕ };
 
-    ghost use Rattle.tz_info.specs.Names.{Holds, padded, padded_back, length_back};
+    ghost use Rattle.tz_info.specs.Steps.StoredNames.{Holds, padded, padded_back, length_back};
 
     ghost view = { λ n. take n.len n.buffer };
 
@@ -33,7 +34,8 @@ impl Model for TimeZoneName {
 
     ghost use Rattle.std.proofs.Common.{ap, ◌≡◌, refl};
 
-    ghost inverse_ok = { λ n h i. record { buffer = padded_back n.buffer n.len h i; len = length_back n.buffer n.len h i } };
+    ghost inverse_ok = { λ n h i. record { buffer = padded_back n.buffer n.len h i;
+        len = length_back n.buffer n.len h i } };
 }
 
 impl TimeZoneName {
@@ -44,14 +46,15 @@ impl TimeZoneName {
     /// [`Error::LocalTimeType`] if they are fewer than three or more than seven, or if one of them is none of
     /// `A` to `Z`, `a` to `z`, `0` to `9`, `+` and `-`.
     pub fn new(name: &[u8]) -> Result<TimeZoneName, Error>
-        ensures { MatchResult result (λ n. IsName name.now × (n ≡ name.now)) (λ e. (number_of e ≡ 3) × ¬ (IsName name.now)) }
+        ensures { MatchResult result (λ n. IsName name.now × (n ≡ name.now))
+            (λ e. (number_of e ≡ 3) × ¬ (IsName name.now)) }
     {
         let len = name.len();
         if len < 3 || len > 7 {
-            return Err(Error::LocalTimeType("a name of three to seven bytes"));
+            return Err(Error::LocalTimeType(Expected::NameOfThreeToSevenBytes));
         }
         if !name.iter().all(|byte| is_name_byte(*byte)) {
-            return Err(Error::LocalTimeType("letters, digits, + or - in a name"));
+            return Err(Error::LocalTimeType(Expected::LettersDigitsPlusOrMinusInName));
         }
         let mut buffer = [0; 7];
         buffer[..len].copy_from_slice(name);

@@ -2,10 +2,12 @@
 
 mod alternate;
 mod day;
+mod kinds;
 pub(crate) mod reader;
 mod transition_rule;
 mod wall_clock;
 
 pub use alternate::AlternateTime;
+pub(crate) use alternate::Season;
 pub use day::RuleDay;
 pub use transition_rule::TransitionRule;

@@ -1,13 +1,22 @@
 //! Time zones.
 
+mod answers;
+mod extremes;
+mod gap;
+mod index;
 mod leap_second;
 mod leap_time;
 mod lookup;
+mod pieces;
 mod posix;
 pub(crate) mod probes;
+mod rule_seconds;
+mod segments;
+mod starts;
 mod table;
 mod time_zone;
 mod transition;
+mod walk;
 mod wall_clock;
 
 pub use leap_second::LeapSecond;

@@ -3,7 +3,7 @@
 ghost use Rattle.std.specs.Prelude.{◌≡◌, ◌≤◌};
 ghost use Rattle.tz_info.specs.Fronts.{Gives};
 ghost use Rattle.tz_info.specs.FileBlocks.{parts_of};
-ghost use Rattle.tz_info.specs.FileReading.{block_at};
+ghost use Rattle.tz_info.specs.Steps.FileReading.{block_at};
 
 use crate::cursor::Cursor;
 use crate::error::Error;
@@ -22,14 +22,15 @@ pub struct Block<'a> {
 }
 
 /// The block that the counts announce, whose times have that many bytes each. No product wraps: each is below 2^36.
-#[tactic(auto, unfolding(crate::specs::FileReading::block_at))]
+#[tactic(auto, unfolding(crate::specs::Steps::FileReading::block_at))]
 pub fn read_block<'a>(
     cursor: &mut Cursor<'a>,
     counts: &Counts,
     time_size: usize,
 ) -> Result<Block<'a>, Error>
     requires { time_size ≤ 8 }
-    ensures { Gives (λ b. (parts_of b, cursor.new)) result (block_at time_size counts.now cursor.old) }
+    ensures { Gives (λ b. (parts_of b, cursor.new)) result
+        (block_at time_size counts.now cursor.old) }
 {
     Ok(Block {
         times: cursor.read_exact(counts.transitions as usize * time_size)?,

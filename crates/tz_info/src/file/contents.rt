@@ -2,9 +2,9 @@
 
 ghost use Rattle.std.specs.Prelude.{◌≡◌, ◌≤◌, ◌*◌, ◌+◌, ◌⊎◌, length, slice_index};
 ghost use Rattle.tz_info.specs.Fronts.{Gives};
-ghost use Rattle.tz_info.specs.ContentReading.{GivesInMemory, values_below, transition_in, leap_second_in, leap_second_of, pair_agrees, all_below, indicators_of};
+ghost use Rattle.tz_info.specs.Steps.ContentReading.{GivesInMemory, values_below, transition_in, leap_second_in, leap_second_of, pair_agrees, all_below, indicators_of};
 
-use crate::error::Error;
+use crate::error::{Error, Expected};
 use crate::file::numbers::{record_at, signed_32, time_of};
 use crate::zone::{LeapSecond, Transition};
 use std::alloc::Global;
@@ -18,7 +18,8 @@ pub fn read_transitions(
 ) -> Result<Vec<Transition>, Error>
     requires size { (time_size ≡ 4) ⊎ (time_size ≡ 8) }
     requires room { length times.now ≡ length type_indexes.now * time_size }
-    ensures { GivesInMemory (λ v. v.items) result (values_below (length type_indexes.now) (transition_in time_size times.now type_indexes.now)) }
+    ensures { GivesInMemory (λ v. v.items) result
+        (values_below (length type_indexes.now) (transition_in time_size times.now type_indexes.now)) }
 {
     let mut transitions = Vec::with_capacity(alloc, type_indexes.len())?;
     for k in 0..type_indexes.len() {
@@ -39,7 +40,8 @@ pub fn read_leap_seconds(
 ) -> Result<Vec<LeapSecond>, Error>
     requires size { (time_size ≡ 4) ⊎ (time_size ≡ 8) }
     requires room { length part.now ≡ count * (time_size + 4) }
-    ensures { GivesInMemory (λ v. v.items) result (values_below count (leap_second_in time_size part.now)) }
+    ensures { GivesInMemory (λ v. v.items) result
+        (values_below count (leap_second_in time_size part.now)) }
 {
     let mut leap_seconds = Vec::with_capacity(alloc, count)?;
     for k in 0..count {
@@ -61,12 +63,12 @@ fn leap_second_of(time_size: usize, bytes: &[u8]) -> LeapSecond
 }
 
 /// No type is given in UT and not in standard time. An indicator that the file leaves out is 0.
-#[tactic(auto, unfolding(crate::specs::ContentReading::indicators_of))]
+#[tactic(auto, unfolding(crate::specs::Steps::ContentReading::indicators_of))]
 pub fn check_indicators(standard_wall: &[u8], ut_local: &[u8]) -> Result<(), Error>
     ensures { Gives (λ _. tt) result (indicators_of standard_wall.now ut_local.now) }
 {
     if !indicators_agree(standard_wall, ut_local) {
-        return Err(Error::InvalidTzFile("standard time where the time is UT"));
+        return Err(Error::InvalidTzFile(Expected::StandardTimeWhereTimeIsUt));
     }
     Ok(())
 }

@@ -5,23 +5,23 @@ ghost use Rattle.std.specs.List.{list_any};
 ghost use Rattle.std.specs.Str.{is_utf8};
 ghost use Rattle.tz_info.specs.Fronts.{Gives};
 ghost use Rattle.tz_info.specs.FileContents.{is_zero};
-ghost use Rattle.tz_info.specs.FooterReading.{trimmed, is_between_newlines, is_no_text, rule_in, rule_or_none, text_or_none, footer_at};
+ghost use Rattle.tz_info.specs.Steps.FooterReading.{trimmed, is_between_newlines, is_no_text, rule_in, rule_or_none, text_or_none, footer_at};
 
-use crate::error::Error;
+use crate::error::{Error, Expected};
 use crate::file::contents::byte_or_zero;
 use crate::rule::TransitionRule;
 use crate::rule::reader::read_all;
 
 /// The rule of a footer: none, or that of the TZ text that stands between two newlines.
-#[tactic(auto, unfolding(crate::specs::FooterReading::footer_at))]
+#[tactic(auto, unfolding(crate::specs::Steps::FooterReading::footer_at))]
 pub fn read_footer(extended: bool, bytes: &[u8]) -> Result<Option<TransitionRule>, Error>
     ensures { Gives (λ r. r) result (footer_at extended bytes.now) }
 {
     if !is_utf8(bytes) {
-        return Err(Error::Utf8("a footer of text"));
+        return Err(Error::Utf8(Expected::FooterInUtf8));
     }
     if !is_between_newlines(bytes) {
-        return Err(Error::InvalidTzFile("a footer between newlines"));
+        return Err(Error::InvalidTzFile(Expected::FooterBetweenNewlines));
     }
     text_or_none(extended, trimmed(bytes))
 }
@@ -30,7 +30,7 @@ fn text_or_none(extended: bool, text: &[u8]) -> Result<Option<TransitionRule>, E
     ensures { Gives (λ r. r) result (text_or_none extended text.now) }
 {
     if is_no_text(text) {
-        return Err(Error::InvalidTzFile("a TZ text in the footer"));
+        return Err(Error::InvalidTzFile(Expected::TzTextInFooter));
     }
     rule_or_none(extended, text)
 }
@@ -41,12 +41,10 @@ fn rule_or_none(extended: bool, text: &[u8]) -> Result<Option<TransitionRule>, E
     if text.is_empty() {
         return Ok(None);
     }
-    match read_rule(extended, text) {
-        Ok(rule) => Ok(Some(rule)),
-        Err(e) => Err(e),
-    }
+    Ok(Some(read_rule(extended, text)?))
 }
 
+/// A function of its own, since the reader's clause keeps the bytes behind the text.
 fn read_rule(extended: bool, text: &[u8]) -> Result<TransitionRule, Error>
     ensures { Gives (λ r. r) result (rule_in extended text.now) }
 {
@@ -66,7 +64,7 @@ fn is_utf8(bytes: &[u8]) -> bool
 fn is_between_newlines(bytes: &[u8]) -> bool
     ensures { result ≡ is_between_newlines bytes.now }
 {
-    byte_or_zero(bytes, 0) == b'\n' && byte_or_zero(bytes, bytes.len().saturating_sub(1)) == b'\n'
+    bytes.starts_with(b"\n") && bytes.ends_with(b"\n")
 }
 
 /// Without the ASCII white space at both ends.

@@ -1,11 +1,11 @@
 //! The headers of a file (RFC 8536 section 3.1).
 
-ghost use Rattle.std.specs.Prelude.{◌≡◌, ◌≤◌, length};
+ghost use Rattle.std.specs.Prelude.{◌≡◌};
 ghost use Rattle.tz_info.specs.Fronts.{Gives};
-ghost use Rattle.tz_info.specs.FileReading.{is_magic, magic_at, version_of, version_at, counts_at, counts_agree, header_at};
+ghost use Rattle.tz_info.specs.Steps.FileReading.{magic_at, version_of, version_at, counts_at, counts_agree, header_at};
 
 use crate::cursor::Cursor;
-use crate::error::Error;
+use crate::error::{Error, Expected};
 
 /// Which of a file's headers it is.
 #[derive(Clone, Copy)]
@@ -43,7 +43,7 @@ pub struct Header {
     pub counts: Counts,
 }
 
-#[tactic(auto, unfolding(crate::specs::FileReading::header_at))]
+#[tactic(auto, unfolding(crate::specs::Steps::FileReading::header_at))]
 pub fn read_header(cursor: &mut Cursor<'_>, place: Place) -> Result<Header, Error>
     ensures { Gives (λ h. (h, cursor.new)) result (header_at place cursor.old) }
 {
@@ -52,30 +52,23 @@ pub fn read_header(cursor: &mut Cursor<'_>, place: Place) -> Result<Header, Erro
     let _unused = cursor.read_exact(15)?;
     let counts = read_counts(cursor)?;
     if !counts.agree() {
-        return Err(Error::InvalidTzFile("counts that agree"));
+        return Err(Error::InvalidTzFile(Expected::CountsThatAgree));
     }
     Ok(Header { version, counts })
 }
 
-#[tactic(auto, unfolding(crate::specs::FileReading::magic_at))]
+#[tactic(auto, unfolding(crate::specs::Steps::FileReading::magic_at))]
 fn read_magic(cursor: &mut Cursor<'_>) -> Result<(), Error>
     ensures { Gives (λ _. cursor.new) result (magic_at cursor.old) }
 {
     let front = cursor.read_exact(4)?;
-    if !is_magic(front) {
-        return Err(Error::InvalidTzFile("TZif at the front of a header"));
+    if front != b"TZif".as_slice() {
+        return Err(Error::InvalidTzFile(Expected::TZifAtFrontOfHeader));
     }
     Ok(())
 }
 
-fn is_magic(four: &[u8]) -> bool
-    requires { 4 ≤ length four.now }
-    ensures { result ≡ is_magic four.now }
-{
-    four[0] == b'T' && four[1] == b'Z' && four[2] == b'i' && four[3] == b'f'
-}
-
-#[tactic(auto, unfolding(crate::specs::FileReading::version_at))]
+#[tactic(auto, unfolding(crate::specs::Steps::FileReading::version_at))]
 fn read_version(cursor: &mut Cursor<'_>, place: Place) -> Result<Version, Error>
     ensures { Gives (λ v. (v, cursor.new)) result (version_at place cursor.old) }
 {
@@ -88,14 +81,14 @@ fn version_of(byte: u8, place: Place) -> Result<Version, Error>
 {
     match (byte, place) {
         (0, Place::First) => Ok(Version::One),
-        (0, Place::Second) => Err(Error::InvalidTzFile("version 2 or 3 in a second header")),
+        (0, Place::Second) => Err(Error::InvalidTzFile(Expected::Version2Or3InSecondHeader)),
         (b'2', _) => Ok(Version::Two),
         (b'3', _) => Ok(Version::Three),
-        _ => Err(Error::UnsupportedTzFile("version 1, 2 or 3")),
+        _ => Err(Error::UnsupportedTzFile(Expected::Version1To3)),
     }
 }
 
-#[tactic(auto, unfolding(crate::specs::FileReading::counts_at))]
+#[tactic(auto, unfolding(crate::specs::Steps::FileReading::counts_at))]
 fn read_counts(cursor: &mut Cursor<'_>) -> Result<Counts, Error>
     ensures { Gives (λ c. (c, cursor.new)) result (counts_at cursor.old) }
 {

@@ -3,7 +3,7 @@
 ghost use Rattle.std.specs.Prelude.{◌≡◌, ◌≤◌, ◌*◌, ◌+◌, ◌⊎◌, length};
 ghost use Rattle.std.specs.Int.{w32, w64};
 ghost use Rattle.tz_info.specs.FileContents.{signed, time_of};
-ghost use Rattle.tz_info.specs.ContentReading.{record_at};
+ghost use Rattle.tz_info.specs.Steps.ContentReading.{record_at};
 
 /// The record of that place, where each has that size.
 pub fn record_at(part: &[u8], size: usize, place: usize) -> &[u8]

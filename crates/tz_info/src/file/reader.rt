@@ -1,20 +1,20 @@
 //! A file from its first byte to its last: its pieces, and the lists that they spell.
 
-ghost use Rattle.std.specs.Prelude.{◌≡◌, IfOk, IfErr, MatchResult, option_map};
+ghost use Rattle.std.specs.Prelude.{◌≡◌, ◌⊎◌, IfOk, IfErr, MatchResult, option_map};
 ghost use Rattle.tz_info.specs.Errors.{number_of};
 ghost use Rattle.tz_info.specs.Fronts.{Gives};
 ghost use Rattle.tz_info.specs.Zones.{Zone, IsValid};
 ghost use Rattle.tz_info.specs.FileBlocks.{parts_of};
-ghost use Rattle.tz_info.specs.FileReading.{first_version_in, later_version_at, after_version, pieces_at};
-ghost use Rattle.tz_info.specs.ContentReading.{GivesInMemory};
-ghost use Rattle.tz_info.specs.FooterReading.{footer_of};
-ghost use Rattle.tz_info.specs.FileLists.{pieces_of, zone_of, lists_in, with_types, with_rule, HasLengths, Reads};
+ghost use Rattle.tz_info.specs.Steps.FileReading.{first_version_in, later_version_at, after_version, pieces_at};
+ghost use Rattle.tz_info.specs.Steps.ContentReading.{GivesInMemory};
+ghost use Rattle.tz_info.specs.Steps.FooterReading.{footer_of};
+ghost use Rattle.tz_info.specs.Steps.FileLists.{pieces_of, zone_of, lists_in, with_types, with_rule, HasLengths, Reads};
 ghost use Rattle.tz_info.specs.FilePieces.{FilePieces, HasPieces, is_extended};
 ghost use Rattle.tz_info.specs.TzFiles.{IsTzFile, IsFileFault};
 ghost use Rattle.tz_info.specs.declared.error.Error.TheVariants.{OutOfMemory};
 
 use crate::cursor::Cursor;
-use crate::error::Error;
+use crate::error::{Error, Expected};
 use crate::file::block::{Block, read_block};
 use crate::file::contents::{check_indicators, read_leap_seconds, read_transitions};
 use crate::file::footer::read_footer;
@@ -39,7 +39,8 @@ impl Lists {
     pub fn into_zone(self, alloc: Global) -> Result<TimeZone, Error>
         ensures { MatchResult result
             (λ z. IsValid (zone_of self) × (z ≡ zone_of self))
-            (λ e. (number_of e ≡ 12) × ¬ (IsValid (zone_of self))) }
+            (λ e. ((number_of e ≡ 12) × ¬ (IsValid (zone_of self))) ⊎ ((e ≡ OutOfMemory)
+            × IsValid (zone_of self))) }
     {
         let Lists {
             transitions,
@@ -56,22 +57,23 @@ pub fn read_lists(alloc: Global, bytes: &[u8]) -> Result<Lists, Error>
     // What is answered is spelled.
     ensures found { IfOk result (λ lists. IsTzFile bytes.now (zone_of lists)) }
     // What is spelled is answered, unless memory runs out.
-    ensures only { (z : Zone) → IsTzFile bytes.now z → MatchResult result (λ lists. zone_of lists ≡ z) (λ e. e ≡ OutOfMemory) }
+    ensures only { (z : Zone) → IsTzFile bytes.now z
+        → MatchResult result (λ lists. zone_of lists ≡ z) (λ e. e ≡ OutOfMemory) }
     // A refusal names a fault that is there.
     ensures fault { IfErr result (λ e. IsFileFault bytes.now (number_of e)) }
-    // Memory is asked for only where every piece of the file is there.
-    ensures memory { IfErr result (λ e. e ≡ OutOfMemory → (p : FilePieces) × HasPieces bytes.now p) }
+    // Want of memory is answered only where every piece of the file is there.
+    ensures memory { IfErr result
+        (λ e. e ≡ OutOfMemory → (p : FilePieces) × HasPieces bytes.now p) }
 {
     read_file(alloc, bytes)
 }
 
+/// The same by one relation, from which the four clauses follow.
 fn read_file(alloc: Global, bytes: &[u8]) -> Result<Lists, Error>
     ensures { Reads result (pieces_at bytes.now) }
 {
-    match read_pieces(bytes) {
-        Ok(pieces) => lists_of(alloc, &pieces),
-        Err(e) => Err(e),
-    }
+    let pieces = read_pieces(bytes)?;
+    lists_of(alloc, &pieces)
 }
 
 /// The pieces of a file that say what its zone is: the last block, with its header's counts and the size of its times,
@@ -85,7 +87,7 @@ struct Pieces<'a> {
     footer: Option<&'a [u8]>,
 }
 
-#[tactic(auto, unfolding(crate::specs::FileReading::pieces_at))]
+#[tactic(auto, unfolding(crate::specs::Steps::FileReading::pieces_at))]
 fn read_pieces(bytes: &[u8]) -> Result<Pieces<'_>, Error>
     ensures { Gives pieces_of result (pieces_at bytes.now) }
 {
@@ -100,7 +102,8 @@ fn after_first_block<'a>(
     header: Header,
     block: Block<'a>,
 ) -> Result<Pieces<'a>, Error>
-    ensures { Gives pieces_of result (after_version header.version header.counts (parts_of block.entry) cursor.old) }
+    ensures { Gives pieces_of result
+        (after_version header.version header.counts (parts_of block.entry) cursor.old) }
 {
     match header.version {
         Version::One => first_version(cursor, header.counts, block),
@@ -117,7 +120,7 @@ fn first_version<'a>(
     ensures { Gives pieces_of result (first_version_in counts (parts_of block.entry) cursor.now) }
 {
     if !cursor.is_empty() {
-        return Err(Error::InvalidTzFile("nothing after a block of version 1"));
+        return Err(Error::InvalidTzFile(Expected::NothingAfterBlockOfVersion1));
     }
     Ok(Pieces {
         extended: false,
@@ -129,7 +132,7 @@ fn first_version<'a>(
 }
 
 /// From version 2 on the second block says all, with the footer, which is the rest.
-#[tactic(auto, unfolding(crate::specs::FileReading::later_version_at))]
+#[tactic(auto, unfolding(crate::specs::Steps::FileReading::later_version_at))]
 fn later_version<'a>(cursor: &mut Cursor<'a>) -> Result<Pieces<'a>, Error>
     ensures { Gives pieces_of result (later_version_at cursor.old) }
 {
@@ -152,36 +155,28 @@ fn is_extended(version: Version) -> bool
 }
 
 /// What the pieces say: first the types are read, one after the other, then the indicators, then the footer.
-#[tactic(auto, unfolding(crate::specs::FileLists::lists_in))]
+#[tactic(auto, unfolding(crate::specs::Steps::FileLists::lists_in))]
 fn lists_of(alloc: Global, pieces: &Pieces<'_>) -> Result<Lists, Error>
     requires { HasLengths (pieces_of pieces.now) }
     ensures { GivesInMemory zone_of result (lists_in (pieces_of pieces.now)) }
 {
     let block = pieces.block;
-    match read_types(
-        alloc,
-        pieces.counts.types as usize,
-        block.types,
-        block.designations,
-    ) {
-        Ok(types) => with_types(alloc, pieces, types),
-        Err(e) => Err(e),
-    }
+    let count = pieces.counts.types as usize;
+    let types = read_types(alloc, count, block.types, block.designations)?;
+    with_types(alloc, pieces, types)
 }
 
-#[tactic(auto, unfolding(crate::specs::FileLists::with_types))]
+#[tactic(auto, unfolding(crate::specs::Steps::FileLists::with_types))]
 fn with_types(alloc: Global, pieces: &Pieces<'_>, types: Vec<LocalTimeType>) -> Result<Lists, Error>
     requires { HasLengths (pieces_of pieces.now) }
     ensures { GivesInMemory zone_of result (with_types (pieces_of pieces.now) types.items) }
 {
     check_indicators(pieces.block.standard_wall, pieces.block.ut_local)?;
-    match read_rule(pieces.extended, pieces.footer) {
-        Ok(rule) => with_rule(alloc, pieces, types, rule),
-        Err(e) => Err(e),
-    }
+    let rule = read_rule(pieces.extended, pieces.footer)?;
+    with_rule(alloc, pieces, types, rule)
 }
 
-#[tactic(auto, unfolding(crate::specs::FileLists::with_rule))]
+#[tactic(auto, unfolding(crate::specs::Steps::FileLists::with_rule))]
 fn with_rule(
     alloc: Global,
     pieces: &Pieces<'_>,

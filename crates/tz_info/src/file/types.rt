@@ -4,9 +4,9 @@ ghost use Rattle.std.specs.Prelude.{◌≡◌, ◌≤◌, ◌<◌, ◌*◌, leng
 ghost use Rattle.std.specs.List.{position_from};
 ghost use Rattle.tz_info.specs.Fronts.{Gives};
 ghost use Rattle.tz_info.specs.FileContents.{is_zero, designation_of};
-ghost use Rattle.tz_info.specs.ContentReading.{GivesInMemory, values_below, type_in, type_of_record, with_next_type, mark_of, type_of, text_before_zero, designation_at};
+ghost use Rattle.tz_info.specs.Steps.ContentReading.{GivesInMemory, values_below, type_in, type_of_record, with_next_type, mark_of, type_of, text_before_zero, designation_at};
 
-use crate::error::Error;
+use crate::error::{Error, Expected};
 use crate::file::numbers::{record_at, signed_32};
 use crate::local_time_type::LocalTimeType;
 use std::alloc::Global;
@@ -20,7 +20,8 @@ pub fn read_types(
     designations: &[u8],
 ) -> Result<Vec<LocalTimeType>, Error>
     requires { length part.now ≡ count * 6 }
-    ensures { GivesInMemory (λ v. v.items) result (values_below count (type_in designations.now part.now)) }
+    ensures { GivesInMemory (λ v. v.items) result
+        (values_below count (type_in designations.now part.now)) }
 {
     let mut types = Vec::with_capacity(alloc, count)?;
     for k in 0..count {
@@ -31,18 +32,14 @@ pub fn read_types(
 
 fn read_next(types: &mut Vec<LocalTimeType>, designations: &[u8], bytes: &[u8]) -> Result<(), Error>
     requires { length bytes.now ≡ 6 }
-    ensures { GivesInMemory (λ _. types.new.items) result (with_next_type designations.now bytes.now types.old.items) }
+    ensures { GivesInMemory (λ _. types.new.items) result
+        (with_next_type designations.now bytes.now types.old.items) }
 {
-    match read_type(designations, bytes) {
-        Ok(local_type) => {
-            types.push(local_type)?;
-            Ok(())
-        }
-        Err(e) => Err(e),
-    }
+    types.push(read_type(designations, bytes)?)?;
+    Ok(())
 }
 
-#[tactic(auto, unfolding(crate::specs::ContentReading::type_of_record))]
+#[tactic(auto, unfolding(crate::specs::Steps::ContentReading::type_of_record))]
 fn read_type(designations: &[u8], bytes: &[u8]) -> Result<LocalTimeType, Error>
     requires { length bytes.now ≡ 6 }
     ensures { Gives (λ t. t) result (type_of_record designations.now bytes.now) }
@@ -58,28 +55,28 @@ fn read_mark(byte: u8) -> Result<bool, Error>
     match byte {
         0 => Ok(false),
         1 => Ok(true),
-        _ => Err(Error::InvalidTzFile("0 or 1 as the mark of daylight saving time")),
+        _ => Err(Error::InvalidTzFile(Expected::ZeroOrOneAsIsDst)),
     }
 }
 
 /// The text that begins at that place of the designations and ends at a 0 byte.
-#[tactic(auto, unfolding(crate::specs::ContentReading::designation_at))]
+#[tactic(auto, unfolding(crate::specs::Steps::ContentReading::designation_at))]
 fn designation_at(designations: &[u8], place: usize) -> Result<&[u8], Error>
     ensures { Gives (λ s. s.now) result (designation_at designations.now place) }
 {
     if place >= designations.len() {
-        return Err(Error::InvalidTzFile("a name within the designations"));
+        return Err(Error::InvalidTzFile(Expected::NameWithinDesignations));
     }
     text_before_zero(designations.split_at(place).1)
 }
 
-#[tactic(auto, unfolding(crate::specs::ContentReading::text_before_zero))]
+#[tactic(auto, unfolding(crate::specs::Steps::ContentReading::text_before_zero))]
 fn text_before_zero(bytes: &[u8]) -> Result<&[u8], Error>
     ensures { Gives (λ s. s.now) result (text_before_zero bytes.now) }
 {
     match first_zero(bytes) {
         Some(place) => Ok(bytes.split_at(place).0),
-        None => Err(Error::InvalidTzFile("a 0 byte behind a name")),
+        None => Err(Error::InvalidTzFile(Expected::ZeroByteBehindName)),
     }
 }
 
@@ -90,6 +87,7 @@ fn first_zero(bytes: &[u8]) -> Option<usize>
     bytes.iter().position(|byte| *byte == 0)
 }
 
+/// The type of an offset, a mark and a text: a function of its own, so that its clause says what reading one gives.
 fn local_type(ut_offset: i32, is_dst: bool, text: &[u8]) -> Result<LocalTimeType, Error>
     ensures { Gives (λ t. t) result (type_of ut_offset is_dst text.now) }
 {

@@ -6,12 +6,14 @@ ghost use Rattle.offset_core.specs.Offset.{IsWithinDay};
 ghost use Rattle.tz_info.specs.Errors.{number_of};
 ghost use Rattle.tz_info.specs.Rules.{Alternate, IsAlternate, IsAlternateRule, IsWithinWeek};
 ghost use Rattle.tz_info.specs.Moments.{moment, IsRuleTime};
-ghost use Rattle.tz_info.specs.Turns.{IsAmid, is_between, is_dst_by_one};
+ghost use Rattle.tz_info.specs.Turns.{is_between, is_dst_by_one};
 
-use crate::error::Error;
+use crate::error::{Error, Expected};
 use crate::local_time_type::LocalTimeType;
 use crate::rule::day::RuleDay;
+use crate::rule::kinds::kind_of;
 use naive_base::calendar::{year_of, year_start};
+use std::fmt;
 use std::marker::Model;
 
 // The first and the last second of the years that a rule answers in.
@@ -20,12 +22,16 @@ const FIRST_RULE_TIME: i64 = -67_768_100_504_812_800;
 const LAST_RULE_TIME: i64 = 67_767_976_170_460_799;
 
 /// Standard time and daylight saving time, and when in each year the one gives way to the other.
-#[derive(Clone, Copy, Debug, PartialEq, Eq)]
+#[derive(Clone, Copy)]
 pub struct AlternateTime {
     std_type: LocalTimeType,
     dst_type: LocalTimeType,
     dst_start: DayTime,
     dst_end: DayTime,
+    /// When in the year daylight saving time starts, by the year's kind.
+    starts: [i64; 14],
+    /// When it ends.
+    ends: [i64; 14],
 }
 
 /// A day of every year, and a time of that day in seconds after its midnight.
@@ -42,16 +48,85 @@ struct Turns {
     end: i64,
 }
 
+/// The moments of one year, and from when until when these alone decide.
+#[derive(Clone, Copy)]
+pub(crate) struct Season {
+    from: i64,
+    until: i64,
+    turns: Turns,
+}
+
 impl Model for AlternateTime {
+    ghost use Rattle.std.specs.Prelude.{◌≡◌};
+    ghost use Rattle.std.proofs.Common.{sym};
     ghost use Rattle.tz_info.specs.Rules.{Alternate, IsAlternateRule};
+    ghost use Rattle.tz_info.specs.Steps.Kinds.{seconds_by_kind};
 
     ghost Value = { Alternate };
 
-    ghost view = { λ a. record { std = a.std_type; dst = a.dst_type; start = a.dst_start; end = a.dst_end } };
+    ghost view = { λ a. record { std = a.std_type; dst = a.dst_type; start = a.dst_start;
+        end = a.dst_end } };
 
-    ghost invariant = { λ a. IsAlternateRule (record { std = a.std_type; dst = a.dst_type; start = a.dst_start; end = a.dst_end }) };
+    ghost invariant = { λ a. IsAlternateRule (record { std = a.std_type; dst = a.dst_type;
+        start = a.dst_start; end = a.dst_end })
+        × (a.starts ≡ seconds_by_kind a.dst_start a.std_type.offset)
+        × (a.ends ≡ seconds_by_kind a.dst_end a.dst_type.offset) };
 
-    ghost inverse = { λ a. record { std_type = a.std; dst_type = a.dst; dst_start = a.start; dst_end = a.end } };
+    ghost inverse = { λ a. record {
+      std_type = a.std;
+      dst_type = a.dst;
+      dst_start = a.start;
+      dst_end = a.end;
+      starts = seconds_by_kind a.start a.std.offset;
+      ends = seconds_by_kind a.end a.dst.offset;
+    } };
+
+    ghost inverse_ok = { λ a h i. record {
+      std_type = a.std_type;
+      dst_type = a.dst_type;
+      dst_start = a.dst_start;
+      dst_end = a.dst_end;
+      starts = sym h.1 i;
+      ends = sym h.2 i;
+    } };
+}
+
+impl PartialEq for AlternateTime {
+    ghost use Rattle.std.specs.Cmp.{partial_equiv_from_equiv};
+    ghost use Rattle.tz_info.specs.RuleEquality.{alternate_eq, alternate_eq_equiv};
+    ghost use Rattle.tz_info.specs.contracts.local_time_type.LocalTimeTypeEq.TheImpl.Laws.{laws-law as types};
+    ghost use Rattle.tz_info.specs.contracts.rule.alternate.DayTimeEq.TheImpl.Laws.{laws-law as days};
+
+    ghost eq = { alternate_eq ⟦<LocalTimeType as PartialEq>⟧.eq ⟦<DayTime as PartialEq>⟧.eq };
+
+    ghost laws = { partial_equiv_from_equiv (alternate_eq_equiv types days) };
+
+    fn eq(&self, other: &AlternateTime) -> bool {
+        self.std_type == other.std_type
+            && self.dst_type == other.dst_type
+            && self.dst_start == other.dst_start
+            && self.dst_end == other.dst_end
+    }
+}
+
+impl Eq for AlternateTime {
+    ghost use Rattle.tz_info.specs.RuleEquality.{alternate_eq_equiv};
+    ghost use Rattle.tz_info.specs.contracts.local_time_type.LocalTimeTypeEq.TheImpl.Laws.{laws-law as types};
+    ghost use Rattle.tz_info.specs.contracts.rule.alternate.DayTimeEq.TheImpl.Laws.{laws-law as days};
+
+    ghost laws = { alternate_eq_equiv types days };
+}
+
+// What the kinds of years hold follows from the days, and is not printed.
+impl fmt::Debug for AlternateTime {
+    fn fmt<W: fmt::Write>(&self, f: &mut fmt::Formatter<W>) -> fmt::Result {
+        f.debug_struct("AlternateTime")
+            .field("std_type", &self.std_type)
+            .field("dst_type", &self.dst_type)
+            .field("dst_start", &self.dst_start)
+            .field("dst_end", &self.dst_end)
+            .finish()
+    }
 }
 
 impl AlternateTime {
@@ -70,53 +145,104 @@ impl AlternateTime {
         dst_end: RuleDay,
         dst_end_time: i32,
     ) -> Result<AlternateTime, Error>
-        ensures { let shown : Alternate = record { std = std; dst = dst; start = record { day = dst_start; time = dst_start_time }; end = record { day = dst_end; time = dst_end_time } } in
-            MatchResult result (λ a. IsAlternate shown × (a ≡ shown)) (λ e. (number_of e ≡ 13) × ¬ (IsAlternate shown)) }
+        ensures { let shown : Alternate = record { std = std; dst = dst;
+            start = record { day = dst_start; time = dst_start_time };
+            end = record { day = dst_end; time = dst_end_time } } in
+            MatchResult result (λ a. IsAlternate shown × (a ≡ shown))
+            (λ e. (number_of e ≡ 13) × ¬ (IsAlternate shown)) }
     {
         if !is_within_day(&std) || !is_within_day(&dst) {
-            return Err(Error::TransitionRule("offsets within a day"));
+            return Err(Error::TransitionRule(Expected::OffsetsWithinDay));
         }
         let Some(start) = dst_start.at(dst_start_time) else {
-            return Err(Error::TransitionRule("a start within a week"));
+            return Err(Error::TransitionRule(Expected::StartWithinWeek));
         };
         let Some(end) = dst_end.at(dst_end_time) else {
-            return Err(Error::TransitionRule("an end within a week"));
+            return Err(Error::TransitionRule(Expected::EndWithinWeek));
         };
+        let starts = start.seconds_by_kind(std.offset());
+        let ends = end.seconds_by_kind(dst.offset());
         Ok(AlternateTime {
             std_type: std,
             dst_type: dst,
             dst_start: start,
             dst_end: end,
+            starts,
+            ends,
         })
     }
 }
 
 impl AlternateTime {
-    ghost use Rattle.tz_info.specs.Moments.{AlternateAt, IsAlternateRefused, IsRuleYear, IsDstAt, start_in, end_in};
+    ghost use Rattle.tz_info.specs.Moments.{AlternateAt, IsAlternateRefused, IsRuleYear, IsDstAt, start_in, end_in, type_when};
+    ghost use Rattle.tz_info.specs.Steps.Seasons.{IsSeason};
 
     /// The type in force at the second of Unix time, as `TransitionRule::find_local_time_type` has it.
     ///
     /// # Errors
     ///
     /// [`Error::OutOfRange`] if the second's UTC year is below `i32::MIN + 2` or above `i32::MAX - 2`.
+    #[inline(always)]
     pub fn find_local_time_type(&self, unix_time: i64) -> Result<&LocalTimeType, Error>
-        ensures { MatchResult result (λ t. AlternateAt self.now unix_time t.now) (λ e. (number_of e ≡ 9) × IsAlternateRefused unix_time) }
+        ensures { MatchResult result
+            (λ t. AlternateAt self.now unix_time t.now)
+            (λ e. (number_of e ≡ 9) × IsAlternateRefused unix_time) }
     {
         if !is_rule_time(unix_time) {
-            return Err(Error::OutOfRange("a year that a rule answers in"));
+            return Err(Error::OutOfRange(Expected::YearThatRuleAnswersIn));
+        }
+        Ok(self.type_in(self.season(unix_time), unix_time))
+    }
+
+    /// The moments of the second's year, for questions about several seconds near it.
+    #[inline(always)]
+    pub(crate) fn season(&self, unix_time: i64) -> Season
+        requires { IsRuleTime unix_time }
+        ensures { IsSeason self.now result }
+    {
+        let year = year_of(day_of(unix_time));
+        let first = year_start(year);
+        Season {
+            from: (first + 8) * 86_400,
+            until: (first + 357) * 86_400,
+            turns: self.turns(year),
+        }
+    }
+
+    /// The type in force at the second, by the season's moments where these decide.
+    #[inline(always)]
+    pub(crate) fn type_in(&self, season: Season, unix_time: i64) -> &LocalTimeType
+        requires season { IsSeason self.now season }
+        requires time { IsRuleTime unix_time }
+        ensures { AlternateAt self.now unix_time result.now }
+    {
+        if self.is_dst_in(season, unix_time) {
+            &self.dst_type
+        } else {
+            &self.std_type
+        }
+    }
+
+    /// Whether it is daylight saving time at the second, by the season's moments where these decide.
+    #[inline(always)]
+    fn is_dst_in(&self, season: Season, unix_time: i64) -> bool
+        requires season { IsSeason self.now season }
+        requires time { IsRuleTime unix_time }
+        ensures { AlternateAt self.now unix_time (type_when self.now result) }
+    {
+        let _std = self.std();
+        if season.from <= unix_time && unix_time < season.until {
+            return season.turns.is_dst(unix_time);
         }
         let day = day_of(unix_time);
-        if self.is_dst(year_of(day), day, unix_time) {
-            Ok(&self.dst_type)
-        } else {
-            Ok(&self.std_type)
-        }
+        self.is_dst(year_of(day), day, unix_time)
     }
 
     /// Whether it is daylight saving time at the second, which lies on that day of that year.
     ///
-    /// A rule's moments lie less than eight days outside their year, so that far from the year's ends its own two
-    /// decide, and near them those of its neighbours as well.
+    /// A rule's moments lie less than eight days outside their year, so that near the year's ends those of its
+    /// neighbours decide as well.
+    #[inline(never)]
     fn is_dst(&self, year: i32, day: i64, unix_time: i64) -> bool
         requires day { day ≡ floor_div unix_time 86_400 }
         requires lies { LiesIn day year }
@@ -124,21 +250,21 @@ impl AlternateTime {
         ensures { IsDstAt (start_in self.now) (end_in self.now) year unix_time result }
     {
         let here = self.turns(year);
-        if is_amid(day, year) {
-            return here.is_dst(unix_time);
-        }
         is_dst_by_three(self.turns(year - 1), here, self.turns(year + 1), unix_time)
     }
 
-    /// The moments of the year.
+    /// The moments of the year, by its kind.
+    #[inline(always)]
     fn turns(&self, year: i32) -> Turns
         ensures start { result.start ≡ start_in self.now year }
         ensures end { result.end ≡ end_in self.now year }
         ensures rule { IsAlternateRule self.now }
     {
+        let first = 86_400 * year_start(year);
+        let kind = kind_of(year);
         Turns {
-            start: self.dst_start.moment(self.std_type.offset(), year),
-            end: self.dst_end.moment(self.dst_type.offset(), year),
+            start: first + self.starts[kind],
+            end: first + self.ends[kind],
         }
     }
 }
@@ -166,10 +292,12 @@ impl Turns {
     fn is_dst(self, unix_time: i64) -> bool
         ensures { result ≡ is_dst_by_one self.start self.end unix_time }
     {
+        let has_started = self.start <= unix_time;
+        let has_not_ended = unix_time < self.end;
         if self.is_start_first() {
-            self.is_from_start(unix_time)
+            has_started & has_not_ended
         } else {
-            !self.is_from_end(unix_time)
+            has_started | has_not_ended
         }
     }
 
@@ -198,8 +326,11 @@ impl Turns {
 /// Whether it is daylight saving time at the second by the moments of its year and of the years before and after it.
 fn is_dst_by_three(before: Turns, here: Turns, after: Turns, unix_time: i64) -> bool
     ensures { result ≡ (if int_le here.start here.end
-        then is_between before.start before.end unix_time || is_between here.start here.end unix_time || is_between after.start after.end unix_time
-        else not (is_between before.end before.start unix_time || is_between here.end here.start unix_time || is_between after.end after.start unix_time)) }
+        then is_between before.start before.end unix_time
+            || is_between here.start here.end unix_time || is_between after.start after.end unix_time
+        else not (is_between before.end before.start unix_time
+            || is_between here.end here.start unix_time
+            || is_between after.end after.start unix_time)) }
 {
     if here.is_start_first() {
         is_any(
@@ -216,6 +347,7 @@ fn is_dst_by_three(before: Turns, here: Turns, after: Turns, unix_time: i64) -> 
     }
 }
 
+/// Whether one of them holds: a function of its own, so that no case is made of each.
 fn is_any(a: bool, b: bool, c: bool) -> bool
     ensures { result ≡ (a || b || c) }
 {
@@ -238,23 +370,16 @@ fn day_of(unix_time: i64) -> i64
     unix_time.div_euclid(86_400)
 }
 
-/// Whether the day of the year is at least eight days from the years before and after.
-fn is_amid(day: i64, year: i32) -> bool
-    requires { LiesIn day year }
-    ensures { IsTrue result ↔ IsAmid day year }
-{
-    let place = day - year_start(year);
-    8 <= place && place < 357
-}
-
 impl DayTime {
     /// The second at which a clock at that offset shows the time on the day of that year.
+    #[inline(always)]
     #[tactic(auto, unfolding(crate::specs::Moments::moment))]
-    fn moment(&self, offset: i32, year: i32) -> i64
+    pub(super) fn moment(&self, offset: i32, year: i32) -> i64
         requires time { IsWithinWeek self.now.time }
         requires offset { IsWithinDay offset }
         ensures value { result ≡ moment self.now offset year }
-        ensures bound { (neg_ℤ (pos 4_700_000_000_000_000_000) ≤ℤ result) × (result ≤ℤ pos 4_700_000_000_000_000_000) }
+        ensures bound { (neg_ℤ (pos 4_700_000_000_000_000_000) ≤ℤ result)
+            × (result ≤ℤ pos 4_700_000_000_000_000_000) }
     {
         self.day.unix_time(year, self.time as i64 - offset as i64)
     }

@@ -9,7 +9,7 @@ ghost use Rattle.naive_base.specs.Weekday.{weekday_of};
 ghost use Rattle.tz_info.specs.RuleDays.{IsWrittenDate, julian_place, weekday_place};
 ghost use Rattle.tz_info.specs.Errors.{number_of};
 
-use crate::error::Error;
+use crate::error::{Error, Expected};
 use crate::rule::alternate::DayTime;
 use naive_base::calendar::{
     day_number, days_in_month, days_in_year, is_leap_year, month_and_day, weekday_of, year_start,
@@ -57,10 +57,11 @@ impl RuleDay {
     ///
     /// [`Error::TransitionRule`] unless 1 <= n <= 365.
     pub fn julian_1(n: u16) -> Result<RuleDay, Error>
-        ensures { MatchResult result (λ d. IsRuleDay (Julian1 n) × (d ≡ Julian1 n)) (λ e. (number_of e ≡ 13) × ¬ (IsRuleDay (Julian1 n))) }
+        ensures { MatchResult result (λ d. IsRuleDay (Julian1 n) × (d ≡ Julian1 n))
+            (λ e. (number_of e ≡ 13) × ¬ (IsRuleDay (Julian1 n))) }
     {
         if n < 1 || n > 365 {
-            return Err(Error::TransitionRule("a day from J1 to J365"));
+            return Err(Error::TransitionRule(Expected::DayFromJ1ToJ365));
         }
         Ok(RuleDay {
             form: DayForm::Julian1(n),
@@ -73,10 +74,11 @@ impl RuleDay {
     ///
     /// [`Error::TransitionRule`] unless n <= 365.
     pub fn julian_0(n: u16) -> Result<RuleDay, Error>
-        ensures { MatchResult result (λ d. IsRuleDay (Julian0 n) × (d ≡ Julian0 n)) (λ e. (number_of e ≡ 13) × ¬ (IsRuleDay (Julian0 n))) }
+        ensures { MatchResult result (λ d. IsRuleDay (Julian0 n) × (d ≡ Julian0 n))
+            (λ e. (number_of e ≡ 13) × ¬ (IsRuleDay (Julian0 n))) }
     {
         if n > 365 {
-            return Err(Error::TransitionRule("a day from 0 to 365"));
+            return Err(Error::TransitionRule(Expected::DayFrom0To365));
         }
         Ok(RuleDay {
             form: DayForm::Julian0(n),
@@ -91,16 +93,17 @@ impl RuleDay {
     /// [`Error::TransitionRule`] if one of them is out of its limits.
     pub fn month_weekday(month: u8, week: u8, weekday: u8) -> Result<RuleDay, Error>
         ensures { let form = MonthWeekday month week weekday in
-            MatchResult result (λ d. IsRuleDay form × (d ≡ form)) (λ e. (number_of e ≡ 13) × ¬ (IsRuleDay form)) }
+            MatchResult result (λ d. IsRuleDay form × (d ≡ form))
+            (λ e. (number_of e ≡ 13) × ¬ (IsRuleDay form)) }
     {
         if month < 1 || month > 12 {
-            return Err(Error::TransitionRule("a month from 1 to 12"));
+            return Err(Error::TransitionRule(Expected::MonthFrom1To12));
         }
         if week < 1 || week > 5 {
-            return Err(Error::TransitionRule("a week from 1 to 5"));
+            return Err(Error::TransitionRule(Expected::WeekFrom1To5));
         }
         if weekday > 6 {
-            return Err(Error::TransitionRule("a weekday from 0 to 6"));
+            return Err(Error::TransitionRule(Expected::WeekdayFrom0To6));
         }
         Ok(RuleDay {
             form: DayForm::MonthWeekday(month, week, weekday),
@@ -131,18 +134,24 @@ impl RuleDay {
 
     /// The second so many seconds after the midnight with which the rule's day begins in the year, both on one clock:
     /// 86,400 times the day number plus the day time.
+    #[inline(always)]
     pub fn unix_time(&self, year: i32, day_time: i64) -> i64
-        requires { (neg_ℤ (pos 4_611_686_018_427_387_904) ≤ℤ day_time) × (day_time ≤ℤ pos 4_611_686_018_427_387_904) }
+        requires { (neg_ℤ (pos 4_611_686_018_427_387_904) ≤ℤ day_time)
+            × (day_time ≤ℤ pos 4_611_686_018_427_387_904) }
         ensures value { result ≡ pos 86_400 *ℤ rule_day self.now year +ℤ day_time }
-        ensures bound { (neg_ℤ (pos 4_700_000_000_000_000_000) ≤ℤ result) × (result ≤ℤ pos 4_700_000_000_000_000_000) }
+        ensures bound { (neg_ℤ (pos 4_700_000_000_000_000_000) ≤ℤ result)
+            × (result ≤ℤ pos 4_700_000_000_000_000_000) }
     {
         86_400 * self.number_in(year) + day_time
     }
 
     /// The time of the day so many seconds after its midnight, if they are strictly within a week.
     pub(super) fn at(self, time: i32) -> Option<DayTime>
-        ensures { MatchOption result (¬ (IsWithinWeek time)) (λ d. IsWithinWeek d.time × IsRuleDay d.day × (d ≡ record { day = self; time = time })) }
+        ensures { MatchOption result (¬ (IsWithinWeek time))
+            (λ d. IsWithinWeek d.time × IsRuleDay d.day
+            × (d ≡ record { day = self; time = time })) }
     {
+        // opened for its invariant: the numbers of a day are in their limits
         let _ = &self.form;
         if -604_800 < time && time < 604_800 {
             Some(DayTime { day: self, time })
@@ -152,6 +161,7 @@ impl RuleDay {
     }
 
     /// The day number of the rule's day in the year.
+    #[inline(always)]
     #[tactic(auto, unfolding(crate::specs::RuleDays::rule_day))]
     fn number_in(&self, year: i32) -> i64
         ensures value { result ≡ rule_day self.now year }
@@ -199,7 +209,8 @@ fn place_in_month(year: i32, month: u32, week: u32, weekday: u32) -> u32
     requires month_in { IsInRange 1 12 month }
     requires week_in { IsInRange 1 5 week }
     requires weekday_in { weekday ≤ 6 }
-    ensures value { result ≡ weekday_place (days_in_month (is_leap year) month) (weekday_of (day_number year month 1)) week weekday }
+    ensures value { result ≡ weekday_place (days_in_month (is_leap year) month)
+        (weekday_of (day_number year month 1)) week weekday }
     ensures within { result < days_in_month (is_leap year) month }
     ensures bound { result < 31 }
 {

@@ -4,7 +4,7 @@ ghost use Rattle.std.specs.Prelude.{◌≡◌, List, ℕ, IfOk, IfErr};
 ghost use Rattle.std.specs.Result.{IsOkAnd};
 ghost use Rattle.tz_info.specs.Errors.{number_of};
 ghost use Rattle.tz_info.specs.Fronts.{Gives};
-ghost use Rattle.tz_info.specs.Readings.{text_at};
+ghost use Rattle.tz_info.specs.Steps.Readings.{text_at};
 ghost use Rattle.tz_info.specs.TzTexts.{IsTzText};
 ghost use Rattle.tz_info.specs.TzFaults.{IsTextFault};
 ghost use Rattle.tz_info.specs.declared.rule.transition_rule.TransitionRule.{TransitionRule as Rule};
@@ -35,7 +35,8 @@ impl TransitionRule {
         // What is read is spelled so.
         ensures found { IfOk result (λ rule. IsTzText extended bytes.now rule) }
         // What is spelled so is read.
-        ensures only { (rule : Rule) → IsTzText extended bytes.now rule → IsOkAnd result (λ r. r ≡ rule) }
+        ensures only { (rule : Rule) → IsTzText extended bytes.now rule
+            → IsOkAnd result (λ r. r ≡ rule) }
         // Where it is refused, what the number says stands in the text.
         ensures fault { IfErr result (λ e. IsTextFault extended bytes.now (number_of e)) }
     {

@@ -30,8 +30,10 @@ impl TransitionRule {
     ///
     /// [`Error::OutOfRange`] if the rule has two types and the second's UTC year is below `i32::MIN + 2` or above
     /// `i32::MAX - 2`.
+    #[inline(always)]
     pub fn find_local_time_type(&self, unix_time: i64) -> Result<&LocalTimeType, Error>
-        ensures { MatchResult result (λ t. RuleAt self.now unix_time t.now) (λ e. (number_of e ≡ 9) × IsRuleRefused self.now unix_time) }
+        ensures { MatchResult result (λ t. RuleAt self.now unix_time t.now)
+            (λ e. (number_of e ≡ 9) × IsRuleRefused self.now unix_time) }
     {
         match self {
             TransitionRule::Fixed(local) => Ok(local),

@@ -29,7 +29,8 @@ impl TransitionRule {
         &self,
         local: NaiveDateTime,
     ) -> Result<MappedLocalTime<LocalTimeType>, Error>
-        ensures { MatchResult result (λ answer. IsWallAnswer (Shows (RuleAt self.now) (reading local).s) answer) (λ _. ⊥) }
+        ensures { MatchResult result
+            (λ answer. IsWallAnswer (Shows (RuleAt self.now) (reading local).s) answer) (λ _. ⊥) }
     {
         Ok(self.wall_answer(local.secs_since_epoch()))
     }

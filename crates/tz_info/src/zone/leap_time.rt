@@ -4,7 +4,7 @@ ghost use Rattle.std.specs.Prelude.{◌≡◌, pos, ◌+ℤ◌, ◌≤ℤ◌, Ma
 ghost use Rattle.tz_info.specs.Errors.{number_of};
 ghost use Rattle.tz_info.specs.Leaps.{IsOneStep, IsFirstLeap, IsNextLeap, AreLeapSeconds, IsLeapTime, IsLeapTimeRefused, IsUnixTime, IsUnixTimeRefused, correction_before};
 
-use crate::error::Error;
+use crate::error::{Error, Expected};
 use crate::zone::leap_second::LeapSecond;
 
 /// Whether the entries may be those of a zone, in one pass over them.
@@ -51,6 +51,7 @@ fn is_one_step(before: i32, after: i32) -> bool
 }
 
 /// The leap time of a Unix time.
+#[inline(always)]
 pub(super) fn leap_time(entries: &[LeapSecond], unix_time: i64) -> Result<i64, Error>
     requires { AreLeapSeconds entries.now }
     ensures { MatchResult result
@@ -64,7 +65,7 @@ pub(super) fn leap_time(entries: &[LeapSecond], unix_time: i64) -> Result<i64, E
         }
         match unix_time.checked_add(entry.correction as i64) {
             Some(sum) => leap_time = sum,
-            None => return Err(Error::OutOfRange("a leap time of 64 bits")),
+            None => return Err(Error::OutOfRange(Expected::LeapTimeOf64Bits)),
         }
     }
     Ok(leap_time)
@@ -78,11 +79,11 @@ pub(super) fn unix_time(entries: &[LeapSecond], leap_time: i64) -> Result<i64, E
         (λ e. (number_of e ≡ 9) × IsUnixTimeRefused entries.now leap_time) }
 {
     if leap_time == i64::MIN {
-        return Err(Error::OutOfRange("a leap time above i64::MIN"));
+        return Err(Error::OutOfRange(Expected::LeapTimeAboveI64Min));
     }
     match leap_time.checked_sub(correction_before(entries, leap_time) as i64) {
         Some(difference) => Ok(difference),
-        None => Err(Error::OutOfRange("a Unix time of 64 bits")),
+        None => Err(Error::OutOfRange(Expected::UnixTimeOf64Bits)),
     }
 }
 

@@ -24,17 +24,18 @@ impl TimeZone {
         // The zone is the text's.
         ensures found { IfOk result (λ z. IsPosixZone text.now z) }
         // A text that has a zone gives it, unless there is no memory.
-        ensures only { (z : Zone) → IsPosixZone text.now z → MatchResult result (λ y. y ≡ z) (λ e. number_of e ≡ 17) }
+        ensures only { (z : Zone) → IsPosixZone text.now z
+            → MatchResult result (λ y. y ≡ z) (λ e. number_of e ≡ 17) }
         // Where it is refused, what the number says stands in the text, or there is no memory.
         ensures fault { IfErr result (λ e. (number_of e ≡ 17) ⊎ IsPosixFault text.now (number_of e)) }
+        // Want of memory is answered for a text that has a zone alone.
+        ensures memory { IfErr result (λ e. number_of e ≡ 17 → (z : Zone) × IsPosixZone text.now z) }
     {
         if text.is_empty() {
             return TimeZone::utc(alloc);
         }
-        match TransitionRule::from_tz_string(text.trim_ascii().as_bytes(), false) {
-            Ok(rule) => TimeZone::of_rule(alloc, rule),
-            Err(e) => Err(e),
-        }
+        let rule = TransitionRule::from_tz_string(text.trim_ascii().as_bytes(), false)?;
+        TimeZone::of_rule(alloc, rule)
     }
 
     /// The zone of the rule.

@@ -1,8 +1,9 @@
 //! The transitions of a zone. A lookup can look at one of them only where the look is counted.
 
-ghost use Rattle.std.specs.Prelude.{◌≡◌, ◌+◌, ◌^◌, ◌<◌, ◌≤◌, ◌↔◌, List, length, take, slice_index_or, IsTrue, pos};
-ghost use Rattle.tz_info.specs.Counts.{RoseWithin};
+ghost use Rattle.std.specs.Prelude.{◌≡◌, ◌+◌, ◌/◌, ◌<◌, ◌≤◌, ◌↔◌, List, length, take, slice_index_or, IsTrue, pos};
+ghost use Rattle.tz_info.specs.Counts.{HasRoomFor, RoseWithin};
 ghost use Rattle.tz_info.specs.Digits.{digits};
+ghost use Rattle.tz_info.specs.Steps.Search.{AreLeft, IsNarrowed};
 ghost use Rattle.tz_info.specs.Transitions.{AreRising, AreTransitions, Stands, passed};
 
 use crate::zone::probes::Probes;
@@ -13,6 +14,13 @@ use std::marker::Model;
 #[derive(Debug, Drop)]
 pub(super) struct Table {
     entries: Vec<Transition>,
+}
+
+/// What a search has left: how many transitions have come is `low`, or up to `size` more.
+#[derive(Clone, Copy)]
+struct Places {
+    low: usize,
+    size: usize,
 }
 
 impl Model for Table {
@@ -52,6 +60,7 @@ impl Table {
     }
 
     /// How many transitions there are.
+    #[inline(always)]
     pub(super) fn len(&self) -> usize
         ensures count { result ≡ length self.now }
         ensures rising { AreRising self.now }
@@ -60,9 +69,10 @@ impl Table {
     }
 
     /// The transition at that place. This is the only look that a lookup can take.
+    #[inline(always)]
     pub(super) fn read(&self, place: usize, probes: &mut Probes) -> Transition
         requires place { place < length self.now }
-        requires room { probes.old.reads < 2 ^ 122 }
+        requires room { HasRoomFor 1 probes.old.reads }
         ensures item { result ≡ slice_index_or self.now place result }
         ensures count { probes.new ≡ record probes.old { reads = probes.old.reads + 1 } }
     {
@@ -71,23 +81,82 @@ impl Table {
     }
 
     /// How many transitions come at or before the leap time, by a binary search.
+    ///
+    /// The last sixteen halvings are written out: there the compiler makes each of them a choice of two values, and in a
+    /// loop a branch, which the processor would guess wrong every other time.
+    #[inline(always)]
     pub(super) fn passed_count(&self, leap_time: i64, probes: &mut Probes) -> usize
-        requires { probes.old.reads < 2 ^ 121 }
+        requires { HasRoomFor (digits (length self.now)) probes.old.reads }
         ensures within { result ≤ length self.now }
         ensures passed { passed self.now leap_time ≡ take result self.now }
         ensures cost { RoseWithin probes.old probes.new (digits (length self.now)) 0 }
+        ensures looked { 0 < length self.now → probes.old.reads < probes.new.reads }
     {
-        let mut low = 0;
-        let mut high = self.len();
-        while low < high {
-            let middle = low + (high - low) / 2;
-            if self.read(middle, probes).unix_leap_time <= leap_time {
-                low = middle + 1;
-            } else {
-                high = middle;
-            }
+        let count = self.len();
+        let mut left = Places {
+            low: 0,
+            size: count,
+        };
+        while left.size > 65_535 {
+            left = self.halved(leap_time, left, probes);
         }
-        low
+        self.halved_16_times(leap_time, left, probes).low
+    }
+
+    /// What is left after sixteen halvings.
+    #[inline(always)]
+    fn halved_16_times(&self, leap_time: i64, left: Places, probes: &mut Probes) -> Places
+        requires left { AreLeft self.now leap_time left }
+        requires room { HasRoomFor (digits left.size) probes.old.reads }
+        ensures left { AreLeft self.now leap_time result }
+        ensures size { result.size ≡ left.size / 65_536 }
+        ensures cost { IsNarrowed probes.old probes.new left.size result.size }
+    {
+        let once = self.halved_4_times(leap_time, left, probes);
+        let twice = self.halved_4_times(leap_time, once, probes);
+        let thrice = self.halved_4_times(leap_time, twice, probes);
+        self.halved_4_times(leap_time, thrice, probes)
+    }
+
+    /// What is left after four halvings.
+    #[inline(always)]
+    fn halved_4_times(&self, leap_time: i64, left: Places, probes: &mut Probes) -> Places
+        requires left { AreLeft self.now leap_time left }
+        requires room { HasRoomFor (digits left.size) probes.old.reads }
+        ensures left { AreLeft self.now leap_time result }
+        ensures size { result.size ≡ left.size / 16 }
+        ensures cost { IsNarrowed probes.old probes.new left.size result.size }
+    {
+        let once = self.halved(leap_time, left, probes);
+        let twice = self.halved(leap_time, once, probes);
+        let thrice = self.halved(leap_time, twice, probes);
+        self.halved(leap_time, thrice, probes)
+    }
+
+    /// What is left after a look at the transition in the middle, if anything was.
+    #[inline(always)]
+    fn halved(&self, leap_time: i64, left: Places, probes: &mut Probes) -> Places
+        requires left { AreLeft self.now leap_time left }
+        requires room { HasRoomFor (digits left.size) probes.old.reads }
+        ensures left { AreLeft self.now leap_time result }
+        ensures size { result.size ≡ left.size / 2 }
+        ensures cost { IsNarrowed probes.old probes.new left.size result.size }
+    {
+        if left.size == 0 {
+            return left;
+        }
+        let half = left.size / 2;
+        let later = left.low + (left.size - half);
+        if self.read(later - 1, probes).unix_leap_time <= leap_time {
+            return Places {
+                low: later,
+                size: half,
+            };
+        }
+        Places {
+            low: left.low,
+            size: half,
+        }
     }
 }
 

@@ -1,19 +1,24 @@
 //! A time zone: transitions, the types of its local time, leap seconds, and the rule that goes on after them.
 
-ghost use Rattle.std.specs.Prelude.{◌≡◌, pos, ◌<◌, length, IsTrue, ◌↔◌, MatchResult, ◌⊎◌, option_map};
+ghost use Rattle.std.specs.Prelude.{◌≡◌, pos, ◌+◌, ◌*◌, ◌<◌, ◌≤◌, length, IsTrue, ◌↔◌, MatchResult, ◌⊎◌, option_map};
 ghost use Rattle.tz_info.specs.Errors.{number_of};
 ghost use Rattle.tz_info.specs.Leaps.{AreLeapSeconds, IsLeapTime, IsLeapTimeRefused, IsUnixTime, IsUnixTimeRefused};
 ghost use Rattle.tz_info.specs.LocalTypes.{IsUtOffset};
 ghost use Rattle.tz_info.specs.Zones.{Zone, IsValid, Agrees, IsRuleOrNone, plain_zone, zone_of_rule, zone_of_type};
+ghost use Rattle.tz_info.specs.declared.error.Error.TheVariants.{OutOfMemory};
 
-use crate::error::Error;
+use crate::error::{Error, Expected};
 use crate::local_time_type::LocalTimeType;
 use crate::rule::TransitionRule;
+use crate::zone::extremes::{Extremes, extremes_of};
+use crate::zone::index::Index;
 use crate::zone::leap_second::LeapSecond;
 use crate::zone::leap_time::{are_leap_seconds, leap_time, unix_time};
+use crate::zone::segments::Lists;
 use crate::zone::table::{Table, are_transitions};
 use crate::zone::transition::Transition;
 use std::alloc::Global;
+use std::fmt;
 use std::marker::Model;
 
 /// A time zone: which type of local time is in force at each instant.
@@ -25,22 +30,41 @@ use std::marker::Model;
 /// let before = zone.find_local_time_type(-1)?;    // UTC
 /// let after = zone.find_local_time_type(0)?;      // 3600 seconds east of UTC
 /// ```
-#[derive(Debug, Drop)]
+#[derive(Drop)]
 pub struct TimeZone {
     pub(super) table: Table,
     pub(super) local_types: Vec<LocalTimeType>,
     pub(super) leap_seconds: Vec<LeapSecond>,
     pub(super) last_rule: Option<TransitionRule>,
+    /// The least and the greatest offset of the types and of the rule.
+    pub(super) extremes: Extremes,
+    /// The pieces of the wall-clock axis.
+    pub(super) index: Index,
 }
 
 impl Model for TimeZone {
-    ghost use Rattle.tz_info.specs.Zones.{Zone, IsValid};
+    ghost use Rattle.tz_info.specs.Steps.Prepared.{IsPrepared};
+    ghost use Rattle.tz_info.specs.Zones.{Zone};
 
     ghost Value = { Zone };
 
-    ghost view = { λ z. record { transitions = z.table; types = z.local_types.items; leaps = z.leap_seconds.items; rule = z.last_rule } };
+    ghost view = { λ z. record { transitions = z.table; types = z.local_types.items;
+        leaps = z.leap_seconds.items; rule = z.last_rule } };
 
-    ghost invariant = { λ z. IsValid (record { transitions = z.table; types = z.local_types.items; leaps = z.leap_seconds.items; rule = z.last_rule }) };
+    ghost invariant = { λ z. IsPrepared (record { transitions = z.table; types = z.local_types.items;
+        leaps = z.leap_seconds.items; rule = z.last_rule }) z.extremes z.index };
+}
+
+// Of the lists alone: extremes and index follow from them.
+impl fmt::Debug for TimeZone {
+    fn fmt<W: fmt::Write>(&self, f: &mut fmt::Formatter<W>) -> fmt::Result {
+        f.debug_struct("TimeZone")
+            .field("table", &self.table)
+            .field("local_types", &self.local_types)
+            .field("leap_seconds", &self.leap_seconds)
+            .field("last_rule", &self.last_rule)
+            .finish()
+    }
 }
 
 impl PartialEq for TimeZone {
@@ -51,7 +75,8 @@ impl PartialEq for TimeZone {
     ghost use Rattle.tz_info.specs.contracts.zone.leap_second.LeapSecondEq.TheImpl.Laws.{laws-law as leaps};
     ghost use Rattle.tz_info.specs.contracts.rule.transition_rule.TransitionRuleEq.TheImpl.Laws.{laws-law as rules};
 
-    ghost eq = { zone_eq ⟦<Transition as PartialEq>⟧.eq ⟦<LocalTimeType as PartialEq>⟧.eq ⟦<LeapSecond as PartialEq>⟧.eq ⟦<TransitionRule as PartialEq>⟧.eq };
+    ghost eq = { zone_eq ⟦<Transition as PartialEq>⟧.eq ⟦<LocalTimeType as PartialEq>⟧.eq
+        ⟦<LeapSecond as PartialEq>⟧.eq ⟦<TransitionRule as PartialEq>⟧.eq };
 
     ghost laws = { partial_equiv_from_equiv (zone_eq_equiv transitions types leaps rules) };
 
@@ -83,25 +108,38 @@ impl TimeZone {
     ///
     /// # Errors
     ///
-    /// [`Error::TimeZone`] if the lists are otherwise.
+    /// [`Error::TimeZone`] if the lists are otherwise; [`Error::OutOfMemory`] if there is no memory for the zone's index.
     pub fn new(
-        _alloc: Global,
+        alloc: Global,
         transitions: Vec<Transition>,
         types: Vec<LocalTimeType>,
         leaps: Vec<LeapSecond>,
         rule: Option<TransitionRule>,
     ) -> Result<TimeZone, Error>
-        ensures { let lists : Zone = record { transitions = transitions.items; types = types.items; leaps = leaps.items; rule = rule } in
-            MatchResult result (λ z. IsValid lists × (z ≡ lists)) (λ e. (number_of e ≡ 12) × ¬ (IsValid lists)) }
+        ensures { let lists : Zone = record { transitions = transitions.items; types = types.items;
+            leaps = leaps.items; rule = rule } in
+            MatchResult result (λ z. IsValid lists × (z ≡ lists))
+            (λ e. ((number_of e ≡ 12) × ¬ (IsValid lists)) ⊎ ((e ≡ OutOfMemory) × IsValid lists)) }
     {
         if !is_valid(&transitions, &types, &leaps, &rule) {
-            return Err(Error::TimeZone("lists of a zone"));
+            return Err(Error::TimeZone(Expected::ListsOfZone));
         }
+        let extremes = extremes_of(&types, &rule);
+        let lists = Lists {
+            transitions: &transitions,
+            types: &types,
+            leaps: &leaps,
+            rule: &rule,
+        };
+        let index = Index::new(alloc, lists)?;
+        let extremes = extremes_of(&types, &rule);
         Ok(TimeZone {
             table: Table::new(transitions),
             local_types: types,
             leap_seconds: leaps,
             last_rule: rule,
+            extremes,
+            index,
         })
     }
 
@@ -124,7 +162,8 @@ impl TimeZone {
     pub fn fixed(alloc: Global, ut_offset: i32) -> Result<TimeZone, Error>
         ensures { MatchResult result
             (λ z. IsUtOffset ut_offset × (z ≡ plain_zone ut_offset))
-            (λ e. ((number_of e ≡ 3) × ¬ (IsUtOffset ut_offset)) ⊎ ((number_of e ≡ 17) × IsUtOffset ut_offset)) }
+            (λ e. ((number_of e ≡ 3) × ¬ (IsUtOffset ut_offset)) ⊎ ((number_of e ≡ 17)
+            × IsUtOffset ut_offset)) }
     {
         match LocalTimeType::with_offset(ut_offset) {
             Ok(local) => TimeZone::of_type(alloc, local),
@@ -138,11 +177,23 @@ impl TimeZone {
         ensures { result ≡ zone_of_rule types.items rule }
     {
         let alloc = *types.allocator();
+        let transitions = Vec::new(alloc);
+        let leaps = Vec::new(alloc);
+        let lists = Lists {
+            transitions: &transitions,
+            types: &types,
+            leaps: &leaps,
+            rule: &rule,
+        };
+        let index = Index::without_pieces(alloc, lists);
+        let extremes = extremes_of(&types, &rule);
         TimeZone {
-            table: Table::new(Vec::new(alloc)),
+            table: Table::new(transitions),
             local_types: types,
-            leap_seconds: Vec::new(alloc),
+            leap_seconds: leaps,
             last_rule: rule,
+            extremes,
+            index,
         }
     }
 
@@ -197,6 +248,13 @@ impl TimeZone {
         self.last_rule.as_ref()
     }
 
+    /// How many pieces the zone's index of the wall-clock axis has.
+    pub fn piece_count(&self) -> usize
+        ensures { result ≤ 2 * length self.now.transitions + 1 }
+    {
+        self.index.len()
+    }
+
     /// The leap time of a Unix time: the second counted from 1970 with the zone's leap seconds.
     ///
     /// # Errors
@@ -232,7 +290,8 @@ fn is_valid(
     leaps: &[LeapSecond],
     rule: &Option<TransitionRule>,
 ) -> bool
-    ensures { IsTrue result ↔ IsValid (record { transitions = transitions.now; types = types.now; leaps = leaps.now; rule = rule.now }) }
+    ensures { IsTrue result ↔ IsValid (record { transitions = transitions.now; types = types.now;
+        leaps = leaps.now; rule = rule.now }) }
 {
     if types.is_empty() {
         return false;

@@ -4,16 +4,16 @@ ghost use Rattle.std.specs.Prelude.{◌≡◌, ◌≤◌, ◌<ℤ◌, ◌≤ℤ�
 ghost use Rattle.offset_core.specs.Offset.{IsWithinDay};
 ghost use Rattle.tz_info.specs.Fronts.{Gives};
 ghost use Rattle.tz_info.specs.Rules.{IsWithinWeek};
-ghost use Rattle.tz_info.specs.Readings.{sign_at, seconds_at, minutes_seconds_at, others_at, hours_minutes_seconds_at, seconds_within, duration_at, offset_at, time_sign_at, time_at, optional_time_at};
+ghost use Rattle.tz_info.specs.Steps.Readings.{sign_at, seconds_at, minutes_seconds_at, others_at, hours_minutes_seconds_at, seconds_within, duration_at, offset_at, time_sign_at, time_at, optional_time_at};
 
 use crate::cursor::Cursor;
-use crate::error::Error;
+use crate::error::{Error, Expected};
 
 /// The limit of each number, before those of hours, minutes and seconds.
 const CLOCK_MAX: u32 = i32::MAX as u32;
 
 /// An offset, in seconds east of UTC. The text counts west.
-#[tactic(auto, unfolding(crate::specs::Readings::offset_at))]
+#[tactic(auto, unfolding(crate::specs::Steps::Readings::offset_at))]
 pub(super) fn read_offset(cursor: &mut Cursor<'_>) -> Result<i32, Error>
     ensures value { Gives (λ z. (z, cursor.new)) result (offset_at cursor.old) }
     ensures bound { IfOk result (λ z. IsWithinDay z) }
@@ -23,7 +23,7 @@ pub(super) fn read_offset(cursor: &mut Cursor<'_>) -> Result<i32, Error>
 }
 
 /// A `/` and a time of day, in seconds behind midnight, or nothing for two o'clock.
-#[tactic(auto, unfolding(crate::specs::Readings::optional_time_at))]
+#[tactic(auto, unfolding(crate::specs::Steps::Readings::optional_time_at))]
 pub(super) fn read_optional_time(extended: bool, cursor: &mut Cursor<'_>) -> Result<i32, Error>
     ensures value { Gives (λ z. (z, cursor.new)) result (optional_time_at extended cursor.old) }
     ensures bound { IfOk result (λ z. IsWithinWeek z) }
@@ -35,7 +35,7 @@ pub(super) fn read_optional_time(extended: bool, cursor: &mut Cursor<'_>) -> Res
     }
 }
 
-#[tactic(auto, unfolding(crate::specs::Readings::time_at))]
+#[tactic(auto, unfolding(crate::specs::Steps::Readings::time_at))]
 fn read_time(extended: bool, cursor: &mut Cursor<'_>) -> Result<i32, Error>
     ensures value { Gives (λ z. (z, cursor.new)) result (time_at extended cursor.old) }
     ensures bound { IfOk result (λ z. IsWithinWeek z) }
@@ -44,7 +44,7 @@ fn read_time(extended: bool, cursor: &mut Cursor<'_>) -> Result<i32, Error>
     read_duration(if extended { 167 } else { 24 }, is_minus, cursor)
 }
 
-#[tactic(auto, unfolding(crate::specs::Readings::time_sign_at))]
+#[tactic(auto, unfolding(crate::specs::Steps::Readings::time_sign_at))]
 fn read_time_sign(extended: bool, cursor: &mut Cursor<'_>) -> bool
     ensures { time_sign_at extended cursor.old ≡ Ok (result, cursor.new) }
 {
@@ -52,7 +52,7 @@ fn read_time_sign(extended: bool, cursor: &mut Cursor<'_>) -> bool
 }
 
 /// Whether a minus stands there. A plus may stand there too.
-#[tactic(auto, unfolding(crate::specs::Readings::sign_at))]
+#[tactic(auto, unfolding(crate::specs::Steps::Readings::sign_at))]
 fn read_sign(cursor: &mut Cursor<'_>) -> bool
     ensures { sign_at cursor.old ≡ Ok (result, cursor.new) }
 {
@@ -63,7 +63,7 @@ fn read_sign(cursor: &mut Cursor<'_>) -> bool
     }
 }
 
-#[tactic(auto, unfolding(crate::specs::Readings::duration_at))]
+#[tactic(auto, unfolding(crate::specs::Steps::Readings::duration_at))]
 fn read_duration(limit: u32, negative: bool, cursor: &mut Cursor<'_>) -> Result<i32, Error>
     requires { limit ≤ 167 }
     ensures value { Gives (λ z. (z, cursor.new)) result (duration_at limit negative cursor.old) }
@@ -75,16 +75,17 @@ fn read_duration(limit: u32, negative: bool, cursor: &mut Cursor<'_>) -> Result<
 }
 
 /// Hours, minutes and seconds; 0 for what is left out.
-#[tactic(auto, unfolding(crate::specs::Readings::hours_minutes_seconds_at))]
+#[tactic(auto, unfolding(crate::specs::Steps::Readings::hours_minutes_seconds_at))]
 fn read_hours_minutes_seconds(cursor: &mut Cursor<'_>) -> Result<(u32, u32, u32), Error>
-    ensures { Gives (λ t. ((t.0, t.1, t.2), cursor.new)) result (hours_minutes_seconds_at cursor.old) }
+    ensures { Gives (λ t. ((t.0, t.1, t.2), cursor.new)) result
+        (hours_minutes_seconds_at cursor.old) }
 {
     let h = cursor.read_int(CLOCK_MAX)?;
     let (m, s) = read_others(cursor)?;
     Ok((h, m, s))
 }
 
-#[tactic(auto, unfolding(crate::specs::Readings::others_at))]
+#[tactic(auto, unfolding(crate::specs::Steps::Readings::others_at))]
 fn read_others(cursor: &mut Cursor<'_>) -> Result<(u32, u32), Error>
     ensures { Gives (λ t. ((t.0, t.1), cursor.new)) result (others_at cursor.old) }
 {
@@ -95,7 +96,7 @@ fn read_others(cursor: &mut Cursor<'_>) -> Result<(u32, u32), Error>
     }
 }
 
-#[tactic(auto, unfolding(crate::specs::Readings::minutes_seconds_at))]
+#[tactic(auto, unfolding(crate::specs::Steps::Readings::minutes_seconds_at))]
 fn read_minutes_seconds(cursor: &mut Cursor<'_>) -> Result<(u32, u32), Error>
     ensures { Gives (λ t. ((t.0, t.1), cursor.new)) result (minutes_seconds_at cursor.old) }
 {
@@ -104,7 +105,7 @@ fn read_minutes_seconds(cursor: &mut Cursor<'_>) -> Result<(u32, u32), Error>
     Ok((m, s))
 }
 
-#[tactic(auto, unfolding(crate::specs::Readings::seconds_at))]
+#[tactic(auto, unfolding(crate::specs::Steps::Readings::seconds_at))]
 fn read_seconds(cursor: &mut Cursor<'_>) -> Result<u32, Error>
     ensures { Gives (λ s. (s, cursor.new)) result (seconds_at cursor.old) }
 {
@@ -116,7 +117,7 @@ fn read_seconds(cursor: &mut Cursor<'_>) -> Result<u32, Error>
 }
 
 /// The signed seconds of so many hours, up to the limit, minutes and seconds, up to 59.
-#[tactic(auto, unfolding(crate::specs::Readings::seconds_within))]
+#[tactic(auto, unfolding(crate::specs::Steps::Readings::seconds_within))]
 fn seconds_of(limit: u32, negative: bool, h: u32, m: u32, s: u32) -> Result<i32, Error>
     requires { limit ≤ 167 }
     ensures value { Gives (λ z. z) result (seconds_within limit negative h m s) }
@@ -124,7 +125,7 @@ fn seconds_of(limit: u32, negative: bool, h: u32, m: u32, s: u32) -> Result<i32,
     ensures week { IfOk result (λ z. IsWithinWeek z) }
 {
     if h > limit || m > 59 || s > 59 {
-        return Err(Error::InvalidTzString("hours, minutes and seconds within their limits"));
+        return Err(Error::InvalidTzString(Expected::HoursMinutesAndSecondsWithinTheirLimits));
     }
     let seconds = (3_600 * h + 60 * m + s) as i32;
     if negative { Ok(-seconds) } else { Ok(seconds) }

@@ -3,7 +3,7 @@
 ghost use Rattle.std.specs.Prelude.{◌≡◌, IfOk};
 ghost use Rattle.tz_info.specs.Fronts.{Gives, int_at};
 ghost use Rattle.tz_info.specs.Rules.{IsWithinWeek};
-ghost use Rattle.tz_info.specs.Readings.{date_at, month_date_at, julian_date_at, day_number_at, day_at};
+ghost use Rattle.tz_info.specs.Steps.Readings.{date_at, month_date_at, julian_date_at, day_number_at, day_at, day_time_of};
 
 use crate::cursor::Cursor;
 use crate::error::Error;
@@ -17,18 +17,17 @@ const DATE_MAX: u32 = u8::MAX as u32;
 const DAY_MAX: u32 = u16::MAX as u32;
 
 /// A date, and its time of day, in seconds behind midnight.
-#[tactic(auto, unfolding(crate::specs::Readings::day_at))]
+#[tactic(auto, unfolding(crate::specs::Steps::Readings::day_at))]
 pub(super) fn read_day(extended: bool, cursor: &mut Cursor<'_>) -> Result<(RuleDay, i32), Error>
-    ensures value { Gives (λ d. (record { day = d.0; time = d.1 }, cursor.new)) result (day_at extended cursor.old) }
+    ensures value { Gives (λ d. (day_time_of d, cursor.new)) result (day_at extended cursor.old) }
     ensures bound { IfOk result (λ d. IsWithinWeek d.1) }
 {
-    match read_date(cursor) {
-        Ok(date) => Ok((date, read_optional_time(extended, cursor)?)),
-        Err(e) => Err(e),
-    }
+    let date = read_date(cursor)?;
+    let time = read_optional_time(extended, cursor)?;
+    Ok((date, time))
 }
 
-#[tactic(auto, unfolding(crate::specs::Readings::date_at))]
+#[tactic(auto, unfolding(crate::specs::Steps::Readings::date_at))]
 fn read_date(cursor: &mut Cursor<'_>) -> Result<RuleDay, Error>
     ensures { Gives (λ d. (d, cursor.new)) result (date_at cursor.old) }
 {
@@ -42,7 +41,7 @@ fn read_date(cursor: &mut Cursor<'_>) -> Result<RuleDay, Error>
 }
 
 /// `month.week.weekday`, behind the `M`.
-#[tactic(auto, unfolding(crate::specs::Readings::month_date_at, crate::specs::Readings::rule_day_of))]
+#[tactic(auto, unfolding(crate::specs::Steps::Readings::month_date_at, crate::specs::Steps::Readings::rule_day_of))]
 fn read_month_date(cursor: &mut Cursor<'_>) -> Result<RuleDay, Error>
     ensures { Gives (λ d. (d, cursor.new)) result (month_date_at cursor.old) }
 {
@@ -61,7 +60,7 @@ fn read_byte(cursor: &mut Cursor<'_>) -> Result<u8, Error>
 }
 
 /// The number behind the `J`.
-#[tactic(auto, unfolding(crate::specs::Readings::julian_date_at, crate::specs::Readings::rule_day_of))]
+#[tactic(auto, unfolding(crate::specs::Steps::Readings::julian_date_at, crate::specs::Steps::Readings::rule_day_of))]
 fn read_julian_date(cursor: &mut Cursor<'_>) -> Result<RuleDay, Error>
     ensures { Gives (λ d. (d, cursor.new)) result (julian_date_at cursor.old) }
 {
@@ -69,7 +68,7 @@ fn read_julian_date(cursor: &mut Cursor<'_>) -> Result<RuleDay, Error>
     RuleDay::julian_1(n as u16)
 }
 
-#[tactic(auto, unfolding(crate::specs::Readings::day_number_at, crate::specs::Readings::rule_day_of))]
+#[tactic(auto, unfolding(crate::specs::Steps::Readings::day_number_at, crate::specs::Steps::Readings::rule_day_of))]
 fn read_day_number(cursor: &mut Cursor<'_>) -> Result<RuleDay, Error>
     ensures { Gives (λ d. (d, cursor.new)) result (day_number_at cursor.old) }
 {

@@ -4,10 +4,10 @@ ghost use Rattle.std.specs.Prelude.{◌≡◌, IfOk};
 ghost use Rattle.offset_core.specs.Offset.{IsWithinDay};
 ghost use Rattle.tz_info.specs.Fronts.{Gives};
 ghost use Rattle.tz_info.specs.Rules.{IsWithinWeek};
-ghost use Rattle.tz_info.specs.Readings.{is_end, more_at, end_at, next_hour_of, given_offset_at, dst_offset_at, named_type_of, fixed_at, alternate_at, days_at, named_types_of, rule_at, text_at};
+ghost use Rattle.tz_info.specs.Steps.Readings.{is_end, more_at, end_at, next_hour_of, given_offset_at, dst_offset_at, named_type_of, fixed_at, alternate_at, days_at, named_types_of, rule_at, text_at, day_time_of, alternate_of};
 
 use crate::cursor::Cursor;
-use crate::error::Error;
+use crate::error::{Error, Expected};
 use crate::local_time_type::LocalTimeType;
 use crate::rule::alternate::AlternateTime;
 use crate::rule::day::RuleDay;
@@ -17,7 +17,7 @@ use crate::rule::reader::name::read_name;
 use crate::rule::transition_rule::TransitionRule;
 
 /// The rule that all bytes of the cursor spell.
-#[tactic(auto, unfolding(crate::specs::Readings::text_at))]
+#[tactic(auto, unfolding(crate::specs::Steps::Readings::text_at))]
 pub(super) fn read_text(extended: bool, cursor: &mut Cursor<'_>) -> Result<TransitionRule, Error>
     ensures { Gives (λ rule. (rule, cursor.new)) result (text_at extended cursor.old) }
 {
@@ -26,7 +26,7 @@ pub(super) fn read_text(extended: bool, cursor: &mut Cursor<'_>) -> Result<Trans
     read_rule(extended, name, offset, cursor)
 }
 
-#[tactic(auto, unfolding(crate::specs::Readings::rule_at))]
+#[tactic(auto, unfolding(crate::specs::Steps::Readings::rule_at))]
 fn read_rule(
     extended: bool,
     name: &[u8],
@@ -34,7 +34,8 @@ fn read_rule(
     cursor: &mut Cursor<'_>,
 ) -> Result<TransitionRule, Error>
     requires { IsWithinDay offset }
-    ensures { Gives (λ rule. (rule, cursor.new)) result (rule_at extended name.now offset cursor.old) }
+    ensures { Gives (λ rule. (rule, cursor.new)) result
+        (rule_at extended name.now offset cursor.old) }
 {
     if is_at_end(cursor) {
         read_fixed(name, offset, cursor)
@@ -43,19 +44,16 @@ fn read_rule(
     }
 }
 
-#[tactic(auto, unfolding(crate::specs::Readings::fixed_at))]
+#[tactic(auto, unfolding(crate::specs::Steps::Readings::fixed_at))]
 fn read_fixed(name: &[u8], offset: i32, cursor: &mut Cursor<'_>) -> Result<TransitionRule, Error>
     requires { IsWithinDay offset }
     ensures { Gives (λ rule. (rule, cursor.new)) result (fixed_at name.now offset cursor.old) }
 {
-    match named_type(name, false, offset) {
-        Ok(local) => Ok(TransitionRule::Fixed(local)),
-        Err(e) => Err(e),
-    }
+    Ok(TransitionRule::Fixed(named_type(name, false, offset)?))
 }
 
 /// What follows the offset of standard time. The names are looked at last.
-#[tactic(auto, unfolding(crate::specs::Readings::alternate_at))]
+#[tactic(auto, unfolding(crate::specs::Steps::Readings::alternate_at))]
 fn read_alternate(
     extended: bool,
     name: &[u8],
@@ -63,45 +61,35 @@ fn read_alternate(
     cursor: &mut Cursor<'_>,
 ) -> Result<TransitionRule, Error>
     requires { IsWithinDay offset }
-    ensures { Gives (λ rule. (rule, cursor.new)) result (alternate_at extended name.now offset cursor.old) }
+    ensures { Gives (λ rule. (rule, cursor.new)) result
+        (alternate_at extended name.now offset cursor.old) }
 {
     let dst_name = read_name(cursor)?;
     let dst_offset = read_dst_offset(offset, cursor)?;
-    match read_days(extended, cursor) {
-        Ok((start, end)) => {
-            expect_end(cursor)?;
-            match named_types(name, offset, dst_name, dst_offset) {
-                Ok((std, dst)) => Ok(TransitionRule::Alternate(alternate(std, dst, start, end))),
-                Err(e) => Err(e),
-            }
-        }
-        Err(e) => Err(e),
-    }
+    let (start, end) = read_days(extended, cursor)?;
+    expect_end(cursor)?;
+    let (std, dst) = named_types(name, offset, dst_name, dst_offset)?;
+    Ok(TransitionRule::Alternate(alternate(std, dst, start, end)))
 }
 
 /// The days when daylight saving time starts and ends, with their times.
-#[tactic(auto, unfolding(crate::specs::Readings::days_at))]
+#[tactic(auto, unfolding(crate::specs::Steps::Readings::days_at))]
 fn read_days(
     extended: bool,
     cursor: &mut Cursor<'_>,
 ) -> Result<((RuleDay, i32), (RuleDay, i32)), Error>
-    ensures value { Gives (λ days. ((record { day = days.0.0; time = days.0.1 }, record { day = days.1.0; time = days.1.1 }), cursor.new)) result (days_at extended cursor.old) }
+    ensures value { Gives (λ days. ((day_time_of days.0, day_time_of days.1), cursor.new)) result
+        (days_at extended cursor.old) }
     ensures bound { IfOk result (λ days. IsWithinWeek days.0.1 × IsWithinWeek days.1.1) }
 {
-    match read_day(extended, cursor) {
-        Ok(start) => {
-            cursor.read_tag(b",")?;
-            match read_day(extended, cursor) {
-                Ok(end) => Ok((start, end)),
-                Err(e) => Err(e),
-            }
-        }
-        Err(e) => Err(e),
-    }
+    let start = read_day(extended, cursor)?;
+    cursor.read_tag(b",")?;
+    let end = read_day(extended, cursor)?;
+    Ok((start, end))
 }
 
 /// The offset of daylight saving time, an hour more than that of standard time if none is given, and the comma behind it.
-#[tactic(auto, unfolding(crate::specs::Readings::dst_offset_at))]
+#[tactic(auto, unfolding(crate::specs::Steps::Readings::dst_offset_at))]
 fn read_dst_offset(std: i32, cursor: &mut Cursor<'_>) -> Result<i32, Error>
     requires { IsWithinDay std }
     ensures value { Gives (λ z. (z, cursor.new)) result (dst_offset_at std cursor.old) }
@@ -114,7 +102,7 @@ fn read_dst_offset(std: i32, cursor: &mut Cursor<'_>) -> Result<i32, Error>
     }
 }
 
-#[tactic(auto, unfolding(crate::specs::Readings::given_offset_at))]
+#[tactic(auto, unfolding(crate::specs::Steps::Readings::given_offset_at))]
 fn read_given_offset(cursor: &mut Cursor<'_>) -> Result<i32, Error>
     ensures value { Gives (λ z. (z, cursor.new)) result (given_offset_at cursor.old) }
     ensures bound { IfOk result (λ z. IsWithinDay z) }
@@ -126,7 +114,7 @@ fn read_given_offset(cursor: &mut Cursor<'_>) -> Result<i32, Error>
     Ok(offset)
 }
 
-#[tactic(auto, unfolding(crate::specs::Readings::next_hour_of))]
+#[tactic(auto, unfolding(crate::specs::Steps::Readings::next_hour_of))]
 fn next_hour(std: i32) -> Result<i32, Error>
     requires { IsWithinDay std }
     ensures value { Gives (λ z. z) result (next_hour_of std) }
@@ -134,13 +122,13 @@ fn next_hour(std: i32) -> Result<i32, Error>
 {
     let offset = std + 3_600;
     if offset > 86_399 {
-        return Err(Error::InvalidTzString("an offset of daylight saving time within a day"));
+        return Err(Error::InvalidTzString(Expected::OffsetOfDaylightSavingTimeWithinDay));
     }
     Ok(offset)
 }
 
 /// The types of standard time and of daylight saving time.
-#[tactic(auto, unfolding(crate::specs::Readings::named_types_of))]
+#[tactic(auto, unfolding(crate::specs::Steps::Readings::named_types_of))]
 fn named_types(
     std_name: &[u8],
     std_offset: i32,
@@ -149,16 +137,14 @@ fn named_types(
 ) -> Result<(LocalTimeType, LocalTimeType), Error>
     requires std { IsWithinDay std_offset }
     requires dst { IsWithinDay dst_offset }
-    ensures value { Gives (λ types. (types.0, types.1)) result (named_types_of std_name.now std_offset dst_name.now dst_offset) }
-    ensures offsets { IfOk result (λ types. IsWithinDay types.0.offset × IsWithinDay types.1.offset) }
+    ensures value { Gives (λ types. (types.0, types.1)) result
+        (named_types_of std_name.now std_offset dst_name.now dst_offset) }
+    ensures offsets { IfOk result
+        (λ types. IsWithinDay types.0.offset × IsWithinDay types.1.offset) }
 {
-    match named_type(std_name, false, std_offset) {
-        Ok(std) => match named_type(dst_name, true, dst_offset) {
-            Ok(dst) => Ok((std, dst)),
-            Err(e) => Err(e),
-        },
-        Err(e) => Err(e),
-    }
+    let std = named_type(std_name, false, std_offset)?;
+    let dst = named_type(dst_name, true, dst_offset)?;
+    Ok((std, dst))
 }
 
 /// The type of that name, if a type can have it.
@@ -181,7 +167,7 @@ fn alternate(
     requires dst { IsWithinDay dst.offset }
     requires start { IsWithinWeek start.1 }
     requires end { IsWithinWeek end.1 }
-    ensures { result ≡ record { std = std; dst = dst; start = record { day = start.0; time = start.1 }; end = record { day = end.0; time = end.1 } } }
+    ensures { result ≡ alternate_of std dst start end }
 {
     match AlternateTime::new(std, dst, start.0, start.1, end.0, end.1) {
         Ok(rule) => rule,
@@ -189,28 +175,29 @@ fn alternate(
     }
 }
 
-#[tactic(auto, unfolding(crate::specs::Readings::more_at))]
+#[tactic(auto, unfolding(crate::specs::Steps::Readings::more_at))]
 fn expect_more(cursor: &Cursor<'_>) -> Result<(), Error>
     ensures { Gives (λ unit. (unit, cursor.now)) result (more_at cursor.now) }
 {
     if is_at_end(cursor) {
-        Err(Error::UnsupportedTzString("days when daylight saving time starts and ends"))
+        Err(Error::UnsupportedTzString(Expected::DaysWhenDaylightSavingTimeStartsAndEnds))
     } else {
         Ok(())
     }
 }
 
-#[tactic(auto, unfolding(crate::specs::Readings::end_at))]
+#[tactic(auto, unfolding(crate::specs::Steps::Readings::end_at))]
 fn expect_end(cursor: &Cursor<'_>) -> Result<(), Error>
     ensures { Gives (λ unit. (unit, cursor.now)) result (end_at cursor.now) }
 {
     if is_at_end(cursor) {
         Ok(())
     } else {
-        Err(Error::InvalidTzString("nothing behind the text"))
+        Err(Error::InvalidTzString(Expected::NothingBehindText))
     }
 }
 
+/// The test as a value that what is read is told by.
 fn is_at_end(cursor: &Cursor<'_>) -> bool
     ensures { result ≡ is_end cursor.now }
 {

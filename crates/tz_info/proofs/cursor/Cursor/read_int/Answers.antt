@@ -1,4 +1,5 @@
 use Rattle.std.proofs.Common.{rules, sym, ◌∙◌, Ok, ap}
+use Rattle.std.proofs.lemmas.Result.{err_from_is_err_and}
 use Rattle.tz_info.proofs.RunLaws.{int_at_is, all_of}
 use Rattle.tz_info.specs.Fronts.{is_digit}
 use Rattle.tz_info.proofs.cursor.Cursor.read_int.Goals as goal
@@ -6,13 +7,14 @@ use Rattle.tz_info.proofs.cursor.Cursor.read_int.Goals as goal
 pub number-requires : goal.number-requires
 number-requires c = all_of is_digit _ (λ k h. let r = c.read_while-digits.ensures.run k h in search rules)
 
-pub returns-in-Err-clause-value : goal.returns-in-Err-clause-value
-returns-in-Err-clause-value c =
+pub returns-in_err-n-clause-value : goal.returns-in_err-n-clause-value
+returns-in_err-n-clause-value c =
     let w = c.read_while-digits.ensures in
-    int_at_is c.args.max c.args.self.now c.read_while-digits.result.now c.read_while-digits.new.self _ (w.whole ∙ c.self.view_is) (λ k h. sym (w.run k h)) (λ h. sym (w.stop h)) c.in-Err.ensures.value
+    let p = err_from_is_err_and c.from_residual.result c.from_residual.ensures.1 in
+    rw (p.1, p.2) (int_at_is c.args.max c.args.self.now c.read_while-digits.result.now c.read_while-digits.new.self _ (w.whole ∙ c.self.view_is) (λ k h. sym (w.run k h)) (λ h. sym (w.stop h)) c.in_err-n.ensures.value)
 
-pub returns-in-Ok-clause-value : goal.returns-in-Ok-clause-value
-returns-in-Ok-clause-value c =
+pub returns-clause-value : goal.returns-clause-value
+returns-clause-value c =
     let w = c.read_while-digits.ensures in
-    int_at_is c.args.max c.args.self.now c.read_while-digits.result.now c.read_while-digits.new.self _ (w.whole ∙ c.self.view_is) (λ k h. sym (w.run k h)) (λ h. sym (w.stop h)) c.in-Ok.ensures.value
-    ∙ ap (λ rest. Ok (c.in-Ok.n, rest)) (sym c.ahead.view_is)
+    int_at_is c.args.max c.args.self.now c.read_while-digits.result.now c.read_while-digits.new.self _ (w.whole ∙ c.self.view_is) (λ k h. sym (w.run k h)) (λ h. sym (w.stop h)) c.in_ok-n.ensures.value
+    ∙ ap (λ rest. Ok (c.in_ok-n.n, rest)) (sym c.ahead.view_is)

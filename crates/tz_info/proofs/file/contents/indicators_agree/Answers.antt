@@ -1,5 +1,5 @@
 use Rattle.std.proofs.Common.{sym, length}
-use Rattle.tz_info.specs.ContentReading.{pair_agrees}
+use Rattle.tz_info.specs.Steps.ContentReading.{pair_agrees}
 use Rattle.tz_info.proofs.ListLaws.{one_false}
 use Rattle.tz_info.proofs.file.contents.indicators_agree.Goals as goal
 

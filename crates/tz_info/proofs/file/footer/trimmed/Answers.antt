@@ -1,5 +1,5 @@
 use Rattle.std.proofs.Common.{◌∙◌, ap}
-use Rattle.tz_info.specs.FooterReading.{trimmed, trimmed_back}
+use Rattle.tz_info.specs.Steps.FooterReading.{trimmed, trimmed_back}
 use Rattle.tz_info.proofs.TrimLaws.{front_is, back_is}
 use Rattle.tz_info.proofs.file.footer.trimmed.Goals as goal
 

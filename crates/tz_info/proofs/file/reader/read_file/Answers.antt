@@ -1,14 +1,15 @@
 use Rattle.std.proofs.Common.{inl}
-use Rattle.tz_info.specs.FileLists.{pieces_of}
+use Rattle.std.proofs.lemmas.Result.{err_from_is_err_and}
+use Rattle.tz_info.specs.Steps.FileLists.{pieces_of}
 use Rattle.tz_info.proofs.FilePieceLaws.{pieces_takes, has_lengths}
 use Rattle.tz_info.proofs.TzFileLaws.{reads}
 use Rattle.tz_info.proofs.file.reader.read_file.Goals as goal
 
 pub lists_of-requires : goal.lists_of-requires
-lists_of-requires c = has_lengths c.args.bytes.now _ (pieces_takes c.args.bytes.now _ c.in-Ok.ensures)
+lists_of-requires c = has_lengths c.args.bytes.now _ (pieces_takes c.args.bytes.now _ c.in_ok-pieces.ensures)
 
-pub returns-in-Ok : goal.returns-in-Ok
-returns-in-Ok c = reads c.args.bytes.now (pieces_of c.in-Ok.pieces) c.lists_of.result c.in-Ok.ensures c.lists_of.ensures
+pub returns : goal.returns
+returns c = reads c.args.bytes.now (pieces_of c.in_ok-pieces.pieces) c.lists_of.result c.in_ok-pieces.ensures c.lists_of.ensures
 
-pub returns-in-Err : goal.returns-in-Err
-returns-in-Err c = inl c.in-Err.ensures
+pub returns-in_err-pieces : goal.returns-in_err-pieces
+returns-in_err-pieces c = let p = err_from_is_err_and c.from_residual.result c.from_residual.ensures.1 in rw (p.1, p.2) (inl c.in_err-pieces.ensures)

@@ -1,5 +1,5 @@
 use Rattle.std.proofs.Common.{◌≡◌, Ok}
-use Rattle.tz_info.specs.ContentReading.{values_below, type_in}
+use Rattle.tz_info.specs.Steps.ContentReading.{values_below, type_in}
 use Rattle.tz_info.proofs.file.types.read_types.Given as goal
 
 abbrev pub invariant-loop-k : goal.invariant-loop-k

@@ -1,21 +1,9 @@
 use Rattle.std.proofs.Common.{arith, to_z-of_z, w32, pos, ◌+ℤ◌, ◌-ℤ◌}
 use mir.Val.{SFits}
-use Rattle.naive_base.proofs.Floor.{floors}
+use Rattle.naive_base.proofs.ForCallers.{floors}
 use Rattle.tz_info.specs.Moments.{start_in, end_in}
-use Rattle.tz_info.proofs.Neighbours.{starts_near, ends_near, dst_by_one, dst_by_three}
+use Rattle.tz_info.proofs.Neighbours.{starts_near, ends_near, dst_by_three}
 use Rattle.tz_info.proofs.rule.alternate.AlternateTime.is_dst.Goals as goal
-
-pub returns-then-is_amid : goal.returns-then-is_amid
-returns-then-is_amid c =
-    let in_range = c.ranges.year in let at_day = c.ranges.day in let at_second = c.ranges.unix_time in
-    let rule = c.turns-here.ensures.rule in
-    let start = simp to_z-of_z at c.turns-here.ensures.start in
-    let end = simp to_z-of_z at c.turns-here.ensures.end in
-    let amid = simp to_z-of_z at c.is_amid.ensures in
-    let is = simp to_z-of_z at c.is_dst.ensures in
-    dst_by_one (start_in c.args.self.now) (end_in c.args.self.now) c.args.year c.args.unix_time c.is_dst.result
-    (starts_near c.args.self.now rule) (ends_near c.args.self.now rule)
-    (rw c.requires.day at (amid.0 c.if-is_amid.true)) (rw (start, end) at is)
 
 pub returns : goal.returns
 returns c =

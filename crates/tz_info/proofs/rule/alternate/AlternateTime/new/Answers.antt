@@ -1,4 +1,6 @@
-use Rattle.std.proofs.Common.{rules, subst, ◌≡◌, to_z-of_z}
+use Rattle.std.proofs.Common.{arith, rules, subst, ◌≡◌, to_z-of_z}
+use Rattle.std.proofs.lemmas.Int.{ints}
+use Rattle.offset_core.specs.Offset.{IsWithinDay}
 use Rattle.tz_info.specs.LocalTypes.{LocalType}
 use Rattle.tz_info.specs.Rules.{Alternate, IsAlternate}
 use Rattle.tz_info.specs.declared.rule.alternate.DayTime.{DayTime}
@@ -10,12 +12,21 @@ shown std dst start end = record { std = std; dst = dst; start = start; end = en
 same_shown : (std dst : LocalType) (start end a b : DayTime) → start ≡ a → end ≡ b → shown std dst start end ≡ shown std dst a b
 same_shown std dst start end a b p q = cc
 
+pub seconds_by_kind-ends-requires-clause-offset : goal.seconds_by_kind-ends-requires-clause-offset
+seconds_by_kind-ends-requires-clause-offset c =
+    let within : IsWithinDay c.args.dst.offset = search rules in
+    (omega (arith, ints, within), omega (arith, ints, within))
+
 pub invariant_of-result : goal.invariant_of-result
-invariant_of-result c = record {
-  within = record { std_offset = search rules; dst_offset = search rules; start_time = c.in-Some.ensures.0; end_time = c.in-Some-at.ensures.0 };
-  start_day = c.in-Some.ensures.1;
-  end_day = c.in-Some-at.ensures.1;
-}
+invariant_of-result c = (
+  record {
+    within = record { std_offset = search rules; dst_offset = search rules; start_time = c.in-Some.ensures.0; end_time = c.in-Some-at.ensures.0 };
+    start_day = c.in-Some.ensures.1;
+    end_day = c.in-Some-at.ensures.1;
+  },
+  search rules,
+  search rules,
+)
 
 pub returns : goal.returns
 unfolding shown
@@ -23,4 +34,4 @@ returns c =
     let f = c.ranges.dst_start_time in
     let g = c.ranges.dst_end_time in
     let e = same_shown c.args.std c.args.dst _ _ _ _ (simp to_z-of_z at c.in-Some.ensures.2) (simp to_z-of_z at c.in-Some-at.ensures.2) in
-    (subst IsAlternate e (invariant_of-result c).within, e)
+    (subst IsAlternate e (invariant_of-result c).0.within, e)

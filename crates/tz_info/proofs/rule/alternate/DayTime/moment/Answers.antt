@@ -1,5 +1,5 @@
 use Rattle.std.proofs.Common.{arith, to_z-of_z}
-use Rattle.naive_base.proofs.Floor.{floors}
+use Rattle.naive_base.proofs.ForCallers.{floors}
 use Rattle.tz_info.specs.Moments.{moment}
 use Rattle.tz_info.proofs.rule.alternate.DayTime.moment.Goals as goal
 

@@ -1,5 +1,5 @@
 use Rattle.std.proofs.Common.{arith, to_z-of_z}
-use Rattle.naive_base.proofs.Floor.{floors}
+use Rattle.naive_base.proofs.ForCallers.{floors}
 use Rattle.tz_info.proofs.rule.day.RuleDay.unix_time.Goals as goal
 
 pub returns-clause-value : goal.returns-clause-value

@@ -1,46 +1,46 @@
-use Rattle.std.proofs.Common.{arith, length, ◌+◌, ◌-◌, ◌/◌, ap, ℕ, to_z-of_z, ◌∙◌, rules, w64}
-use Rattle.std.proofs.lemmas.Int.{ints}
-use mir.Val.{SFits}
-use Rattle.tz_info.specs.Counts.{Counts}
-use Rattle.tz_info.proofs.DigitLaws.{digits-le, digits-less}
-use Rattle.tz_info.proofs.TableSearch.{between_later, between_earlier, search_found}
+use Rattle.std.proofs.Common.{arith, length, to_z-of_z}
+use Rattle.tz_info.proofs.SearchSteps.{all_left, left_none, looked_through, narrowed_none, narrowed_on, narrowed_to_none, room_on}
 use Rattle.tz_info.proofs.zone.table.Table.passed_count.Goals as goal
 
-pub read-requires-clause-room : goal.read-requires-clause-room
-read-requires-clause-room c = omega (arith, digits-le (length c.args.self.now))
-
-pub loop-low-preserved-then-read-leap_time : goal.loop-low-preserved-then-read-leap_time
-loop-low-preserved-then-read-leap_time c =
+pub loop-left-init : goal.loop-left-init
+loop-left-init c =
     let fv = c.ranges.leap_time in
-    let fits : SFits w64 c.read.result.unix_leap_time = search rules in
-    let middle : ℕ = c.loop-low.low + (c.loop-low.high - c.loop-low.low) / 2 in
-    let counted = ap (λ (p : Counts). p.reads) c.read.ensures.count in
-    let less = digits-less (c.loop-low.high - (middle + 1)) (c.loop-low.high - c.loop-low.low) (omega arith) (omega arith) in
-    let b = simp to_z-of_z at c.loop-low.invariant.between in
+    let n = c.len-count.ensures.count in
     record {
-      between = simp to_z-of_z (between_later c.args.self.now c.args.leap_time c.loop-low.low middle c.loop-low.high c.read.result c.len-high.ensures.rising b (omega arith) c.read.ensures.item (omega (arith, ints)));
-      kept = omega arith;
-      cost = omega arith;
-      questions = ap (λ (p : Counts). p.rule_questions) c.read.ensures.count ∙ c.loop-low.invariant.questions;
+      left = simp to_z-of_z (all_left c.args.self.now c.args.leap_time c.len-count.result c.len-count.ensures.rising n (omega arith));
+      cost = rw (← n) (narrowed_none _ c.len-count.result);
     }
 
-pub loop-low-preserved : goal.loop-low-preserved
-loop-low-preserved c =
-    let fv = c.ranges.leap_time in
-    let fits : SFits w64 c.read.result.unix_leap_time = search rules in
-    let middle : ℕ = c.loop-low.low + (c.loop-low.high - c.loop-low.low) / 2 in
-    let counted = ap (λ (p : Counts). p.reads) c.read.ensures.count in
-    let less = digits-less (middle - c.loop-low.low) (c.loop-low.high - c.loop-low.low) (omega arith) (omega arith) in
-    let b = simp to_z-of_z at c.loop-low.invariant.between in
-    record {
-      between = simp to_z-of_z (between_earlier c.args.self.now c.args.leap_time c.loop-low.low middle c.loop-low.high c.read.result c.len-high.ensures.rising b (omega arith) (omega arith) c.read.ensures.item (omega (arith, ints)));
-      kept = omega arith;
-      cost = omega arith;
-      questions = ap (λ (p : Counts). p.rule_questions) c.read.ensures.count ∙ c.loop-low.invariant.questions;
-    }
+pub halved-left-requires-clause-left : goal.halved-left-requires-clause-left
+halved-left-requires-clause-left c = c.loop-left.invariant.left
+
+pub halved-left-requires-clause-room : goal.halved-left-requires-clause-room
+halved-left-requires-clause-room c = room_on c.loop-left.invariant.cost c.requires
+
+pub loop-left-preserved : goal.loop-left-preserved
+loop-left-preserved c = record {
+  left = c.halved-left.ensures.left;
+  cost = narrowed_on c.loop-left.invariant.cost c.halved-left.ensures.cost;
+}
+
+pub halved_16_times-requires-clause-left : goal.halved_16_times-requires-clause-left
+halved_16_times-requires-clause-left c = c.loop-left.invariant.left
+
+pub halved_16_times-requires-clause-room : goal.halved_16_times-requires-clause-room
+halved_16_times-requires-clause-room c = room_on c.loop-left.invariant.cost c.requires
+
+pub returns-clause-within : goal.returns-clause-within
+returns-clause-within c = let within = c.halved_16_times.ensures.left.within in omega arith
 
 pub returns-clause-passed : goal.returns-clause-passed
 returns-clause-passed c =
     let fv = c.ranges.leap_time in
-    let b = simp to_z-of_z at c.loop-low.invariant.between in
-    search_found c.args.self.now c.args.leap_time c.loop-low.low c.loop-low.high (omega arith) b
+    let left = simp to_z-of_z at c.halved_16_times.ensures.left in
+    let size = c.halved_16_times.ensures.size in
+    left_none c.args.self.now c.args.leap_time c.halved_16_times.result (omega arith) left
+
+pub returns-clause-cost : goal.returns-clause-cost
+returns-clause-cost c = narrowed_to_none (narrowed_on c.loop-left.invariant.cost c.halved_16_times.ensures.cost)
+
+pub returns-clause-looked : goal.returns-clause-looked
+returns-clause-looked c = λ some. looked_through some (narrowed_on c.loop-left.invariant.cost c.halved_16_times.ensures.cost) (omega (arith, c.halved_16_times.ensures.size))

@@ -1,15 +1,12 @@
-use Rattle.std.proofs.Common.{◌+◌, ◌-◌, ◌≤◌, ◌≡◌, length}
-use Rattle.tz_info.specs.Digits.{digits}
-use Rattle.tz_info.proofs.TableSearch.{Between}
+use Rattle.std.proofs.Common.{length}
+use Rattle.tz_info.specs.Steps.Search.{AreLeft, IsNarrowed}
 use Rattle.tz_info.proofs.zone.table.Table.passed_count.Given as goal
 
-abbrev pub invariant-loop-low : goal.invariant-loop-low
-invariant-loop-low l = record {
-  between : Between l.self l.leap_time l.low l.high;
-  kept : l.fn.probes.reads ≤ l.probes.reads;
-  cost : l.probes.reads + digits (l.high - l.low) ≤ l.fn.probes.reads + digits (length l.self);
-  questions : l.probes.rule_questions ≡ l.fn.probes.rule_questions;
+abbrev pub invariant-loop-left : goal.invariant-loop-left
+invariant-loop-left l = record {
+  left : AreLeft l.self l.leap_time l.left;
+  cost : IsNarrowed l.fn.probes l.probes (length l.self) l.left.size;
 }
 
-abbrev pub decreases-loop-low : goal.decreases-loop-low
-decreases-loop-low l = l.high - l.low
+abbrev pub decreases-loop-left : goal.decreases-loop-left
+decreases-loop-left l = l.left.size

@@ -1,25 +1,29 @@
-use Rattle.tz_info.specs.FileLists.{zone_of}
+use Rattle.std.proofs.lemmas.Result.{err_from_is_err_and}
+use Rattle.tz_info.specs.Steps.FileLists.{zone_of}
 use Rattle.tz_info.specs.TzFiles.{In_file}
 use Rattle.tz_info.proofs.ZoneFileLaws.{made_found, made_only, made_fault, made_memory}
 use Rattle.tz_info.proofs.zone.time_zone.TimeZone.from_tz_data.Goals as goal
 
-pub returns-in-Ok-clause-found : goal.returns-in-Ok-clause-found
-returns-in-Ok-clause-found c = made_found c.args.bytes.now (zone_of c.in-Ok.lists) c.into_zone.result c.in-Ok.ensures.found c.into_zone.ensures
+pub returns-clause-found : goal.returns-clause-found
+returns-clause-found c = made_found c.args.bytes.now (zone_of c.in_ok-lists.lists) c.into_zone.result c.in_ok-lists.ensures.found c.into_zone.ensures
 
-pub returns-in-Ok-clause-only : goal.returns-in-Ok-clause-only
-returns-in-Ok-clause-only c = made_only c.args.bytes.now (zone_of c.in-Ok.lists) c.into_zone.result c.in-Ok.ensures.found c.into_zone.ensures
+pub returns-clause-only : goal.returns-clause-only
+returns-clause-only c = made_only c.args.bytes.now (zone_of c.in_ok-lists.lists) c.into_zone.result c.in_ok-lists.ensures.found c.into_zone.ensures
 
-pub returns-in-Ok-clause-fault : goal.returns-in-Ok-clause-fault
-returns-in-Ok-clause-fault c = made_fault c.args.bytes.now (zone_of c.in-Ok.lists) c.into_zone.result c.in-Ok.ensures.found c.into_zone.ensures
+pub returns-clause-fault : goal.returns-clause-fault
+returns-clause-fault c = made_fault c.args.bytes.now (zone_of c.in_ok-lists.lists) c.into_zone.result c.in_ok-lists.ensures.found c.into_zone.ensures
 
-pub returns-in-Ok-clause-memory : goal.returns-in-Ok-clause-memory
-returns-in-Ok-clause-memory c = made_memory c.args.bytes.now (zone_of c.in-Ok.lists) c.into_zone.result c.in-Ok.ensures.found
+pub returns-clause-memory : goal.returns-clause-memory
+returns-clause-memory c = made_memory c.args.bytes.now (zone_of c.in_ok-lists.lists) c.into_zone.result c.in_ok-lists.ensures.found
 
-pub returns-in-Err-clause-only : goal.returns-in-Err-clause-only
-returns-in-Err-clause-only c = λ z file valid. c.in-Err.ensures.only z file
+pub returns-in_err-lists-clause-only : goal.returns-in_err-lists-clause-only
+returns-in_err-lists-clause-only c z file valid =
+    let p = err_from_is_err_and c.from_residual.result c.from_residual.ensures.1 in rw (p.1, p.2) (c.in_err-lists.ensures.only z file)
 
-pub returns-in-Err-clause-fault : goal.returns-in-Err-clause-fault
-returns-in-Err-clause-fault c = In_file _ c.in-Err.ensures.fault
+pub returns-in_err-lists-clause-fault : goal.returns-in_err-lists-clause-fault
+returns-in_err-lists-clause-fault c =
+    let p = err_from_is_err_and c.from_residual.result c.from_residual.ensures.1 in rw (p.1, p.2) (In_file _ c.in_err-lists.ensures.fault)
 
-pub returns-in-Err-clause-memory : goal.returns-in-Err-clause-memory
-returns-in-Err-clause-memory c = c.in-Err.ensures.memory
+pub returns-in_err-lists-clause-memory : goal.returns-in_err-lists-clause-memory
+returns-in_err-lists-clause-memory c =
+    let p = err_from_is_err_and c.from_residual.result c.from_residual.ensures.1 in rw (p.1, p.2) c.in_err-lists.ensures.memory

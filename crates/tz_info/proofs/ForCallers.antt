@@ -1,0 +1,7 @@
+-- Lemmas for the crates above.
+pub use Rattle.tz_info.proofs.FileZoneLaws.{file_rule_fits}
+pub use Rattle.tz_info.proofs.LeapOrder.{leap_times_answer}
+pub use Rattle.tz_info.proofs.PosixZoneLaws.{posix_zone_valid}
+pub use Rattle.tz_info.proofs.RuleLaws.{rule_year}
+pub use Rattle.tz_info.proofs.WallTimes.{wall_decided}
+pub use Rattle.tz_info.proofs.ZoneLaws.{type_once, type_not_refused, type_decided, type_listed}

@@ -1,0 +1,140 @@
+-- The first second at which a leap time has come.
+use Rattle.std.proofs.Common.{◌≡◌, ℕ, zero, suc, ◌-◌, ◌<◌, ◌≤◌, arith, List, [], ◌∷◌, length, get_or, take, true, false, ℤ, pos, neg_ℤ, ◌+ℤ◌, ◌-ℤ◌, ◌≤ℤ◌, ◌<ℤ◌, int_le, inl, inr, ◌↔◌, w64}
+use Rattle.std.specs.Int.{saturate_signed}
+use Rattle.std.specs.List.Sorted.{IsPartitionedBy}
+use Rattle.std.proofs.lemmas.Int.{ints, by_lt_z}
+use Rattle.std.proofs.lemmas.Bool.{cases_lt}
+use Rattle.std.proofs.lemmas.List.Sums.{count_by-le-length}
+use Rattle.tz_info.specs.Lists.{last_else}
+use Rattle.tz_info.specs.Leaps.{IsOneStep, AreLeapSeconds, corrections, thresholds, passed_count, IsLeapTime, IsNear}
+use Rattle.tz_info.specs.Steps.Starts.{HaveCome}
+use Rattle.tz_info.specs.declared.zone.leap_second.LeapSecond.{LeapSecond}
+use Rattle.tz_info.proofs.Prefixes.{last_taken, rises, le_true}
+use Rattle.tz_info.proofs.LeapEntries.{follow, threshold, threshold_at, threshold_count}
+use Rattle.tz_info.proofs.LeapOrder.{split}
+
+-- the correction that stands behind the first k entries
+abbrev pub correction_behind : List LeapSecond → ℕ → ℤ
+correction_behind es k = last_else (pos 0) (corrections (take k es))
+
+one_step : (es : List LeapSecond) (k : ℕ) (d : LeapSecond) → AreLeapSeconds es → k < length es → IsOneStep (correction_behind es k) (correction_behind es (suc k))
+one_step es zero d valid h = rw (last_taken (λ (e : LeapSecond). e.correction) (pos 0) es zero d h) ((follow es valid).step d (omega arith))
+one_step es (suc k) d valid h = rw (last_taken (λ (e : LeapSecond). e.correction) (pos 0) es (suc k) d h, last_taken (λ (e : LeapSecond). e.correction) (pos 0) es k d (omega arith)) (((follow es valid).next k d h).step)
+
+passed_at_most : (es : List LeapSecond) (u : ℤ) → passed_count es u ≤ length es
+passed_at_most es u = omega (arith, count_by-le-length (λ t. int_le t u) (thresholds (pos 0) es), threshold_count (pos 0) es)
+
+-- fewer entries are passed at u than come by x
+below_law : (es : List LeapSecond) (x u y : ℤ) (n : ℕ) (d : LeapSecond) → AreLeapSeconds es → HaveCome es x n → IsLeapTime es u y → passed_count es u < n → y <ℤ x
+below_law es x u y n d valid h l less =
+    let w = h.within in
+    let c = passed_count es u in
+    let s = (split (pos 0) u es c (follow es valid) (omega arith)).not_passed (omega arith) in
+    let t = threshold_at (pos 0) es c d (pos 0) (omega arith) in
+    let b = h.before c d less in
+    let e = l.sum in
+    omega (arith, ints)
+
+-- more entries are passed at u than come by x
+above_law : (es : List LeapSecond) (x u y : ℤ) (n c : ℕ) (d : LeapSecond) → AreLeapSeconds es → HaveCome es x n → IsLeapTime es u y → passed_count es u ≡ suc c → n ≤ c → x ≤ℤ y
+above_law es x u y n c d valid h l is more =
+    let m = passed_at_most es u in
+    let s = (split (pos 0) u es c (follow es valid) (omega arith)).passed (omega arith) in
+    let t = threshold_at (pos 0) es c d (pos 0) (omega arith) in
+    let a : x <ℤ (get_or es c d).unix_leap_time = by_lt_z x (get_or es c d).unix_leap_time (λ k. k) (λ k. absurd (h.after c d more (omega arith) k)) in
+    let e : y ≡ u +ℤ correction_behind es (suc c) = rw is at l.sum in
+    elim (one_step es c d valid (omega arith)) [ inl k ↦ omega (arith, ints) | inr k ↦ omega (arith, ints) ]
+
+-- and then x less the correction that stands at x comes before u
+above_start : (es : List LeapSecond) (x u : ℤ) (n : ℕ) (d : LeapSecond) → AreLeapSeconds es → HaveCome es x n → n < passed_count es u → (x -ℤ correction_behind es n) ≤ℤ u
+above_start es x u n d valid h more =
+    let m = passed_at_most es u in
+    let s = (split (pos 0) u es n (follow es valid) (omega arith)).passed more in
+    let t = threshold_at (pos 0) es n d (pos 0) (omega arith) in
+    let a : x <ℤ (get_or es n d).unix_leap_time = by_lt_z x (get_or es n d).unix_leap_time (λ k. k) (λ k. absurd (h.after n d (omega arith) (omega arith) k)) in
+    omega (arith, ints)
+
+pub no_first : {X : Type 0} (xs : List X) (n : ℕ) → n < length xs → X
+no_first [] n h = absurd (omega arith)
+no_first (x ∷ xs) n h = x
+
+-- where none has come, the leap time is reached at the same number
+pub reached_first : (es : List LeapSecond) (x u y : ℤ) → AreLeapSeconds es → HaveCome es x 0 → IsLeapTime es u y → (x ≤ℤ y) ↔ (x ≤ℤ u)
+reached_first es x u y valid h l = elim (cases_lt 0 (passed_count es u)) [
+  | inl more ↦
+      let m = passed_at_most es u in
+      let d = no_first es 0 (omega arith) in
+      let a = above_law es x u y 0 (passed_count es u - 1) d valid h l (omega arith) (omega arith) in
+      let b = above_start es x u 0 d valid h more in
+      ((λ _. omega (arith, ints)), (λ _. a))
+  | inr none ↦
+      let z : passed_count es u ≡ 0 = omega arith in
+      let e = rw z at l.sum in
+      ((λ k. omega (arith, ints)), (λ k. omega (arith, ints)))
+]
+
+-- else at the later of two seconds: where the latest entry is passed, and where that entry's correction leads back to
+pub reached_later : (es : List LeapSecond) (x u y : ℤ) (n : ℕ) (d : LeapSecond) → AreLeapSeconds es → HaveCome es x (suc n) → IsLeapTime es u y
+    → (x ≤ℤ y) ↔ ((threshold es n ≤ℤ u) × ((x -ℤ correction_behind es (suc n)) ≤ℤ u))
+reached_later es x u y n d valid h l =
+    let w = h.within in
+    elim (cases_lt (passed_count es u) (suc n)) [
+      | inl less ↦
+          let s = (split (pos 0) u es n (follow es valid) (omega arith)).not_passed (omega arith) in
+          let b = below_law es x u y (suc n) d valid h l less in
+          ((λ k. absurd (omega (arith, ints))), (λ k. absurd (let q = k.0 in omega (arith, ints))))
+      | inr from ↦
+          let s = (split (pos 0) u es n (follow es valid) (omega arith)).passed (omega arith) in
+          elim (cases_lt (suc n) (passed_count es u)) [
+            | inl more ↦
+                let m = passed_at_most es u in
+                let a = above_law es x u y (suc n) (passed_count es u - 1) d valid h l (omega arith) (omega arith) in
+                let b = above_start es x u (suc n) d valid h more in
+                ((λ _. (s, b)), (λ _. a))
+            | inr most ↦
+                let z : passed_count es u ≡ suc n = omega arith in
+                let e = rw z at l.sum in
+                ((λ k. (s, omega (arith, ints))), (λ k. let q = k.1 in omega (arith, ints)))
+          ]
+    ]
+
+-- a number held within 64 bits stands on the same side of each second near now
+pub saturated : (v u : ℤ) → IsNear u → (saturate_signed w64 v ≤ℤ u) ↔ (v ≤ℤ u)
+saturated v u near = let a = near.0 in let b = near.1 in ((λ k. at_most v u a b k), (λ k. from_most v u a b k)) where
+  at_most : (v u : ℤ) → neg_ℤ (pos 10_000_000_000_000) ≤ℤ u → u ≤ℤ pos 10_000_000_000_000 → saturate_signed w64 v ≤ℤ u → v ≤ℤ u
+  at_most v u a b k = grind (arith, ints)
+
+  from_most : (v u : ℤ) → neg_ℤ (pos 10_000_000_000_000) ≤ℤ u → u ≤ℤ pos 10_000_000_000_000 → v ≤ℤ u → saturate_signed w64 v ≤ℤ u
+  from_most v u a b k = grind (arith, ints)
+
+times_rise : (es : List LeapSecond) (i j : ℕ) (d : LeapSecond) → AreLeapSeconds es → i ≤ j → j < length es → (get_or es i d).unix_leap_time ≤ℤ (get_or es j d).unix_leap_time
+times_rise es i j d valid h l = rises (λ k. (get_or es k d).unix_leap_time) (length es) (λ k b. let t = ((follow es valid).next k d b).later in omega (arith, ints)) i j h l
+
+pub parted : (es : List LeapSecond) (x : ℤ) → AreLeapSeconds es → IsPartitionedBy (λ e. int_le e.unix_leap_time x) es
+parted es x valid i j d h l t = let r = times_rise es i j d valid h l in at_least (get_or es i d).unix_leap_time (get_or es j d).unix_leap_time x r t where
+  at_least : (a b x : ℤ) → a ≤ℤ b → int_le b x ≡ true → int_le a x ≡ true
+  at_least a b x h t = grind (arith, ints)
+
+pub le_is : (a x : ℤ) → int_le a x ≡ true → a ≤ℤ x
+le_is a x h = grind (arith, ints)
+
+pub le_is_not : (a x : ℤ) → int_le a x ≡ false → ¬ (a ≤ℤ x)
+le_is_not a x h l = let t = le_true a x l in cc
+
+-- where entries have come, the leap time is reached from two seconds on
+pub reached_behind : (es : List LeapSecond) (x u y passed led : ℤ) (n : ℕ) (d : LeapSecond) → AreLeapSeconds es → HaveCome es x n → 0 < n
+    → passed ≡ saturate_signed w64 ((get_or es (n - 1) d).unix_leap_time -ℤ correction_behind es (n - 1)) → led ≡ saturate_signed w64 (x -ℤ correction_behind es n)
+    → IsNear u → IsLeapTime es u y → (x ≤ℤ y) ↔ ((passed ≤ℤ u) × (led ≤ℤ u))
+reached_behind es x u y passed led zero d valid h some e f near l = absurd (omega arith)
+reached_behind es x u y passed led (suc m) d valid h some e f near l =
+    let w = h.within in
+    let one : suc m - 1 ≡ m = omega arith in
+    let t = threshold_at (pos 0) es m d (pos 0) (omega arith) in
+    let p = saturated ((get_or es m d).unix_leap_time -ℤ correction_behind es m) u near in
+    let q = saturated (x -ℤ correction_behind es (suc m)) u near in
+    let r = reached_later es x u y m d valid h l in
+    let g : passed ≡ saturate_signed w64 ((get_or es m d).unix_leap_time -ℤ correction_behind es m) = rw one at e in
+    rw (g, f) ((λ k. let s = r.0 k in let s0 = s.0 in (p.1 (omega (arith, ints)), q.1 s.1)), (λ k. let a = p.0 k.0 in r.1 (omega (arith, ints), q.0 k.1)))
+
+pub both_ways : {P Q R : Type 0} → P ↔ Q → R ↔ Q → P ↔ R
+both_ways f g = ((λ p. g.1 (f.0 p)), (λ r. f.1 (g.0 r)))

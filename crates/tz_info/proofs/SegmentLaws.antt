@@ -1,0 +1,189 @@
+-- Segments: which one a second lies in, and the type in force there.
+use Rattle.std.proofs.Common.{◌≡◌, ℕ, zero, suc, ◌+◌, ◌<◌, ◌≤◌, ◌↔◌, arith, refl, ap, ◌∙◌, sym, List, [], ◌∷◌, length, get_or, take, length-take, ℤ, ◌+ℤ◌, ◌≤ℤ◌, ◌<ℤ◌, inl, inr}
+use Rattle.std.proofs.lemmas.Int.{ints, by_lt_z}
+use Rattle.std.proofs.lemmas.Bool.{cases_lt}
+use Rattle.tz_info.specs.Leaps.{AreLeapSeconds, IsLeapTime, correction_at, least_time}
+use Rattle.tz_info.specs.LocalTypes.{LocalType}
+use Rattle.tz_info.specs.Segments.{begin_of, index_of, segment_of}
+use Rattle.tz_info.specs.Steps.Walk.{TypeIn}
+use Rattle.tz_info.specs.Transitions.{AreRising, passed}
+use Rattle.tz_info.specs.Zones.{Zone, HasType, RuleOrType, IsBeforeLast, IsFromLast, IsValid, TypeAt}
+use Rattle.tz_info.specs.declared.zone.transition.Transition.{Transition}
+use Rattle.tz_info.proofs.LeapOrder.{leap_sums_rise}
+use Rattle.tz_info.proofs.PassedTransitions.{no_items}
+use Rattle.tz_info.proofs.Prefixes.{last_taken}
+use Rattle.tz_info.proofs.TableSearch.{Between, all_between, search_found}
+
+-- where the first transition comes later, all do
+all_later : (t : Transition) (ts : List Transition) (x : ℤ) → AreRising (t ∷ ts) → x <ℤ t.unix_leap_time → (k : ℕ) (d : Transition) → 0 ≤ k → k < length (t ∷ ts) → x <ℤ (get_or (t ∷ ts) k d).unix_leap_time
+all_later t ts x r h zero d a l = h
+all_later t ts x r h (suc k) d a l = let q = r 0 (suc k) d (omega arith) l in omega (arith, ints)
+
+first_come : (t : Transition) (ts : List Transition) (x : ℤ) (n : ℕ) → t.unix_leap_time ≤ℤ x → Between ts x n n → (k : ℕ) (d : Transition) → k < suc n → (get_or (t ∷ ts) k d).unix_leap_time ≤ℤ x
+first_come t ts x n h b zero d l = h
+first_come t ts x n h b (suc k) d l = b.below k d (omega arith)
+
+others_later : (t : Transition) (ts : List Transition) (x : ℤ) (n : ℕ) → Between ts x n n → (k : ℕ) (d : Transition) → suc n ≤ k → k < length (t ∷ ts) → x <ℤ (get_or (t ∷ ts) k d).unix_leap_time
+others_later t ts x n b zero d a l = absurd (omega arith)
+others_later t ts x n b (suc k) d a l = b.above k d (omega arith) (omega arith)
+
+-- transitions that rise are split by a leap time
+pub split_at : (ts : List Transition) (x : ℤ) → AreRising ts → (n : ℕ) × Between ts x n n
+split_at [] x r = (0, all_between [] x)
+split_at (t ∷ ts) x r = by_lt_z x t.unix_leap_time
+    (λ later. (0, record { ordered = omega arith; within = omega arith; below = λ k d h. absurd (omega arith); above = all_later t ts x r later }))
+    (λ come.
+    let p = split_at ts x (λ i j d h l. r (suc i) (suc j) d (omega arith) (omega arith)) in
+    let b = p.1 in let w = b.within in
+    (suc p.0, record { ordered = omega arith; within = omega arith; below = first_come t ts x p.0 come b; above = others_later t ts x p.0 b }))
+
+pub split_count : (ts : List Transition) (x : ℤ) (n : ℕ) → Between ts x n n → length (passed ts x) ≡ n
+split_count ts x n b = let w = b.within in rw (search_found ts x n n (omega arith) b) (simp length-take (omega arith))
+
+pub between_passed : (ts : List Transition) (x : ℤ) (n : ℕ) → AreRising ts → n ≤ length ts → passed ts x ≡ take n ts → Between ts x n n
+between_passed ts x n r h e =
+    let p = split_at ts x r in
+    let m : length (take n ts) ≡ n = simp length-take (omega arith) in
+    let s : p.0 ≡ n = sym (split_count ts x p.0 p.1) ∙ ap length e ∙ m in
+    rw s at p.1
+
+pub segment_is : (z : Zone) (u : ℤ) (n : ℕ) → Between z.transitions (u +ℤ correction_at z.leaps u) n n → segment_of z u ≡ n
+unfolding segment_of
+segment_is z u n b = split_count z.transitions (u +ℤ correction_at z.leaps u) n b
+
+pub segment_at : (z : Zone) (u : ℤ) (n : ℕ) → AreRising z.transitions → segment_of z u ≡ n → Between z.transitions (u +ℤ correction_at z.leaps u) n n
+segment_at z u n r e =
+    let p = split_at z.transitions (u +ℤ correction_at z.leaps u) r in
+    let s : p.0 ≡ n = sym (segment_is z u p.0 p.1) ∙ e in
+    rw s at p.1
+
+pub segment_here : (z : Zone) (u : ℤ) → AreRising z.transitions → Between z.transitions (u +ℤ correction_at z.leaps u) (segment_of z u) (segment_of z u)
+segment_here z u r = segment_at z u (segment_of z u) r refl
+
+pub segment_most : (z : Zone) (u : ℤ) → AreRising z.transitions → segment_of z u ≤ length z.transitions
+segment_most z u r = (segment_here z u r).within
+
+-- a greater number splits them later
+splits_rise : (ts : List Transition) (x y : ℤ) (m n : ℕ) → x ≤ℤ y → Between ts x m m → Between ts y n n → m ≤ n
+splits_rise [] x y m n h a b = let w = a.within in omega arith
+splits_rise (t ∷ ts) x y m n h a b = elim (cases_lt n m) [
+  | inl l ↦
+      let w = a.within in
+      let p = a.below n t l in let q = b.above n t (omega arith) (omega arith) in
+      absurd (omega (arith, ints))
+  | inr l ↦ l
+]
+
+-- segments rise with seconds
+pub segments_rise : (z : Zone) (u v : ℤ) → AreRising z.transitions → AreLeapSeconds z.leaps → u ≤ℤ v → segment_of z u ≤ segment_of z v
+segments_rise z u v r leaps h =
+    splits_rise z.transitions (u +ℤ correction_at z.leaps u) (v +ℤ correction_at z.leaps v) (segment_of z u) (segment_of z v) (leap_sums_rise z.leaps u v leaps h) (segment_here z u r) (segment_here z v r)
+
+-- a second of a later segment is later
+pub later_segment : (z : Zone) (u v : ℤ) → IsValid z → segment_of z u < segment_of z v → u <ℤ v
+later_segment z u v valid h = by_lt_z u v (λ l. l) (λ m. let r = segments_rise z v u valid.transitions.rising valid.leaps m in absurd (omega arith))
+
+-- ---- where a segment begins
+pub begin_first : (ts : List Transition) → begin_of ts 0 ≡ least_time
+begin_first [] = refl
+begin_first (t ∷ ts) = refl
+
+pub begin_next : (ts : List Transition) (i : ℕ) (d : Transition) → i < length ts → begin_of ts (i + 1) ≡ (get_or ts i d).unix_leap_time
+begin_next ts i d h = let e : i + 1 ≡ suc i = omega arith in rw e (last_taken (λ (t : Transition). t.unix_leap_time) least_time ts i d h)
+
+pub index_next : (ts : List Transition) (i : ℕ) (d : Transition) → i < length ts → index_of ts (i + 1) ≡ (get_or ts i d).type_index
+index_next ts i d h = let e : i + 1 ≡ suc i = omega arith in rw e (last_taken (λ (t : Transition). t.type_index) 0 ts i d h)
+
+begun_before : (ts : List Transition) (x : ℤ) (i : ℕ) → least_time ≤ℤ x → Between ts x i i → begin_of ts i ≤ℤ x
+begun_before ts x zero h b = rw (begin_first ts) h
+begun_before [] x (suc i) h b = let w = b.within in absurd (omega arith)
+begun_before (t ∷ ts) x (suc i) h b =
+    let w = b.within in
+    rw (last_taken (λ (t : Transition). t.unix_leap_time) least_time (t ∷ ts) i t (omega arith)) (b.below i t (omega arith))
+
+-- a leap time is in segment i where it comes from the segment's begin on, and before the next transition
+pub record IsWithin (ts : List Transition) (i : ℕ) (x : ℤ) : Type 0 where
+  pub since : begin_of ts i ≤ℤ x
+  pub until : (d : Transition) → i < length ts → x <ℤ (get_or ts i d).unix_leap_time
+
+pub within_of : (ts : List Transition) (i : ℕ) (x : ℤ) → least_time ≤ℤ x → Between ts x i i → IsWithin ts i x
+within_of ts i x h b = record { since = begun_before ts x i h b; until = λ d l. b.above i d (omega arith) l }
+
+come_by : (ts : List Transition) (x : ℤ) (i : ℕ) → AreRising ts → i ≤ length ts → begin_of ts i ≤ℤ x → (k : ℕ) (d : Transition) → k < i → (get_or ts k d).unix_leap_time ≤ℤ x
+come_by ts x zero r w h k d l = absurd (omega arith)
+come_by ts x (suc i) r w h k d l =
+    let e = last_taken (λ (t : Transition). t.unix_leap_time) least_time ts i d (omega arith) in
+    let g : (get_or ts i d).unix_leap_time ≤ℤ x = rw e at h in
+    elim (cases_lt k i) [
+      | inl m ↦ let q = r k i d m (omega arith) in omega (arith, ints)
+      | inr m ↦ let s : k ≡ i = omega arith in rw s g
+    ]
+
+later_from : (ts : List Transition) (x : ℤ) (i : ℕ) → AreRising ts → ((d : Transition) → i < length ts → x <ℤ (get_or ts i d).unix_leap_time) → (k : ℕ) (d : Transition) → i ≤ k → k < length ts → x <ℤ (get_or ts k d).unix_leap_time
+later_from ts x i r h k d a l =
+    let g = h d (omega arith) in
+    elim (cases_lt i k) [
+      | inl m ↦ let q = r i k d m l in omega (arith, ints)
+      | inr m ↦ let s : k ≡ i = omega arith in rw s g
+    ]
+
+pub between_of : (ts : List Transition) (i : ℕ) (x : ℤ) → AreRising ts → i ≤ length ts → IsWithin ts i x → Between ts x i i
+between_of ts i x r w h = record { ordered = omega arith; within = w; below = come_by ts x i r w h.since; above = later_from ts x i r h.until }
+
+-- ---- the type in a segment
+passed_once : (z : Zone) (u : ℤ) (t : LocalType) (a : TypeAt z u t) → passed z.transitions a.leap_time ≡ passed z.transitions (u +ℤ correction_at z.leaps u)
+passed_once z u t a = elim (cases_lt 0 (length z.transitions)) [
+  | inl h ↦ ap (passed z.transitions) (a.of_second h).sum
+  | inr h ↦ rw (no_items z.transitions (omega arith)) refl
+]
+
+-- how many transitions have come by the leap time of a second
+pub come_at : (z : Zone) (u : ℤ) (t : LocalType) (a : TypeAt z u t) → length (passed z.transitions a.leap_time) ≡ segment_of z u
+unfolding segment_of
+come_at z u t a = ap length (passed_once z u t a)
+
+pub come_at_time : (z : Zone) (u x : ℤ) → IsLeapTime z.leaps u x → length (passed z.transitions x) ≡ segment_of z u
+unfolding segment_of
+come_at_time z u x l = ap (λ y. length (passed z.transitions y)) l.sum
+
+-- the transition at place k is among those that have come just where its time has
+pub come_by_time : (ts : List Transition) (x : ℤ) (k : ℕ) (d : Transition) → AreRising ts → k < length ts → (suc k ≤ length (passed ts x)) ↔ ((get_or ts k d).unix_leap_time ≤ℤ x)
+come_by_time ts x k d rising h =
+    let p = split_at ts x rising in
+    let e = split_count ts x p.0 p.1 in
+    ((λ c. p.1.below k d (omega arith)), (λ c. elim (cases_lt k p.0) [ inl l ↦ omega arith | inr m ↦ let q = p.1.above k d m h in absurd (omega (arith, ints)) ]))
+
+taken_in : (z : Zone) (i : ℕ) (u : ℤ) (t : LocalType) → AreRising z.transitions → (k : TypeIn z i u t) → passed z.transitions k.type.leap_time ≡ take i z.transitions
+taken_in z i u t r k = passed_once z u t k.type ∙ search_found z.transitions (u +ℤ correction_at z.leaps u) i i (omega arith) (segment_at z u i r k.segment)
+
+-- before the last transition the segment's type is in force
+pub type_before : (z : Zone) (i : ℕ) (u : ℤ) (t : LocalType) → AreRising z.transitions → TypeIn z i u t → i < length z.transitions → HasType z (index_of z.transitions i) t
+type_before z i u t r k h =
+    let e = taken_in z i u t r k in
+    let n : IsBeforeLast z k.type.leap_time = rw e (simp length-take (omega arith)) in
+    rw e at (k.type.in_force.before_last n)
+
+-- from the last transition on the rule's, or without a rule the segment's
+pub type_from : (z : Zone) (u : ℤ) (t : LocalType) → AreRising z.transitions → TypeIn z (length z.transitions) u t → RuleOrType z u (index_of z.transitions (length z.transitions)) t
+type_from z u t r k =
+    let e = taken_in z (length z.transitions) u t r k in
+    let n : IsFromLast z k.type.leap_time = rw e (simp length-take (omega arith)) in
+    rw e at (k.type.in_force.from_last n)
+
+pub type_in_before : (z : Zone) (i : ℕ) (u x : ℤ) (t : LocalType) → IsLeapTime z.leaps u x → Between z.transitions x i i → i < length z.transitions → HasType z (index_of z.transitions i) t → TypeIn z i u t
+type_in_before z i u x t l b h k =
+    let e = search_found z.transitions x i i (omega arith) b in
+    let c = split_count z.transitions x i b in
+    record {
+      type = record { leap_time = x; of_second = λ _. l; in_force = record { before_last = λ _. rw e k; from_last = λ q. absurd (omega arith) } };
+      segment = segment_is z u i (rw l.sum at b);
+    }
+
+pub type_in_from : (z : Zone) (u x : ℤ) (t : LocalType) → IsLeapTime z.leaps u x → Between z.transitions x (length z.transitions) (length z.transitions) → RuleOrType z u (index_of z.transitions (length z.transitions)) t → TypeIn z (length z.transitions) u t
+type_in_from z u x t l b k =
+    let e = search_found z.transitions x (length z.transitions) (length z.transitions) (omega arith) b in
+    let c = split_count z.transitions x (length z.transitions) b in
+    record {
+      type = record { leap_time = x; of_second = λ _. l; in_force = record { before_last = λ q. absurd (omega arith); from_last = λ _. rw e k } };
+      segment = segment_is z u (length z.transitions) (rw l.sum at b);
+    }

@@ -1,0 +1,279 @@
+-- A walk from segment to segment: which seconds it adds, why none lies outside it, and how many transitions it reads.
+use Rattle.std.proofs.Common.{◌≡◌, ℕ, zero, suc, ◌+◌, ◌<◌, ◌≤◌, arith, refl, ap, ◌∙◌, sym, subst, Bool, true, false, cond, ◌&&◌, List, [], ◌∷◌, length, get_or, ℤ, ◌-ℤ◌, ◌≤ℤ◌, ◌<ℤ◌, int_le, int_lt, inl, inr, ◌⊎◌, Option, Some, None, slice_get, FitsSigned}
+use Rattle.std.specs.List.{filter}
+use Rattle.std.specs.Int.{w64}
+use Rattle.std.proofs.lemmas.Int.{ints}
+use Rattle.std.proofs.lemmas.Bool.{cases_lt}
+use Rattle.std.proofs.lemmas.List.{get_or_default}
+use Rattle.offset_core.specs.WallAnswer.{IsWallAnswer}
+use Rattle.offset_core.specs.declared.local_result.LocalResult.{LocalResult}
+use Rattle.offset_core.specs.declared.local_result.LocalResult.TheVariants.{None as Never, Single}
+use Rattle.tz_info.specs.Counts.{Counts}
+use Rattle.tz_info.specs.Digits.{digits}
+use Rattle.tz_info.specs.Leaps.{IsLeapTime, IsNear, least_time}
+use Rattle.tz_info.specs.LocalTypes.{LocalType}
+use Rattle.tz_info.specs.Rules.{Alternate as AlternateRule}
+use Rattle.tz_info.specs.RuleTypes.{RuleAt}
+use Rattle.tz_info.specs.Segments.{begin_of, index_of, segment_of}
+use Rattle.tz_info.specs.Steps.Answers.{joined}
+use Rattle.tz_info.specs.Steps.Walk.{TypeIn, IsShownIn, IsTried, IsAskedLast}
+use Rattle.tz_info.specs.Transitions.{AreRising}
+use Rattle.tz_info.specs.WallClocks.{Shows}
+use Rattle.tz_info.specs.WallPieces.{IsStart}
+use Rattle.tz_info.specs.Windows.{between, IsWindow}
+use Rattle.tz_info.specs.Looks.{RoseByWalk}
+use Rattle.tz_info.specs.Zones.{Zone, HasType, IsValid, TypeAt}
+use Rattle.tz_info.specs.declared.rule.transition_rule.TransitionRule.{TransitionRule}
+use Rattle.tz_info.specs.declared.rule.transition_rule.TransitionRule.TheVariants.{Fixed, Alternate}
+use Rattle.tz_info.specs.declared.zone.transition.Transition.{Transition}
+use Rattle.tz_info.proofs.AnswerLaws.{same_answer, behind_answer}
+use Rattle.tz_info.proofs.Candidates.{one_of_two}
+use Rattle.tz_info.proofs.ExtremeLaws.{at_most_greatest, at_least_least}
+use Rattle.tz_info.proofs.Prefixes.{le_true, lt_true}
+use Rattle.tz_info.proofs.RuleLaws.{rule_once}
+use Rattle.tz_info.proofs.SegmentLaws.{segment_is, segment_at, segment_here, segment_most, segments_rise, later_segment, within_of, between_of, type_before, type_from, type_in_before, type_in_from}
+use Rattle.tz_info.proofs.SpanLaws.{shown_at}
+use Rattle.tz_info.proofs.TableSearch.{Between}
+use Rattle.tz_info.proofs.WallSegments.{leap_time_of, rule_begun}
+
+-- q takes what p takes, and besides at most the second c, where that shows the local time; and then c is behind the others
+pub record Gains (at p q : ℤ → LocalType → Type 0) (local c : ℤ) : Type 0 where
+  pub old : (u : ℤ) (t : LocalType) → p u t → q u t
+  pub new : (t : LocalType) → Shows at local c t → q c t
+  pub only : (u : ℤ) (t : LocalType) → q u t → p u t ⊎ ((u ≡ c) × Shows at local u t)
+  pub behind : (t : LocalType) → Shows at local c t → (u : ℤ) (f : LocalType) → p u f → u <ℤ c
+
+pub gained : (at p q : ℤ → LocalType → Type 0) (l o : ℤ) (before after : LocalResult LocalType) → Gains at p q l (l -ℤ o) → IsWallAnswer p before → IsAskedLast at l o before after → IsWallAnswer q after
+gained at p q l o before after g s (inl (e, none)) =
+    rw e (same_answer p q before g.old (λ u t k. elim (g.only u t k) [
+      | inl i ↦ i
+      | inr h ↦ absurd (none t (subst (λ (w : ℤ). Shows at l w t) h.0 h.1))
+    ]) s)
+gained at p q l o before after g s (inr (t, k, e)) =
+    rw e (behind_answer p q (l -ℤ o) t before g.old (λ u f h. elim (g.only u f h) [ inl i ↦ inl i | inr j ↦ inr j.0 ]) (g.new t k) (g.behind t k) s)
+
+-- ---- segments
+shows_type : (z : Zone) (l u : ℤ) (i : ℕ) (t : LocalType) → Shows (TypeIn z i) l u t → Shows (TypeAt z) l u t
+shows_type z l u i t s = record { fits = s.fits; type = s.type.type; shown = s.shown }
+
+shows_in : (z : Zone) (l u : ℤ) (i : ℕ) (t : LocalType) → Shows (TypeAt z) l u t → segment_of z u ≡ i → Shows (TypeIn z i) l u t
+shows_in z l u i t s e = record { fits = s.fits; type = record { type = s.type; segment = e }; shown = s.shown }
+
+-- one segment more, where at most one of its seconds shows the local time
+segment_gains : (z : Zone) (l o : ℤ) (i : ℕ) → IsValid z → ((u : ℤ) (t : LocalType) → Shows (TypeIn z i) l u t → u ≡ l -ℤ o) → Gains (TypeIn z i) (IsShownIn z l i) (IsShownIn z l (i + 1)) l (l -ℤ o)
+segment_gains z l o i valid one = record {
+  old = λ u t k. record { shows = k.shows; before = let b = k.before in omega arith };
+  new = λ t k. record { shows = shows_type z l (l -ℤ o) i t k; before = let e = k.type.segment in omega arith };
+  only = λ u t k. elim (cases_lt (segment_of z u) i) [
+    | inl h ↦ inl (record { shows = k.shows; before = h })
+    | inr h ↦
+        let e : segment_of z u ≡ i = let b = k.before in omega arith in
+        let s = shows_in z l u i t k.shows e in
+        inr (one u t s, s)
+  ];
+  behind = λ t k u f h. later_segment z u (l -ℤ o) valid (let b = h.before in let e = k.type.segment in omega arith);
+}
+
+some_same : (o : Option LocalType) (s t : LocalType) → o ≡ Some s → o ≡ Some t → s ≡ t
+some_same o s t h k = cc
+
+-- between neighbouring transitions at most one second shows the local time
+pub one_before : (z : Zone) (l : ℤ) (i : ℕ) (x : LocalType) → AreRising z.transitions → i < length z.transitions → HasType z (index_of z.transitions i) x → (u : ℤ) (t : LocalType) → Shows (TypeIn z i) l u t → u ≡ l -ℤ x.offset
+one_before z l i x r h k u t s = shown_at u l t x s.shown (some_same (slice_get z.types (index_of z.transitions i)) t x (type_before z i u t r s.type h) k)
+
+-- and so behind the last one where there is no rule
+pub one_last : (z : Zone) (l : ℤ) (x : LocalType) → AreRising z.transitions → z.rule ≡ None → HasType z (index_of z.transitions (length z.transitions)) x → (u : ℤ) (t : LocalType) → Shows (TypeIn z (length z.transitions)) l u t → u ≡ l -ℤ x.offset
+one_last z l x r none k u t s =
+    let f = rw none at (type_from z u t r s.type) in
+    shown_at u l t x s.shown (some_same (slice_get z.types (index_of z.transitions (length z.transitions))) t x f k)
+
+-- ---- what was tried
+-- the test is whether the leap time lies in the segment
+pub record Tests (z : Zone) (i : ℕ) (within : ℤ → Type 0) : Type 0 where
+  pub to : (x : ℤ) → within x → Between z.transitions x i i
+  pub from : (x : ℤ) → least_time ≤ℤ x → Between z.transitions x i i → within x
+
+pub tried_asked : (z : Zone) (l : ℤ) (i : ℕ) (within : ℤ → Type 0) (before after : LocalResult LocalType) → AreRising z.transitions → Tests z i within → (k : IsTried z l (index_of z.transitions i) within before after) → ((u x : ℤ) (t : LocalType) → IsLeapTime z.leaps u x → Between z.transitions x i i → HasType z (index_of z.transitions i) t → TypeIn z i u t) → IsAskedLast (TypeIn z i) l k.type.offset before after
+tried_asked z l i within before after rising tests k make = elim k.tried [
+  | inl h ↦ inr (k.type, record { fits = k.fits; type = make (l -ℤ k.type.offset) k.leap_time k.type k.of_second (tests.to k.leap_time h.0) k.listed; shown = omega (arith, ints) }, h.1)
+  | inr h ↦ inl (h.1, λ t s. h.0 (tests.from k.leap_time k.leap_fits (rw (sym k.of_second.sum) at (segment_at z (l -ℤ k.type.offset) i rising s.type.segment))))
+]
+
+pub tested_before : (z : Zone) (i : ℕ) (since until : ℤ) (d : Transition) → AreRising z.transitions → i < length z.transitions → since ≡ begin_of z.transitions i → until ≡ (get_or z.transitions i d).unix_leap_time → Tests z i (λ x. (since ≤ℤ x) × (x <ℤ until))
+tested_before z i since until d r h b e = record {
+  to = λ x w. between_of z.transitions i x r (omega arith) (record {
+    since = rw b at w.0;
+    until = λ f l. let same = ap (λ (t : Transition). t.unix_leap_time) (get_or_default z.transitions i f d l) in let g = w.1 in omega (arith, ints);
+  });
+  from = λ x f w. let k = within_of z.transitions i x f w in (rw b k.since, rw e (k.until d h));
+}
+
+pub tested_last : (z : Zone) (since : ℤ) → AreRising z.transitions → since ≡ begin_of z.transitions (length z.transitions) → Tests z (length z.transitions) (λ x. since ≤ℤ x)
+tested_last z since r b = record {
+  to = λ x w. between_of z.transitions (length z.transitions) x r (omega arith) (record { since = rw b at w; until = λ d l. absurd (omega arith) });
+  from = λ x f w. rw b ((within_of z.transitions (length z.transitions) x f w).since);
+}
+
+-- a segment before the last transition was tried
+pub tried_before : (z : Zone) (l : ℤ) (i : ℕ) (since until : ℤ) (d : Transition) (before after : LocalResult LocalType) → IsValid z → i < length z.transitions → since ≡ begin_of z.transitions i → until ≡ (get_or z.transitions i d).unix_leap_time
+    → IsTried z l (index_of z.transitions i) (λ x. (since ≤ℤ x) × (x <ℤ until)) before after → IsWallAnswer (IsShownIn z l i) before → IsWallAnswer (IsShownIn z l (i + 1)) after
+tried_before z l i since until d before after valid h b e k s =
+    let rising = valid.transitions.rising in
+    gained (TypeIn z i) (IsShownIn z l i) (IsShownIn z l (i + 1)) l k.type.offset before after
+    (segment_gains z l k.type.offset i valid (one_before z l i k.type rising h k.listed)) s
+    (tried_asked z l i (λ x. (since ≤ℤ x) × (x <ℤ until)) before after rising (tested_before z i since until d rising h b e) k (λ u x t f g m. type_in_before z i u x t f g h m))
+
+-- the last segment was, where there is no rule
+pub tried_last : (z : Zone) (l since : ℤ) (before after : LocalResult LocalType) → IsValid z → z.rule ≡ None → since ≡ begin_of z.transitions (length z.transitions)
+    → IsTried z l (index_of z.transitions (length z.transitions)) (λ x. since ≤ℤ x) before after → IsWallAnswer (IsShownIn z l (length z.transitions)) before → IsWallAnswer (IsShownIn z l (length z.transitions + 1)) after
+tried_last z l since before after valid none b k s =
+    let rising = valid.transitions.rising in
+    gained (TypeIn z (length z.transitions)) (IsShownIn z l (length z.transitions)) (IsShownIn z l (length z.transitions + 1)) l k.type.offset before after
+    (segment_gains z l k.type.offset (length z.transitions) valid (one_last z l k.type rising none k.listed)) s
+    (tried_asked z l (length z.transitions) (λ x. since ≤ℤ x) before after rising (tested_last z since rising b) k (λ u x t f g m. type_in_from z u x t f g (rw none m)))
+
+-- ---- the rule behind the last transition
+pub fixed_only : (z : Zone) (l : ℤ) (f : LocalType) → IsValid z → z.rule ≡ Some (Fixed f) → (u : ℤ) (t : LocalType) → Shows (TypeIn z (length z.transitions)) l u t → u ≡ l -ℤ f.offset
+fixed_only z l f valid e u t s = shown_at u l t f s.shown (rw e at (type_from z u t valid.transitions.rising s.type))
+
+pub one_of_both : (z : Zone) (l : ℤ) (a : AlternateRule) → IsValid z → z.rule ≡ Some (Alternate a) → (u : ℤ) (t : LocalType) → Shows (TypeIn z (length z.transitions)) l u t → (u ≡ l -ℤ a.std.offset) ⊎ (u ≡ l -ℤ a.dst.offset)
+one_of_both z l a valid e u t s = elim (one_of_two a u t (rw e at (type_from z u t valid.transitions.rising s.type))) [
+  | inl q ↦ inl (shown_at u l t a.std s.shown q)
+  | inr q ↦ inr (shown_at u l t a.dst s.shown q)
+]
+
+-- one offset was asked
+pub asked_one : (z : Zone) (l o : ℤ) (before after : LocalResult LocalType) → IsValid z → ((u : ℤ) (t : LocalType) → Shows (TypeIn z (length z.transitions)) l u t → u ≡ l -ℤ o) → IsAskedLast (TypeIn z (length z.transitions)) l o before after → IsWallAnswer (IsShownIn z l (length z.transitions)) before → IsWallAnswer (IsShownIn z l (length z.transitions + 1)) after
+asked_one z l o before after valid only a s =
+    gained (TypeIn z (length z.transitions)) (IsShownIn z l (length z.transitions)) (IsShownIn z l (length z.transitions + 1)) l o before after (segment_gains z l o (length z.transitions) valid only) s a
+
+-- in the segments before the last one, or the second c of the last one
+abbrev pub IsHalfShown : Zone → ℤ → ℤ → ℤ → LocalType → Type 0
+IsHalfShown z l c u t = IsShownIn z l (length z.transitions) u t ⊎ ((u ≡ c) × Shows (TypeIn z (length z.transitions)) l u t)
+
+half_gains : (z : Zone) (l c : ℤ) → IsValid z → Gains (TypeIn z (length z.transitions)) (IsShownIn z l (length z.transitions)) (IsHalfShown z l c) l c
+half_gains z l c valid = record {
+  old = λ u t k. inl k;
+  new = λ t k. inr (refl, k);
+  only = λ u t k. k;
+  behind = λ t k u f h. later_segment z u c valid (let b = h.before in let e = k.type.segment in omega arith);
+}
+
+whole_gains : (z : Zone) (l o p : ℤ) → IsValid z → p <ℤ o → ((u : ℤ) (t : LocalType) → Shows (TypeIn z (length z.transitions)) l u t → (u ≡ l -ℤ o) ⊎ (u ≡ l -ℤ p)) → Gains (TypeIn z (length z.transitions)) (IsHalfShown z l (l -ℤ o)) (IsShownIn z l (length z.transitions + 1)) l (l -ℤ p)
+whole_gains z l o p valid less both = record {
+  old = λ u t k. elim k [
+    | inl i ↦ record { shows = i.shows; before = let b = i.before in omega arith }
+    | inr j ↦ record { shows = shows_type z l u (length z.transitions) t j.1; before = let g = j.1.type.segment in omega arith }
+  ];
+  new = λ t k. record { shows = shows_type z l (l -ℤ p) (length z.transitions) t k; before = let g = k.type.segment in omega arith };
+  only = λ u t k. elim (cases_lt (segment_of z u) (length z.transitions)) [
+    | inl h ↦ inl (inl (record { shows = k.shows; before = h }))
+    | inr h ↦
+        let g : segment_of z u ≡ length z.transitions = let b = k.before in omega arith in
+        let s = shows_in z l u (length z.transitions) t k.shows g in
+        elim (both u t s) [
+          | inl q ↦ inl (inr (q, s))
+          | inr q ↦ inr (q, s)
+        ]
+  ];
+  behind = λ t k u f h. elim h [
+    | inl i ↦ later_segment z u (l -ℤ p) valid (let b = i.before in let e = k.type.segment in omega arith)
+    | inr j ↦ let e = j.0 in omega (arith, ints)
+  ];
+}
+
+-- two offsets were asked, the greater one first, since its second is the earlier one
+pub asked_both : (z : Zone) (l o p : ℤ) (before one two : LocalResult LocalType) → IsValid z → p <ℤ o → ((u : ℤ) (t : LocalType) → Shows (TypeIn z (length z.transitions)) l u t → (u ≡ l -ℤ o) ⊎ (u ≡ l -ℤ p)) → IsAskedLast (TypeIn z (length z.transitions)) l o before one → IsAskedLast (TypeIn z (length z.transitions)) l p one two → IsWallAnswer (IsShownIn z l (length z.transitions)) before → IsWallAnswer (IsShownIn z l (length z.transitions + 1)) two
+asked_both z l o p before one two valid less both f g s =
+    gained (TypeIn z (length z.transitions)) (IsHalfShown z l (l -ℤ o)) (IsShownIn z l (length z.transitions + 1)) l p one two (whole_gains z l o p valid less both)
+    (gained (TypeIn z (length z.transitions)) (IsShownIn z l (length z.transitions)) (IsHalfShown z l (l -ℤ o)) l o before one (half_gains z l (l -ℤ o) valid) s f) g
+
+-- what the rule was asked, and what it answered; `start` is the second from which on it is asked
+pub asked_early : (z : Zone) (l o start : ℤ) (answer : LocalResult LocalType) → IsValid z → IsNear (l -ℤ o) → IsStart z.transitions z.leaps (length z.transitions) start → (l -ℤ o) <ℤ start → IsAskedLast (TypeIn z (length z.transitions)) l o answer answer
+asked_early z l o start answer valid near begun less = inl (
+  refl,
+  λ t s. let g = (rule_begun z (l -ℤ o) start valid near begun).0 s.type.segment in omega (arith, ints),
+)
+
+pub asked_found : (z : Zone) (l o start : ℤ) (rule : TransitionRule) (t : LocalType) (before after : LocalResult LocalType) → IsValid z → z.rule ≡ Some rule → IsNear (l -ℤ o) → IsStart z.transitions z.leaps (length z.transitions) start → start ≤ℤ (l -ℤ o) → RuleAt rule (l -ℤ o) t → t.offset ≡ o → FitsSigned w64 (l -ℤ o) → after ≡ joined before (Single t) → IsAskedLast (TypeIn z (length z.transitions)) l o before after
+asked_found z l o start rule t before after valid is near begun from a e f g =
+    let r = valid.transitions.rising in
+    let there = (rule_begun z (l -ℤ o) start valid near begun).1 from in
+    let time = leap_time_of z (l -ℤ o) valid near in
+    let b : Between z.transitions time.0 (length z.transitions) (length z.transitions) = rw (sym time.1.sum) at (segment_at z (l -ℤ o) (length z.transitions) r there) in
+    inr (t, record { fits = f; type = type_in_from z (l -ℤ o) time.0 t time.1 b (rw is a); shown = omega (arith, ints) }, g)
+
+pub asked_other : (z : Zone) (l o : ℤ) (rule : TransitionRule) (t : LocalType) (answer : LocalResult LocalType) → IsValid z → z.rule ≡ Some rule → RuleAt rule (l -ℤ o) t → (t.offset ≡ o → ⊥) → IsAskedLast (TypeIn z (length z.transitions)) l o answer answer
+asked_other z l o rule t answer valid is a other = inl (
+  refl,
+  λ f s.
+      let e = rule_once rule (l -ℤ o) f t (rw is at (type_from z (l -ℤ o) f valid.transitions.rising s.type)) a in
+      let g = ap (λ (x : LocalType). x.offset) e in
+      let h = s.shown in
+      other (omega (arith, ints)),
+)
+
+-- ---- nothing lies outside
+pub none_before : (z : Zone) (l low high : ℤ) (n : ℕ) → IsValid z → IsWindow z l low high → Between z.transitions low n n → IsWallAnswer (IsShownIn z l n) Never
+none_before z l low high n valid w b = λ u t k.
+    let o = at_most_greatest z u w.greatest t w.is_greatest k.shows.type in
+    let s = k.shows.shown in
+    let g : (l -ℤ w.greatest) ≤ℤ u = omega (arith, ints) in
+    let r = segments_rise z (l -ℤ w.greatest) u valid.transitions.rising valid.leaps g in
+    let e = segment_is z (l -ℤ w.greatest) n (rw w.is_low.sum at b) in
+    let i = k.before in
+    absurd (omega arith)
+
+pub none_behind : (z : Zone) (l low high : ℤ) (n : ℕ) (d : Transition) (answer : LocalResult LocalType) → IsValid z → IsWindow z l low high → n < length z.transitions → high <ℤ (get_or z.transitions n d).unix_leap_time → IsWallAnswer (IsShownIn z l (n + 1)) answer → IsWallAnswer (Shows (TypeAt z) l) answer
+none_behind z l low high n d answer valid w h later s = same_answer (IsShownIn z l (n + 1)) (Shows (TypeAt z) l) answer (λ u t k. k.shows) (λ u t k.
+    let o = at_least_least z u w.least t w.is_least k.type in
+    let e = k.shown in
+    let g : u ≤ℤ (l -ℤ w.least) = omega (arith, ints) in
+    let r = segments_rise z u (l -ℤ w.least) valid.transitions.rising valid.leaps g in
+    let sum = w.is_high.sum in
+    elim (cases_lt n (segment_of z (l -ℤ w.least))) [
+      | inl m ↦ let q = (segment_here z (l -ℤ w.least) valid.transitions.rising).below n d m in absurd (omega (arith, ints))
+      | inr m ↦ record { shows = k; before = omega arith }
+    ]) s
+
+pub all_segments : (z : Zone) (l : ℤ) (answer : LocalResult LocalType) → AreRising z.transitions → IsWallAnswer (IsShownIn z l (length z.transitions + 1)) answer → IsWallAnswer (Shows (TypeAt z) l) answer
+all_segments z l answer r s = same_answer (IsShownIn z l (length z.transitions + 1)) (Shows (TypeAt z) l) answer (λ u t k. k.shows) (λ u t k. record { shows = k; before = let m = segment_most z u r in omega arith }) s
+
+-- ---- counts
+kept_more : {X : Type 0} (b : Bool) (x : X) (ys : List X) → length ys ≤ length (cond b (x ∷ ys) ys)
+kept_more true x ys = omega arith
+kept_more false x ys = omega arith
+
+window_least : {X : Type 0} (p : X → Bool) (xs : List X) (a b : ℕ) → b ≤ length xs → ((k : ℕ) (d : X) → a ≤ k → k < b → p (get_or xs k d) ≡ true) → b ≤ a + length (filter p xs)
+window_least p [] a b h all = omega arith
+window_least p (x ∷ xs) a zero h all = omega arith
+window_least p (x ∷ xs) zero (suc b) h all =
+    let r = window_least p xs zero b (omega arith) (λ k d l m. all (suc k) d (omega arith) (omega arith)) in
+    rw (all 0 x (omega arith) (omega arith)) (omega arith)
+window_least p (x ∷ xs) (suc a) (suc b) h all =
+    let r = window_least p xs a b (omega arith) (λ k d l m. all (suc k) d (omega arith) (omega arith)) in
+    let m = kept_more (p x) x (filter p xs) in
+    omega arith
+
+-- the transitions walked through lie in the window
+pub walked_most : (ts : List Transition) (low high : ℤ) (first place : ℕ) → Between ts low first first → place ≤ length ts → ((k : ℕ) (d : Transition) → first ≤ k → k < place → (get_or ts k d).unix_leap_time ≤ℤ high) → place ≤ first + length (between ts low high)
+walked_most ts low high first place b w inside =
+    window_least (λ (t : Transition). int_lt low t.unix_leap_time && int_le t.unix_leap_time high) ts first place w
+    (λ k d l m. rw (lt_true low (get_or ts k d).unix_leap_time (b.above k d l (omega arith)), le_true (get_or ts k d).unix_leap_time high (inside k d l m)) refl)
+
+pub rose_by_walk : (z : Zone) (l low high : ℤ) (a b : Counts) (first place : ℕ) → (0 < length z.transitions → a.reads < b.reads) → b.piece_reads ≡ a.piece_reads → IsWindow z l low high → place ≤ first + length (between z.transitions low high) → a.reads ≤ b.reads → b.reads + first ≤ a.reads + digits (length z.transitions) + place + 2 → a.rule_questions ≤ b.rule_questions → b.rule_questions ≤ a.rule_questions + 2 → RoseByWalk z l a b
+rose_by_walk z l low high a b first place least same w walked kept most questions asked = record {
+  window = length (between z.transitions low high);
+  counted = record { low = low; high = high; window = w; count = refl };
+  most = record { reads_kept = kept; reads_most = omega arith; questions_kept = questions; questions_most = asked; pieces_same = same };
+  least = least;
+}
+
+pub inside_more : (ts : List Transition) (high : ℤ) (first place : ℕ) (x : Transition) → place < length ts → ((k : ℕ) (d : Transition) → first ≤ k → k < place → (get_or ts k d).unix_leap_time ≤ℤ high) → x ≡ get_or ts place x → x.unix_leap_time ≤ℤ high → (k : ℕ) (d : Transition) → first ≤ k → k < place + 1 → (get_or ts k d).unix_leap_time ≤ℤ high
+inside_more ts high first place x h inside e le k d l m = elim (cases_lt k place) [
+  | inl i ↦ inside k d l i
+  | inr i ↦
+      let same : k ≡ place = omega arith in
+      let g = ap (λ (t : Transition). t.unix_leap_time) (get_or_default ts place d x h ∙ sym e) in
+      rw same (omega (arith, ints))
+]

@@ -1,0 +1,183 @@
+-- Pieces of the wall-clock axis: one piece more, and two runs of pieces together.
+use Rattle.std.proofs.Common.{◌≡◌, ℕ, zero, suc, ◌+◌, ◌<◌, ◌≤◌, arith, refl, sym, ap, ◌∙◌, List, [], ◌∷◌, ◌++◌, length, get_or, take, cond, ℤ, ◌≤ℤ◌, ◌<ℤ◌, int_le, inl, inr}
+use Rattle.std.proofs.lemmas.Int.{ints, by_lt_z}
+use Rattle.std.proofs.lemmas.Bool.{cases_lt}
+use Rattle.std.proofs.lemmas.List.{take_more, get_or_default, length_push, take_all}
+use Rattle.std.proofs.lemmas.List.Elements.{All-push}
+use Rattle.std.proofs.lemmas.List.Quantifiers.{all_pairs_push}
+use Rattle.offset_core.specs.declared.local_result.LocalResult.{LocalResult}
+use Rattle.tz_info.specs.Steps.Answers.{joined}
+use Rattle.tz_info.specs.Steps.Merging.{IsMerged, IsNext, IsStep}
+use Rattle.tz_info.specs.Steps.Pieces.{IsSearched}
+use Rattle.tz_info.specs.WallPieces.{answer_before, answer_at, AreInOrder}
+use Rattle.tz_info.specs.declared.zone.pieces.Piece.{Piece}
+use Rattle.tz_info.proofs.Prefixes.{le_true, le_false, filter_first}
+
+abbrev pub Answer : Type 0
+Answer = LocalResult ℕ
+
+-- one piece more
+pub before_pushed : (b : Answer) (ps : List Piece) (p : Piece) → answer_before b (ps ++ (p ∷ [])) ≡ p.answer
+before_pushed b [] p = refl
+before_pushed b (q ∷ ps) p = before_pushed q.answer ps p
+
+pub at_later : (b : Answer) (ps : List Piece) (p : Piece) (l : ℤ) → p.start ≤ℤ l → answer_at b (ps ++ (p ∷ [])) l ≡ p.answer
+at_later b [] p l h = rw (le_true p.start l h) refl
+at_later b (q ∷ ps) p l h = by_lt_z l q.start
+    (λ k. rw (le_false q.start l k) (at_later b ps p l h))
+    (λ k. rw (le_true q.start l k) (at_later q.answer ps p l h))
+
+pub at_earlier : (b : Answer) (ps : List Piece) (p : Piece) (l : ℤ) → l <ℤ p.start → answer_at b (ps ++ (p ∷ [])) l ≡ answer_at b ps l
+at_earlier b [] p l h = rw (le_false p.start l h) refl
+at_earlier b (q ∷ ps) p l h = by_lt_z l q.start
+    (λ k. rw (le_false q.start l k) (at_earlier b ps p l h))
+    (λ k. rw (le_true q.start l k) (at_earlier q.answer ps p l h))
+
+-- no piece starts after the local time
+abbrev pub StartBy : List Piece → ℤ → Type 0
+StartBy ps l = (k : ℕ) (d : Piece) → k < length ps → (get_or ps k d).start ≤ℤ l
+
+-- where all have started the last one answers
+pub at_all : (b : Answer) (ps : List Piece) (l : ℤ) → StartBy ps l → answer_at b ps l ≡ answer_before b ps
+at_all b [] l h = refl
+at_all b (q ∷ ps) l h = rw (le_true q.start l (h 0 q (omega arith))) (at_all q.answer ps l (λ k d m. h (suc k) d (omega arith)))
+
+start_by_pushed : (ps : List Piece) (p : Piece) (l : ℤ) → StartBy (ps ++ (p ∷ [])) l → StartBy ps l × (p.start ≤ℤ l)
+start_by_pushed [] p l h = ((λ k d m. absurd (omega arith)), h 0 p (omega arith))
+start_by_pushed (q ∷ ps) p l h =
+    let r = start_by_pushed ps p l (λ k d m. h (suc k) d (omega arith)) in
+    ((λ k d m. by_place q ps l (h 0 q (omega arith)) r.0 k d m), r.1) where
+      by_place : (q : Piece) (ps : List Piece) (l : ℤ) → q.start ≤ℤ l → StartBy ps l → StartBy (q ∷ ps) l
+      by_place q ps l a b zero d m = a
+      by_place q ps l a b (suc k) d m = b k d (omega arith)
+
+start_by_push : (ps : List Piece) (p : Piece) (l : ℤ) → StartBy ps l → p.start ≤ℤ l → StartBy (ps ++ (p ∷ [])) l
+start_by_push ps p l h s = All-push (λ (q : Piece). q.start ≤ℤ l) ps p h s
+
+-- the first i pieces of xs and the first j of ys are merged
+pub record Merging (bx : Answer) (xs : List Piece) (by : Answer) (ys : List Piece) (out : List Piece) (i j : ℕ) : Type 0 where
+  pub in_x : i ≤ length xs
+  pub in_y : j ≤ length ys
+  pub ordered : AreInOrder out
+  pub count : length out ≡ i + j
+  pub ahead_x : (d : Piece) → i < length xs → StartBy out (get_or xs i d).start
+  pub ahead_y : (d : Piece) → j < length ys → StartBy out (get_or ys j d).start
+  pub started : (l : ℤ) → StartBy out l → StartBy (take i xs) l × StartBy (take j ys) l
+  pub answers : (l : ℤ) → answer_at (joined bx by) out l ≡ joined (answer_at bx (take i xs) l) (answer_at by (take j ys) l)
+
+-- the next piece is that of xs
+merging_x : (bx : Answer) (xs : List Piece) (by : Answer) (ys out : List Piece) (i j : ℕ) (p : Piece) → AreInOrder xs → Merging bx xs by ys out i j → IsNext xs i ys j
+    → ((d : Piece) → p.start ≡ (get_or xs i d).start) → p.answer ≡ joined (answer_before bx (take (i + 1) xs)) (answer_before by (take j ys)) → Merging bx xs by ys (out ++ (p ∷ [])) (i + 1) j
+merging_x bx xs by ys out i j p order m next starts is =
+    let x : Piece = get_or xs i p in
+    let inside = next.inside in
+    let here = starts p in
+    let more : take (i + 1) xs ≡ take i xs ++ (x ∷ []) = take_more xs i p inside in
+    let answer : p.answer ≡ joined x.answer (answer_before by (take j ys)) = is ∙ ap (λ a. joined a (answer_before by (take j ys))) (ap (answer_before bx) more ∙ before_pushed bx (take i xs) x) in
+    record {
+      in_x = omega arith;
+      in_y = m.in_y;
+      ordered = all_pairs_push (λ (a b : Piece). a.start ≤ℤ b.start) out p m.ordered (λ k d l. let h = m.ahead_x p inside k d l in omega (arith, ints));
+      count = let c = m.count in length_push out p ∙ omega arith;
+      ahead_x = λ d l. start_by_push out p (get_or xs (i + 1) d).start (λ k e n. let h = m.ahead_x d inside k e n in let o = order i (i + 1) d (omega arith) l in omega (arith, ints)) (let s = starts d in let o = order i (i + 1) d (omega arith) l in omega (arith, ints));
+      ahead_y = λ d l. start_by_push out p (get_or ys j d).start (m.ahead_y d l) (let s = starts d in let o = next.least d l in omega (arith, ints));
+      started = λ l h. let s = start_by_pushed out p l h in let t = m.started l s.0 in (rw more (start_by_push (take i xs) x l t.0 (let q = s.1 in omega (arith, ints))), t.1);
+      answers = λ l. by_lt_z l p.start
+          (λ before. at_earlier (joined bx by) out p l before ∙ m.answers l ∙ ap (λ a. joined a (answer_at by (take j ys) l)) (sym (rw more (at_earlier bx (take i xs) x l (omega (arith, ints))))))
+          (λ from.
+          let by_now : StartBy out l = λ k d n. let h = m.ahead_x p inside k d n in omega (arith, ints) in
+          at_later (joined bx by) out p l from ∙ answer ∙ rw (more, at_later bx (take i xs) x l (omega (arith, ints)), at_all by (take j ys) l ((m.started l by_now).1)) refl);
+    }
+
+-- the next piece is that of ys
+merging_y : (bx : Answer) (xs : List Piece) (by : Answer) (ys out : List Piece) (i j : ℕ) (p : Piece) → AreInOrder ys → Merging bx xs by ys out i j → IsNext ys j xs i
+    → ((d : Piece) → p.start ≡ (get_or ys j d).start) → p.answer ≡ joined (answer_before bx (take i xs)) (answer_before by (take (j + 1) ys)) → Merging bx xs by ys (out ++ (p ∷ [])) i (j + 1)
+merging_y bx xs by ys out i j p order m next starts is =
+    let y : Piece = get_or ys j p in
+    let inside = next.inside in
+    let here = starts p in
+    let more : take (j + 1) ys ≡ take j ys ++ (y ∷ []) = take_more ys j p inside in
+    let answer : p.answer ≡ joined (answer_before bx (take i xs)) y.answer = is ∙ ap (λ a. joined (answer_before bx (take i xs)) a) (ap (answer_before by) more ∙ before_pushed by (take j ys) y) in
+    record {
+      in_x = m.in_x;
+      in_y = omega arith;
+      ordered = all_pairs_push (λ (a b : Piece). a.start ≤ℤ b.start) out p m.ordered (λ k d l. let h = m.ahead_y p inside k d l in omega (arith, ints));
+      count = let c = m.count in length_push out p ∙ omega arith;
+      ahead_x = λ d l. start_by_push out p (get_or xs i d).start (m.ahead_x d l) (let s = starts d in let o = next.least d l in omega (arith, ints));
+      ahead_y = λ d l. start_by_push out p (get_or ys (j + 1) d).start (λ k e n. let h = m.ahead_y d inside k e n in let o = order j (j + 1) d (omega arith) l in omega (arith, ints)) (let s = starts d in let o = order j (j + 1) d (omega arith) l in omega (arith, ints));
+      started = λ l h. let s = start_by_pushed out p l h in let t = m.started l s.0 in (t.0, rw more (start_by_push (take j ys) y l t.1 (let q = s.1 in omega (arith, ints))));
+      answers = λ l. by_lt_z l p.start
+          (λ before. at_earlier (joined bx by) out p l before ∙ m.answers l ∙ ap (λ a. joined (answer_at bx (take i xs) l) a) (sym (rw more (at_earlier by (take j ys) y l (omega (arith, ints))))))
+          (λ from.
+          let by_now : StartBy out l = λ k d n. let h = m.ahead_y p inside k d n in omega (arith, ints) in
+          at_later (joined bx by) out p l from ∙ answer ∙ rw (more, at_later by (take j ys) y l (omega (arith, ints)), at_all bx (take i xs) l ((m.started l by_now).0)) refl);
+    }
+
+-- the piece that comes next is added
+pub merging_more : (bx : Answer) (xs : List Piece) (by : Answer) (ys out after : List Piece) (i j i_after j_after : ℕ) (start : ℤ) (a : Answer) → AreInOrder xs → AreInOrder ys → Merging bx xs by ys out i j → IsStep xs i ys j start i_after j_after
+    → a ≡ joined (answer_before bx (take i_after xs)) (answer_before by (take j_after ys)) → after ≡ out ++ (record { start = start; answer = a } ∷ []) → Merging bx xs by ys after i_after j_after
+merging_more bx xs by ys out after i j i_after j_after start a in_x in_y m (inl s) is e =
+    let h = rw (s.passed, s.stays) at is in
+    rw (e, s.passed, s.stays) (merging_x bx xs by ys out i j (record { start = start; answer = a }) in_x m s.next s.starts h)
+merging_more bx xs by ys out after i j i_after j_after start a in_x in_y m (inr s) is e =
+    let h = rw (s.stays, s.passed) at is in
+    rw (e, s.passed, s.stays) (merging_y bx xs by ys out i j (record { start = start; answer = a }) in_y m s.next s.starts h)
+
+pub step_count : (xs ys : List Piece) (i j i_after j_after : ℕ) (start : ℤ) → IsStep xs i ys j start i_after j_after → i_after + j_after ≡ i + j + 1
+step_count xs ys i j i_after j_after start (inl s) = let p = s.passed in let q = s.stays in omega arith
+step_count xs ys i j i_after j_after start (inr s) = let p = s.passed in let q = s.stays in omega arith
+
+-- all pieces are merged
+pub all_merged : (bx : Answer) (xs : List Piece) (by : Answer) (ys out : List Piece) (i j : ℕ) → Merging bx xs by ys out i j → length xs + length ys ≤ i + j → IsMerged bx xs by ys out
+all_merged bx xs by ys out i j m h =
+    let a = m.in_x in let b = m.in_y in let c = m.count in
+    record {
+      ordered = m.ordered;
+      count = omega arith;
+      answers = λ l. m.answers l ∙ rw (take_all i xs (omega arith), take_all j ys (omega arith)) refl;
+    }
+
+-- ---- a binary search
+
+-- a look at a piece that has started
+pub searched_later : (b : Answer) (ps : List Piece) (l : ℤ) (low middle high : ℕ) (kept after : Answer) (p : Piece) → AreInOrder ps → IsSearched b ps l low high kept → middle < high → p ≡ get_or ps middle p → p.start ≤ℤ l → after ≡ p.answer → IsSearched b ps l (middle + 1) high after
+searched_later b ps l low middle high kept after p order s h e le is = let w = s.within in record {
+  ordered = omega arith;
+  within = w;
+  below = λ k d m.
+      let same : get_or ps middle d ≡ p = get_or_default ps middle d p (omega arith) ∙ sym e in
+      let starts = ap (λ (q : Piece). q.start) same in
+      elim (cases_lt k middle) [
+        | inl n ↦ let r = order k middle d n (omega arith) in omega (arith, ints)
+        | inr n ↦ let i : k ≡ middle = omega arith in rw i (omega (arith, ints))
+      ];
+  above = s.above;
+  answer = is ∙ ap (λ (q : Piece). q.answer) e ∙ sym (ap (answer_before b) (take_more ps middle p (omega arith)) ∙ before_pushed b (take middle ps) (get_or ps middle p));
+}
+
+-- and at one that has not
+pub searched_earlier : (b : Answer) (ps : List Piece) (l : ℤ) (low middle high : ℕ) (kept after : Answer) (p : Piece) → AreInOrder ps → IsSearched b ps l low high kept → low ≤ middle → middle < high → p ≡ get_or ps middle p → l <ℤ p.start → after ≡ kept → IsSearched b ps l low middle after
+searched_earlier b ps l low middle high kept after p order s from h e lt is = let w = s.within in record {
+  ordered = from;
+  within = omega arith;
+  below = s.below;
+  above = λ k d a m.
+      let same : get_or ps middle d ≡ p = get_or_default ps middle d p (omega arith) ∙ sym e in
+      let starts = ap (λ (q : Piece). q.start) same in
+      elim (cases_lt middle k) [
+        | inl n ↦ let r = order middle k d n m in omega (arith, ints)
+        | inr n ↦ let i : k ≡ middle = omega arith in rw i (omega (arith, ints))
+      ];
+  answer = is ∙ s.answer;
+}
+
+pub all_searched : (b : Answer) (ps : List Piece) (l : ℤ) (low high : ℕ) (kept : Answer) → high ≤ low → IsSearched b ps l low high kept → kept ≡ answer_at b ps l
+all_searched b ps l low high kept h s =
+    let o = s.ordered in let w = s.within in
+    s.answer ∙ ap (answer_before b) (sym (filter_first (λ (p : Piece). int_le p.start l) ps low (omega arith) (λ k d m. le_true _ l (s.below k d m)) (λ k d m n. le_false _ l (s.above k d (omega arith) n))))
+
+pub latest_later : (kept after answer : Answer) (start l : ℤ) → after ≡ cond (int_le start l) answer kept → start ≤ℤ l → after ≡ answer
+latest_later kept after answer start l e h = rw (le_true start l h) at e
+
+pub latest_earlier : (kept after answer : Answer) (start l : ℤ) → after ≡ cond (int_le start l) answer kept → l <ℤ start → after ≡ kept
+latest_earlier kept after answer start l e h = rw (le_false start l h) at e

@@ -1,0 +1,28 @@
+-- A local time has one window, and one count of the transitions in it.
+use Rattle.std.proofs.Common.{◌≡◌, ℕ, ◌∙◌, sym, ap, arith, List, length, ℤ, ◌+ℤ◌, ◌-ℤ◌, ◌≤ℤ◌}
+use Rattle.std.proofs.lemmas.Int.{ints}
+use Rattle.std.proofs.lemmas.List.Elements.{All-contains}
+use Rattle.tz_info.specs.Leaps.{correction_at}
+use Rattle.tz_info.specs.Windows.{IsGreatest, IsLeast, between, IsWindowCount}
+use Rattle.tz_info.specs.Zones.{Zone}
+
+greatest_once : (xs : List ℤ) (g h : ℤ) → IsGreatest xs g → IsGreatest xs h → g ≡ h
+greatest_once xs g h a b =
+    let p = All-contains (λ x. x ≤ℤ h) xs g b.most a.among in
+    let q = All-contains (λ x. x ≤ℤ g) xs h a.most b.among in
+    omega (arith, ints)
+
+least_once : (xs : List ℤ) (g h : ℤ) → IsLeast xs g → IsLeast xs h → g ≡ h
+least_once xs g h a b =
+    let p = All-contains (λ x. h ≤ℤ x) xs g b.fewest a.among in
+    let q = All-contains (λ x. g ≤ℤ x) xs h a.fewest b.among in
+    omega (arith, ints)
+
+pub window_count_once : (z : Zone) (local : ℤ) (j k : ℕ) → IsWindowCount z local j → IsWindowCount z local k → j ≡ k
+window_count_once z local j k a b =
+    let v = a.window in
+    let w = b.window in
+    let leap : ℤ → ℤ = λ o. (local -ℤ o) +ℤ correction_at z.leaps (local -ℤ o) in
+    let low = v.is_low.sum ∙ ap leap (greatest_once _ v.greatest w.greatest v.is_greatest w.is_greatest) ∙ sym w.is_low.sum in
+    let high = v.is_high.sum ∙ ap leap (least_once _ v.least w.least v.is_least w.is_least) ∙ sym w.is_high.sum in
+    a.count ∙ ap (λ x. length (between z.transitions x a.high)) low ∙ ap (λ y. length (between z.transitions b.low y)) high ∙ sym b.count

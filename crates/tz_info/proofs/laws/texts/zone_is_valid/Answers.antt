@@ -1,0 +1,5 @@
+use Rattle.tz_info.proofs.PosixZoneLaws.{posix_zone_valid}
+use Rattle.tz_info.proofs.laws.texts.zone_is_valid.Goals as goal
+
+pub returns : goal.returns
+returns c = posix_zone_valid

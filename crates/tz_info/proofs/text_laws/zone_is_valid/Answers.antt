@@ -1,5 +1,0 @@
-use Rattle.tz_info.proofs.PosixZoneLaws.{posix_zone_valid}
-use Rattle.tz_info.proofs.text_laws.zone_is_valid.Goals as goal
-
-pub returns : goal.returns
-returns c = posix_zone_valid

@@ -1,0 +1,19 @@
+use Rattle.std.proofs.Common.{arith, w32, to_z-of_z}
+use mir.Val.{SFits}
+use Rattle.std.proofs.lemmas.Int.{ints}
+use Rattle.tz_info.proofs.zone.extremes.Extremes.with_rule.Goals as goal
+
+pub returns-in-Fixed : goal.returns-in-Fixed
+returns-in-Fixed c =
+    let ft : SFits w32 c.offset.result = let b = c.offset.ensures.bound in let v = c.offset.ensures.value in omega (arith, ints) in
+    rw c.in-Fixed.is (rw c.offset.ensures.value at (simp to_z-of_z at c.with.ensures))
+
+pub returns-in-Alternate : goal.returns-in-Alternate
+returns-in-Alternate c =
+    let fs : SFits w32 c.offset-in-Alternate.result = let b = c.offset-in-Alternate.ensures.bound in let v = c.offset-in-Alternate.ensures.value in omega (arith, ints) in
+    let fd : SFits w32 c.offset-in-Alternate-2.result = let b = c.offset-in-Alternate-2.ensures.bound in let v = c.offset-in-Alternate-2.ensures.value in omega (arith, ints) in
+    rw c.in-Alternate.is (
+      c.with-one.result,
+      rw (c.offset-in-Alternate.ensures.value, c.std.ensures.value) at (simp to_z-of_z at c.with-one.ensures),
+      rw (c.offset-in-Alternate-2.ensures.value, c.dst.ensures.value) at (simp to_z-of_z at c.with-in-Alternate.ensures),
+    )

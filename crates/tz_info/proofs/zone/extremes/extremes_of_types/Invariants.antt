@@ -1,0 +1,5 @@
+use Rattle.tz_info.specs.Steps.Extremes.{AreExtremesUntil}
+use Rattle.tz_info.proofs.zone.extremes.extremes_of_types.Given as goal
+
+abbrev pub invariant-loop-local_type : goal.invariant-loop-local_type
+invariant-loop-local_type l = AreExtremesUntil l.types l.local_type-index l.found

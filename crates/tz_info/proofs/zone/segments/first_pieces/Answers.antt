@@ -1,0 +1,18 @@
+use Rattle.std.proofs.Common.{arith, ◌<◌, to_z-of_z, w64, rules, length, ◌≡◌}
+use mir.Val.{SFits}
+use Rattle.std.proofs.lemmas.Bool.Decides.{nat_tests}
+use Rattle.tz_info.proofs.WallSegments.{only_pieces, first_pieces}
+use Rattle.tz_info.proofs.zone.segments.first_pieces.Goals as goal
+
+pub returns-then-is_empty : goal.returns-then-is_empty
+returns-then-is_empty c =
+    let t = c.if-is_empty.true in let e = c.is_empty.ensures in
+    let none : length c.args.lists.transitions.now ≡ 0 = grind (arith, nat_tests) in
+    rw c.new.ensures.items (only_pieces _ c.index_of_segment-index.result c.listed-local_type.result.now c.requires.valid c.requires.place none c.index_of_segment-index.ensures.index c.listed-local_type.ensures.listed c.listed-local_type.ensures.offset)
+
+pub returns : goal.returns
+returns c =
+    let t = c.if-is_empty.false in let e = c.is_empty.ensures in
+    let some : 0 < length c.args.lists.transitions.now = grind (arith, nat_tests) in
+    let fc : SFits w64 c.cut_of.result = search rules in
+    rw (simp to_z-of_z at c.in_ok-pieces.ensures.items) (first_pieces _ c.cut_of.result c.index_of_segment-index.result c.listed-local_type.result.now c.requires.valid c.requires.place some c.index_of_segment-index.ensures.index c.listed-local_type.ensures.listed c.listed-local_type.ensures.offset c.cut_of.ensures)

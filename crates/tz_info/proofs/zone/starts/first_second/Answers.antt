@@ -1,0 +1,29 @@
+use Rattle.std.proofs.Common.{◌-◌, pos, arith, to_z-of_z, w64, rules, get_or}
+use mir.Val.{SFits}
+use Rattle.tz_info.specs.Steps.Starts.{HaveCome}
+use Rattle.tz_info.specs.declared.zone.leap_second.LeapSecond.{LeapSecond}
+use Rattle.tz_info.proofs.LeapStarts.{reached_first, reached_behind, both_ways}
+use Rattle.tz_info.proofs.zone.starts.first_second.Goals as goal
+
+pub returns-then-come-eq0 : goal.returns-then-come-eq0
+returns-then-come-eq0 c = λ u y near l.
+    let fx = c.ranges.leap_time in
+    let none : HaveCome c.args.leaps.now c.args.leap_time 0 = rw c.if-come-eq0.true at (simp to_z-of_z at c.entries_come-come.ensures) in
+    simp to_z-of_z (reached_first c.args.leaps.now c.args.leap_time u y c.requires none l)
+
+abbrev none : LeapSecond
+none = record { unix_leap_time = pos 0; correction = pos 0 }
+
+pub returns : goal.returns
+returns c = λ u y near l.
+    let fx = c.ranges.leap_time in
+    let fp : SFits w64 c.saturating_sub-passed.result = search rules in
+    let fl : SFits w64 c.saturating_sub-led_back.result = search rules in
+    let ft : SFits w64 (get_or c.args.leaps.now (c.entries_come-come.result - 1) none).unix_leap_time = search rules in
+    let f1 : SFits w64 c.correction_behind.result = search rules in
+    let f2 : SFits w64 c.correction_behind-2.result = search rules in
+    let come = simp to_z-of_z at c.entries_come-come.ensures in
+    let p = rw c.correction_behind.ensures at (simp to_z-of_z at c.saturating_sub-passed.ensures) in
+    let q = rw c.correction_behind-2.ensures at (simp to_z-of_z at c.saturating_sub-led_back.ensures) in
+    let fr : SFits w64 c.later.result = search rules in
+    simp to_z-of_z (both_ways (reached_behind c.args.leaps.now c.args.leap_time u y _ _ c.entries_come-come.result none c.requires come (omega arith) p q near l) (simp to_z-of_z at c.later.ensures u))

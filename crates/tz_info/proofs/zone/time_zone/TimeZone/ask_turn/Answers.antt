@@ -1,0 +1,53 @@
+use Rattle.std.proofs.Common.{arith, ◌-ℤ◌, length, w32, w64, to_z-of_z, rules}
+use mir.Val.{SFits}
+use Rattle.std.proofs.lemmas.Int.{ints}
+use Rattle.tz_info.specs.Leaps.{IsNear}
+use Rattle.tz_info.specs.WallPieces.{IsStart}
+use Rattle.tz_info.specs.declared.rule.transition_rule.TransitionRule.TheVariants.{Alternate}
+use Rattle.tz_info.proofs.WalkLaws.{asked_early, asked_found, asked_other}
+use Rattle.tz_info.proofs.zone.time_zone.TimeZone.ask_turn.Goals as goal
+
+pub returns-then-second-rule_from-clause-asked : goal.returns-then-second-rule_from-clause-asked
+returns-then-second-rule_from-clause-asked c =
+    let fl = c.ranges.local in
+    let ff : SFits w64 c.rule_from.result = search rules in
+    let from = c.rule_from.ensures in
+    let valid = c.local_time_types-types.ensures.valid in
+    let begun : IsStart c.args.self.now.transitions c.args.self.now.leaps (length c.args.self.now.transitions) c.self.inside.index.rule_from = rw (← c.self.view_is) c.self.invariant.index.rule_from in
+    let fo = c.ranges.offset in
+    let go : SFits w64 c.args.offset = omega (arith, ints) in
+    let gu : SFits w64 (c.args.local -ℤ c.args.offset) = omega (arith, ints) in
+    let low = c.requires.local.0 in let high = c.requires.local.1 in
+    let near : IsNear (c.args.local -ℤ c.args.offset) = (omega (arith, ints), omega (arith, ints)) in
+    asked_early c.args.self.now c.args.local c.args.offset c.self.inside.index.rule_from c.args.answer valid near begun (omega (arith, ints))
+
+pub returns-then-offset-clause-asked : goal.returns-then-offset-clause-asked
+returns-then-offset-clause-asked c =
+    let fl = c.ranges.local in
+    let ff : SFits w64 c.rule_from.result = search rules in
+    let from = c.rule_from.ensures in
+    let valid = c.local_time_types-types.ensures.valid in
+    let begun : IsStart c.args.self.now.transitions c.args.self.now.leaps (length c.args.self.now.transitions) c.self.inside.index.rule_from = rw (← c.self.view_is) c.self.invariant.index.rule_from in
+    let fo = c.ranges.offset in
+    let go : SFits w64 c.args.offset = omega (arith, ints) in
+    let gu : SFits w64 (c.args.local -ℤ c.args.offset) = omega (arith, ints) in
+    let low = c.requires.local.0 in let high = c.requires.local.1 in
+    let near : IsNear (c.args.local -ℤ c.args.offset) = (omega (arith, ints), omega (arith, ints)) in
+    let ft : SFits w32 c.offset.result = let b = c.offset.ensures.bound in let v = c.offset.ensures.value in omega (arith, ints) in
+    asked_found c.args.self.now c.args.local c.args.offset c.self.inside.index.rule_from (Alternate c.args.turns.now) c.type_in-found.result.now c.args.answer c.joined.result valid c.requires.rule near begun (omega (arith, ints))
+    (simp to_z-of_z at c.type_in-found.ensures) (let v = c.offset.ensures.value in omega (arith, ints)) gu c.joined.ensures
+
+pub returns-clause-asked : goal.returns-clause-asked
+returns-clause-asked c =
+    let fl = c.ranges.local in
+    let ff : SFits w64 c.rule_from.result = search rules in
+    let from = c.rule_from.ensures in
+    let valid = c.local_time_types-types.ensures.valid in
+    let begun : IsStart c.args.self.now.transitions c.args.self.now.leaps (length c.args.self.now.transitions) c.self.inside.index.rule_from = rw (← c.self.view_is) c.self.invariant.index.rule_from in
+    let fo = c.ranges.offset in
+    let go : SFits w64 c.args.offset = omega (arith, ints) in
+    let gu : SFits w64 (c.args.local -ℤ c.args.offset) = omega (arith, ints) in
+    let low = c.requires.local.0 in let high = c.requires.local.1 in
+    let near : IsNear (c.args.local -ℤ c.args.offset) = (omega (arith, ints), omega (arith, ints)) in
+    let ft : SFits w32 c.offset.result = let b = c.offset.ensures.bound in let v = c.offset.ensures.value in omega (arith, ints) in
+    asked_other c.args.self.now c.args.local c.args.offset (Alternate c.args.turns.now) c.type_in-found.result.now c.args.answer valid c.requires.rule (simp to_z-of_z at c.type_in-found.ensures) (λ e. let v = c.offset.ensures.value in omega (arith, ints))

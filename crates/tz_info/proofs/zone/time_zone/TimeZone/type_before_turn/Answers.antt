@@ -1,0 +1,13 @@
+use Rattle.std.proofs.Common.{◌≡◌, ap, sym, ◌∙◌, None, to_z-of_z}
+use Rattle.tz_info.specs.Zones.{Zone}
+use Rattle.tz_info.proofs.GapLaws.{none_ends}
+use Rattle.tz_info.proofs.zone.time_zone.TimeZone.type_before_turn.Goals as goal
+
+pub unreachable-requires : goal.unreachable-requires
+unreachable-requires c =
+    let known = c.local_time_types-types.ensures in
+    let none : c.args.self.now.rule ≡ None = ap (λ (z : Zone). z.rule) (sym c.self.view_is) ∙ c.in-None.is in
+    none_ends c.args.self.now c.args.local c.args.reach.low c.args.reach.high known.valid known.rule c.requires.never none c.requires.reach c.requires.less
+
+pub returns : goal.returns
+returns c = let fl = c.ranges.local in simp to_z-of_z at c.type_before_rule_turn.ensures

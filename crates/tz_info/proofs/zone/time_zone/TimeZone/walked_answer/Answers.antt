@@ -1,0 +1,121 @@
+use Rattle.std.proofs.Common.{arith, ap, sym, ◌∙◌, ◌≡◌, length, w64, to_z-of_z, rules}
+use mir.Val.{SFits}
+use Rattle.std.proofs.lemmas.Int.{ints}
+use Rattle.tz_info.specs.Counts.{Counts}
+use Rattle.tz_info.specs.declared.zone.transition.Transition.{Transition}
+use Rattle.tz_info.proofs.DigitLaws.{digits-le}
+use Rattle.tz_info.proofs.SegmentLaws.{between_passed, begin_next, index_next}
+use Rattle.tz_info.proofs.WalkLaws.{none_before, tried_before, none_behind, all_segments, walked_most, rose_by_walk, inside_more}
+use Rattle.tz_info.proofs.zone.time_zone.TimeZone.walked_answer.Goals as goal
+
+pub passed_count-first-requires : goal.passed_count-first-requires
+passed_count-first-requires c = let n = c.transition_count-count.ensures in let r = c.requires.room.reads in omega (arith, digits-le (length c.args.self.now.transitions))
+
+pub latest-current-requires-clause-room : goal.latest-current-requires-clause-room
+latest-current-requires-clause-room c = let k = c.passed_count-first.ensures.cost in let n = c.transition_count-count.ensures in omega (arith, digits-le (length c.args.self.now.transitions))
+
+pub loop-place-init : goal.loop-place-init
+loop-place-init c =
+    let fl = c.ranges.local in
+    let fw : SFits w64 c.window-window.result.low = search rules in
+    let fh : SFits w64 c.window-window.result.high = search rules in
+    let valid = c.window-window.ensures.valid in
+    let w = simp to_z-of_z at c.window-window.ensures.window in
+    let b = between_passed c.args.self.now.transitions c.window-window.result.low c.passed_count-first.result valid.transitions.rising c.passed_count-first.ensures.within (simp to_z-of_z at c.passed_count-first.ensures.passed) in
+    let p = c.passed_count-first.ensures.cost in let q = c.latest-current.ensures.cost in
+    record {
+      found = simp to_z-of_z (none_before c.args.self.now c.args.local c.window-window.result.low c.window-window.result.high c.passed_count-first.result valid w b);
+      begin = c.latest-current.ensures.begin;
+      index = c.latest-current.ensures.index;
+      listed = c.latest-current.ensures.listed;
+      inside = λ k d l m. absurd (omega arith);
+      kept = omega arith;
+      cost = omega arith;
+      questions = omega arith;
+      pieces = q.pieces_same ∙ p.pieces_same;
+      looked = λ h. let l = c.passed_count-first.ensures.looked h in let m = q.reads_kept in omega arith;
+    }
+
+pub transition-next-requires-clause-room : goal.transition-next-requires-clause-room
+transition-next-requires-clause-room c = let k = c.loop-place.invariant.cost in let n = c.transition_count-count.ensures in let r = c.requires.room.reads in omega (arith, digits-le (length c.args.self.now.transitions))
+
+pub returns-then-window-next-clause-found : goal.returns-then-window-next-clause-found
+returns-then-window-next-clause-found c =
+    let fl = c.ranges.local in
+    let fw : SFits w64 c.window-window.result.low = search rules in
+    let fh : SFits w64 c.window-window.result.high = search rules in
+    let valid = c.window-window.ensures.valid in
+    let w = simp to_z-of_z at c.window-window.ensures.window in
+    let b = between_passed c.args.self.now.transitions c.window-window.result.low c.passed_count-first.result valid.transitions.rising c.passed_count-first.ensures.within (simp to_z-of_z at c.passed_count-first.ensures.passed) in
+    let fn : SFits w64 c.transition-next.result.unix_leap_time = search rules in
+    let i = c.loop-place.invariant in
+    let time = ap (λ (t : Transition). t.unix_leap_time) c.transition-next.ensures.item in
+    let tried = rw i.index at (simp to_z-of_z at c.try_until-answer.ensures) in
+    let next = tried_before c.args.self.now c.args.local c.loop-place.place c.loop-place.current.unix_leap_time c.transition-next.result.unix_leap_time c.transition-next.result c.loop-place.answer c.try_until-answer.result valid (omega arith) i.begin time tried (simp to_z-of_z at i.found) in
+    none_behind c.args.self.now c.args.local c.window-window.result.low c.window-window.result.high c.loop-place.place c.transition-next.result c.try_until-answer.result valid w (omega arith) (omega (arith, ints)) next
+
+pub returns-then-window-next-clause-cost : goal.returns-then-window-next-clause-cost
+returns-then-window-next-clause-cost c =
+    let fl = c.ranges.local in
+    let fw : SFits w64 c.window-window.result.low = search rules in
+    let fh : SFits w64 c.window-window.result.high = search rules in
+    let valid = c.window-window.ensures.valid in
+    let w = simp to_z-of_z at c.window-window.ensures.window in
+    let b = between_passed c.args.self.now.transitions c.window-window.result.low c.passed_count-first.result valid.transitions.rising c.passed_count-first.ensures.within (simp to_z-of_z at c.passed_count-first.ensures.passed) in
+    let i = c.loop-place.invariant in
+    let counted = ap (λ (p : Counts). p.reads) c.transition-next.ensures.cost in
+    let asked = ap (λ (p : Counts). p.rule_questions) c.transition-next.ensures.cost in
+    let walked = walked_most c.args.self.now.transitions c.window-window.result.low c.window-window.result.high c.passed_count-first.result c.loop-place.place b (omega arith) i.inside in
+    rose_by_walk c.args.self.now c.args.local c.window-window.result.low c.window-window.result.high c.args.probes.now c.transition-next.new.probes c.passed_count-first.result c.loop-place.place (λ h. let l = i.looked h in omega arith) (ap (λ (p : Counts). p.piece_reads) c.transition-next.ensures.cost ∙ i.pieces) w walked (omega arith) (omega arith) (omega arith) (omega arith)
+
+pub loop-place-preserved : goal.loop-place-preserved
+loop-place-preserved c =
+    let fl = c.ranges.local in
+    let fw : SFits w64 c.window-window.result.low = search rules in
+    let fh : SFits w64 c.window-window.result.high = search rules in
+    let valid = c.window-window.ensures.valid in
+    let w = simp to_z-of_z at c.window-window.ensures.window in
+    let b = between_passed c.args.self.now.transitions c.window-window.result.low c.passed_count-first.result valid.transitions.rising c.passed_count-first.ensures.within (simp to_z-of_z at c.passed_count-first.ensures.passed) in
+    let fn : SFits w64 c.transition-next.result.unix_leap_time = search rules in
+    let i = c.loop-place.invariant in
+    let time = ap (λ (t : Transition). t.unix_leap_time) c.transition-next.ensures.item in
+    let index = ap (λ (t : Transition). t.type_index) c.transition-next.ensures.item in
+    let tried = rw i.index at (simp to_z-of_z at c.try_until-answer.ensures) in
+    let next = tried_before c.args.self.now c.args.local c.loop-place.place c.loop-place.current.unix_leap_time c.transition-next.result.unix_leap_time c.transition-next.result c.loop-place.answer c.try_until-answer.result valid (omega arith) i.begin time tried (simp to_z-of_z at i.found) in
+    let counted = ap (λ (p : Counts). p.reads) c.transition-next.ensures.cost in
+    let asked = ap (λ (p : Counts). p.rule_questions) c.transition-next.ensures.cost in
+    record {
+      found = simp to_z-of_z next;
+      begin = time ∙ sym (begin_next c.args.self.now.transitions c.loop-place.place c.transition-next.result (omega arith));
+      index = index ∙ sym (index_next c.args.self.now.transitions c.loop-place.place c.transition-next.result (omega arith));
+      listed = c.transition-next.ensures.index;
+      inside = inside_more c.args.self.now.transitions c.window-window.result.high c.passed_count-first.result c.loop-place.place c.transition-next.result (omega arith) i.inside c.transition-next.ensures.item (omega (arith, ints));
+      kept = omega arith;
+      cost = omega arith;
+      questions = asked ∙ i.questions;
+      pieces = ap (λ (p : Counts). p.piece_reads) c.transition-next.ensures.cost ∙ i.pieces;
+      looked = λ h. let l = i.looked h in omega arith;
+    }
+
+pub try_last-requires-clause-seen : goal.try_last-requires-clause-seen
+try_last-requires-clause-seen c =
+    let e : c.loop-place.place ≡ length c.args.self.now.transitions = omega arith in
+    rw e at c.loop-place.invariant.found
+
+pub returns-clause-found : goal.returns-clause-found
+returns-clause-found c =
+    let fl = c.ranges.local in
+    all_segments c.args.self.now c.args.local c.try_last.result c.window-window.ensures.valid.transitions.rising (simp to_z-of_z at c.try_last.ensures.found)
+
+pub returns-clause-cost : goal.returns-clause-cost
+returns-clause-cost c =
+    let fl = c.ranges.local in
+    let fw : SFits w64 c.window-window.result.low = search rules in
+    let fh : SFits w64 c.window-window.result.high = search rules in
+    let valid = c.window-window.ensures.valid in
+    let w = simp to_z-of_z at c.window-window.ensures.window in
+    let b = between_passed c.args.self.now.transitions c.window-window.result.low c.passed_count-first.result valid.transitions.rising c.passed_count-first.ensures.within (simp to_z-of_z at c.passed_count-first.ensures.passed) in
+    let i = c.loop-place.invariant in
+    let k = c.try_last.ensures.cost in
+    let walked = walked_most c.args.self.now.transitions c.window-window.result.low c.window-window.result.high c.passed_count-first.result c.loop-place.place b (omega arith) i.inside in
+    rose_by_walk c.args.self.now c.args.local c.window-window.result.low c.window-window.result.high c.args.probes.now c.try_last.new.probes c.passed_count-first.result c.loop-place.place (λ h. let l = i.looked h in let n = k.reads_kept in omega arith) (k.pieces_same ∙ i.pieces) w walked (omega arith) (omega arith) (omega arith) (omega arith)

@@ -1,0 +1,24 @@
+-- How many looks a zone's lookups take: the bounds, each in one place.
+use Rattle.std.specs.Prelude.{ℕ, ℤ, ◌+◌, ◌*◌, ◌<◌, length}
+use Rattle.tz_info.specs.Counts.{Counts, RoseWithin, RoseByPieces}
+use Rattle.tz_info.specs.Digits.{digits}
+use Rattle.tz_info.specs.Windows.{IsWindowCount}
+use Rattle.tz_info.specs.Zones.{Zone}
+
+-- by instant: the looks of one search in the transitions and one more, and one question to the rule
+abbrev pub RoseByInstant : Zone → Counts → Counts → Type 0
+RoseByInstant z before after = RoseWithin before after (digits (length z.transitions) + 1) 1
+
+-- by wall clock: the looks of one search in the pieces of the index, one at least where there is a transition, and two
+-- questions
+pub record RoseByWallClock (z : Zone) (before after : Counts) : Type 0 where
+  pub most : RoseByPieces before after (digits (2 * length z.transitions + 1)) 2
+  pub least : 0 < length z.transitions → before.piece_reads < after.piece_reads
+
+-- by wall clock without the index: the looks of one search in the transitions, one for each transition of the window and two
+-- more, one at least where there is a transition, and two questions
+pub record RoseByWalk (z : Zone) (local : ℤ) (before after : Counts) : Type 0 where
+  pub window : ℕ
+  pub counted : IsWindowCount z local window
+  pub most : RoseWithin before after (digits (length z.transitions) + window + 2) 2
+  pub least : 0 < length z.transitions → before.reads < after.reads

@@ -1,0 +1,55 @@
+-- Reading the lists of a TZif file, and what its reader answers.
+use Rattle.std.specs.Prelude.{ℕ, ◌≡◌, ◌⊎◌, ◌*◌, ◌+◌, Result, Ok, Err, List, length, Option, option_map}
+use Rattle.tz_info.specs.Errors.{number_of}
+use Rattle.tz_info.specs.LocalTypes.{LocalType}
+use Rattle.tz_info.specs.Zones.{Zone}
+use Rattle.tz_info.specs.Fronts.{◌>>=◌}
+use Rattle.tz_info.specs.FileBlocks.{parts_of}
+use Rattle.tz_info.specs.FilePieces.{FilePieces}
+use Rattle.tz_info.specs.Steps.ContentReading.{values_below, transition_in, leap_second_in, type_in, indicators_of}
+use Rattle.tz_info.specs.Steps.FooterReading.{footer_of}
+use Rattle.tz_info.specs.declared.error.Error.{Error}
+use Rattle.tz_info.specs.declared.error.Error.TheVariants.{OutOfMemory}
+use Rattle.tz_info.specs.declared.rule.transition_rule.TransitionRule.{TransitionRule}
+use Rattle.tz_info.specs.declared.file.reader.Pieces.{Pieces}
+use Rattle.tz_info.specs.declared.file.reader.Lists.{Lists}
+
+abbrev pub pieces_of : Pieces → FilePieces
+pieces_of p = record {
+  extended = p.extended;
+  time_size = p.time_size;
+  counts = p.counts;
+  parts = parts_of p.block;
+  footer = option_map (λ f. f.now) p.footer;
+}
+
+abbrev pub zone_of : Lists → Zone
+zone_of l = record { transitions = l.transitions.items; types = l.types.items; leaps = l.leap_seconds.items; rule = l.rule }
+
+-- the parts are as long as the counts say
+pub record HasLengths (p : FilePieces) : Type 0 where
+  pub time_size : (p.time_size ≡ 4) ⊎ (p.time_size ≡ 8)
+  pub times : length p.parts.times ≡ p.counts.transitions * p.time_size
+  pub type_indexes : length p.parts.type_indexes ≡ p.counts.transitions
+  pub types : length p.parts.types ≡ p.counts.types * 6
+  pub leap_seconds : length p.parts.leap_seconds ≡ p.counts.leap_seconds * (p.time_size + 4)
+
+unfoldable pub with_rule : FilePieces → List LocalType → Option TransitionRule → Result Zone ℕ
+with_rule p types rule = do
+  transitions ← values_below p.counts.transitions (transition_in p.time_size p.parts.times p.parts.type_indexes)
+  leaps ← values_below p.counts.leap_seconds (leap_second_in p.time_size p.parts.leap_seconds)
+  Ok (record { transitions = transitions; types = types; leaps = leaps; rule = rule })
+
+unfoldable pub with_types : FilePieces → List LocalType → Result Zone ℕ
+with_types p types = do
+  agree ← indicators_of p.parts.standard_wall p.parts.ut_local
+  rule ← footer_of p.extended p.footer
+  with_rule p types rule
+
+unfoldable pub lists_in : FilePieces → Result Zone ℕ
+lists_in p = values_below p.counts.types (type_in p.parts.designations p.parts.types) >>= λ types. with_types p types
+
+-- what the pieces of a file say, unless memory runs out, which is answered only where every piece is there
+abbrev pub Reads : Result Lists Error → Result FilePieces ℕ → Type 0
+Reads (Ok lists) read = (p : FilePieces) × (read ≡ Ok p) × (lists_in p ≡ Ok (zone_of lists))
+Reads (Err e) read = (read ≡ Err (number_of e)) ⊎ ((p : FilePieces) × (read ≡ Ok p) × ((e ≡ OutOfMemory) ⊎ (lists_in p ≡ Err (number_of e))))

@@ -1,0 +1,51 @@
+-- Reading the footer of a TZif file: its rule, or the number of the refusal.
+use Rattle.std.specs.Prelude.{ℕ, ◌==◌, ◌&&◌, ◌||◌, Bool, if◌then◌else◌, List, [], ◌∷◌, slice_index, Result, Ok, Err, Option, Some, None}
+use Rattle.std.specs.Bool.{nat_eq}
+use Rattle.std.specs.List.{list_any, starts_with, ends_with}
+use Rattle.std.specs.Str.{is_utf8}
+use Rattle.std.specs.Char.{is_ascii_whitespace}
+use Rattle.tz_info.specs.Fronts.{◌>>=◌}
+use Rattle.tz_info.specs.FileContents.{is_zero}
+use Rattle.tz_info.specs.Steps.Readings.{text_at}
+use Rattle.tz_info.specs.declared.rule.transition_rule.TransitionRule.{TransitionRule}
+
+abbrev pub trimmed_front : List ℕ → List ℕ
+trimmed_front [] = []
+trimmed_front (b ∷ bs) = if is_ascii_whitespace b then trimmed_front bs else b ∷ bs
+
+abbrev pub unless_space : ℕ → List ℕ → List ℕ
+unless_space b [] = if is_ascii_whitespace b then [] else b ∷ []
+unless_space b (c ∷ cs) = b ∷ c ∷ cs
+
+abbrev pub trimmed_back : List ℕ → List ℕ
+trimmed_back [] = []
+trimmed_back (b ∷ bs) = unless_space b (trimmed_back bs)
+
+-- without the white space at both ends
+unfoldable pub trimmed : List ℕ → List ℕ
+trimmed bytes = trimmed_back (trimmed_front bytes)
+
+abbrev pub is_between_newlines : List ℕ → Bool
+is_between_newlines bytes = starts_with nat_eq bytes (10 ∷ []) && ends_with nat_eq bytes (10 ∷ [])
+
+abbrev pub is_no_text : List ℕ → Bool
+is_no_text text = (slice_index text 0 == 58) || list_any is_zero text
+
+-- the rule of a TZ text, which goes to the end
+unfoldable pub rule_in : Bool → List ℕ → Result TransitionRule ℕ
+rule_in extended text = text_at extended text >>= λ p. Ok p.0
+
+abbrev pub rule_or_none : Bool → List ℕ → Result (Option TransitionRule) ℕ
+rule_or_none extended [] = Ok None
+rule_or_none extended (b ∷ bs) = rule_in extended (b ∷ bs) >>= λ r. Ok (Some r)
+
+abbrev pub text_or_none : Bool → List ℕ → Result (Option TransitionRule) ℕ
+text_or_none extended text = if is_no_text text then Err 5 else rule_or_none extended text
+
+unfoldable pub footer_at : Bool → List ℕ → Result (Option TransitionRule) ℕ
+footer_at extended bytes =
+    if is_utf8 bytes then (if is_between_newlines bytes then text_or_none extended (trimmed bytes) else Err 5) else Err 16
+
+abbrev pub footer_of : Bool → Option (List ℕ) → Result (Option TransitionRule) ℕ
+footer_of extended None = Ok None
+footer_of extended (Some bytes) = footer_at extended bytes

@@ -1,0 +1,28 @@
+-- Two lists of pieces, merged into one.
+use Rattle.std.specs.Prelude.{ℕ, ◌≡◌, ◌+◌, ◌<◌, ◌⊎◌, List, length, slice_index_or, ℤ, ◌≤ℤ◌}
+use Rattle.offset_core.specs.declared.local_result.LocalResult.{LocalResult}
+use Rattle.tz_info.specs.Steps.Answers.{joined}
+use Rattle.tz_info.specs.WallPieces.{AreInOrder, answer_at}
+use Rattle.tz_info.specs.declared.zone.pieces.Piece.{Piece}
+
+-- what the pieces of earlier seconds and those of later ones give together
+pub record IsMerged (before_first : LocalResult ℕ) (first : List Piece) (before_last : LocalResult ℕ) (last : List Piece) (pieces : List Piece) : Type 0 where
+  pub ordered : AreInOrder pieces
+  pub count : length pieces ≡ length first + length last
+  pub answers : (local : ℤ) → answer_at (joined before_first before_last) pieces local ≡ joined (answer_at before_first first local) (answer_at before_last last local)
+
+-- the piece at place i of xs comes before that at place j of ys, if there is one
+pub record IsNext (xs : List Piece) (i : ℕ) (ys : List Piece) (j : ℕ) : Type 0 where
+  pub inside : i < length xs
+  pub least : (d : Piece) → j < length ys → (slice_index_or xs i d).start ≤ℤ (slice_index_or ys j d).start
+
+-- the piece at place i of xs comes next, and starts there
+pub record IsStepTo (xs : List Piece) (i : ℕ) (ys : List Piece) (j : ℕ) (start : ℤ) (i_after j_after : ℕ) : Type 0 where
+  pub next : IsNext xs i ys j
+  pub starts : (d : Piece) → start ≡ (slice_index_or xs i d).start
+  pub passed : i_after ≡ i + 1
+  pub stays : j_after ≡ j
+
+-- the next piece of the two lists is passed
+abbrev pub IsStep : List Piece → ℕ → List Piece → ℕ → ℤ → ℕ → ℕ → Type 0
+IsStep xs i ys j start i_after j_after = IsStepTo xs i ys j start i_after j_after ⊎ IsStepTo ys j xs i start j_after i_after

@@ -1,0 +1,51 @@
+-- The pieces of some neighbouring segments, and the search in them.
+use Rattle.std.specs.Prelude.{ℕ, zero, suc, ℤ, ◌≡◌, ◌+◌, ◌*◌, ◌<◌, ◌≤◌, ◌≤ℤ◌, ◌<ℤ◌, if◌then◌else◌, nat_lt, List, length, take, slice_index_or, slice_get, Some as some}
+use Rattle.naive_base.specs.Range.{IsWide}
+use Rattle.offset_core.specs.WallAnswer.{IsWallAnswer}
+use Rattle.offset_core.specs.declared.local_result.LocalResult.{LocalResult}
+use Rattle.offset_core.specs.declared.local_result.LocalResult.TheVariants.{None, Single, Ambiguous}
+use Rattle.tz_info.specs.LocalTypes.{LocalType}
+use Rattle.tz_info.specs.WallPieces.{AreInOrder, ListedAmong, answer_before, answer_at}
+use Rattle.tz_info.specs.Zones.{Zone}
+use Rattle.tz_info.specs.declared.zone.pieces.Piece.{Piece}
+use Rattle.tz_info.specs.declared.zone.segments.Lists.{Lists}
+
+-- the zone of lists that are lent
+abbrev pub zone_in : Lists → Zone
+zone_in l = record { transitions = l.transitions.now; types = l.types.now; leaps = l.leaps.now; rule = l.rule.now }
+
+-- the answer's indexes stand in a list of so many
+abbrev pub AreBelow : ℕ → LocalResult ℕ → Type 0
+AreBelow n None = Unit {0}
+AreBelow n (Single i) = i < n
+AreBelow n (Ambiguous i j) = (i < n) × (j < n)
+
+-- the answer's types are those of the other's indexes
+abbrev pub AreListed : List LocalType → LocalResult ℕ → LocalResult LocalType → Type 0
+AreListed types None None = Unit {0}
+AreListed types (Single i) (Single t) = slice_get types i ≡ some t
+AreListed types (Ambiguous i j) (Ambiguous s t) = (slice_get types i ≡ some s) × (slice_get types j ≡ some t)
+AreListed types _ _ = ⊥
+
+-- the pieces below `low` start at or before the local time and the last of them answers, and those from `high` on start after it
+pub record IsSearched (before : LocalResult ℕ) (pieces : List Piece) (local : ℤ) (low high : ℕ) (kept : LocalResult ℕ) : Type 0 where
+  pub ordered : low ≤ high
+  pub within : high ≤ length pieces
+  pub below : (k : ℕ) (d : Piece) → k < low → (slice_index_or pieces k d).start ≤ℤ local
+  pub above : (k : ℕ) (d : Piece) → high ≤ k → k < length pieces → local <ℤ (slice_index_or pieces k d).start
+  pub answer : kept ≡ answer_before before (take low pieces)
+
+-- one piece less where the first segment is among them, which has no start, and one less where the last is, which has no end
+abbrev pub opening : ℕ → ℕ
+opening zero = 1
+opening (suc low) = 0
+
+abbrev pub closing : ℕ → ℕ → ℕ
+closing n high = if nat_lt n high then 1 else 0
+
+-- the pieces answer for the segments from `low` on and before `high`
+pub record ArePieces (z : Zone) (low high : ℕ) (before : LocalResult ℕ) (pieces : List Piece) : Type 0 where
+  pub ordered : AreInOrder pieces
+  pub most : length pieces + opening low + closing (length z.transitions) high + 2 * low ≤ 2 * high
+  pub some : low ≡ 0 → 0 < length z.transitions → 0 < length pieces
+  pub answers : (local : ℤ) → IsWide local → IsWallAnswer (ListedAmong z low high local) (answer_at before pieces local)

@@ -1,0 +1,12 @@
+-- What a zone keeps beside its lists.
+use Rattle.tz_info.specs.Steps.Extremes.{AreExtremes}
+use Rattle.tz_info.specs.WallPieces.{WallIndex, IsIndex}
+use Rattle.tz_info.specs.Windows.{offsets}
+use Rattle.tz_info.specs.Zones.{Zone, IsValid}
+use Rattle.tz_info.specs.declared.zone.extremes.Extremes.{Extremes}
+
+-- a valid zone with its least and greatest offset and its index, which were made from its lists when it was
+pub record IsPrepared (z : Zone) (found : Extremes) (made : WallIndex) : Type 0 where
+  pub valid : IsValid z
+  pub extremes : AreExtremes (offsets z.types z.rule) found
+  pub index : IsIndex z made

@@ -1,0 +1,21 @@
+-- From which second on a transition has come, and which local time a clock shows then.
+use Rattle.std.specs.Prelude.{ℕ, ℤ, ◌<◌, ◌≤◌, ◌-ℤ◌, ◌≤ℤ◌, ◌↔◌, List, length, slice_index_or}
+use Rattle.naive_base.specs.Range.{IsWide}
+use Rattle.tz_info.specs.Leaps.{IsLeapTime, IsNear}
+use Rattle.tz_info.specs.Transitions.{passed}
+use Rattle.tz_info.specs.declared.zone.leap_second.LeapSecond.{LeapSecond}
+use Rattle.tz_info.specs.declared.zone.transition.Transition.{Transition}
+
+-- the leap time x has come exactly from the second `start` on
+abbrev pub IsReachedFrom : List LeapSecond → ℤ → ℤ → Type 0
+IsReachedFrom leaps x start = (u y : ℤ) → IsNear u → IsLeapTime leaps u y → (x ≤ℤ y) ↔ (start ≤ℤ u)
+
+-- the first n entries come at or before the leap time x, and the others after it
+pub record HaveCome (leaps : List LeapSecond) (x : ℤ) (n : ℕ) : Type 0 where
+  pub within : n ≤ length leaps
+  pub before : (k : ℕ) (d : LeapSecond) → k < n → (slice_index_or leaps k d).unix_leap_time ≤ℤ x
+  pub after : (k : ℕ) (d : LeapSecond) → n ≤ k → k < length leaps → ¬ ((slice_index_or leaps k d).unix_leap_time ≤ℤ x)
+
+-- where clocks of that offset show `cut` or later, `count` transitions have come, and where they show less, fewer
+abbrev pub IsCut : List Transition → List LeapSecond → ℕ → ℤ → ℤ → Type 0
+IsCut transitions leaps count offset cut = (local x : ℤ) → IsWide local → IsLeapTime leaps (local -ℤ offset) x → (count ≤ length (passed transitions x)) ↔ (cut ≤ℤ local)

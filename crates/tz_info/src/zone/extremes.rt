@@ -1,0 +1,75 @@
+//! The least and the greatest offset of a zone.
+
+ghost use Rattle.std.specs.Prelude.{◌<◌, length};
+ghost use Rattle.tz_info.specs.Steps.Extremes.{AreExtremes, AreJoined, AreJoinedByRule, offsets_of};
+ghost use Rattle.tz_info.specs.Windows.{offsets};
+
+use crate::local_time_type::LocalTimeType;
+use crate::rule::TransitionRule;
+
+/// The least and the greatest of some offsets, in seconds east of UTC.
+#[derive(Clone, Copy, Debug)]
+pub(super) struct Extremes {
+    pub(super) least: i32,
+    pub(super) greatest: i32,
+}
+
+impl Extremes {
+    /// Those of one offset more.
+    fn with(self, offset: i32) -> Extremes
+        ensures { AreJoined self offset result }
+    {
+        let least = if offset < self.least {
+            offset
+        } else {
+            self.least
+        };
+        let greatest = if self.greatest < offset {
+            offset
+        } else {
+            self.greatest
+        };
+        Extremes { least, greatest }
+    }
+
+    /// Those of the offsets of the rule's types more.
+    fn with_rule(self, rule: &TransitionRule) -> Extremes
+        ensures { AreJoinedByRule self rule.now result }
+    {
+        match rule {
+            TransitionRule::Fixed(only) => self.with(only.offset()),
+            TransitionRule::Alternate(turns) => {
+                let one = self.with(turns.std().offset());
+                one.with(turns.dst().offset())
+            }
+        }
+    }
+}
+
+/// Those of the offsets of the types and of the rule, in one pass.
+pub(super) fn extremes_of(types: &[LocalTimeType], rule: &Option<TransitionRule>) -> Extremes
+    requires { 0 < length types.now }
+    ensures { AreExtremes (offsets types.now rule.now) result }
+{
+    let found = extremes_of_types(types);
+    match rule {
+        None => found,
+        Some(rule) => found.with_rule(rule),
+    }
+}
+
+/// Those of the offsets of the types.
+fn extremes_of_types(types: &[LocalTimeType]) -> Extremes
+    requires { 0 < length types.now }
+    ensures { AreExtremes (offsets_of types.now) result }
+{
+    let first = types[0].offset();
+    let mut found = Extremes {
+        least: first,
+        greatest: first,
+    };
+    for local_type in types {
+        found = found.with(local_type.offset());
+    }
+    found
+}

@@ -1,0 +1,114 @@
+//! Pieces of the wall-clock axis: on each of them local times have one answer.
+
+ghost use Rattle.std.specs.Prelude.{◌≡◌, ◌+◌, ◌<◌, ◌≤◌, length, take, int_le, if◌then◌else◌, IsTrue, IsFalse, MatchResult};
+ghost use Rattle.tz_info.specs.Steps.Merging.{IsMerged, IsNext, IsStep};
+ghost use Rattle.tz_info.specs.WallPieces.{answer_before, AreInOrder};
+ghost use Rattle.tz_info.specs.declared.error.Error.TheVariants.{OutOfMemory};
+
+use crate::error::Error;
+use crate::zone::answers::joined;
+use offset_core::MappedLocalTime;
+use std::alloc::Global;
+
+/// From its start on, and until the next piece starts, a local time has this answer, by indexes of
+/// types.
+#[derive(Clone, Copy, Debug)]
+pub(super) struct Piece {
+    pub(super) start: i64,
+    pub(super) answer: MappedLocalTime<usize>,
+}
+
+/// The piece's answer, if it has started.
+pub(super) fn latest(
+    kept: &MappedLocalTime<usize>,
+    piece: &Piece,
+    local: i64,
+) -> MappedLocalTime<usize>
+    ensures { result ≡ (if int_le piece.now.start local then piece.now.answer else kept.now) }
+{
+    if piece.start <= local {
+        piece.answer
+    } else {
+        *kept
+    }
+}
+
+/// The pieces of earlier seconds and those of later ones, merged: where one of either starts, so
+/// does one of them.
+pub(super) fn merged(
+    alloc: Global,
+    before_first: &MappedLocalTime<usize>,
+    first: &[Piece],
+    before_last: &MappedLocalTime<usize>,
+    last: &[Piece],
+) -> Result<Vec<Piece>, Error>
+    requires first { AreInOrder first.now }
+    requires last { AreInOrder last.now }
+    ensures { MatchResult result
+        (λ v. IsMerged before_first.now first.now before_last.now last.now v.items)
+        (λ e. e ≡ OutOfMemory) }
+{
+    let total = first.len() + last.len();
+    let mut pieces = Vec::with_capacity(alloc, total)?;
+    let mut i = 0;
+    let mut j = 0;
+    for _step in 0..total {
+        let (start, first_passed, last_passed) = next_start(first, i, last, j);
+        i = first_passed;
+        j = last_passed;
+        let answer = joined(
+            answer_before(before_first, first, i),
+            answer_before(before_last, last, j),
+        );
+        pieces.push(Piece { start, answer })?;
+    }
+    Ok(pieces)
+}
+
+/// The answer of the piece before that place.
+fn answer_before(
+    before: &MappedLocalTime<usize>,
+    pieces: &[Piece],
+    place: usize,
+) -> MappedLocalTime<usize>
+    requires { place ≤ length pieces.now }
+    ensures { result ≡ answer_before before.now (take place pieces.now) }
+{
+    if place == 0 {
+        return *before;
+    }
+    pieces[place - 1].answer
+}
+
+/// The start of the next piece of the two lists, and the places up to which they have been passed
+/// with it.
+fn next_start(first: &[Piece], i: usize, last: &[Piece], j: usize) -> (i64, usize, usize)
+    requires i { i ≤ length first.now }
+    requires j { j ≤ length last.now }
+    requires some { i + j < length first.now + length last.now }
+    ensures { IsStep first.now i last.now j result.0 result.1 result.2 }
+{
+    if is_next(first, i, last, j) {
+        (first[i].start, i + 1, j)
+    } else {
+        (last[j].start, i, j + 1)
+    }
+}
+
+/// Whether the piece at place `i` of the first is the next one, and not that at place `j` of the
+/// last.
+fn is_next(first: &[Piece], i: usize, last: &[Piece], j: usize) -> bool
+    requires i { i ≤ length first.now }
+    requires j { j ≤ length last.now }
+    requires some { i + j < length first.now + length last.now }
+    ensures first { IsTrue result → IsNext first.now i last.now j }
+    ensures last { IsFalse result → IsNext last.now j first.now i }
+{
+    if i == first.len() {
+        return false;
+    }
+    if j == last.len() {
+        return true;
+    }
+    first[i].start <= last[j].start
+}

@@ -1,0 +1,129 @@
+//! What a zone's rule adds to a wall clock: the seconds from the last transition on.
+
+ghost use Rattle.std.specs.Prelude.{◌≡◌, ◌+◌, length, Some};
+ghost use Rattle.naive_base.specs.Range.{IsWide};
+ghost use Rattle.offset_core.specs.WallAnswer.{IsWallAnswer};
+ghost use Rattle.tz_info.specs.Counts.{HasRoomFor, RoseWithin};
+ghost use Rattle.tz_info.specs.Steps.Seasons.{IsSeason};
+ghost use Rattle.tz_info.specs.Steps.Walk.{TypeIn, IsShownIn, IsAskedLast};
+ghost use Rattle.tz_info.specs.declared.rule.transition_rule.TransitionRule.TheVariants.{Fixed, Alternate};
+
+use crate::local_time_type::LocalTimeType;
+use crate::rule::{AlternateTime, Season, TransitionRule};
+use crate::zone::answers::joined;
+use crate::zone::probes::Probes;
+use crate::zone::time_zone::TimeZone;
+use offset_core::MappedLocalTime;
+
+impl TimeZone {
+    /// The answer with the seconds at which the rule's types show the local time, from the last
+    /// transition on.
+    pub(super) fn try_rule(
+        &self,
+        rule: &TransitionRule,
+        local: i64,
+        answer: MappedLocalTime<LocalTimeType>,
+        probes: &mut Probes,
+    ) -> MappedLocalTime<LocalTimeType>
+        requires local { IsWide local }
+        requires room { HasRoomFor 2 probes.old.rule_questions }
+        requires rule { self.now.rule ≡ Some rule.now }
+        requires seen { IsWallAnswer (IsShownIn self.now local (length self.now.transitions)) answer }
+        ensures found { IsWallAnswer (IsShownIn self.now local
+            (length self.now.transitions + 1)) result }
+        ensures cost { RoseWithin probes.old probes.new 0 2 }
+    {
+        match rule {
+            TransitionRule::Fixed(only) => self.ask_fixed(only, local, answer, probes),
+            TransitionRule::Alternate(turns) => self.ask_turns(turns, local, answer, probes),
+        }
+    }
+
+    /// Asks the rule of one type for the one second that could show the local time.
+    fn ask_fixed(
+        &self,
+        only: &LocalTimeType,
+        local: i64,
+        answer: MappedLocalTime<LocalTimeType>,
+        probes: &mut Probes,
+    ) -> MappedLocalTime<LocalTimeType>
+        requires local { IsWide local }
+        requires room { HasRoomFor 2 probes.old.rule_questions }
+        requires rule { self.now.rule ≡ Some (Fixed only.now) }
+        requires seen { IsWallAnswer (IsShownIn self.now local (length self.now.transitions)) answer }
+        ensures found { IsWallAnswer (IsShownIn self.now local
+            (length self.now.transitions + 1)) result }
+        ensures cost { RoseWithin probes.old probes.new 0 2 }
+    {
+        let _types = self.local_time_types();
+        let second = local - only.offset() as i64;
+        if second < self.index.rule_from() {
+            return answer;
+        }
+        probes.count_question();
+        joined(answer, MappedLocalTime::Single(*only))
+    }
+
+    /// Asks the rule of two types for the two seconds that could show the local time.
+    fn ask_turns(
+        &self,
+        turns: &AlternateTime,
+        local: i64,
+        answer: MappedLocalTime<LocalTimeType>,
+        probes: &mut Probes,
+    ) -> MappedLocalTime<LocalTimeType>
+        requires local { IsWide local }
+        requires room { HasRoomFor 2 probes.old.rule_questions }
+        requires rule { self.now.rule ≡ Some (Alternate turns.now) }
+        requires seen { IsWallAnswer (IsShownIn self.now local (length self.now.transitions)) answer }
+        ensures found { IsWallAnswer (IsShownIn self.now local
+            (length self.now.transitions + 1)) result }
+        ensures cost { RoseWithin probes.old probes.new 0 2 }
+    {
+        let _types = self.local_time_types();
+        let season = turns.season(local);
+        let standard = turns.std().offset();
+        let daylight = turns.dst().offset();
+        if standard == daylight {
+            return self.ask_turn(turns, season, local, standard, answer, probes);
+        }
+        // The greater offset has the earlier second.
+        if standard < daylight {
+            let one = self.ask_turn(turns, season, local, daylight, answer, probes);
+            return self.ask_turn(turns, season, local, standard, one, probes);
+        }
+        let one = self.ask_turn(turns, season, local, standard, answer, probes);
+        self.ask_turn(turns, season, local, daylight, one, probes)
+    }
+
+    /// Asks the rule of two types for the one second that could show the local time at the offset.
+    fn ask_turn(
+        &self,
+        turns: &AlternateTime,
+        season: Season,
+        local: i64,
+        offset: i32,
+        answer: MappedLocalTime<LocalTimeType>,
+        probes: &mut Probes,
+    ) -> MappedLocalTime<LocalTimeType>
+        requires local { IsWide local }
+        requires room { HasRoomFor 1 probes.old.rule_questions }
+        requires rule { self.now.rule ≡ Some (Alternate turns.now) }
+        requires season { IsSeason turns.now season }
+        ensures asked { IsAskedLast (TypeIn self.now
+            (length self.now.transitions)) local offset answer result }
+        ensures cost { RoseWithin probes.old probes.new 0 1 }
+    {
+        let _types = self.local_time_types();
+        let second = local - offset as i64;
+        if second < self.index.rule_from() {
+            return answer;
+        }
+        probes.count_question();
+        let found = turns.type_in(season, second);
+        if found.offset() == offset {
+            return joined(answer, MappedLocalTime::Single(*found));
+        }
+        answer
+    }
+}

@@ -1,0 +1,208 @@
+//! The segments between transitions, and the pieces of the wall-clock axis that they make.
+
+ghost use Rattle.std.specs.Prelude.{◌≡◌, ◌+◌, ◌<◌, ◌≤◌, length, slice_get, Some, MatchResult};
+ghost use Rattle.tz_info.specs.LocalTypes.{IsUtOffset};
+ghost use Rattle.tz_info.specs.Segments.{index_of, table_count};
+ghost use Rattle.tz_info.specs.Steps.Pieces.{zone_in, ArePieces};
+ghost use Rattle.tz_info.specs.Zones.{IsValid};
+ghost use Rattle.tz_info.specs.declared.error.Error.TheVariants.{OutOfMemory};
+
+use crate::error::Error;
+use crate::local_time_type::LocalTimeType;
+use crate::rule::TransitionRule;
+use crate::zone::answers::joined;
+use crate::zone::leap_second::LeapSecond;
+use crate::zone::pieces::{Piece, merged};
+use crate::zone::starts::cut_of;
+use crate::zone::transition::Transition;
+use offset_core::MappedLocalTime;
+use std::alloc::Global;
+
+/// The lists of a zone, lent.
+#[derive(Clone, Copy)]
+pub(super) struct Lists<'a> {
+    pub(super) transitions: &'a [Transition],
+    pub(super) types: &'a [LocalTimeType],
+    pub(super) leaps: &'a [LeapSecond],
+    pub(super) rule: &'a Option<TransitionRule>,
+}
+
+/// How many segments are the table's, and not the rule's.
+pub(super) fn table_count(lists: Lists) -> usize
+    ensures { result ≡ table_count (zone_in lists.entry) }
+{
+    match lists.rule {
+        Some(_) => lists.transitions.len(),
+        None => lists.transitions.len() + 1,
+    }
+}
+
+/// The index of the type in force behind so many transitions.
+pub(super) fn index_of_segment(lists: Lists, place: usize) -> usize
+    requires valid { IsValid (zone_in lists) }
+    requires place { place ≤ length lists.transitions.now }
+    ensures index { result ≡ index_of lists.entry.transitions.now place }
+    ensures below { result < length lists.entry.types.now }
+{
+    if place == 0 {
+        return 0;
+    }
+    lists.transitions[place - 1].type_index
+}
+
+/// The type of that index.
+pub(super) fn listed(types: &[LocalTimeType], index: usize) -> &LocalTimeType
+    requires { index < length types.now }
+    ensures listed { slice_get types.now index ≡ Some result.now }
+    ensures offset { IsUtOffset result.now.offset }
+{
+    let local_type = &types[index];
+    let _offset = local_type.offset();
+    local_type
+}
+
+/// The pieces of some neighbouring segments, and what stands before the first.
+#[derive(Debug, Drop)]
+pub(super) struct Pieces {
+    pub(super) before: MappedLocalTime<usize>,
+    pub(super) pieces: Vec<Piece>,
+}
+
+/// The pieces of the segment behind so many transitions.
+fn pieces_of_one(alloc: Global, lists: Lists, place: usize) -> Result<Pieces, Error>
+    requires valid { IsValid (zone_in lists) }
+    requires place { place < table_count (zone_in lists) }
+    ensures { MatchResult result
+        (λ s. ArePieces (zone_in lists.entry) place (place + 1) s.before s.pieces.items)
+        (λ e. e ≡ OutOfMemory) }
+{
+    if place == 0 {
+        first_pieces(alloc, lists)
+    } else if place == lists.transitions.len() {
+        last_pieces(alloc, lists)
+    } else {
+        inner_pieces(alloc, lists, place)
+    }
+}
+
+/// The first segment has no start.
+fn first_pieces(alloc: Global, lists: Lists) -> Result<Pieces, Error>
+    requires valid { IsValid (zone_in lists) }
+    requires place { 0 < table_count (zone_in lists) }
+    ensures { MatchResult result
+        (λ s. ArePieces (zone_in lists.entry) 0 1 s.before s.pieces.items)
+        (λ e. e ≡ OutOfMemory) }
+{
+    let index = index_of_segment(lists, 0);
+    let local_type = listed(lists.types, index);
+    let before = MappedLocalTime::Single(index);
+    if lists.transitions.is_empty() {
+        return Ok(Pieces {
+            before,
+            pieces: Vec::new(alloc),
+        });
+    }
+    let end = Piece {
+        start: cut_of(lists.transitions, lists.leaps, 1, local_type),
+        answer: MappedLocalTime::None,
+    };
+    let pieces = vec![in alloc; end]?;
+    Ok(Pieces { before, pieces })
+}
+
+/// The last segment has no end.
+fn last_pieces(alloc: Global, lists: Lists) -> Result<Pieces, Error>
+    requires valid { IsValid (zone_in lists) }
+    requires some { 0 < length lists.transitions.now }
+    requires place { length lists.transitions.now < table_count (zone_in lists) }
+    ensures { MatchResult result
+        (λ s. ArePieces (zone_in lists.entry)
+        (length lists.entry.transitions.now) (length lists.entry.transitions.now + 1)
+        s.before s.pieces.items)
+        (λ e. e ≡ OutOfMemory) }
+{
+    let index = index_of_segment(lists, lists.transitions.len());
+    let local_type = listed(lists.types, index);
+    let start = Piece {
+        start: cut_of(
+            lists.transitions,
+            lists.leaps,
+            lists.transitions.len(),
+            local_type,
+        ),
+        answer: MappedLocalTime::Single(index),
+    };
+    let pieces = vec![in alloc; start]?;
+    Ok(Pieces {
+        before: MappedLocalTime::None,
+        pieces,
+    })
+}
+
+/// A segment between two transitions. It may have no width, as where they are a leap second apart.
+fn inner_pieces(alloc: Global, lists: Lists, place: usize) -> Result<Pieces, Error>
+    requires valid { IsValid (zone_in lists) }
+    requires some { 0 < place }
+    requires inside { place < length lists.transitions.now }
+    requires place { place < table_count (zone_in lists) }
+    ensures { MatchResult result
+        (λ s. ArePieces (zone_in lists.entry) place (place + 1) s.before s.pieces.items)
+        (λ e. e ≡ OutOfMemory) }
+{
+    let index = index_of_segment(lists, place);
+    let local_type = listed(lists.types, index);
+    let start = cut_of(lists.transitions, lists.leaps, place, local_type);
+    let end = cut_of(lists.transitions, lists.leaps, place + 1, local_type);
+    if start >= end {
+        return Ok(Pieces {
+            before: MappedLocalTime::None,
+            pieces: Vec::new(alloc),
+        });
+    }
+    let first = Piece {
+        start,
+        answer: MappedLocalTime::Single(index),
+    };
+    let last = Piece {
+        start: end,
+        answer: MappedLocalTime::None,
+    };
+    let pieces = vec![in alloc; first, last]?;
+    Ok(Pieces {
+        before: MappedLocalTime::None,
+        pieces,
+    })
+}
+
+/// The pieces of the segments from `low` on and before `high`: those of two halves, merged.
+pub(super) fn pieces_of(
+    alloc: Global,
+    lists: Lists,
+    low: usize,
+    high: usize,
+) -> Result<Pieces, Error>
+    requires valid { IsValid (zone_in lists) }
+    requires some { low < high }
+    requires high { high ≤ table_count (zone_in lists) }
+    ensures { MatchResult result
+        (λ s. ArePieces (zone_in lists.entry) low high s.before s.pieces.items)
+        (λ e. e ≡ OutOfMemory) }
+{
+    if high - low == 1 {
+        return pieces_of_one(alloc, lists, low);
+    }
+    let half = low + (high - low) / 2;
+    let first = pieces_of(alloc, lists, low, half)?;
+    let last = pieces_of(alloc, lists, half, high)?;
+    let pieces = merged(
+        alloc,
+        &first.before,
+        &first.pieces,
+        &last.before,
+        &last.pieces,
+    )?;
+    Ok(Pieces {
+        before: joined(first.before, last.before),
+        pieces,
+    })
+}

@@ -1,0 +1,80 @@
+//! The first second at which so many transitions have come, and what a clock shows then.
+
+ghost use Rattle.std.specs.Prelude.{◌≡◌, ℤ, pos, ◌≤ℤ◌, ◌↔◌, ◌<◌, ◌≤◌, length, take};
+ghost use Rattle.tz_info.specs.Leaps.{AreLeapSeconds, corrections};
+ghost use Rattle.tz_info.specs.Lists.{last_else};
+ghost use Rattle.tz_info.specs.Steps.Starts.{HaveCome, IsReachedFrom, IsCut};
+ghost use Rattle.tz_info.specs.Transitions.{AreRising};
+ghost use Rattle.tz_info.specs.WallPieces.{IsStart};
+
+use crate::local_time_type::LocalTimeType;
+use crate::zone::leap_second::LeapSecond;
+use crate::zone::transition::Transition;
+
+/// The first second at which the leap time has come.
+pub(super) fn first_second(leaps: &[LeapSecond], leap_time: i64) -> i64
+    requires { AreLeapSeconds leaps.now }
+    ensures { IsReachedFrom leaps.now leap_time result }
+{
+    let come = entries_come(leaps, leap_time);
+    if come == 0 {
+        return leap_time;
+    }
+    let passed = leaps[come - 1]
+        .unix_leap_time
+        .saturating_sub(correction_behind(leaps, come - 1));
+    let led_back = leap_time.saturating_sub(correction_behind(leaps, come));
+    later(passed, led_back)
+}
+
+fn later(a: i64, b: i64) -> i64
+    ensures { (u : ℤ) → (result ≤ℤ u) ↔ ((a ≤ℤ u) × (b ≤ℤ u)) }
+{
+    if a < b { b } else { a }
+}
+
+/// The correction behind the first entries, of which there are so many.
+fn correction_behind(leaps: &[LeapSecond], count: usize) -> i64
+    requires { count ≤ length leaps.now }
+    ensures { result ≡ last_else (pos 0) (corrections (take count leaps.now)) }
+{
+    if count == 0 {
+        return 0;
+    }
+    leaps[count - 1].correction as i64
+}
+
+/// How many entries come at or before the leap time.
+fn entries_come(leaps: &[LeapSecond], leap_time: i64) -> usize
+    requires { AreLeapSeconds leaps.now }
+    ensures { HaveCome leaps.now leap_time result }
+{
+    leaps.partition_point(|entry| entry.unix_leap_time <= leap_time)
+}
+
+/// The first second at which so many transitions have come.
+pub(super) fn start_of(transitions: &[Transition], leaps: &[LeapSecond], count: usize) -> i64
+    requires leaps { AreLeapSeconds leaps.now }
+    requires rising { AreRising transitions.now }
+    requires some { 0 < count }
+    requires count { count ≤ length transitions.now }
+    ensures { IsStart transitions.now leaps.now count result }
+{
+    first_second(leaps, transitions[count - 1].unix_leap_time)
+}
+
+/// What a clock of that type shows at the first second at which so many transitions have come.
+pub(super) fn cut_of(
+    transitions: &[Transition],
+    leaps: &[LeapSecond],
+    count: usize,
+    local_type: &LocalTimeType,
+) -> i64
+    requires leaps { AreLeapSeconds leaps.now }
+    requires rising { AreRising transitions.now }
+    requires some { 0 < count }
+    requires count { count ≤ length transitions.now }
+    ensures { IsCut transitions.now leaps.now count local_type.now.offset result }
+{
+    start_of(transitions, leaps, count).saturating_add(local_type.offset() as i64)
+}

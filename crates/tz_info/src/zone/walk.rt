@@ -1,0 +1,220 @@
+//! The walk: a wall clock by one search in the transitions, and from there on from segment to
+//! segment.
+
+ghost use Rattle.std.specs.Prelude.{◌≡◌, ◌+◌, ◌<◌, ◌≤◌, ◌≤ℤ◌, ◌<ℤ◌, length, take, slice_index_or, MatchResult};
+ghost use Rattle.naive_base.specs.NaiveDateTime.{reading};
+ghost use Rattle.naive_base.specs.Range.{IsWide};
+ghost use Rattle.offset_core.specs.WallAnswer.{IsWallAnswer};
+ghost use Rattle.tz_info.specs.Counts.{HasRoom, HasRoomFor, RoseWithin};
+ghost use Rattle.tz_info.specs.Digits.{digits};
+ghost use Rattle.tz_info.specs.Leaps.{IsLeapTime, IsNear};
+ghost use Rattle.tz_info.specs.Looks.{RoseByWalk};
+ghost use Rattle.tz_info.specs.Segments.{begin_of, index_of};
+ghost use Rattle.tz_info.specs.Steps.Walk.{IsShownIn, IsTried};
+ghost use Rattle.tz_info.specs.Transitions.{passed};
+ghost use Rattle.tz_info.specs.WallClocks.{Shows};
+ghost use Rattle.tz_info.specs.Windows.{IsWindow};
+ghost use Rattle.tz_info.specs.Zones.{IsValid, TypeAt};
+
+use crate::error::Error;
+use crate::local_time_type::LocalTimeType;
+use crate::zone::answers::joined;
+use crate::zone::leap_time::leap_time;
+use crate::zone::probes::Probes;
+use crate::zone::time_zone::TimeZone;
+use crate::zone::transition::Transition;
+use naive_base::NaiveDateTime;
+use offset_core::MappedLocalTime;
+
+/// The leap times between which the transitions come that matter for a local time: after the first,
+/// and not after the second.
+#[derive(Clone, Copy)]
+struct Window {
+    low: i64,
+    high: i64,
+}
+
+impl TimeZone {
+    /// As [`TimeZone::find_local_time_type_from_local_counted`], by looks at transitions in place
+    /// of pieces: at most two looks more than the number of transitions has binary digits and than
+    /// transitions come near the local time. Near it are those at leap times after that of the
+    /// local time less the zone's greatest offset, and not after that of the local time less its
+    /// least.
+    ///
+    /// # Errors
+    ///
+    /// None; the answer is always `Ok`.
+    pub fn find_local_time_type_from_local_by_walk(
+        &self,
+        local: NaiveDateTime,
+        probes: &mut Probes,
+    ) -> Result<MappedLocalTime<LocalTimeType>, Error>
+        requires { HasRoom probes.old }
+        ensures found { MatchResult result
+            (λ answer. IsWallAnswer (Shows (TypeAt self.now) (reading local).s) answer)
+            (λ _. ⊥) }
+        ensures cost { RoseByWalk self.now (reading local).s probes.old probes.new }
+    {
+        Ok(self.walked_answer(local.secs_since_epoch(), probes))
+    }
+
+    /// One search for the transitions near the local time, and a walk through those, segment by
+    /// segment, in the order of the seconds.
+    fn walked_answer(&self, local: i64, probes: &mut Probes) -> MappedLocalTime<LocalTimeType>
+        requires local { IsWide local }
+        requires room { HasRoom probes.old }
+        ensures found { IsWallAnswer (Shows (TypeAt self.now) local) result }
+        ensures cost { RoseByWalk self.now local probes.old probes.new }
+    {
+        let count = self.transition_count();
+        let window = self.window(local);
+        let first = self.passed_count(window.low, probes);
+        let mut current = self.latest(first, probes);
+        let mut answer = MappedLocalTime::None;
+        for place in first..count {
+            let next = self.transition(place, probes);
+            answer = self.try_until(local, current, next.unix_leap_time, answer);
+            if window.high < next.unix_leap_time {
+                return answer;
+            }
+            current = next;
+        }
+        self.try_last(local, current, answer, probes)
+    }
+
+    /// The leap times between which the transitions come that matter for the local time.
+    fn window(&self, local: i64) -> Window
+        requires { IsWide local }
+        ensures window { IsWindow self.now local result.low result.high }
+        ensures valid { IsValid self.now }
+    {
+        Window {
+            low: self.leap_time_near(local - self.extremes.greatest as i64),
+            high: self.leap_time_near(local - self.extremes.least as i64),
+        }
+    }
+
+    /// The leap time of a second that is near enough to have one.
+    pub(super) fn leap_time_near(&self, second: i64) -> i64
+        requires { IsNear second }
+        ensures { IsLeapTime self.now.leaps second result }
+    {
+        match leap_time(&self.leap_seconds, second) {
+            Ok(leap_time) => leap_time,
+            Err(_) => unreachable!(),
+        }
+    }
+
+    /// How many transitions come at or before the leap time.
+    pub(super) fn passed_count(&self, leap_time: i64, probes: &mut Probes) -> usize
+        requires { HasRoomFor (digits (length self.now.transitions)) probes.old.reads }
+        ensures within { result ≤ length self.now.transitions }
+        ensures passed { passed self.now.transitions leap_time ≡ take result self.now.transitions }
+        ensures cost { RoseWithin probes.old probes.new (digits (length self.now.transitions)) 0 }
+        ensures looked { 0 < length self.now.transitions → probes.old.reads < probes.new.reads }
+    {
+        self.table.passed_count(leap_time, probes)
+    }
+
+    /// The transition at that place.
+    pub(super) fn transition(&self, place: usize, probes: &mut Probes) -> Transition
+        requires place { place < length self.now.transitions }
+        requires room { HasRoomFor 1 probes.old.reads }
+        ensures item { result ≡ slice_index_or self.now.transitions place result }
+        ensures index { result.type_index < length self.now.types }
+        ensures cost { probes.new ≡ record probes.old { reads = probes.old.reads + 1 } }
+    {
+        self.table.read(place, probes)
+    }
+
+    /// The last of the first so many transitions; before all of them the first type is in force,
+    /// from the least time on.
+    fn latest(&self, passed: usize, probes: &mut Probes) -> Transition
+        requires passed { passed ≤ length self.now.transitions }
+        requires room { HasRoomFor 1 probes.old.reads }
+        ensures begin { result.unix_leap_time ≡ begin_of self.now.transitions passed }
+        ensures index { result.type_index ≡ index_of self.now.transitions passed }
+        ensures listed { result.type_index < length self.now.types }
+        ensures cost { RoseWithin probes.old probes.new 1 0 }
+    {
+        if passed == 0 {
+            let _types = self.type_count();
+            return Transition::new(i64::MIN, 0);
+        }
+        self.transition(passed - 1, probes)
+    }
+
+    /// Tries the type in force from the transition on until the leap time.
+    fn try_until(
+        &self,
+        local: i64,
+        current: Transition,
+        until: i64,
+        answer: MappedLocalTime<LocalTimeType>,
+    ) -> MappedLocalTime<LocalTimeType>
+        requires local { IsWide local }
+        requires listed { current.type_index < length self.now.types }
+        ensures { IsTried self.now local current.type_index
+            (λ x. (current.unix_leap_time ≤ℤ x) × (x <ℤ until)) answer result }
+    {
+        let local_type = &self.local_types[current.type_index];
+        let second = local - local_type.offset() as i64;
+        let leap_time = self.leap_time_near(second);
+        if leap_time < current.unix_leap_time {
+            return answer;
+        }
+        if until <= leap_time {
+            return answer;
+        }
+        joined(answer, MappedLocalTime::Single(*local_type))
+    }
+
+    /// Tries the type in force from the transition on.
+    fn try_from(
+        &self,
+        local: i64,
+        current: Transition,
+        answer: MappedLocalTime<LocalTimeType>,
+    ) -> MappedLocalTime<LocalTimeType>
+        requires local { IsWide local }
+        requires listed { current.type_index < length self.now.types }
+        ensures { IsTried self.now local current.type_index
+            (λ x. current.unix_leap_time ≤ℤ x) answer result }
+    {
+        let local_type = &self.local_types[current.type_index];
+        let second = local - local_type.offset() as i64;
+        let leap_time = self.leap_time_near(second);
+        if leap_time < current.unix_leap_time {
+            return answer;
+        }
+        joined(answer, MappedLocalTime::Single(*local_type))
+    }
+
+    /// Tries what is in force from the last transition on: the rule, or without one that
+    /// transition's type.
+    fn try_last(
+        &self,
+        local: i64,
+        current: Transition,
+        answer: MappedLocalTime<LocalTimeType>,
+        probes: &mut Probes,
+    ) -> MappedLocalTime<LocalTimeType>
+        requires local { IsWide local }
+        requires room { HasRoomFor 2 probes.old.rule_questions }
+        requires begin { current.unix_leap_time
+            ≡ begin_of self.now.transitions (length self.now.transitions) }
+        requires index { current.type_index
+            ≡ index_of self.now.transitions (length self.now.transitions) }
+        requires listed { current.type_index < length self.now.types }
+        requires seen { IsWallAnswer (IsShownIn self.now local (length self.now.transitions)) answer }
+        ensures found { IsWallAnswer (IsShownIn self.now local
+            (length self.now.transitions + 1)) result }
+        ensures cost { RoseWithin probes.old probes.new 0 2 }
+    {
+        let _types = self.local_time_types();
+        match &self.last_rule {
+            None => self.try_from(local, current, answer),
+            Some(rule) => self.try_rule(rule, local, answer, probes),
+        }
+    }
+}
