@@ -1,2 +1,6 @@
+pub mod ForCallers
+pub mod Homes
+pub mod Instants
 pub mod Relocals
 pub mod Walls
+mod Choices

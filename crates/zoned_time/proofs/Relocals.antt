@@ -1,54 +1,89 @@
 -- Readings brought back to UTC by clocks whose offset never changes.
-use Rattle.std.proofs.Common.{◌≡◌, ℤ, pos, ◌+ℤ◌, ◌-ℤ◌, arith, refl, sym, ap, subst}
+use Rattle.std.proofs.Common.{◌≡◌, ◌∙◌, ◌⊎◌, inl, inr, ℤ, pos, ◌+ℤ◌, ◌-ℤ◌, arith, refl, sym, ap, subst, Option, Some, None}
+use Rattle.std.specs.Option.{IsSome}
+use Rattle.std.specs.Prelude.{SomeIff, option_map}
 use Rattle.std.proofs.lemmas.Int.{ints}
 use Rattle.offset_core.specs.declared.local_result.LocalResult.{LocalResult}
-use Rattle.offset_core.specs.declared.local_result.LocalResult.TheVariants.{Single, Ambiguous, None}
-use Rattle.offset_core.specs.LocalResult.{map_of}
-use Rattle.offset_core.specs.Offset.{IsWithinDay}
+use Rattle.offset_core.specs.declared.local_result.LocalResult.TheVariants.{Single, Ambiguous, None as none}
+use Rattle.offset_core.specs.LocalResult.{single_of, map_of, all_or_none, IsAndThen}
 use Rattle.offset_core.specs.WallAnswer.{IsWallAnswer, IsShownBetween}
-use Rattle.naive_base.specs.Range.{IsInRange, IsWide}
+use Rattle.offset_core.proofs.ForCallers.{and_then_told}
+use Rattle.naive_base.specs.Range.{IsInRange}
 use Rattle.naive_base.specs.Reading.{Reading}
 use Rattle.zoned_time.specs.declared.utc.Utc.{Utc}
 use Rattle.zoned_time.specs.Relocal.{IsRelocal, AreInstantsOf, HasInstant, instant_of, SingleIff}
 use Rattle.zoned_time.specs.Stamps.{in_utc}
-use Rattle.zoned_time.specs.Zone.{Shows, SameOffsets, IsOffsetAt, Each}
+use Rattle.zoned_time.specs.Zone.{Meaning, Law, IsFixed, Shows, SameOffsets, IsOffsetAt, AreOffsetsFor, Each}
 use Rattle.zoned_time.specs.Zoned.{Zoned, local_of, IsAt}
-use Rattle.zoned_time.proofs.Walls.{shown_once}
 
 -- one offset gives one instant, or none
+single_kept : {T : Type 0} (a : Option T) (p : Type 0) (v : T) → SomeIff a p v → SingleIff (all_or_none (Single a)) p v
+single_kept (Some d) p v h = h
+single_kept None p v h = h
+
 single_instant : {O : Type 0} (seconds : O → ℤ) (l : Reading) (o : O) (answer : LocalResult (Zoned O))
     → AreInstantsOf seconds l (Single o) answer → SingleIff answer (HasInstant seconds l o) (instant_of seconds l o)
-single_instant seconds l o (Single d) h = h
-single_instant seconds l o (Ambiguous d e) h = h
-single_instant seconds l o None h = h
+single_instant seconds l o answer h =
+    rw (h.kept, h.asked.3) (single_kept h.asked.0 (HasInstant seconds l o) (instant_of seconds l o) h.asked.2)
 
 -- two seconds can't show the same
-not_between : (k l a b : ℤ) → IsShownBetween (Shows (λ _. k) l) a b → ⊥
-not_between k l a b between =
-    let first : a ≡ k = between.at_first.offset in
-    let last : b ≡ k = between.at_last.offset in
+not_between : {O : Type 0} {m : Meaning O} (law : Law m) (l a b : ℤ) → IsFixed law → IsShownBetween (Shows law.off l) a b → ⊥
+not_between law l a b fixed between =
+    let first : a ≡ law.off between.first = between.at_first.offset in
+    let last : b ≡ law.off between.last = between.at_last.offset in
+    let same : law.off between.first ≡ law.off between.last = fixed between.first between.last in
     let first_shown : between.first +ℤ a ≡ l = between.at_first.shown in
     let last_shown : between.last +ℤ b ≡ l = between.at_last.shown in
     omega (arith, ints, between.several)
 
-constant_instants : {O : Type 0} (seconds : O → ℤ) (k : ℤ) (zone : O) (l : Reading) (offsets : LocalResult O) (answer : LocalResult (Zoned O))
-    → ((o : O) → seconds o ≡ k → o ≡ zone) → IsWithinDay k → IsWide l.s
-    → IsWallAnswer (Shows (λ _. k) l.s) (map_of seconds offsets) → AreInstantsOf seconds l offsets answer
-    → SingleIff answer (HasInstant seconds l zone) (instant_of seconds l zone)
-constant_instants seconds k zone l None answer only day wide wall instants =
-    let once = shown_once k l.s day wide in absurd (wall once.second k once.shown)
-constant_instants {O} seconds k zone l (Single o) answer only day wide wall instants =
-    let At : O → Type 0 = λ z. SingleIff answer (HasInstant seconds l z) (instant_of seconds l z) in
-    subst At (only o wall.shown.offset) (single_instant seconds l o answer instants)
-constant_instants seconds k zone l (Ambiguous a b) answer only day wide wall instants =
-    absurd (not_between k l.s (seconds a) (seconds b) wall)
+-- and a second in range shows its reading
+shown_in_range : {O : Type 0} {m : Meaning O} (law : Law m) (l : ℤ) → IsFixed law → IsInRange (l -ℤ law.off (pos 0))
+    → Shows law.off l (l -ℤ law.off (pos 0)) (law.off (pos 0))
+shown_in_range law l fixed range = record {
+  in_zone = (omega (arith, ints, range), omega (arith, ints, range));
+  offset = fixed (pos 0) (l -ℤ law.off (pos 0));
+  shown = omega (arith, ints);
+}
+
+-- one offset's instant, where that is in range, or no offset, where none is
+abbrev GivenOnce : {O : Type 0} {m : Meaning O} → Law m → Reading → LocalResult (Zoned O) → Type 0
+GivenOnce {O} {m} law l answer =
+    ((o : O) × (m.seconds o ≡ law.off (pos 0)) × SingleIff answer (HasInstant m.seconds l o) (instant_of m.seconds l o))
+    ⊎ ((IsInRange (l.s -ℤ law.off (pos 0)) → ⊥) × (answer ≡ none))
+
+given_once : {O : Type 0} {m : Meaning O} (law : Law m) (l : Reading) (offsets : LocalResult O) (answer : LocalResult (Zoned O)) → IsFixed law
+    → IsWallAnswer (Shows law.off l.s) (map_of m.seconds offsets) → AreInstantsOf m.seconds l offsets answer → GivenOnce law l answer
+given_once law l none answer fixed wall instants =
+    inr (λ range. wall (l.s -ℤ law.off (pos 0)) (law.off (pos 0)) (shown_in_range law l.s fixed range), rw (instants.kept, instants.asked) refl)
+given_once {m = m} law l (Single o) answer fixed wall instants =
+    inl (o, wall.shown.offset ∙ fixed wall.second (pos 0), single_instant m.seconds l o answer instants)
+given_once {m = m} law l (Ambiguous a b) answer fixed wall instants =
+    absurd (not_between law l.s (m.seconds a) (m.seconds b) fixed wall)
 
 -- so a zone of one offset gives one instant, or none where that is out of range
-pub constant_relocal : {O : Type 0} (seconds : O → ℤ) (home : O → ℤ → ℤ) (k : ℤ) (zone : O) (l : Reading) (answer : LocalResult (Zoned O))
-    → ((o : O) → seconds o ≡ k → o ≡ zone) → IsWithinDay k → IsWide l.s → IsRelocal seconds home (λ _. k) l answer
-    → SingleIff answer (HasInstant seconds l zone) (instant_of seconds l zone)
-constant_relocal seconds home k zone l answer only day wide h =
-    constant_instants seconds k zone l h.offsets answer only day wide h.wall.wall h.instants
+pub fixed_relocal : {O : Type 0} {m : Meaning O} (law : Law m) (zone : O) (l : Reading) (answer : LocalResult (Zoned O))
+    → m.seconds zone ≡ law.off (pos 0) → ((o : O) → m.seconds o ≡ law.off (pos 0) → o ≡ zone) → IsFixed law → IsRelocal law l answer
+    → SingleIff answer (HasInstant m.seconds l zone) (instant_of m.seconds l zone)
+fixed_relocal {O} {m} law zone l answer is only fixed h = elim (given_once law l h.offsets answer fixed h.wall.wall h.instants) [
+  | inl given ↦
+      let At : O → Type 0 = λ z. SingleIff answer (HasInstant m.seconds l z) (instant_of m.seconds l z) in
+      subst At (only given.0 given.1) given.2
+  | inr missing ↦ rw missing.1 (rw is missing.0)
+]
+
+some_single : {T Z : Type 0} (show : T → Z) (answer : LocalResult T) (p : Type 0) (v : Z)
+    → SingleIff (map_of show answer) p v → p → IsSome (single_of answer)
+some_single show none p v h fits = absurd (h fits)
+some_single show (Single a) p v h fits = refl
+some_single show (Ambiguous a b) p v h fits = absurd h
+
+-- and one that is in range
+pub fixed_single : {T O : Type 0} {m : Meaning O} (law : Law m) (l : Reading) (show : T → Zoned O) (answer : LocalResult T)
+    → IsFixed law → IsInRange (l.s -ℤ law.off (pos 0)) → IsRelocal law l (map_of show answer) → IsSome (single_of answer)
+fixed_single law l show answer fixed range h = elim (given_once law l h.offsets (map_of show answer) fixed h.wall.wall h.instants) [
+  | inl given ↦ some_single show answer _ _ given.2 (rw given.1 range)
+  | inr missing ↦ absurd (missing.0 range)
+]
 
 -- which in UTC has the reading itself
 pub utc_instant : (l : Reading) (answer : LocalResult (Zoned Utc))
@@ -60,32 +95,57 @@ utc_instant l answer h =
     subst At same h
 
 -- an instant of an offset that a zone gives at the second u for the wall clock l
-at_shown : {O : Type 0} (seconds : O → ℤ) (home : O → ℤ → ℤ) (off : ℤ → ℤ) (l : Reading) (o : O) (d : Zoned O) (u : ℤ)
-    → Shows off l.s u (seconds o) → SameOffsets (home o) off → d ≡ instant_of seconds l o
-    → (local_of seconds d ≡ l) × IsAt seconds home off d.utc d
-at_shown {O} seconds home off l o d u shows same is =
-    let Good : Zoned O → Type 0 = λ e. (local_of seconds e ≡ l) × IsAt seconds home off e.utc e in
-    let second : l.s -ℤ seconds o ≡ u = let shown : u +ℤ seconds o ≡ l.s = shows.shown in omega (arith, ints) in
-    let back : (l.s -ℤ seconds o) +ℤ seconds o ≡ l.s = omega (arith, ints) in
-    let there : seconds o ≡ off (l.s -ℤ seconds o) = rw second shows.offset in
-    let at : IsOffsetAt seconds home off (l.s -ℤ seconds o) o = record { there = there; same_home = same } in
+pub at_shown : {O : Type 0} {m : Meaning O} (law : Law m) (l : Reading) (o : O) (d : Zoned O) (u : ℤ)
+    → Shows law.off l.s u (m.seconds o) → SameOffsets (m.home o) law.off → d ≡ instant_of m.seconds l o
+    → (local_of m.seconds d ≡ l) × IsAt law d.utc d
+at_shown {O} {m} law l o d u shows same is =
+    let Good : Zoned O → Type 0 = λ e. (local_of m.seconds e ≡ l) × IsAt law e.utc e in
+    let second : l.s -ℤ m.seconds o ≡ u = let shown : u +ℤ m.seconds o ≡ l.s = shows.shown in omega (arith, ints) in
+    let back : (l.s -ℤ m.seconds o) +ℤ m.seconds o ≡ l.s = omega (arith, ints) in
+    let there : m.seconds o ≡ law.off (l.s -ℤ m.seconds o) = rw second shows.offset in
+    let at : IsOffsetAt law (l.s -ℤ m.seconds o) o = record { there = there; same_home = same } in
     subst Good (sym is) (ap (λ s. record { s = s; f = l.f }) back, record { utc = refl; offset = at })
 
-instants_shown : {O : Type 0} (seconds : O → ℤ) (home : O → ℤ → ℤ) (off : ℤ → ℤ) (l : Reading) (offsets : LocalResult O) (answer : LocalResult (Zoned O))
-    → IsWallAnswer (Shows off l.s) (map_of seconds offsets) → Each (λ o. SameOffsets (home o) off) offsets → AreInstantsOf seconds l offsets answer
-    → Each (λ d. (local_of seconds d ≡ l) × IsAt seconds home off d.utc d) answer
-instants_shown seconds home off l None None wall same h = tt
-instants_shown seconds home off l None (Single d) wall same h = absurd h
-instants_shown seconds home off l None (Ambiguous d e) wall same h = absurd h
-instants_shown seconds home off l (Single o) None wall same h = tt
-instants_shown seconds home off l (Single o) (Single d) wall same h = at_shown seconds home off l o d wall.second wall.shown same h.1
-instants_shown seconds home off l (Single o) (Ambiguous d e) wall same h = absurd h
-instants_shown seconds home off l (Ambiguous o p) None wall same h = tt
-instants_shown seconds home off l (Ambiguous o p) (Single d) wall same h = absurd h
-instants_shown seconds home off l (Ambiguous o p) (Ambiguous d e) wall same h =
-    (at_shown seconds home off l o d wall.first wall.at_first same.0 h.2, at_shown seconds home off l p e wall.last wall.at_last same.1 h.3)
+-- what holds of each instant holds of those that are kept
+one_kept : {Z : Type 0} (G : Z → Type 0) (a : Option Z) (p : Type 0) (v : Z) → SomeIff a p v → G v → Each G (all_or_none (Single a))
+one_kept G (Some d) p v h g = subst G (sym h.1) g
+one_kept G None p v h g = tt
+
+two_kept : {Z : Type 0} (G : Z → Type 0) (a b : Option Z) (p q : Type 0) (v w : Z) → SomeIff a p v → SomeIff b q w → G v → G w
+    → Each G (all_or_none (Ambiguous a b))
+two_kept G (Some d) (Some e) p q v w h i g j = (subst G (sym h.1) g, subst G (sym i.1) j)
+two_kept G (Some d) None p q v w h i g j = tt
+two_kept G None b p q v w h i g j = tt
+
+instants_shown : {O : Type 0} {m : Meaning O} (law : Law m) (l : Reading) (offsets : LocalResult O) (answer : LocalResult (Zoned O))
+    → IsWallAnswer (Shows law.off l.s) (map_of m.seconds offsets) → Each (λ o. SameOffsets (m.home o) law.off) offsets → AreInstantsOf m.seconds l offsets answer
+    → Each (λ d. (local_of m.seconds d ≡ l) × IsAt law d.utc d) answer
+instants_shown law l none answer wall same h = rw (h.kept, h.asked) tt
+instants_shown {O} {m} law l (Single o) answer wall same h =
+    let Good : Zoned O → Type 0 = λ d. (local_of m.seconds d ≡ l) × IsAt law d.utc d in
+    rw (h.kept, h.asked.3) (one_kept Good h.asked.0 _ _ h.asked.2 (at_shown law l o _ wall.second wall.shown same refl))
+instants_shown {O} {m} law l (Ambiguous o p) answer wall same h =
+    let Good : Zoned O → Type 0 = λ d. (local_of m.seconds d ≡ l) × IsAt law d.utc d in
+    rw (h.kept, h.asked.6) (two_kept Good h.asked.0 h.asked.1 _ _ _ _ h.asked.4 h.asked.5
+    (at_shown law l o _ wall.first wall.at_first same.0 refl) (at_shown law l p _ wall.last wall.at_last same.1 refl))
 
 -- the instants that a zone gives for a wall clock show it
-pub relocal_shown : {O : Type 0} (seconds : O → ℤ) (home : O → ℤ → ℤ) (off : ℤ → ℤ) (l : Reading) (answer : LocalResult (Zoned O))
-    → IsRelocal seconds home off l answer → Each (λ d. (local_of seconds d ≡ l) × IsAt seconds home off d.utc d) answer
-relocal_shown seconds home off l answer h = instants_shown seconds home off l h.offsets answer h.wall.wall h.wall.same_home h.instants
+pub relocal_shown : {O : Type 0} {m : Meaning O} (law : Law m) (l : Reading) (answer : LocalResult (Zoned O))
+    → IsRelocal law l answer → Each (λ d. (local_of m.seconds d ≡ l) × IsAt law d.utc d) answer
+relocal_shown law l answer h = instants_shown law l h.offsets answer h.wall.wall h.wall.same_home h.instants
+
+-- by seconds that agree
+pub shown_by : {O : Type 0} {m : Meaning O} {seconds : O → ℤ} → ((o : O) → m.seconds o ≡ seconds o)
+    → (law : Law m) (l : Reading) (answer : LocalResult (Zoned O))
+    → Each (λ d. (local_of m.seconds d ≡ l) × IsAt law d.utc d) answer → Each (λ d. (local_of seconds d ≡ l) × IsAt law d.utc d) answer
+shown_by told law l none h = tt
+shown_by told law l (Single d) h = (rw (sym (told d.offset)) h.0, h.1)
+shown_by told law l (Ambiguous d e) h = ((rw (sym (told d.offset)) h.0.0, h.0.1), (rw (sym (told e.offset)) h.1.0, h.1.1))
+
+-- the offsets that a zone gives, and what f gave for each
+pub relocal_of : {F O D : Type 0} {m : Meaning O} (law : Law m) (l : Reading) (show : D → Zoned O) (step : F → O → Option D → F → Type 0) (f : F) (K : F → Type 0)
+    (offsets : LocalResult O) (result : LocalResult D)
+    → K f → ((e g : F) (o : O) (d : Option D) → K e → step e o d g → K g × SomeIff (option_map show d) (HasInstant m.seconds l o) (instant_of m.seconds l o))
+    → AreOffsetsFor law l.s offsets → IsAndThen step f offsets result → IsRelocal law l (map_of show result)
+relocal_of {m = m} law l show step f K offsets result k is wall h =
+    record { offsets = offsets; wall = wall; instants = and_then_told show (HasInstant m.seconds l) (instant_of m.seconds l) step f K offsets result k is h }

@@ -6,7 +6,7 @@ use Rattle.offset_core.specs.Offset.{IsWithinDay}
 use Rattle.offset_core.specs.WallAnswer.{IsShownOnce}
 use Rattle.naive_base.specs.declared.date.NaiveDate.{NaiveDate}
 use Rattle.naive_base.specs.Range.{IsWide}
-use Rattle.zoned_time.specs.Zone.{Shows, SameOffsets, AreOffsetsFor, midnight_of}
+use Rattle.zoned_time.specs.Zone.{Meaning, Shows, SameOffsets, AreOffsetsFor, midnight_of}
 
 -- what a clock may show, it shows once
 pub shown_once : (k l : ℤ) → IsWithinDay k → IsWide l → IsShownOnce (Shows (λ _. k) l) k
@@ -17,10 +17,10 @@ shown_once k l day wide = record {
 }
 
 -- so the answer is the offset itself
-pub constant_wall : {O : Type 0} (seconds : O → ℤ) (home : O → ℤ → ℤ) (offset : O) (k l : ℤ)
-    → seconds offset ≡ k → SameOffsets (home offset) (λ _. k) → IsWithinDay k → IsWide l
-    → AreOffsetsFor seconds home (λ _. k) l (Single offset)
-constant_wall seconds home offset k l is same day wide =
+pub constant_wall : {O : Type 0} (m : Meaning O) (offset : O) (k l : ℤ)
+    → m.seconds offset ≡ k → SameOffsets (m.home offset) (λ _. k) → IsWithinDay k → IsWide l
+    → AreOffsetsFor {m = m} (record { off = λ _. k }) l (Single offset)
+constant_wall m offset k l is same day wide =
     record { wall = rw is (shown_once k l day wide); same_home = same }
 
 -- the midnight of a date is a reading's second

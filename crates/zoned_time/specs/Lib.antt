@@ -1,5 +1,10 @@
+pub mod Choice
 pub mod DateTime
+pub mod Fields
+pub mod Order
 pub mod Relocal
+pub mod ResolveNumbers
 pub mod Stamps
+pub mod Years
 pub mod Zone
 pub mod Zoned

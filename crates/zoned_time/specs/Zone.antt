@@ -19,11 +19,27 @@ SameOffsets f g = (u : ℤ) → IsZoneSecond u → f u ≡ g u
 abbrev pub midnight_of : NaiveDate → ℤ
 midnight_of date = day_of date *ℤ pos 86_400
 
--- An offset is known by how many `seconds` its clocks are ahead of UTC, and by the offset function of its `home`, the zone
--- that it came from. This is one that a zone with the offset function `off` gives at second u.
-pub record IsOffsetAt {O : Type 0} (seconds : O → ℤ) (home : O → ℤ → ℤ) (off : ℤ → ℤ) (u : ℤ) (offset : O) : Type 0 where
-  pub there : seconds offset ≡ off u
-  pub same_home : SameOffsets (home offset) off
+-- what offsets mean: how many seconds local time is ahead of UTC, and the offset function of the zone that each came from
+pub record Meaning (O : Type 0) : Type 0 where
+  pub seconds : O → ℤ
+  pub home : O → ℤ → ℤ
+
+-- the law of a zone: its offset at each second
+pub record Law {O : Type 0} (meaning : Meaning O) : Type 0 where
+  pub off : ℤ → ℤ
+
+-- a zone whose clocks are never set
+abbrev pub IsFixed : {O : Type 0} {m : Meaning O} → Law m → Type 0
+IsFixed law = (u v : ℤ) → law.off u ≡ law.off v
+
+-- a zone whose clocks are those of UTC
+abbrev pub IsUtc : {O : Type 0} {m : Meaning O} → Law m → Type 0
+IsUtc law = (u : ℤ) → law.off u ≡ pos 0
+
+-- an offset that the zone gives at second u
+pub record IsOffsetAt {O : Type 0} {m : Meaning O} (law : Law m) (u : ℤ) (offset : O) : Type 0 where
+  pub there : m.seconds offset ≡ law.off u
+  pub same_home : SameOffsets (m.home offset) law.off
 
 -- at second u a clock of the zone shows l, and is k seconds ahead of UTC
 pub record Shows (off : ℤ → ℤ) (l u k : ℤ) : Type 0 where
@@ -39,6 +55,6 @@ Each p (Ambiguous a b) = p a × p b
 
 -- the offsets that a zone gives for the wall clock l: the one at the only second at which its clocks show l, or those at
 -- the first and at the last of several
-pub record AreOffsetsFor {O : Type 0} (seconds : O → ℤ) (home : O → ℤ → ℤ) (off : ℤ → ℤ) (l : ℤ) (offsets : LocalResult O) : Type 0 where
-  pub wall : IsWallAnswer (Shows off l) (map_of seconds offsets)
-  pub same_home : Each (λ o. SameOffsets (home o) off) offsets
+pub record AreOffsetsFor {O : Type 0} {m : Meaning O} (law : Law m) (l : ℤ) (offsets : LocalResult O) : Type 0 where
+  pub wall : IsWallAnswer (Shows law.off l) (map_of m.seconds offsets)
+  pub same_home : Each (λ o. SameOffsets (m.home o) law.off) offsets

@@ -1,11 +1,12 @@
 -- Zoned readings: a reading of UTC, and an offset.
-use Rattle.std.specs.Prelude.{◌≡◌, ℤ}
+use Rattle.std.specs.Prelude.{◌≡◌, ℤ, Option, Some, None}
 use Rattle.offset_core.specs.declared.fixed_offset.FixedOffset.{FixedOffset}
 use Rattle.offset_core.specs.FixedOffset.{seconds_of}
 use Rattle.naive_base.specs.declared.datetime.NaiveDateTime.{NaiveDateTime}
 use Rattle.naive_base.specs.NaiveDateTime.{reading}
+use Rattle.naive_base.specs.Range.{IsInRange}
 use Rattle.naive_base.specs.Reading.{Reading, ahead}
-use Rattle.zoned_time.specs.Zone.{IsOffsetAt}
+use Rattle.zoned_time.specs.Zone.{Meaning, Law, IsOffsetAt}
 
 pub record Zoned (O : Type 0) : Type 0 where
   pub utc : Reading
@@ -19,10 +20,19 @@ shown utc offset = record { utc = reading utc; offset = offset }
 abbrev pub local_of : {O : Type 0} → (O → ℤ) → Zoned O → Reading
 local_of seconds d = ahead d.utc (seconds d.offset)
 
+-- with the offset in plain seconds
+abbrev pub in_seconds : {O : Type 0} → (O → ℤ) → Zoned O → Zoned ℤ
+in_seconds seconds d = record { utc = d.utc; offset = seconds d.offset }
+
 -- the reading r of UTC with the offset that the zone gives there
-pub record IsAt {O : Type 0} (seconds : O → ℤ) (home : O → ℤ → ℤ) (off : ℤ → ℤ) (r : Reading) (d : Zoned O) : Type 0 where
+pub record IsAt {O : Type 0} {m : Meaning O} (law : Law m) (r : Reading) (d : Zoned O) : Type 0 where
   pub utc : d.utc ≡ r
-  pub offset : IsOffsetAt seconds home off r.s d.offset
+  pub offset : IsOffsetAt law r.s d.offset
+
+-- that, exactly where r is in range
+abbrev pub IsAtInRange : {O : Type 0} {m : Meaning O} → Law m → Reading → Option (Zoned O) → Type 0
+IsAtInRange law r (Some d) = IsInRange r.s × IsAt law r d
+IsAtInRange law r None = IsInRange r.s → ⊥
 
 -- the same instant, with an offset that is nothing but its seconds
 pub record IsFixedFrom {O : Type 0} (seconds : O → ℤ) (d : Zoned O) (e : Zoned FixedOffset) : Type 0 where

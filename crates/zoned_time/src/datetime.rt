@@ -3,9 +3,13 @@ ghost use Rattle.std.specs.Prelude.{◌≡◌, ⊤};
 ghost use Rattle.naive_base.specs.NaiveDateTime.{reading};
 ghost use Rattle.naive_base.specs.Range.{IsInRange};
 
-mod compare;
+mod arithmetic;
+mod calendar;
 mod constants;
 mod convert;
+mod fields;
+mod operators;
+mod order;
 mod parts;
 mod print;
 mod stamps;

@@ -1,5 +1,5 @@
 //! Zones of one offset.
-ghost use Rattle.std.specs.Prelude.{◌≡◌, ℤ};
+ghost use Rattle.std.specs.Prelude.{◌≡◌, ℤ, refl};
 ghost use Rattle.offset_core.specs.FixedOffset.{seconds_of};
 
 use crate::{Offset, TimeZone};
@@ -17,11 +17,13 @@ impl Offset for FixedOffset {
 impl TimeZone for FixedOffset {
     type Offset = FixedOffset;
 
-    ghost off = { λ zone _. seconds_of zone };
+    ghost meaning = { record { seconds = seconds_of; home = λ offset _. seconds_of offset } };
 
-    ghost home = { λ offset _. seconds_of offset };
+    ghost law = { λ zone. record { off = λ _. seconds_of zone } };
 
     ghost within_day = { λ zone _ _. zone.within_day };
+
+    ghost told = { λ _. refl };
 
     fn from_offset(offset: &FixedOffset) -> FixedOffset {
         *offset
@@ -37,6 +39,10 @@ impl TimeZone for FixedOffset {
 
     fn offset_from_local_datetime(&self, _local: &NaiveDateTime) -> LocalResult<FixedOffset> {
         LocalResult::Single(*self)
+    }
+
+    fn offset_before_gap(&self, _local: &NaiveDateTime) -> Option<FixedOffset> {
+        None
     }
 
     fn offset_from_local_date(&self, _local: &NaiveDate) -> LocalResult<FixedOffset> {

@@ -7,6 +7,8 @@ mod fixed;
 pub mod laws;
 mod naive_zoned;
 mod offset;
+mod resolve;
+mod resolve_error;
 #[cfg(test)]
 mod tests;
 mod time_zone;
@@ -15,5 +17,6 @@ mod utc;
 pub use datetime::{DateTime, MAX_DATETIME, MIN_DATETIME};
 pub use naive_zoned::NaiveZoned;
 pub use offset::Offset;
+pub use resolve_error::ResolveError;
 pub use time_zone::TimeZone;
 pub use utc::Utc;

@@ -24,7 +24,7 @@ pub trait NaiveZoned: Sized {
 
     /// The instant when the clocks of a zone show the reading: [`TimeZone::from_local_datetime`].
     fn and_local_timezone<Tz: TimeZone>(&self, tz: Tz) -> LocalResult<DateTime<Tz>>
-        ensures { IsRelocal Tz.Offset.seconds Tz.home (Tz.off tz) (shown self.now) (map_of zoned result) };
+        ensures { IsRelocal (Tz.law tz) (shown self.now) (map_of zoned result) };
 }
 
 impl NaiveZoned for NaiveDateTime {

@@ -260,3 +260,15 @@ fn offsets_at_dates(rt: HostRuntime) {
         (-1, LocalResult::Single(-1))
     );
 }
+
+#[test]
+fn literal_dates_need_no_proof(rt: HostRuntime) {
+    let zone = FixedOffset::east(3600);
+    let there = zone.with_ymd_and_hms(2020, 1, 1, 0, 0, 0).unwrap();
+    let here = Utc.with_ymd_and_hms(2020, 1, 1, 0, 0, 0).unwrap();
+    assert_eq!(rt; here.timestamp(), 1_577_836_800);
+    assert_eq!(rt; there.timestamp(), 1_577_833_200);
+    let local = here.naive_local();
+    assert!(rt; local.is_in_range());
+    assert_eq!(rt; Utc.from_local_datetime(&local).unwrap(), here);
+}

@@ -1,20 +1,23 @@
 //! Zones.
-ghost use Rattle.std.specs.Prelude.{◌≡◌, ℤ};
-ghost use Rattle.offset_core.specs.LocalResult.{map_of};
+ghost use Rattle.std.specs.Prelude.{◌≡◌, ℤ, pos, IsSome, MatchResult};
+ghost use Rattle.offset_core.specs.LocalResult.{single_of, map_of};
 ghost use Rattle.offset_core.specs.Offset.{IsWithinDay};
 ghost use Rattle.naive_base.specs.Clock.{IsClock, clock_second};
 ghost use Rattle.naive_base.specs.Date.{IsDate, day_number};
 ghost use Rattle.naive_base.specs.NaiveDateTime.{reading};
-ghost use Rattle.naive_base.specs.Range.{IsInRange, IsYearInRange};
-ghost use Rattle.naive_base.specs.Reading.{reading_at, of_total};
+ghost use Rattle.naive_base.specs.Range.{IsInRange, IsYearInRange, IsInnerYear};
+ghost use Rattle.naive_base.specs.Reading.{reading_at, behind, of_total};
+ghost use Rattle.naive_base.specs.Stamp.{of_secs, IsStamp};
+ghost use Rattle.zoned_time.specs.Choice.{IsOffsetBeforeGap, IsResolved, IsUnresolved};
 ghost use Rattle.zoned_time.specs.Relocal.{IsRelocal};
-ghost use Rattle.zoned_time.specs.Stamps.{IsStamp, IsAtWhere, of_secs, of_millis, of_micros};
-ghost use Rattle.zoned_time.specs.Zone.{IsZoneSecond, SameOffsets, IsOffsetAt, AreOffsetsFor, midnight_of};
+ghost use Rattle.zoned_time.specs.Stamps.{IsAtWhere, of_millis, of_micros};
+ghost use Rattle.zoned_time.specs.Zone.{Meaning, Law, IsFixed, IsUtc, IsZoneSecond, SameOffsets, IsOffsetAt, AreOffsetsFor, midnight_of};
 ghost use Rattle.zoned_time.specs.Zoned.{shown, IsAt};
 
-use crate::{DateTime, Offset, Utc};
+use crate::resolve::{instant_by, shifted};
+use crate::{DateTime, Offset, ResolveError, Utc};
 use naive_base::{NaiveDate, NaiveDateTime};
-use offset_core::LocalResult;
+use offset_core::{Choice, FoldChoice, GapChoice, LocalResult};
 
 /// A time zone: an offset for each second.
 ///
@@ -28,40 +31,48 @@ pub trait TimeZone: Sized + Copy {
     /// What the zone's lookups give.
     type Offset: Offset;
 
-    // the zone's offset function: how many seconds its clocks are ahead of UTC, at each second
-    ghost off: { Self → ℤ → ℤ };
+    // what an offset means
+    ghost meaning: { Meaning Self.Offset };
 
-    // the offset function of the zone that an offset came from
-    ghost home: { Self.Offset → ℤ → ℤ };
+    // how many seconds the zone's clocks are ahead of UTC, at each second
+    ghost law: { Self → Law meaning };
 
     /// A zone of the same offsets as the one that gave this offset.
     fn from_offset(offset: &Self::Offset) -> Self
-        ensures { SameOffsets (off result) (home offset.now) };
+        ensures { SameOffsets (law result).off (meaning.home offset.now) };
 
     /// The offset at an instant, given by its UTC reading.
     fn offset_from_utc_datetime(&self, utc: &NaiveDateTime) -> Self::Offset
-        ensures { IsOffsetAt Self.Offset.seconds home (off self.now) (reading utc.now).s result };
+        ensures { IsOffsetAt (law self.now) (reading utc.now).s result };
 
     /// The offset at the midnight of UTC that begins a date.
     fn offset_from_utc_date(&self, utc: &NaiveDate) -> Self::Offset
-        ensures { IsOffsetAt Self.Offset.seconds home (off self.now) (midnight_of utc.now) result };
+        ensures { IsOffsetAt (law self.now) (midnight_of utc.now) result };
 
     /// The offset at the instant when the zone's clocks show a reading: none in a gap, and in a fold those at the first and
     /// at the last such instant.
     fn offset_from_local_datetime(&self, local: &NaiveDateTime) -> LocalResult<Self::Offset>
-        ensures { AreOffsetsFor Self.Offset.seconds home (off self.now) (reading local.now).s result };
+        ensures { AreOffsetsFor (law self.now) (reading local.now).s result };
 
     /// [`TimeZone::offset_from_local_datetime`] of the midnight that begins a date.
     fn offset_from_local_date(&self, local: &NaiveDate) -> LocalResult<Self::Offset>
-        ensures { AreOffsetsFor Self.Offset.seconds home (off self.now) (midnight_of local.now) result };
+        ensures { AreOffsetsFor (law self.now) (midnight_of local.now) result };
+
+    /// In a gap the offset before it: that at the second before the first one at which a clock of the zone shows a later
+    /// reading. `None` exactly where a clock shows the reading.
+    fn offset_before_gap(&self, local: &NaiveDateTime) -> Option<Self::Offset>
+        ensures { IsOffsetBeforeGap (law self.now) (reading local.now).s result };
 
     // clocks are never a day or more away from UTC
-    ghost within_day: { (zone : Self) (u : ℤ) → IsZoneSecond u → IsWithinDay (off zone u) };
+    ghost within_day: { (zone : Self) (u : ℤ) → IsZoneSecond u → IsWithinDay ((law zone).off u) };
+
+    // the offset itself tells its seconds
+    ghost told: { (offset : Self.Offset) → meaning.seconds offset ≡ Self.Offset.seconds offset };
 
     /// The instant of a UTC reading in range.
     final fn from_utc_datetime(&self, utc: &NaiveDateTime) -> DateTime<Self>
         requires { IsInRange (reading utc.now).s }
-        ensures { IsAt Self.Offset.seconds home (off self.now) (reading utc.now) (shown result.datetime result.offset) }
+        ensures { IsAt (law self.now) (reading utc.now) (shown result.datetime result.offset) }
     {
         DateTime::from_naive_utc_and_offset(*utc, self.offset_from_utc_datetime(utc))
     }
@@ -69,22 +80,54 @@ pub trait TimeZone: Sized + Copy {
     /// The instant when the zone's clocks show a reading: none in a gap, and in a fold the first and the last such instant.
     /// Where the UTC reading of one of them is out of range, there is none.
     final fn from_local_datetime(&self, local: &NaiveDateTime) -> LocalResult<DateTime<Self>>
-        ensures { IsRelocal Self.Offset.seconds home (off self.now) (reading local.now) (map_of (λ d. shown d.datetime d.offset) result) }
+        ensures instants { IsRelocal (law self.now) (reading local.now)
+            (map_of (λ d. shown d.datetime d.offset) result) }
+        // A zone of one offset has exactly one, where that is in range.
+        ensures fixed { IsFixed (law self.now)
+            → IsInRange (behind (reading local.now) ((law self.now).off (pos 0))).s
+            → IsSome (single_of result) }
+        ensures utc { IsUtc (law self.now) → IsInRange (reading local.now).s
+            → IsSome (single_of result) }
+    {
+        self.offset_from_local_datetime(local)
+            .and_then(|offset| DateTime::<Self>::from_local_opt(local, offset))
+    }
+
+    /// The instant that a choice takes for a reading. New York's clocks skipped 02:30 on 2021-03-14, and showed 01:30 twice on
+    /// 2021-11-07:
+    ///
+    /// | reading | choice | answer |
+    /// |---|---|---|
+    /// | 02:30 | `ShiftForward` | 03:30 -04:00 |
+    /// | 02:30 | `Refuse` in gaps | [`ResolveError::Gap`] |
+    /// | 01:30 | `Earliest` | 01:30 -04:00 |
+    /// | 01:30 | `Latest` | 01:30 -05:00 |
+    /// | 01:30 | `Refuse` in folds | [`ResolveError::Fold`] |
+    ///
+    /// Nanoseconds are kept.
+    ///
+    /// # Errors
+    ///
+    /// As in the table; [`ResolveError::OutOfRange`] if the UTC reading of the instant that is taken is out of range.
+    final fn resolve(
+        &self,
+        local: &NaiveDateTime,
+        choice: Choice,
+    ) -> Result<DateTime<Self>, ResolveError>
+        ensures { MatchResult result
+            (λ d. IsResolved (law self.now) (reading local.now) choice (shown d.datetime d.offset))
+            (λ e. IsUnresolved (law self.now).off (reading local.now).s choice e) }
     {
         match self.offset_from_local_datetime(local) {
-            LocalResult::None => LocalResult::None,
-            LocalResult::Single(offset) => match DateTime::<Self>::from_local_opt(local, offset) {
-                Some(instant) => LocalResult::Single(instant),
-                None => LocalResult::None,
+            LocalResult::Single(only) => { instant_by(local, only) }
+            LocalResult::Ambiguous(first, last) => match choice.fold {
+                FoldChoice::Refuse => Err(ResolveError::Fold),
+                FoldChoice::Earliest => { instant_by(local, first) }
+                FoldChoice::Latest => { instant_by(local, last) }
             },
-            LocalResult::Ambiguous(first, last) => match DateTime::<Self>::from_local_opt(
-                local, first,
-            ) {
-                Some(first) => match DateTime::<Self>::from_local_opt(local, last) {
-                    Some(last) => LocalResult::Ambiguous(first, last),
-                    None => LocalResult::None,
-                },
-                None => LocalResult::None,
+            LocalResult::None => match choice.gap {
+                GapChoice::Refuse => Err(ResolveError::Gap),
+                GapChoice::ShiftForward => shifted(self, local),
             },
         }
     }
@@ -102,9 +145,15 @@ pub trait TimeZone: Sized + Copy {
         sec: u32,
     ) -> LocalResult<DateTime<Self>>
         ensures exists { IsYearInRange year → IsDate year month day → IsClock hour min sec
-            → IsRelocal Self.Offset.seconds home (off self.now)
-            (reading_at (day_number year month day) (clock_second hour min sec) 0) (map_of (λ d. shown d.datetime d.offset) result) }
-        ensures missing { (IsYearInRange year → IsDate year month day → IsClock hour min sec → ⊥) → result ≡ LocalResult.None }
+            → IsRelocal (law self.now)
+            (reading_at (day_number year month day) (clock_second hour min sec) 0)
+            (map_of (λ d. shown d.datetime d.offset) result) }
+        // A zone of one offset has exactly one.
+        ensures fixed { IsFixed (law self.now) → IsInnerYear year → IsDate year month day
+            → IsClock hour min sec
+            → IsSome (single_of result) }
+        ensures missing { (IsYearInRange year → IsDate year month day → IsClock hour min sec → ⊥)
+            → result ≡ LocalResult.None }
     {
         let Some(date) = NaiveDate::from_ymd_opt(year, month, day) else {
             return LocalResult::None;
@@ -118,7 +167,7 @@ pub trait TimeZone: Sized + Copy {
     /// The instant of [`DateTime::from_timestamp`], where it answers.
     final fn timestamp_opt(&self, secs: i64, nsecs: u32) -> LocalResult<DateTime<Self>>
         ensures { let r = of_secs secs nsecs in
-            IsAtWhere Self.Offset.seconds home (off self.now) (IsStamp r) r (map_of (λ d. shown d.datetime d.offset) result) }
+            IsAtWhere (law self.now) (IsStamp r) r (map_of (λ d. shown d.datetime d.offset) result) }
     {
         match DateTime::<Utc>::from_timestamp(secs, nsecs) {
             Some(instant) => LocalResult::Single(instant.with_timezone(self)),
@@ -129,7 +178,7 @@ pub trait TimeZone: Sized + Copy {
     /// [`TimeZone::timestamp_opt`], where it answers.
     final fn timestamp(&self, secs: i64, nsecs: u32) -> DateTime<Self>
         requires { IsStamp (of_secs secs nsecs) }
-        ensures { IsAt Self.Offset.seconds home (off self.now) (of_secs secs nsecs) (shown result.datetime result.offset) }
+        ensures { IsAt (law self.now) (of_secs secs nsecs) (shown result.datetime result.offset) }
     {
         DateTime::<Utc>::from_timestamp(secs, nsecs)
             .unwrap()
@@ -139,7 +188,8 @@ pub trait TimeZone: Sized + Copy {
     /// The instant of [`DateTime::from_timestamp_millis`], where it answers.
     final fn timestamp_millis_opt(&self, millis: i64) -> LocalResult<DateTime<Self>>
         ensures { let r = of_millis millis in
-            IsAtWhere Self.Offset.seconds home (off self.now) (IsInRange r.s) r (map_of (λ d. shown d.datetime d.offset) result) }
+            IsAtWhere (law self.now) (IsInRange r.s) r
+            (map_of (λ d. shown d.datetime d.offset) result) }
     {
         match DateTime::<Utc>::from_timestamp_millis(millis) {
             Some(instant) => LocalResult::Single(instant.with_timezone(self)),
@@ -150,7 +200,7 @@ pub trait TimeZone: Sized + Copy {
     /// [`TimeZone::timestamp_millis_opt`], where it answers.
     final fn timestamp_millis(&self, millis: i64) -> DateTime<Self>
         requires { IsInRange (of_millis millis).s }
-        ensures { IsAt Self.Offset.seconds home (off self.now) (of_millis millis) (shown result.datetime result.offset) }
+        ensures { IsAt (law self.now) (of_millis millis) (shown result.datetime result.offset) }
     {
         DateTime::<Utc>::from_timestamp_millis(millis)
             .unwrap()
@@ -160,7 +210,8 @@ pub trait TimeZone: Sized + Copy {
     /// The instant of [`DateTime::from_timestamp_micros`], where it answers.
     final fn timestamp_micros(&self, micros: i64) -> LocalResult<DateTime<Self>>
         ensures { let r = of_micros micros in
-            IsAtWhere Self.Offset.seconds home (off self.now) (IsInRange r.s) r (map_of (λ d. shown d.datetime d.offset) result) }
+            IsAtWhere (law self.now) (IsInRange r.s) r
+            (map_of (λ d. shown d.datetime d.offset) result) }
     {
         match DateTime::<Utc>::from_timestamp_micros(micros) {
             Some(instant) => LocalResult::Single(instant.with_timezone(self)),
@@ -170,7 +221,7 @@ pub trait TimeZone: Sized + Copy {
 
     /// The instant of [`DateTime::from_timestamp_nanos`].
     final fn timestamp_nanos(&self, nanos: i64) -> DateTime<Self>
-        ensures { IsAt Self.Offset.seconds home (off self.now) (of_total nanos) (shown result.datetime result.offset) }
+        ensures { IsAt (law self.now) (of_total nanos) (shown result.datetime result.offset) }
     {
         DateTime::<Utc>::from_timestamp_nanos(nanos).with_timezone(self)
     }

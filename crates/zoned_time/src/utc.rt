@@ -1,5 +1,5 @@
 //! Coordinated universal time.
-ghost use Rattle.std.specs.Prelude.{◌≡◌, ℤ, pos, codes, Some};
+ghost use Rattle.std.specs.Prelude.{◌≡◌, ℤ, pos, codes, Some, refl};
 ghost use Rattle.std.proofs.Common.{rules};
 
 use crate::{Offset, TimeZone};
@@ -24,11 +24,13 @@ impl Offset for Utc {
 impl TimeZone for Utc {
     type Offset = Utc;
 
-    ghost off = { λ _ _. pos 0 };
+    ghost meaning = { record { seconds = λ _. pos 0; home = λ _ _. pos 0 } };
 
-    ghost home = { λ _ _. pos 0 };
+    ghost law = { λ _. record { off = λ _. pos 0 } };
 
     ghost within_day = { Prim.search rules };
+
+    ghost told = { λ _. refl };
 
     fn from_offset(_offset: &Utc) -> Utc {
         Utc
@@ -44,6 +46,10 @@ impl TimeZone for Utc {
 
     fn offset_from_local_datetime(&self, _local: &NaiveDateTime) -> LocalResult<Utc> {
         LocalResult::Single(Utc)
+    }
+
+    fn offset_before_gap(&self, _local: &NaiveDateTime) -> Option<Utc> {
+        None
     }
 
     fn offset_from_local_date(&self, _local: &NaiveDate) -> LocalResult<Utc> {

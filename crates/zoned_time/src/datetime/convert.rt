@@ -11,7 +11,7 @@ use offset_core::FixedOffset;
 impl<Tz: TimeZone> DateTime<Tz> {
     /// The same instant, with the offset that the zone has then.
     pub fn with_timezone<Tz2: TimeZone>(&self, tz: &Tz2) -> DateTime<Tz2>
-        ensures { IsAt Tz2.Offset.seconds Tz2.home (Tz2.off tz.now) (zoned self.now).utc (zoned result) }
+        ensures { IsAt (Tz2.law tz.now) (zoned self.now).utc (zoned result) }
     {
         tz.from_utc_datetime(&self.datetime)
     }

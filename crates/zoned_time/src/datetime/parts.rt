@@ -1,15 +1,14 @@
 //! Instants made of a reading and an offset, and taken apart into them.
 ghost use Rattle.std.specs.Prelude.{◌≡◌, SomeIff, option_map};
-ghost use Rattle.offset_core.specs.FixedOffset.{seconds_of};
 ghost use Rattle.naive_base.specs.NaiveDate.{day_of};
 ghost use Rattle.naive_base.specs.NaiveDateTime.{reading};
 ghost use Rattle.naive_base.specs.NaiveTime.{second_of, fraction_of};
 ghost use Rattle.naive_base.specs.Range.{IsInRange};
 ghost use Rattle.naive_base.specs.Reading.{day_at, second_at};
-ghost use Rattle.zoned_time.specs.DateTime.{zoned};
+ghost use Rattle.zoned_time.specs.DateTime.{zoned, wall_of};
 ghost use Rattle.zoned_time.specs.Relocal.{HasInstant, instant_of};
 ghost use Rattle.zoned_time.specs.Zone.{SameOffsets};
-ghost use Rattle.zoned_time.specs.Zoned.{shown, local_of};
+ghost use Rattle.zoned_time.specs.Zoned.{shown};
 
 use super::DateTime;
 use crate::{Offset, TimeZone};
@@ -75,38 +74,36 @@ impl<Tz: TimeZone> DateTime<Tz> {
 
     /// A zone of the same offsets as the one that the offset came from.
     pub fn timezone(&self) -> Tz
-        ensures { SameOffsets (Tz.off result) (Tz.home (zoned self.now).offset) }
+        ensures { SameOffsets (Tz.law result).off (Tz.meaning.home (zoned self.now).offset) }
     {
         Tz::from_offset(&self.offset)
     }
 
-    /// What a clock with the offset shows, where that is in range.
+    /// What a clock with the offset shows, be it on a buffer day.
     pub fn naive_local(&self) -> NaiveDateTime
-        requires { IsInRange (local_of Tz.Offset.seconds (zoned self.now)).s }
-        ensures { reading result ≡ local_of Tz.Offset.seconds (zoned self.now) }
+        ensures { reading result ≡ wall_of self.now }
     {
         self.local()
     }
 
-    /// The date that a clock with the offset shows, where its reading is in range.
+    /// The date that a clock with the offset shows, be it a buffer day.
     pub fn date_naive(&self) -> NaiveDate
-        requires { IsInRange (local_of Tz.Offset.seconds (zoned self.now)).s }
-        ensures { day_of result ≡ day_at (local_of Tz.Offset.seconds (zoned self.now)) }
+        ensures { day_of result ≡ day_at (wall_of self.now) }
     {
         self.local().date()
     }
 
     /// The time of day that a clock with the offset shows.
     pub fn time(&self) -> NaiveTime
-        ensures second { second_of result ≡ second_at (local_of Tz.Offset.seconds (zoned self.now)) }
-        ensures fraction { fraction_of result ≡ (local_of Tz.Offset.seconds (zoned self.now)).f }
+        ensures second { second_of result ≡ second_at (wall_of self.now) }
+        ensures fraction { fraction_of result ≡ (wall_of self.now).f }
     {
         self.local().time()
     }
 
     // What a clock with the offset shows, be it on a buffer day.
     pub(super) fn local(&self) -> NaiveDateTime
-        ensures { reading result ≡ local_of Tz.Offset.seconds (zoned self.now) }
+        ensures { reading result ≡ wall_of self.now }
     {
         self.datetime.overflowing_add_offset(self.offset.fix())
     }

@@ -1,8 +1,7 @@
 //! How instants print: as what a clock with their offset shows, and the offset.
 ghost use Rattle.std.specs.Prelude.{◌∷◌, ◌++◌, option_map};
 ghost use Rattle.naive_base.specs.Text.{reading_text};
-ghost use Rattle.zoned_time.specs.DateTime.{zoned};
-ghost use Rattle.zoned_time.specs.Zoned.{local_of};
+ghost use Rattle.zoned_time.specs.DateTime.{zoned, wall_of};
 
 use super::DateTime;
 use crate::TimeZone;
@@ -12,7 +11,7 @@ impl<Tz: TimeZone> fmt::Display for DateTime<Tz>
 where
     Tz::Offset: fmt::Display,
 {
-    ghost output = { λ d. option_map (λ offset. reading_text 32 (local_of Tz.Offset.seconds (zoned d)) ++ (32 ∷ offset))
+    ghost output = { λ d. option_map (λ offset. reading_text 32 (wall_of d) ++ (32 ∷ offset))
         (Tz.Offset.output (zoned d).offset) };
 
     fn fmt<W: fmt::Write>(&self, f: &mut fmt::Formatter<W>) -> fmt::Result {
@@ -22,7 +21,7 @@ where
 }
 
 impl<Tz: TimeZone> fmt::Debug for DateTime<Tz> {
-    ghost debug_output = { λ d. option_map (λ offset. reading_text 84 (local_of Tz.Offset.seconds (zoned d)) ++ offset)
+    ghost debug_output = { λ d. option_map (λ offset. reading_text 84 (wall_of d) ++ offset)
         (Tz.Offset.debug_output (zoned d).offset) };
 
     fn fmt<W: fmt::Write>(&self, f: &mut fmt::Formatter<W>) -> fmt::Result {

@@ -1,17 +1,15 @@
 //! Timestamps of instants, and instants of timestamps.
 ghost use Rattle.std.specs.Prelude.{◌≡◌, ◌/◌, SomeIff, FitsSigned, option_map};
 ghost use Rattle.std.specs.Int.{w64};
-ghost use Rattle.naive_base.specs.NaiveDate.{day_of};
-ghost use Rattle.naive_base.specs.NaiveDateTime.{reading};
 ghost use Rattle.naive_base.specs.Range.{IsInRange};
 ghost use Rattle.naive_base.specs.Reading.{total, of_total};
-ghost use Rattle.naive_base.specs.Year.{floor_div};
+ghost use Rattle.naive_base.specs.Stamp.{of_secs, IsStamp};
 ghost use Rattle.zoned_time.specs.DateTime.{zoned};
-ghost use Rattle.zoned_time.specs.Stamps.{millis_of, micros_of, of_secs, of_millis, of_micros, IsStamp, in_utc};
+ghost use Rattle.zoned_time.specs.Stamps.{millis_of, micros_of, of_millis, of_micros, in_utc};
 
 use super::DateTime;
 use crate::{TimeZone, Utc};
-use naive_base::{NaiveDate, NaiveDateTime, NaiveTime};
+use naive_base::{NaiveDateTime, Timelike};
 
 impl<Tz: TimeZone> DateTime<Tz> {
     /// The whole seconds since 1970-01-01 00:00:00 UTC.
@@ -38,7 +36,8 @@ impl<Tz: TimeZone> DateTime<Tz> {
     /// The nanoseconds since 1970-01-01 00:00:00 UTC, and those of a leap second on top of its second's. `None` where an
     /// `i64` doesn't hold them, which are the instants before 1677-09-21 and after 2262-04-11.
     pub fn timestamp_nanos_opt(&self) -> Option<i64>
-        ensures { let nanos = total (zoned self.now).utc in SomeIff result (FitsSigned w64 nanos) nanos }
+        ensures { let nanos = total (zoned self.now).utc in SomeIff result
+            (FitsSigned w64 nanos) nanos }
     {
         i64::try_from(self.total_nanos()).ok()
     }
@@ -83,22 +82,25 @@ impl DateTime<Utc> {
     /// The instant so many seconds, and then nanoseconds, after 1970-01-01 00:00:00 UTC. `None` where it is out of range, or
     /// the nanoseconds are 10^9 or more, unless these are a leap second's: below 2*10^9, behind the last second of a minute.
     pub fn from_timestamp(secs: i64, nsecs: u32) -> Option<DateTime<Utc>>
-        ensures { let r = of_secs secs nsecs in SomeIff (option_map zoned result) (IsStamp r) (in_utc r) }
+        ensures { let r = of_secs secs nsecs in SomeIff (option_map zoned result) (IsStamp r)
+            (in_utc r) }
     {
-        let utc = stamp_reading(secs, nsecs)?;
+        let utc = NaiveDateTime::from_timestamp_opt(secs, nsecs)?;
         Some(DateTime::from_naive_utc_and_offset(utc, Utc))
     }
 
     /// The instant so many seconds after 1970-01-01 00:00:00 UTC. `None` where it is out of range.
     pub fn from_timestamp_secs(secs: i64) -> Option<DateTime<Utc>>
-        ensures { let r = of_secs secs 0 in SomeIff (option_map zoned result) (IsInRange r.s) (in_utc r) }
+        ensures { let r = of_secs secs 0 in SomeIff (option_map zoned result) (IsInRange r.s)
+            (in_utc r) }
     {
         DateTime::<Utc>::from_timestamp(secs, 0)
     }
 
     /// The instant so many milliseconds after 1970-01-01 00:00:00 UTC. `None` where it is out of range.
     pub fn from_timestamp_millis(millis: i64) -> Option<DateTime<Utc>>
-        ensures { let r = of_millis millis in SomeIff (option_map zoned result) (IsInRange r.s) (in_utc r) }
+        ensures { let r = of_millis millis in SomeIff (option_map zoned result) (IsInRange r.s)
+            (in_utc r) }
     {
         let nanos = millis.rem_euclid(1_000) as u32 * 1_000_000;
         DateTime::<Utc>::from_timestamp(millis.div_euclid(1_000), nanos)
@@ -106,7 +108,8 @@ impl DateTime<Utc> {
 
     /// The instant so many microseconds after 1970-01-01 00:00:00 UTC. `None` where it is out of range.
     pub fn from_timestamp_micros(micros: i64) -> Option<DateTime<Utc>>
-        ensures { let r = of_micros micros in SomeIff (option_map zoned result) (IsInRange r.s) (in_utc r) }
+        ensures { let r = of_micros micros in SomeIff (option_map zoned result) (IsInRange r.s)
+            (in_utc r) }
     {
         let nanos = micros.rem_euclid(1_000_000) as u32 * 1_000;
         DateTime::<Utc>::from_timestamp(micros.div_euclid(1_000_000), nanos)
@@ -120,24 +123,3 @@ impl DateTime<Utc> {
         DateTime::<Utc>::from_timestamp(nanos.div_euclid(1_000_000_000), subsecond).unwrap()
     }
 }
-
-// The reading at that second since the epoch, where a stamp may name it.
-fn stamp_reading(secs: i64, nanos: u32) -> Option<NaiveDateTime>
-    ensures { let r = of_secs secs nanos in SomeIff (option_map reading result) (IsStamp r) r }
-{
-    let date = stamp_date(secs)?;
-    let second = secs.rem_euclid(86_400) as u32;
-    let time = NaiveTime::from_num_seconds_from_midnight_opt(second, nanos)?;
-    Some(date.and_time(time))
-}
-
-// The date that a second since the epoch lies in.
-fn stamp_date(secs: i64) -> Option<NaiveDate>
-    ensures { SomeIff (option_map day_of result) (IsInRange secs) (floor_div secs 86_400) }
-{
-    let days = i32::try_from(secs.div_euclid(86_400) + EPOCH_FROM_CE).ok()?;
-    NaiveDate::from_num_days_from_ce_opt(days)
-}
-
-// 1970-01-01, where 0001-01-01 is day 1.
-const EPOCH_FROM_CE: i64 = 719_163;

@@ -6,4 +6,4 @@ use Rattle.zoned_time.proofs.fixed.FixedOffsetTimeZone.offset_from_local_date.Go
 
 pub returns : goal.returns
 returns c = let zone = c.args.self.now in let date = c.args._local.now in
-    constant_wall seconds_of (λ o _. seconds_of o) zone (seconds_of zone) (midnight_of date) refl (λ _ _. refl) zone.within_day (midnight_wide date)
+    constant_wall (record { seconds = seconds_of; home = λ o _. seconds_of o }) zone (seconds_of zone) (midnight_of date) refl (λ _ _. refl) zone.within_day (midnight_wide date)

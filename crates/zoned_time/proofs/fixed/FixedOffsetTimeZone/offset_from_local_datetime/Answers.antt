@@ -6,4 +6,4 @@ use Rattle.zoned_time.proofs.fixed.FixedOffsetTimeZone.offset_from_local_datetim
 
 pub returns : goal.returns
 returns c = let zone = c.args.self.now in let local = c.args._local.now in
-    constant_wall seconds_of (λ o _. seconds_of o) zone (seconds_of zone) (reading local).s refl (λ _ _. refl) zone.within_day local.in_range.0
+    constant_wall (record { seconds = seconds_of; home = λ o _. seconds_of o }) zone (seconds_of zone) (reading local).s refl (λ _ _. refl) zone.within_day local.in_range.0

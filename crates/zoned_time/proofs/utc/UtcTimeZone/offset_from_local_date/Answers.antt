@@ -7,5 +7,5 @@ use Rattle.zoned_time.proofs.utc.UtcTimeZone.offset_from_local_date.Goals as goa
 
 pub returns : goal.returns
 returns c = let date = c.args._local.now in
-    constant_wall (λ _. pos 0) (λ _ _. pos 0) (record {}) (pos 0) (midnight_of date) refl (λ _ _. refl)
+    constant_wall (record { seconds = λ _. pos 0; home = λ _ _. pos 0 }) (record {}) (pos 0) (midnight_of date) refl (λ _ _. refl)
     (omega (arith, ints), omega (arith, ints)) (midnight_wide date)

@@ -1,0 +1,9 @@
+use Rattle.offset_core.specs.LocalResult.{map_of}
+use Rattle.naive_base.specs.NaiveDateTime.{reading}
+use Rattle.zoned_time.specs.DateTime.{zoned, home_of}
+use Rattle.zoned_time.proofs.Homes.{relocal_home}
+use Rattle.zoned_time.proofs.datetime.arithmetic.DateTime+Tz.relocal.Goals as goal
+
+pub returns : goal.returns
+returns g c = relocal_home (g.Tz.TimeZone.law c.timezone.result) (home_of c.args.self.now) (reading c.args.local.now) (map_of (λ d. zoned d) c.from_local_datetime.result)
+    c.timezone.ensures c.from_local_datetime.ensures.instants

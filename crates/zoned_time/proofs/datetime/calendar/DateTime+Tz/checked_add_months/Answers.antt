@@ -1,0 +1,12 @@
+use Rattle.std.proofs.Common.{pos}
+use Rattle.naive_base.specs.Months.{months_of}
+use Rattle.naive_base.specs.NaiveDateTime.{reading}
+use Rattle.zoned_time.specs.DateTime.{zoned, wall_of, home_of, day_shown_by}
+use Rattle.zoned_time.proofs.Instants.{no_months_later}
+use Rattle.zoned_time.proofs.datetime.calendar.DateTime+Tz.checked_add_months.Goals as goal
+
+pub returns-in_err-checked_add_months : goal.returns-in_err-checked_add_months
+returns-in_err-checked_add_months g c =
+    let d = c.args.self.now in
+    rw c.from_residual.ensures (no_months_later (home_of d) (λ e. day_shown_by e) (λ e. zoned e) (reading c.local.result) (wall_of d) (pos (months_of c.args.months))
+    c.local.ensures c.in_err-checked_add_months.ensures)

@@ -1,0 +1,59 @@
+-- What is taken for a wall clock that clocks show never, once or several times. Seconds count from 1970-01-01 00:00:00.
+use Rattle.std.specs.Prelude.{◌≡◌, ℤ, pos, ◌+ℤ◌, ◌-ℤ◌, ◌≤ℤ◌, ◌<ℤ◌, Option, Some, None}
+use Rattle.offset_core.specs.declared.choice.Choice.{Choice}
+use Rattle.offset_core.specs.declared.choice.GapChoice.TheVariants.{Refuse as RefuseGap, ShiftForward}
+use Rattle.offset_core.specs.declared.choice.FoldChoice.TheVariants.{Refuse as RefuseFold, Earliest, Latest}
+use Rattle.offset_core.specs.WallAnswer.{IsNeverShown, IsShownOnce, IsShownBetween}
+use Rattle.naive_base.specs.Range.{IsInRange}
+use Rattle.naive_base.specs.Reading.{Reading, behind}
+use Rattle.zoned_time.specs.declared.resolve_error.ResolveError.{ResolveError}
+use Rattle.zoned_time.specs.declared.resolve_error.ResolveError.TheVariants.{Gap, Fold, OutOfRange}
+use Rattle.zoned_time.specs.Zone.{Meaning, Law, IsZoneSecond, SameOffsets, Shows}
+use Rattle.zoned_time.specs.Zoned.{Zoned, IsAt}
+
+-- No clock shows l, `first` is the first second at which one shows more, and k is the offset at the second before it.
+pub record IsBeforeGap (off : ℤ → ℤ) (l k : ℤ) : Type 0 where
+  pub never : IsNeverShown (Shows off l)
+  pub first : ℤ
+  pub in_zone : IsZoneSecond first × IsZoneSecond (first -ℤ pos 1)
+  pub more : l <ℤ (first +ℤ off first)
+  pub least : (u : ℤ) → IsZoneSecond u → l <ℤ (u +ℤ off u) → first ≤ℤ u
+  pub before : k ≡ off (first -ℤ pos 1)
+
+-- an offset of the zone before the gap of l; none where a clock shows l
+abbrev pub IsOffsetBeforeGap : {O : Type 0} {m : Meaning O} → Law m → ℤ → Option O → Type 0
+IsOffsetBeforeGap {m = m} law l (Some o) = IsBeforeGap law.off l (m.seconds o) × SameOffsets (m.home o) law.off
+IsOffsetBeforeGap law l None = (u : ℤ) × (k : ℤ) × Shows law.off l u k
+
+-- the offset by which a choice takes l for an instant: that of the only second which shows l; in a fold that of the first, or
+-- of the last; in a gap the one before it
+pub data IsTaken (off : ℤ → ℤ) (l : ℤ) (choice : Choice) (k : ℤ) : Type 0 where
+  once : IsShownOnce (Shows off l) k → IsTaken off l choice k
+  earliest : (last : ℤ) → IsShownBetween (Shows off l) k last → choice.fold ≡ Earliest → IsTaken off l choice k
+  latest : (first : ℤ) → IsShownBetween (Shows off l) first k → choice.fold ≡ Latest → IsTaken off l choice k
+  shifted : IsBeforeGap off l k → choice.gap ≡ ShiftForward → IsTaken off l choice k
+
+-- the instant of the reading l under a choice: the offset is the zone's own there, which in a gap is the one after it
+pub record IsResolved {O : Type 0} {m : Meaning O} (law : Law m) (l : Reading) (choice : Choice) (d : Zoned O) : Type 0 where
+  pub offset : ℤ
+  pub taken : IsTaken law.off l.s choice offset
+  pub in_range : IsInRange (behind l offset).s
+  pub at : IsAt law (behind l offset) d
+
+-- why there is none
+pub data IsUnresolved (off : ℤ → ℤ) (l : ℤ) (choice : Choice) (e : ResolveError) : Type 0 where
+  gap : IsNeverShown (Shows off l) → choice.gap ≡ RefuseGap → e ≡ Gap → IsUnresolved off l choice e
+  fold : (first last : ℤ) → IsShownBetween (Shows off l) first last → choice.fold ≡ RefuseFold → e ≡ Fold → IsUnresolved off l choice e
+  out_of_range : (k : ℤ) → IsTaken off l choice k → ¬ (IsInRange (l -ℤ k)) → e ≡ OutOfRange → IsUnresolved off l choice e
+
+-- the instant of l by the offset before its gap, and that it is out of range
+pub record IsShifted {O : Type 0} {m : Meaning O} (law : Law m) (l : Reading) (d : Zoned O) : Type 0 where
+  pub offset : ℤ
+  pub before : IsBeforeGap law.off l.s offset
+  pub in_range : IsInRange (behind l offset).s
+  pub at : IsAt law (behind l offset) d
+
+pub record IsShiftOutOfRange (off : ℤ → ℤ) (l : ℤ) : Type 0 where
+  pub offset : ℤ
+  pub before : IsBeforeGap off l offset
+  pub out : ¬ (IsInRange (l -ℤ offset))

@@ -1,0 +1,9 @@
+-- The numbers of refusals.
+use Rattle.std.specs.Prelude.{ℕ}
+use Rattle.zoned_time.specs.declared.resolve_error.ResolveError.{ResolveError}
+use Rattle.zoned_time.specs.declared.resolve_error.ResolveError.TheVariants.{Gap, Fold, OutOfRange}
+
+abbrev pub number_of : ResolveError → ℕ
+number_of Gap = 21
+number_of Fold = 22
+number_of OutOfRange = 23

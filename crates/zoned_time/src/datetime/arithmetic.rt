@@ -1,0 +1,68 @@
+//! Instants moved by a length of time, and the time between two.
+ghost use Rattle.std.specs.Prelude.{◌≡◌, neg_ℤ, option_map};
+ghost use Rattle.offset_core.specs.LocalResult.{map_of};
+ghost use Rattle.offset_core.specs.TimeDelta.{nanos_of};
+ghost use Rattle.naive_base.specs.NaiveDateTime.{reading};
+ghost use Rattle.naive_base.specs.Range.{IsInRange};
+ghost use Rattle.naive_base.specs.Reading.{moved, difference};
+ghost use Rattle.zoned_time.specs.DateTime.{zoned, home_of};
+ghost use Rattle.zoned_time.specs.Relocal.{IsRelocal};
+ghost use Rattle.zoned_time.specs.Zoned.{IsAt, IsAtInRange};
+
+use super::DateTime;
+use crate::TimeZone;
+use naive_base::NaiveDateTime;
+use offset_core::{LocalResult, TimeDelta};
+
+impl<Tz: TimeZone> DateTime<Tz> {
+    // The instant of a UTC reading in range, in the zone that this one's offset came from.
+    pub(super) fn at(&self, utc: &NaiveDateTime) -> DateTime<Tz>
+        requires { IsInRange (reading utc.now).s }
+        ensures { IsAt (home_of self.now) (reading utc.now) (zoned result) }
+    {
+        self.timezone().from_utc_datetime(utc)
+    }
+
+    // The instant when the clocks of that zone show a reading.
+    pub(super) fn relocal(&self, local: &NaiveDateTime) -> LocalResult<DateTime<Tz>>
+        ensures { IsRelocal (home_of self.now) (reading local.now) (map_of zoned result) }
+    {
+        self.timezone().from_local_datetime(local)
+    }
+
+    /// The instant so much later, or earlier for a negative length, with the offset that its zone has then. `None` where that
+    /// is out of range.
+    ///
+    /// From a leap second on, that leap second is counted; no other ever is.
+    ///
+    /// ```text
+    /// // In New York clocks were set back at 06:00:00 UTC on 2021-11-07.
+    /// let before = new_york.timestamp(1_636_263_000, 0); // 2021-11-07 01:30:00 -04:00
+    /// before.checked_add_signed(TimeDelta::hours(1)); // 2021-11-07 01:30:00 -05:00
+    /// ```
+    pub fn checked_add_signed(&self, rhs: TimeDelta) -> Option<DateTime<Tz>>
+        ensures { IsAtInRange (home_of self.now) (moved (zoned self.now).utc (nanos_of rhs))
+            (option_map zoned result) }
+    {
+        let utc = self.datetime.checked_add_signed(rhs)?;
+        Some(self.at(&utc))
+    }
+
+    /// [`DateTime::checked_add_signed`] of the opposite length.
+    pub fn checked_sub_signed(&self, rhs: TimeDelta) -> Option<DateTime<Tz>>
+        ensures { IsAtInRange (home_of self.now) (moved (zoned self.now).utc (neg_ℤ (nanos_of rhs)))
+            (option_map zoned result) }
+    {
+        let utc = self.datetime.checked_sub_signed(rhs)?;
+        Some(self.at(&utc))
+    }
+
+    /// The time from another instant to this one, negative where this one is earlier, whatever zones the two stand in.
+    ///
+    /// An instant's own leap second counts where its second of the day, in UTC, is less than the other's.
+    pub fn signed_duration_since<Tz2: TimeZone>(&self, rhs: &DateTime<Tz2>) -> TimeDelta
+        ensures { nanos_of result ≡ difference (zoned self.now).utc (zoned rhs.now).utc }
+    {
+        self.datetime.signed_duration_since(rhs.naive_utc())
+    }
+}

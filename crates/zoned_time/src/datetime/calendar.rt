@@ -1,0 +1,111 @@
+//! Instants moved by months and days, or to another time of day, and the whole years between two.
+ghost use Rattle.std.specs.Prelude.{◌≡◌, ◌↔◌, IsTrue, SomeIff, pos, neg_ℤ, ◌-ℤ◌, ◌≤ℤ◌, unsigned_abs};
+ghost use Rattle.offset_core.specs.LocalResult.{map_of};
+ghost use Rattle.naive_base.specs.Months.{months_of, days_of};
+ghost use Rattle.naive_base.specs.NaiveDateTime.{reading};
+ghost use Rattle.naive_base.specs.NaiveTime.{second_of, fraction_of};
+ghost use Rattle.naive_base.specs.Reading.{reading_at, day_at};
+ghost use Rattle.naive_base.specs.Year.{year_of};
+ghost use Rattle.zoned_time.specs.DateTime.{zoned, wall_of, home_of, IsOnlyMonthsLater, IsOnlyDaysLater, IsDaysAdded};
+ghost use Rattle.zoned_time.specs.Relocal.{IsRelocal};
+ghost use Rattle.zoned_time.specs.Years.{IsEarlierInYear, IsWholeYears, IsYearsSince};
+
+use super::DateTime;
+use crate::TimeZone;
+use naive_base::{Datelike, Days, Months, NaiveDateTime, NaiveTime};
+use offset_core::LocalResult;
+
+impl<Tz: TimeZone> DateTime<Tz> {
+    /// The only instant when the clocks of the zone show this time so many months later, on the same day of the month, or on
+    /// its last where it has fewer days. `None` where they show it never or more than once, and where the year is not one
+    /// from -262143 to 262142, unless it is the date that the clock shows now.
+    ///
+    /// ```text
+    /// new_york.with_ymd_and_hms(2021, 1, 31, 12, 0, 0).unwrap().checked_add_months(Months::new(1)) // 2021-02-28 12:00:00 -05:00
+    /// new_york.with_ymd_and_hms(2021, 2, 14, 2, 30, 0).unwrap().checked_add_months(Months::new(1)) // None: a gap
+    /// ```
+    pub fn checked_add_months(&self, months: Months) -> Option<DateTime<Tz>>
+        ensures { IsOnlyMonthsLater self.now (pos (months_of months)) result }
+    {
+        self.only_at(&self.local().checked_add_months(months)?)
+    }
+
+    /// The same, so many months earlier.
+    pub fn checked_sub_months(&self, months: Months) -> Option<DateTime<Tz>>
+        ensures { IsOnlyMonthsLater self.now (neg_ℤ (pos (months_of months))) result }
+    {
+        self.only_at(&self.local().checked_sub_months(months)?)
+    }
+
+    /// The only instant when the clocks of the zone show this time so many days later, and this instant itself for no days.
+    /// `None` where they show it never or more than once, and where it is not in the years -262143 to 262142.
+    pub fn checked_add_days(&self, days: Days) -> Option<DateTime<Tz>>
+        ensures { IsDaysAdded self.now (days_of days) result }
+    {
+        if days == Days::new(0) {
+            return Some(*self);
+        }
+        self.only_at(&self.local().checked_add_days(days)?)
+    }
+
+    /// The only instant when the clocks of the zone show this time so many days earlier. `None` where they show it never or
+    /// more than once, for no days too, and where it is not in the years -262143 to 262142, unless that is the date that the
+    /// clock shows now.
+    pub fn checked_sub_days(&self, days: Days) -> Option<DateTime<Tz>>
+        ensures { IsOnlyDaysLater self.now (neg_ℤ (pos (days_of days))) result }
+    {
+        self.only_at(&self.local().checked_sub_days(days)?)
+    }
+
+    /// The instants when the clocks of the zone show that time on the date that this one's clock shows:
+    /// [`TimeZone::from_local_datetime`] of the two.
+    pub fn with_time(&self, time: NaiveTime) -> LocalResult<DateTime<Tz>>
+        ensures { IsRelocal (home_of self.now) (reading_at (day_at (wall_of self.now))
+            (second_of time) (fraction_of time))
+            (map_of zoned result) }
+    {
+        self.relocal(&self.local().date().and_time(time))
+    }
+
+    /// The whole years from another instant to this one, by what their clocks show. `None` where this one's year is less, or is
+    /// the same and its month, day and time are earlier.
+    pub fn years_since(&self, base: DateTime<Tz>) -> Option<u32>
+        ensures { IsYearsSince (wall_of self.now) (wall_of base) result }
+    {
+        unless_negative(whole_years(&self.local(), &base.local()))
+    }
+}
+
+fn unless_negative(years: i64) -> Option<u32>
+    requires { years ≤ℤ pos 4_294_967_295 }
+    ensures { SomeIff result (pos 0 ≤ℤ years) (unsigned_abs years) }
+{
+    u32::try_from(years).ok()
+}
+
+// The whole years from one reading to another, negative where this one is earlier.
+fn whole_years(local: &NaiveDateTime, base: &NaiveDateTime) -> i64
+    ensures years { IsWholeYears (reading local.now) (reading base.now) result }
+    ensures bound { result ≤ℤ pos 4_294_967_295 }
+{
+    let years = years_between(local, base);
+    if is_earlier_in_year(local, base) {
+        years - 1
+    } else {
+        years
+    }
+}
+
+fn years_between(local: &NaiveDateTime, base: &NaiveDateTime) -> i64
+    ensures value { result ≡ year_of (day_at (reading local.now))
+        -ℤ year_of (day_at (reading base.now)) }
+    ensures bound { (neg_ℤ (pos 4_294_967_295) ≤ℤ result) × (result ≤ℤ pos 4_294_967_295) }
+{
+    local.year() as i64 - base.year() as i64
+}
+
+fn is_earlier_in_year(local: &NaiveDateTime, base: &NaiveDateTime) -> bool
+    ensures { IsTrue result ↔ IsEarlierInYear (reading local.now) (reading base.now) }
+{
+    (local.month(), local.day(), local.time()) < (base.month(), base.day(), base.time())
+}

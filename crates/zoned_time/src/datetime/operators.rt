@@ -1,0 +1,212 @@
+//! The operators of instants, which ask that the result exists. Where it may not, call the checked form.
+ghost use Rattle.std.specs.Prelude.{◌≡◌, pos, neg_ℤ, Some};
+ghost use Rattle.std.specs.Duration.{as_nanos};
+ghost use Rattle.offset_core.specs.FixedOffset.{seconds_of};
+ghost use Rattle.offset_core.specs.Nanoseconds.{FitsTimeDelta};
+ghost use Rattle.offset_core.specs.TimeDelta.{nanos_of};
+ghost use Rattle.naive_base.specs.Months.{months_of, days_of};
+ghost use Rattle.naive_base.specs.Range.{IsInRange};
+ghost use Rattle.naive_base.specs.Reading.{ahead, behind, difference};
+ghost use Rattle.zoned_time.specs.DateTime.{zoned, CanMove, IsMoved, IsSetTo, IsOnlyMonthsLater, IsOnlyDaysLater, IsDaysAdded};
+
+use super::DateTime;
+use crate::TimeZone;
+use naive_base::{Days, Months};
+use offset_core::{FixedOffset, TimeDelta};
+use std::ops::{Add, AddAssign, Sub, SubAssign};
+use std::time::Duration;
+
+/// [`DateTime::checked_add_signed`], where it answers.
+impl<Tz: TimeZone> Add<TimeDelta> for DateTime<Tz> {
+    type Output = DateTime<Tz>;
+
+    ghost can_add = { λ d t. CanMove d (nanos_of t) };
+
+    ghost add_gives = { λ d t r. IsMoved d (nanos_of t) r };
+
+    fn add(self, rhs: TimeDelta) -> DateTime<Tz> {
+        self.checked_add_signed(rhs).unwrap()
+    }
+}
+
+/// [`DateTime::checked_sub_signed`], where it answers.
+impl<Tz: TimeZone> Sub<TimeDelta> for DateTime<Tz> {
+    type Output = DateTime<Tz>;
+
+    ghost can_sub = { λ d t. CanMove d (neg_ℤ (nanos_of t)) };
+
+    ghost sub_gives = { λ d t r. IsMoved d (neg_ℤ (nanos_of t)) r };
+
+    fn sub(self, rhs: TimeDelta) -> DateTime<Tz> {
+        self.checked_sub_signed(rhs).unwrap()
+    }
+}
+
+impl<Tz: TimeZone> AddAssign<TimeDelta> for DateTime<Tz> {
+    ghost can_add_assign = { λ d t. CanMove d (nanos_of t) };
+
+    ghost add_assign_gives = { λ d t r. IsMoved d (nanos_of t) r };
+
+    fn add_assign(&mut self, rhs: TimeDelta) {
+        *self = *self + rhs;
+    }
+}
+
+impl<Tz: TimeZone> SubAssign<TimeDelta> for DateTime<Tz> {
+    ghost can_sub_assign = { λ d t. CanMove d (neg_ℤ (nanos_of t)) };
+
+    ghost sub_assign_gives = { λ d t r. IsMoved d (neg_ℤ (nanos_of t)) r };
+
+    fn sub_assign(&mut self, rhs: TimeDelta) {
+        *self = *self - rhs;
+    }
+}
+
+/// The instant so much later, where [`TimeDelta::from_std`] and [`DateTime::checked_add_signed`] answer.
+impl<Tz: TimeZone> Add<Duration> for DateTime<Tz> {
+    type Output = DateTime<Tz>;
+
+    ghost can_add = { λ d t. FitsTimeDelta (pos (as_nanos t)) × CanMove d (pos (as_nanos t)) };
+
+    ghost add_gives = { λ d t r. IsMoved d (pos (as_nanos t)) r };
+
+    fn add(self, rhs: Duration) -> DateTime<Tz> {
+        self + TimeDelta::from_std(rhs).unwrap()
+    }
+}
+
+/// The instant so much earlier, where [`TimeDelta::from_std`] and [`DateTime::checked_sub_signed`] answer.
+impl<Tz: TimeZone> Sub<Duration> for DateTime<Tz> {
+    type Output = DateTime<Tz>;
+
+    ghost can_sub = { λ d t. FitsTimeDelta (pos (as_nanos t)) × CanMove d (neg_ℤ (pos (as_nanos t))) };
+
+    ghost sub_gives = { λ d t r. IsMoved d (neg_ℤ (pos (as_nanos t))) r };
+
+    fn sub(self, rhs: Duration) -> DateTime<Tz> {
+        self - TimeDelta::from_std(rhs).unwrap()
+    }
+}
+
+impl<Tz: TimeZone> AddAssign<Duration> for DateTime<Tz> {
+    ghost can_add_assign = { λ d t. FitsTimeDelta (pos (as_nanos t)) × CanMove d (pos (as_nanos t)) };
+
+    ghost add_assign_gives = { λ d t r. IsMoved d (pos (as_nanos t)) r };
+
+    fn add_assign(&mut self, rhs: Duration) {
+        *self = *self + rhs;
+    }
+}
+
+impl<Tz: TimeZone> SubAssign<Duration> for DateTime<Tz> {
+    ghost can_sub_assign = { λ d t. FitsTimeDelta (pos (as_nanos t))
+        × CanMove d (neg_ℤ (pos (as_nanos t))) };
+
+    ghost sub_assign_gives = { λ d t r. IsMoved d (neg_ℤ (pos (as_nanos t))) r };
+
+    fn sub_assign(&mut self, rhs: Duration) {
+        *self = *self - rhs;
+    }
+}
+
+/// The instant whose UTC reading is that many seconds later, with this one's offset. It is in range.
+impl<Tz: TimeZone> Add<FixedOffset> for DateTime<Tz> {
+    type Output = DateTime<Tz>;
+
+    ghost can_add = { λ d o. IsInRange (ahead (zoned d).utc (seconds_of o)).s };
+
+    ghost add_gives = { λ d o r. IsSetTo d (ahead (zoned d).utc (seconds_of o)) r };
+
+    fn add(self, rhs: FixedOffset) -> DateTime<Tz> {
+        let utc = self.datetime.checked_add_offset(rhs).unwrap();
+        DateTime::from_naive_utc_and_offset(utc, self.offset)
+    }
+}
+
+/// The instant whose UTC reading is that many seconds earlier, with this one's offset. It is in range.
+impl<Tz: TimeZone> Sub<FixedOffset> for DateTime<Tz> {
+    type Output = DateTime<Tz>;
+
+    ghost can_sub = { λ d o. IsInRange (behind (zoned d).utc (seconds_of o)).s };
+
+    ghost sub_gives = { λ d o r. IsSetTo d (behind (zoned d).utc (seconds_of o)) r };
+
+    fn sub(self, rhs: FixedOffset) -> DateTime<Tz> {
+        let utc = self.datetime.checked_sub_offset(rhs).unwrap();
+        DateTime::from_naive_utc_and_offset(utc, self.offset)
+    }
+}
+
+/// [`DateTime::signed_duration_since`].
+impl<Tz: TimeZone> Sub<DateTime<Tz>> for DateTime<Tz> {
+    type Output = TimeDelta;
+
+    ghost sub_gives = { λ d e r. nanos_of r ≡ difference (zoned d).utc (zoned e).utc };
+
+    fn sub(self, rhs: DateTime<Tz>) -> TimeDelta {
+        self.signed_duration_since(&rhs)
+    }
+}
+
+/// [`DateTime::signed_duration_since`].
+impl<Tz: TimeZone> Sub<&DateTime<Tz>> for DateTime<Tz> {
+    type Output = TimeDelta;
+
+    ghost sub_gives = { λ d e r. nanos_of r ≡ difference (zoned d).utc (zoned e.now).utc };
+
+    fn sub(self, rhs: &DateTime<Tz>) -> TimeDelta {
+        self.signed_duration_since(rhs)
+    }
+}
+
+/// [`DateTime::checked_add_months`], where it answers.
+impl<Tz: TimeZone> Add<Months> for DateTime<Tz> {
+    type Output = DateTime<Tz>;
+
+    ghost can_add = { λ d n. (e : _) × IsOnlyMonthsLater d (pos (months_of n)) (Some e) };
+
+    ghost add_gives = { λ d n r. IsOnlyMonthsLater d (pos (months_of n)) (Some r) };
+
+    fn add(self, rhs: Months) -> DateTime<Tz> {
+        self.checked_add_months(rhs).unwrap()
+    }
+}
+
+/// [`DateTime::checked_sub_months`], where it answers.
+impl<Tz: TimeZone> Sub<Months> for DateTime<Tz> {
+    type Output = DateTime<Tz>;
+
+    ghost can_sub = { λ d n. (e : _) × IsOnlyMonthsLater d (neg_ℤ (pos (months_of n))) (Some e) };
+
+    ghost sub_gives = { λ d n r. IsOnlyMonthsLater d (neg_ℤ (pos (months_of n))) (Some r) };
+
+    fn sub(self, rhs: Months) -> DateTime<Tz> {
+        self.checked_sub_months(rhs).unwrap()
+    }
+}
+
+/// [`DateTime::checked_add_days`], where it answers.
+impl<Tz: TimeZone> Add<Days> for DateTime<Tz> {
+    type Output = DateTime<Tz>;
+
+    ghost can_add = { λ d n. (e : _) × IsDaysAdded d (days_of n) (Some e) };
+
+    ghost add_gives = { λ d n r. IsDaysAdded d (days_of n) (Some r) };
+
+    fn add(self, rhs: Days) -> DateTime<Tz> {
+        self.checked_add_days(rhs).unwrap()
+    }
+}
+
+/// [`DateTime::checked_sub_days`], where it answers.
+impl<Tz: TimeZone> Sub<Days> for DateTime<Tz> {
+    type Output = DateTime<Tz>;
+
+    ghost can_sub = { λ d n. (e : _) × IsOnlyDaysLater d (neg_ℤ (pos (days_of n))) (Some e) };
+
+    ghost sub_gives = { λ d n r. IsOnlyDaysLater d (neg_ℤ (pos (days_of n))) (Some r) };
+
+    fn sub(self, rhs: Days) -> DateTime<Tz> {
+        self.checked_sub_days(rhs).unwrap()
+    }
+}

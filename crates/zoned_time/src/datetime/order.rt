@@ -1,0 +1,84 @@
+//! Equality, order and hash of instants: by their UTC readings alone.
+ghost use Rattle.std.specs.Prelude.{◌≡◌, ◌↔◌, IsTrue, ◌==◌, ◌++◌};
+ghost use Rattle.std.specs.Cmp.{partial_order_from_own_ties};
+ghost use Rattle.std.specs.Cmp.Rules.{comparing, hashing};
+ghost use Rattle.std.specs.Hash as fed;
+ghost use Rattle.std.specs.Ordering.{on, int_eq, int_cmp, nat_cmp, then_cmp, eq_of_both, as_partial_cmp};
+ghost use Rattle.std.proofs.Common.{rules};
+ghost use Rattle.zoned_time.specs.DateTime.{zoned};
+ghost use Rattle.zoned_time.specs.Order.{compared};
+
+use super::DateTime;
+use crate::TimeZone;
+use std::cmp::Ordering;
+use std::hash::{Hash, Hasher};
+
+impl<Tz: TimeZone> PartialEq for DateTime<Tz> {
+    ghost eq = { eq_of_both (on (λ d. (zoned d).utc.s) int_eq) (on (λ d. (zoned d).utc.f) ◌==◌) };
+
+    ghost laws = { Prim.search (comparing, rules) };
+
+    fn eq(&self, other: &DateTime<Tz>) -> bool {
+        self.datetime == other.datetime
+    }
+}
+
+impl<Tz: TimeZone> Eq for DateTime<Tz> {
+    ghost laws = { Prim.search (comparing, rules) };
+}
+
+impl<Tz: TimeZone> PartialOrd for DateTime<Tz> {
+    ghost partial_cmp = { as_partial_cmp
+        (then_cmp (on (λ d. (zoned d).utc.s) int_cmp) (on (λ d. (zoned d).utc.f) nat_cmp)) };
+
+    ghost laws = { partial_order_from_own_ties (Prim.search (comparing, rules))
+        (Prim.search (comparing, rules)) };
+
+    fn partial_cmp(&self, other: &DateTime<Tz>) -> Option<Ordering> {
+        Some(self.cmp(other))
+    }
+}
+
+impl<Tz: TimeZone> Ord for DateTime<Tz> {
+    ghost cmp = { then_cmp (on (λ d. (zoned d).utc.s) int_cmp) (on (λ d. (zoned d).utc.f) nat_cmp) };
+
+    ghost total = { Prim.search (comparing, rules) };
+
+    ghost matches_partial_cmp = { Prim.search (comparing, rules) };
+
+    ghost matches_eq = { Prim.search (comparing, rules) };
+
+    fn cmp(&self, other: &DateTime<Tz>) -> Ordering {
+        self.datetime.cmp(&other.datetime)
+    }
+}
+
+impl<Tz: TimeZone> Hash for DateTime<Tz> {
+    ghost hash_input = { λ d. fed.i64 (zoned d).utc.s ++ fed.u32 (zoned d).utc.f };
+
+    ghost respects_eq = { Prim.search (hashing, rules) };
+
+    fn hash<H: Hasher>(&self, state: &mut H) {
+        self.datetime.hash(state);
+    }
+}
+
+impl<Tz: TimeZone> DateTime<Tz> {
+    /// Whether it is the same instant, whatever zones the two stand in.
+    ///
+    /// ```text
+    /// Utc.timestamp(0, 0).same_instant(&FixedOffset::east(3600).timestamp(0, 0)) // true
+    /// ```
+    pub fn same_instant<Tz2: TimeZone>(&self, other: &DateTime<Tz2>) -> bool
+        ensures { IsTrue result ↔ ((zoned self.now).utc ≡ (zoned other.now).utc) }
+    {
+        self.datetime == other.naive_utc()
+    }
+
+    /// Which instant is the earlier one, whatever zones the two stand in.
+    pub fn cmp_instant<Tz2: TimeZone>(&self, other: &DateTime<Tz2>) -> Ordering
+        ensures { result ≡ compared (zoned self.now).utc (zoned other.now).utc }
+    {
+        self.datetime.cmp(&other.naive_utc())
+    }
+}

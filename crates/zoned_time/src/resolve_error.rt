@@ -1,0 +1,32 @@
+//! Why a wall clock gives no instant under a choice.
+ghost use Rattle.std.specs.Prelude.{◌≡◌};
+ghost use Rattle.zoned_time.specs.ResolveNumbers.{number_of};
+
+use thiserror::Error;
+
+/// Why a wall clock gives no instant under a choice.
+#[derive(Clone, Copy, PartialEq, Eq, Debug, Error)]
+pub enum ResolveError {
+    /// No clock shows the time, and gaps are refused.
+    #[error("no clock of the zone shows that time")]
+    Gap,
+    /// Clocks show the time several times, and folds are refused.
+    #[error("clocks of the zone show that time more than once")]
+    Fold,
+    /// The instant that is taken is out of range.
+    #[error("the instant is out of range")]
+    OutOfRange,
+}
+
+impl ResolveError {
+    /// 21 for a gap, 22 for a fold, 23 for an instant out of range.
+    pub fn number(&self) -> u8
+        ensures { result ≡ number_of self.now }
+    {
+        match self {
+            ResolveError::Gap => 21,
+            ResolveError::Fold => 22,
+            ResolveError::OutOfRange => 23,
+        }
+    }
+}
