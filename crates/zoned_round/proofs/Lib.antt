@@ -1,0 +1,7 @@
+mod Ways
+mod Moves
+mod Multiples
+mod Instants
+mod Nearest
+mod Rounded
+pub mod ForCallers

@@ -1,0 +1,35 @@
+-- Readings moved within their second, and by how much.
+use Rattle.std.proofs.Common.{◌≡◌, ◌∙◌, ap, ℕ, ◌<◌, ◌≤◌, ◌-◌, arith, ℤ, pos, neg_ℤ, ◌+ℤ◌, ◌*ℤ◌, refl, unsigned_abs}
+use Rattle.std.proofs.lemmas.Int.{by_lt_z}
+use Rattle.naive_base.specs.Reading.{Reading, total, moved, of_total}
+use Rattle.naive_base.specs.Year.{floor_div, floor_mod}
+use Rattle.naive_base.proofs.ForCallers.{floors, moved-plain, moved-leap, moved_leap-within, floor_mod_parts}
+
+of_total-second : (s : ℤ) (f : ℕ) (n : ℤ) → f < 1_000_000_000 → n ≡ s *ℤ pos 1_000_000_000 +ℤ pos f
+    → of_total n ≡ record { s = s; f = f }
+of_total-second s f n less is =
+    let parts = floor_mod_parts n 1_000_000_000 (omega arith) in
+    let second : floor_div n 1_000_000_000 ≡ s = omega (arith, floors) in
+    let rest : floor_mod n 1_000_000_000 ≡ f = omega (arith, floors) in
+    rw (second, rest) refl
+
+left : (f behind : ℕ) (d : ℤ) → behind ≤ f → d ≡ neg_ℤ (pos behind) → pos f +ℤ d ≡ pos (f - behind)
+left f behind d less is = omega (arith, floors)
+
+-- earlier in its second
+pub moved-earlier : (r : Reading) (d : ℤ) (behind : ℕ) → r.f < 2_000_000_000 → behind ≤ r.f → d ≡ neg_ℤ (pos behind)
+    → moved r d ≡ record { s = r.s; f = r.f - behind }
+moved-earlier r d behind f less is =
+    by_lt_z {P = moved r d ≡ record { s = r.s; f = r.f - behind }} (pos r.f) (pos 1_000_000_000)
+    (λ plain. moved-plain r d (omega (arith, floors)) ∙ of_total-second r.s (r.f - behind) _ (omega (arith, floors)) (omega (arith, floors)))
+    (λ leap.
+    let rest : unsigned_abs (pos r.f +ℤ d) ≡ r.f - behind = ap unsigned_abs (left r.f behind d less is) in
+    moved-leap r d (omega (arith, floors))
+    ∙ moved_leap-within r.s (pos r.f +ℤ d) (omega (arith, floors)) (omega (arith, floors))
+    ∙ rw rest refl)
+
+-- outside leap seconds all of it goes on by as much
+pub total-moved : (r : Reading) (d : ℤ) → r.f < 1_000_000_000 → total (moved r d) ≡ total r +ℤ d
+total-moved r d plain =
+    let parts = floor_mod_parts (total r +ℤ d) 1_000_000_000 (omega arith) in
+    rw (moved-plain r d plain) (omega (arith, floors))

@@ -1,0 +1,88 @@
+-- How far the multiples of a span are from a number.
+use Rattle.std.proofs.Common.{◌≡◌, ◌⊎◌, inl, inr, ℕ, ◌<◌, arith, ℤ, pos, neg_ℤ, negsuc, ◌+ℤ◌, ◌-ℤ◌, ◌≤ℤ◌, ◌<ℤ◌, refl, unsigned_abs}
+use Rattle.std.proofs.lemmas.Int.{ints, by_lt_z}
+use Rattle.naive_base.proofs.ForCallers.{floors, floor_mod_parts}
+use Rattle.zoned_round.specs.Multiples.{multiple_below, multiple_above, nearest_multiple}
+
+-- the one below is less than a span away
+pub below-near : (n : ℤ) (span : ℕ) → 0 < span
+    → (multiple_below n span ≤ℤ n) × (n <ℤ (multiple_below n span +ℤ pos span))
+below-near n span some = let parts = floor_mod_parts n span some in (omega (arith, floors), omega (arith, floors))
+
+above-next : (n : ℤ) (span : ℕ) → multiple_below n span <ℤ n → multiple_above n span ≡ multiple_below n span +ℤ pos span
+above-next n span less = grind (arith, ints)
+
+above-same : (n : ℤ) (span : ℕ) → n ≤ℤ multiple_below n span → multiple_above n span ≡ multiple_below n span
+above-same n span same = grind (arith, ints)
+
+nearest-below : (n : ℤ) (span : ℕ) → (n -ℤ multiple_below n span) <ℤ (multiple_above n span -ℤ n) → nearest_multiple n span ≡ multiple_below n span
+nearest-below n span less = grind (arith, ints)
+
+nearest-above : (n : ℤ) (span : ℕ) → (multiple_above n span -ℤ n) ≤ℤ (n -ℤ multiple_below n span) → nearest_multiple n span ≡ multiple_above n span
+nearest-above n span same = grind (arith, ints)
+
+-- the one above is the one below where that is no way off, and else one span further
+pub above-is : (n : ℤ) (span : ℕ) → 0 < span
+    → ((multiple_above n span ≡ multiple_below n span) × (n ≡ multiple_below n span))
+    ⊎ ((multiple_above n span ≡ multiple_below n span +ℤ pos span) × (multiple_below n span <ℤ n))
+above-is n span some =
+    let near = below-near n span some in
+    by_lt_z {P = ((multiple_above n span ≡ multiple_below n span) × (n ≡ multiple_below n span)) ⊎ ((multiple_above n span ≡ multiple_below n span +ℤ pos span) × (multiple_below n span <ℤ n))}
+    (multiple_below n span) n
+    (λ less. inr (above-next n span less, less))
+    (λ same. inl (above-same n span same, omega (arith, floors)))
+
+pub above-near : (n : ℤ) (span : ℕ) → 0 < span
+    → (n ≤ℤ multiple_above n span) × (multiple_above n span <ℤ (n +ℤ pos span))
+above-near n span some =
+    let near = below-near n span some in
+    elim (above-is n span some) [
+      | inl same ↦ (omega (arith, floors), omega (arith, floors))
+      | inr next ↦ (omega (arith, floors), omega (arith, floors))
+    ]
+
+-- the nearest is one of the two, and at most half a span away
+pub nearest-is : (n : ℤ) (span : ℕ) → 0 < span
+    → ((nearest_multiple n span ≡ multiple_below n span) × ((n -ℤ multiple_below n span) <ℤ (multiple_above n span -ℤ n)))
+    ⊎ ((nearest_multiple n span ≡ multiple_above n span) × ((multiple_above n span -ℤ n) ≤ℤ (n -ℤ multiple_below n span)))
+nearest-is n span some =
+    by_lt_z {P = ((nearest_multiple n span ≡ multiple_below n span) × ((n -ℤ multiple_below n span) <ℤ (multiple_above n span -ℤ n))) ⊎ ((nearest_multiple n span ≡ multiple_above n span) × ((multiple_above n span -ℤ n) ≤ℤ (n -ℤ multiple_below n span)))}
+    (n -ℤ multiple_below n span) (multiple_above n span -ℤ n)
+    (λ less. inl (nearest-below n span less, less))
+    (λ same. inr (nearest-above n span same, same))
+
+-- a span that is positive as a number
+span-is : (span : ℤ) → pos 0 <ℤ span → (0 < unsigned_abs span) × (pos (unsigned_abs span) ≡ span)
+span-is (pos n) some = (omega (arith, floors), refl)
+span-is (negsuc n) some = absurd (omega (arith, floors))
+
+-- the ways to the three of them
+pub way-down : (n span : ℤ) → pos 0 <ℤ span
+    → ((multiple_below n (unsigned_abs span) -ℤ n) ≤ℤ pos 0) × (pos 0 <ℤ (multiple_below n (unsigned_abs span) -ℤ n +ℤ span))
+way-down n span some =
+    let is = span-is span some in let near = below-near n (unsigned_abs span) is.0 in
+    (omega (arith, floors), omega (arith, floors))
+
+pub way-up : (n span : ℤ) → pos 0 <ℤ span
+    → (pos 0 ≤ℤ (multiple_above n (unsigned_abs span) -ℤ n)) × ((multiple_above n (unsigned_abs span) -ℤ n) <ℤ span)
+way-up n span some =
+    let is = span-is span some in let near = above-near n (unsigned_abs span) is.0 in
+    (omega (arith, floors), omega (arith, floors))
+
+pub way-near : (n span : ℤ) → pos 0 <ℤ span
+    → let way = nearest_multiple n (unsigned_abs span) -ℤ n in
+    ((nearest_multiple n (unsigned_abs span) ≡ multiple_below n (unsigned_abs span)) ⊎ (nearest_multiple n (unsigned_abs span) ≡ multiple_above n (unsigned_abs span)))
+    × ((way +ℤ way) ≤ℤ span) × (neg_ℤ span ≤ℤ (way +ℤ way))
+way-near n span some =
+    let is = span-is span some in let down = below-near n (unsigned_abs span) is.0 in
+    let up = above-near n (unsigned_abs span) is.0 in
+    elim (above-is n (unsigned_abs span) is.0) [
+      | inl same ↦ elim (nearest-is n (unsigned_abs span) is.0) [
+        | inl low ↦ (inl (low.0), omega (arith, floors), omega (arith, floors))
+        | inr high ↦ (inr (high.0), omega (arith, floors), omega (arith, floors))
+      ]
+      | inr next ↦ elim (nearest-is n (unsigned_abs span) is.0) [
+        | inl low ↦ (inl (low.0), omega (arith, floors), omega (arith, floors))
+        | inr high ↦ (inr (high.0), omega (arith, floors), omega (arith, floors))
+      ]
+    ]

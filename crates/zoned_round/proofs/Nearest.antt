@@ -1,0 +1,109 @@
+-- The multiples about a number are the greatest, the least and the nearest of all multiples.
+use Rattle.std.proofs.Common.{◌≡◌, inl, inr, ◌∙◌, ap, ℕ, ◌+◌, ◌*◌, ◌<◌, ◌≤◌, arith, ℤ, pos, neg_ℤ, negsuc, ◌+ℤ◌, ◌-ℤ◌, ◌*ℤ◌, ◌≤ℤ◌, ◌<ℤ◌, refl, unsigned_abs}
+use Rattle.std.proofs.lemmas.Int.{by_lt_z}
+use Rattle.std.proofs.Math.Nat.{mul-le-mul_right, add-mul}
+use borrow.Author.Differences.{up, down}
+use Rattle.naive_base.specs.Year.{floor_div}
+use Rattle.naive_base.proofs.ForCallers.{floors}
+use Rattle.zoned_round.specs.Laws.{IsMultiple, IsGreatest, IsLeast, apart}
+use Rattle.zoned_round.specs.Multiples.{multiple_below, multiple_above, nearest_multiple}
+use Rattle.zoned_round.proofs.Multiples.{below-near, above-near, above-is, nearest-is}
+
+-- products by a span, in the order of their factors
+scaled : (a b : ℤ) (span : ℕ) → a ≤ℤ b → (a *ℤ pos span) ≤ℤ (b *ℤ pos span)
+scaled a b span h =
+    let e : up a + down b ≤ up b + down a = omega (arith, floors) in
+    let m : (up a + down b) * span ≤ (up b + down a) * span = mul-le-mul_right span e in
+    omega (arith, floors, add-mul (up a) (down b) span, add-mul (up b) (down a) span)
+
+scaled-next : (a b : ℤ) (span : ℕ) → a <ℤ b → (a *ℤ pos span +ℤ pos span) ≤ℤ (b *ℤ pos span)
+scaled-next a b span h =
+    let e : up a + down b + 1 ≤ up b + down a = omega (arith, floors) in
+    let m : (up a + down b + 1) * span ≤ (up b + down a) * span = mul-le-mul_right span e in
+    omega (arith, floors, add-mul (up a + down b) 1 span, add-mul (up a) (down b) span, add-mul (up b) (down a) span)
+
+next-is : (q : ℤ) (span : ℕ) → (q *ℤ pos span +ℤ pos span) ≡ (q +ℤ pos 1) *ℤ pos span
+next-is q span =
+    let n = q +ℤ pos 1 in
+    let e : up n + down q ≡ down n + up q + 1 = omega (arith, floors) in
+    let m : (up n + down q) * span ≡ (down n + up q + 1) * span = ap (λ (x : ℕ). x * span) e in
+    omega (arith, floors, add-mul (up n) (down q) span, add-mul (down n + up q) 1 span, add-mul (down n) (up q) span)
+
+-- a multiple that isn't above n isn't above the one below n
+not_above : (n k : ℤ) (span : ℕ) → 0 < span → (k *ℤ pos span) ≤ℤ n → (k *ℤ pos span) ≤ℤ multiple_below n span
+not_above n k span some h =
+    let near = below-near n span some in
+    by_lt_z {P = (k *ℤ pos span) ≤ℤ multiple_below n span} (floor_div n span) k
+    (λ past. let next = scaled-next (floor_div n span) k span past in absurd (omega (arith, floors)))
+    (λ within. scaled k (floor_div n span) span within)
+
+-- one that isn't below n isn't below the one above n
+not_below : (n k : ℤ) (span : ℕ) → 0 < span → n ≤ℤ (k *ℤ pos span) → multiple_above n span ≤ℤ (k *ℤ pos span)
+not_below n k span some h =
+    elim (above-is n span some) [
+      | inl same ↦ omega (arith, floors)
+      | inr next ↦ by_lt_z {P = multiple_above n span ≤ℤ (k *ℤ pos span)} (floor_div n span) k
+          (λ past. let more = scaled-next (floor_div n span) k span past in omega (arith, floors))
+          (λ within. let less = scaled k (floor_div n span) span within in absurd (omega (arith, floors)))
+    ]
+
+pub below-greatest : (n : ℤ) (span : ℕ) → 0 < span → IsGreatest (λ m. IsMultiple span m × (m ≤ℤ n)) (multiple_below n span)
+below-greatest n span some = record {
+  holds = ((floor_div n span, refl), (below-near n span some).0);
+  greatest = λ k p. let e = p.0.1 in rw (e) (not_above n p.0.0 span some (rw (e) at p.1));
+}
+
+above-multiple : (n : ℤ) (span : ℕ) → 0 < span → IsMultiple span (multiple_above n span)
+above-multiple n span some = elim (above-is n span some) [
+  | inl same ↦ (floor_div n span, same.0)
+  | inr next ↦ (floor_div n span +ℤ pos 1, next.0 ∙ next-is (floor_div n span) span)
+]
+
+pub above-least : (n : ℤ) (span : ℕ) → 0 < span → IsLeast (λ m. IsMultiple span m × (n ≤ℤ m)) (multiple_above n span)
+above-least n span some = record {
+  holds = (above-multiple n span some, (above-near n span some).0);
+  least = λ k p. let e = p.0.1 in rw (e) (not_below n p.0.0 span some (rw (e) at p.1));
+}
+
+-- how far apart two numbers are, by their order
+size-some : (z : ℤ) → pos 0 ≤ℤ z → pos (unsigned_abs z) ≡ z
+size-some (pos n) h = refl
+size-some (negsuc n) h = absurd (omega (arith, floors))
+
+size-less : (z : ℤ) → z ≤ℤ pos 0 → pos (unsigned_abs z) ≡ neg_ℤ z
+size-less (pos n) h = omega (arith, floors)
+size-less (negsuc n) h = refl
+
+apart-below : (n m : ℤ) → m ≤ℤ n → pos (apart n m) ≡ n -ℤ m
+apart-below n m h = size-some (n -ℤ m) (omega (arith, floors))
+
+back : (n m : ℤ) → neg_ℤ (n -ℤ m) ≡ m -ℤ n
+back n m = omega (arith, floors)
+
+apart-above : (n m : ℤ) → n ≤ℤ m → pos (apart n m) ≡ m -ℤ n
+apart-above n m h = size-less (n -ℤ m) (omega (arith, floors)) ∙ back n m
+
+pub nearest-of_all : (n k : ℤ) (span : ℕ) → 0 < span
+    → (apart n (nearest_multiple n span) ≤ apart n (k *ℤ pos span))
+    × (apart n (nearest_multiple n span) ≡ apart n (k *ℤ pos span) → (k *ℤ pos span) ≤ℤ nearest_multiple n span)
+nearest-of_all n k span some =
+    let m = k *ℤ pos span in
+    let P : Type 0 = (apart n (nearest_multiple n span) ≤ apart n m) × (apart n (nearest_multiple n span) ≡ apart n m → m ≤ℤ nearest_multiple n span) in
+    let low = below-near n span some in let high = above-near n span some in
+    let down_is = apart-below n (multiple_below n span) low.0 in
+    let up_is = apart-above n (multiple_above n span) high.0 in
+    by_lt_z {P = P} n m
+    (λ past.
+    let least = not_below n k span some (omega (arith, floors)) in
+    let is = apart-above n m (omega (arith, floors)) in
+    elim (nearest-is n span some) [
+      | inl below ↦ rw (below.0) (omega (arith, floors), λ e. absurd (omega (arith, floors)))
+      | inr above ↦ rw (above.0) (omega (arith, floors), λ e. omega (arith, floors))
+    ])
+    (λ within.
+    let greatest = not_above n k span some within in
+    let is = apart-below n m within in
+    elim (nearest-is n span some) [
+      | inl below ↦ rw (below.0) (omega (arith, floors), λ e. omega (arith, floors))
+      | inr above ↦ rw (above.0) (omega (arith, floors), λ e. omega (arith, floors))
+    ])

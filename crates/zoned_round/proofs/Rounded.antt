@@ -1,0 +1,48 @@
+-- Readings rounded to digits of a second.
+use Rattle.std.proofs.Common.{inl, inr, ℕ, ◌<◌, ◌≤◌, ◌-◌, arith, ℤ, pos, neg_ℤ, ◌+ℤ◌, ◌-ℤ◌, ◌*ℤ◌, ◌≤ℤ◌, ◌<ℤ◌}
+use Rattle.std.proofs.lemmas.Int.{by_lt_z}
+use Rattle.std.proofs.Math.Nat.{pow-le-pow_right, one-le-pow}
+use Rattle.naive_base.specs.Range.{IsInRange}
+use Rattle.naive_base.specs.Reading.{Reading, moved, of_total, moved_leap}
+use Rattle.naive_base.proofs.ForCallers.{floors, moved-plain, moved-leap, moved_leap-within, moved_leap-behind, floor_mod_parts}
+use Rattle.zoned_round.specs.Multiples.{nearest_multiple, multiple_below}
+use Rattle.zoned_round.specs.Subseconds.{rounded, nanos_per_digit}
+use Rattle.zoned_round.proofs.Multiples.{below-near, above-near, nearest-is}
+
+-- from this second's start to less than two seconds later
+of_total-next : (s n : ℤ) → neg_ℤ (pos 8_334_601_228_800) ≤ℤ s → (s +ℤ pos 1) ≤ℤ pos 8_210_266_876_799
+    → (s *ℤ pos 1_000_000_000) ≤ℤ n → n <ℤ (s *ℤ pos 1_000_000_000 +ℤ pos 2_000_000_000) → IsInRange (of_total n).s
+of_total-next s n low high first last =
+    let parts = floor_mod_parts n 1_000_000_000 (omega arith) in (omega (arith, floors), omega (arith, floors))
+
+moved-next : (r : Reading) (d : ℤ) → neg_ℤ (pos 8_334_601_228_800) ≤ℤ r.s → (r.s +ℤ pos 1) ≤ℤ pos 8_210_266_876_799
+    → r.f < 2_000_000_000 → pos 0 ≤ℤ (pos r.f +ℤ d) → d <ℤ pos 1_000_000_000 → IsInRange (moved r d).s
+moved-next r d low high f first last =
+    by_lt_z {P = IsInRange (moved r d).s} (pos r.f) (pos 1_000_000_000)
+    (λ plain. rw (moved-plain r d (omega (arith, floors))) (of_total-next r.s _ low high (omega (arith, floors)) (omega (arith, floors))))
+    (λ leap. rw (moved-leap r d (omega (arith, floors)))
+    (by_lt_z {P = IsInRange (moved_leap r.s (pos r.f +ℤ d)).s} (pos r.f +ℤ d) (pos 2_000_000_000)
+    (λ within. rw (moved_leap-within r.s (pos r.f +ℤ d) first within) (low, omega (arith, floors)))
+    (λ behind. rw (moved_leap-behind r.s (pos r.f +ℤ d) behind) (of_total-next r.s _ low high (omega (arith, floors)) (omega (arith, floors))))))
+
+below-some : (f span : ℕ) → pos 0 ≤ℤ multiple_below (pos f) span
+below-some f span = omega (arith, floors)
+
+nearest-some : (f span : ℕ) → 0 < span → (pos 0 ≤ℤ nearest_multiple (pos f) span) × ((nearest_multiple (pos f) span -ℤ pos f) <ℤ pos span)
+nearest-some f span some =
+    let low = below-some f span in let down = below-near (pos f) span some in let up = above-near (pos f) span some in
+    elim (nearest-is (pos f) span some) [
+      | inl below ↦ (omega (arith, floors), omega (arith, floors))
+      | inr above ↦ (omega (arith, floors), omega (arith, floors))
+    ]
+
+per_digit : (digits : ℕ) → (0 < nanos_per_digit digits) × (nanos_per_digit digits ≤ 1_000_000_000)
+per_digit digits = (one-le-pow (9 - digits) 10 (omega arith), pow-le-pow_right {n = 10} (omega arith) {i = 9 - digits} {j = 9} (omega arith))
+
+-- a reading before the last second of the range is rounded within it
+pub rounded-in_range : (r : Reading) (digits : ℕ) → r.f < 2_000_000_000
+    → neg_ℤ (pos 8_334_601_228_800) ≤ℤ r.s → (r.s +ℤ pos 1) ≤ℤ pos 8_210_266_876_799
+    → IsInRange (rounded r digits).s
+rounded-in_range r digits f low high =
+    let unit = per_digit digits in let way = nearest-some r.f (nanos_per_digit digits) unit.0 in
+    moved-next r (nearest_multiple (pos r.f) (nanos_per_digit digits) -ℤ pos r.f) low high f (omega (arith, floors)) (omega (arith, floors))

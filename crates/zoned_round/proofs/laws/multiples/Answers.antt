@@ -1,0 +1,10 @@
+use Rattle.zoned_round.proofs.Nearest.{below-greatest, above-least, nearest-of_all}
+use Rattle.zoned_round.proofs.laws.multiples.Goals as goal
+
+pub returns : goal.returns
+returns c = record {
+  below = below-greatest;
+  above = above-least;
+  nearest = λ n m span some k. rw (k.1) ((nearest-of_all n k.0 span some).0);
+  tie = λ n m span some k same. rw (k.1) ((nearest-of_all n k.0 span some).1 (rw (k.1) at same));
+}

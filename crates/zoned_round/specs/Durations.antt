@@ -1,0 +1,31 @@
+-- Values rounded to multiples of a length of time.
+use Rattle.std.specs.Prelude.{◌≡◌, ℕ, ℤ, pos, ◌-ℤ◌, ◌<ℤ◌, unsigned_abs, FitsSigned, Result, Ok, Err}
+use Rattle.std.specs.Int.{w64}
+use Rattle.naive_base.specs.declared.datetime.NaiveDateTime.{NaiveDateTime}
+use Rattle.naive_base.specs.NaiveDateTime.{reading}
+use Rattle.naive_base.specs.Reading.{moved}
+use Rattle.zoned_round.specs.declared.error.RoundingError.{RoundingError}
+use Rattle.zoned_round.specs.Errors.{IsRefusal}
+use Rattle.zoned_round.specs.Multiples.{IsItselfOr}
+
+-- a span in nanoseconds
+abbrev pub IsSpan : ℤ → Type 0
+IsSpan nanos = (pos 0 <ℤ nanos) × FitsSigned w64 nanos
+
+-- the value, gone so far: itself where that is nowhere
+abbrev pub IsGone : {T : Type 0} → (ℤ → T → Type 0) → ℤ → T → T → Type 0
+IsGone IsMoved way value answer = IsItselfOr (way ≡ pos 0) (IsMoved way) value answer
+
+-- the reading so many nanoseconds later
+abbrev pub IsReadingMoved : NaiveDateTime → ℤ → NaiveDateTime → Type 0
+IsReadingMoved value way answer = reading answer ≡ moved (reading value) way
+
+-- The stamp of a value is all that its clock shows, in nanoseconds. The value goes as far as it is from the
+-- stamp to the multiple of the span that `choose` names.
+abbrev pub IsRoundedTo : {T E : Type 0}
+    → (ℤ → ℕ → ℤ) → (E → RoundingError) → (ℤ → T → Type 0) → ℤ → ℤ → T → Result T E → Type 0
+IsRoundedTo choose fault IsMoved stamp span value (Ok answer) =
+    IsSpan span × FitsSigned w64 stamp
+    × IsGone IsMoved (choose stamp (unsigned_abs span) -ℤ stamp) value answer
+IsRoundedTo choose fault IsMoved stamp span value (Err error) =
+    IsRefusal (IsSpan span) (FitsSigned w64 stamp) (fault error)

@@ -1,0 +1,15 @@
+-- Why a value is not rounded, and what the reasons print.
+use Rattle.std.specs.Prelude.{ℕ, List, codes}
+use Rattle.zoned_round.specs.declared.error.RoundingError.{RoundingError}
+use Rattle.zoned_round.specs.declared.error.RoundingError.TheVariants.{DurationExceedsTimestamp, DurationExceedsLimit, TimestampExceedsLimit}
+
+-- The span's fault comes first, the stamp's only where the span has none.
+abbrev pub IsRefusal : Type 0 → Type 0 → RoundingError → Type 0
+IsRefusal span_fits stamp_fits DurationExceedsLimit = span_fits → ⊥
+IsRefusal span_fits stamp_fits TimestampExceedsLimit = span_fits × (stamp_fits → ⊥)
+IsRefusal span_fits stamp_fits DurationExceedsTimestamp = ⊥
+
+abbrev pub message : RoundingError → List ℕ
+message DurationExceedsTimestamp = codes "duration in nanoseconds exceeds timestamp"
+message DurationExceedsLimit = codes "duration exceeds num_nanoseconds limit"
+message TimestampExceedsLimit = codes "timestamp exceeds num_nanoseconds limit"

@@ -1,0 +1,6 @@
+pub mod Multiples
+pub mod Subseconds
+pub mod Durations
+pub mod Errors
+pub mod Laws
+pub mod Steps

@@ -1,0 +1,32 @@
+//! Why a value is not rounded.
+ghost use Rattle.std.specs.Prelude.{Some};
+ghost use Rattle.zoned_round.specs.Errors.{message};
+
+use std::fmt;
+use thiserror::Error;
+
+/// Why a value is not rounded to a multiple of a length of time.
+#[derive(Clone, Copy, Debug, PartialEq, Eq, Error)]
+pub enum RoundingError {
+    /// No call answers this; chrono has it.
+    DurationExceedsTimestamp,
+    /// The length in nanoseconds leaves an `i64`, or it isn't positive.
+    DurationExceedsLimit,
+    /// What the value's clock shows, in nanoseconds since 1970-01-01 00:00:00, leaves an `i64`.
+    TimestampExceedsLimit,
+}
+
+impl fmt::Display for RoundingError {
+    ghost output = { λ error. Some (message error) };
+
+    fn fmt<W: fmt::Write>(&self, f: &mut fmt::Formatter<W>) -> fmt::Result {
+        f.write_str(match self {
+            RoundingError::DurationExceedsTimestamp => "duration in nanoseconds exceeds timestamp",
+            RoundingError::DurationExceedsLimit => "duration exceeds num_nanoseconds limit",
+            RoundingError::TimestampExceedsLimit => "timestamp exceeds num_nanoseconds limit",
+        })
+    }
+}
+
+#[cfg(test)]
+mod tests;

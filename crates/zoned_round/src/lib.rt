@@ -1,0 +1,12 @@
+//! Instants, readings and times of day rounded: to digits of a second, and to multiples of a length of time.
+#![tactic(auto)]
+
+mod durations;
+mod error;
+pub mod laws;
+mod stamp;
+mod subseconds;
+
+pub use durations::DurationRound;
+pub use error::RoundingError;
+pub use subseconds::SubsecRound;

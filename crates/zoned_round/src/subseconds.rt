@@ -1,0 +1,181 @@
+//! Rounding to digits of a second.
+ghost use Rattle.std.specs.Prelude.{◌≡◌, ◌-◌, ◌<◌, ◌≤◌, ◌%◌, pos, neg_ℤ, ◌-ℤ◌, ◌≤ℤ◌, ⊤};
+ghost use Rattle.offset_core.specs.TimeDelta.{nanos_of};
+ghost use Rattle.naive_base.specs.Fields.{reading_on, time_at};
+ghost use Rattle.naive_base.specs.Reading.{Reading};
+ghost use Rattle.naive_base.specs.NaiveDateTime.{reading};
+ghost use Rattle.naive_base.specs.NaiveTime.{time_of};
+ghost use Rattle.naive_base.specs.Range.{IsInRange};
+ghost use Rattle.zoned_time.specs.DateTime.{zoned, home_of};
+ghost use Rattle.zoned_time.specs.Zoned.{IsAt};
+ghost use Rattle.zoned_round.specs.Multiples.{nearest_multiple};
+ghost use Rattle.zoned_round.specs.Subseconds.{nanos_per_digit, MayRound, IsRounded, IsCut};
+
+use naive_base::{NaiveDateTime, NaiveTime, Timelike};
+use offset_core::TimeDelta;
+use zoned_time::{DateTime, TimeZone};
+
+/// Values that digits of a second round.
+///
+/// A last digit counts 10^9 nanoseconds with no digits, a tenth of that with one, and so on; with nine digits and more it
+/// counts one, and the value stays as it is. It also stays where nothing is behind its last digit. A leap second's
+/// nanoseconds go from 10^9 on, below 2*10^9.
+///
+/// ```text
+/// // 10:05:13.084660684
+/// time.round_subsecs(3); // 10:05:13.085
+/// time.trunc_subsecs(3); // 10:05:13.084
+/// ```
+pub trait SubsecRound: Sized {
+    // its second and nanoseconds, a time's on the day 0
+    ghost shown: { Self → Reading };
+
+    // the value that shows others in their place
+    ghost IsShowing: { Self → Reading → Self → Type 0 };
+
+    // where there is one
+    ghost MayShow: { Self → Reading → Type 0 };
+
+    /// Moved to the nearest value with so many digits of a second, and of two as near to the later one, which may be in the
+    /// next second. It is in range, where the value has a date; a time goes on at midnight.
+    fn round_subsecs(self, digits: u16) -> Self
+        requires { MayRound (MayShow self) (shown self) digits }
+        ensures { IsRounded (IsShowing self) (shown self) digits self result };
+
+    /// Cut behind so many digits of its second.
+    fn trunc_subsecs(self, digits: u16) -> Self
+        ensures { IsCut (IsShowing self) (shown self) digits self result };
+}
+
+fn nanos_per_digit(digits: u16) -> u32
+    ensures is { result ≡ nanos_per_digit digits }
+    ensures some { 0 < result }
+    ensures bound { result ≤ 1_000_000_000 }
+{
+    match digits {
+        0 => 1_000_000_000,
+        1 => 100_000_000,
+        2 => 10_000_000,
+        3 => 1_000_000,
+        4 => 100_000,
+        5 => 10_000,
+        6 => 1_000,
+        7 => 100,
+        8 => 10,
+        _ => 1,
+    }
+}
+
+// The nanoseconds behind the last digit.
+fn nanos_behind(nanos: u32, digits: u16) -> u32
+    ensures { result ≡ nanos % nanos_per_digit digits }
+{
+    nanos % nanos_per_digit(digits)
+}
+
+// From so many nanoseconds to the nearest that the digits show.
+fn way_to_digits(nanos: u32, digits: u16) -> TimeDelta
+    ensures is { let n = pos nanos in
+        nanos_of result ≡ nearest_multiple n (nanos_per_digit digits) -ℤ n }
+    ensures early { neg_ℤ (pos 1_000_000_000) ≤ℤ nanos_of result }
+    ensures late { nanos_of result ≤ℤ pos 1_000_000_000 }
+{
+    let behind = nanos_behind(nanos, digits);
+    let ahead = nanos_per_digit(digits) - behind;
+    if behind < ahead {
+        TimeDelta::nanoseconds(-(behind as i64))
+    } else {
+        TimeDelta::nanoseconds(ahead as i64)
+    }
+}
+
+impl SubsecRound for NaiveDateTime {
+    ghost shown = { reading };
+
+    ghost IsShowing = { λ _ r answer. reading answer ≡ r };
+
+    ghost MayShow = { λ _ r. IsInRange r.s };
+
+    fn round_subsecs(self, digits: u16) -> NaiveDateTime {
+        if nanos_behind(NaiveDateTime::nanosecond(&self), digits) == 0 {
+            return self;
+        }
+        self.checked_add_signed(way_to_digits(NaiveDateTime::nanosecond(&self), digits))
+            .unwrap()
+    }
+
+    fn trunc_subsecs(self, digits: u16) -> NaiveDateTime {
+        let nanos = NaiveDateTime::nanosecond(&self);
+        match nanos_behind(nanos, digits) {
+            0 => self,
+            behind => self.with_nanosecond(nanos - behind).unwrap(),
+        }
+    }
+}
+
+impl<Tz: TimeZone> SubsecRound for DateTime<Tz> {
+    ghost shown = { λ d. (zoned d).utc };
+
+    ghost IsShowing = { λ d r answer. IsAt (home_of d) r (zoned answer) };
+
+    ghost MayShow = { λ _ r. IsInRange r.s };
+
+    fn round_subsecs(self, digits: u16) -> DateTime<Tz> {
+        let nanos = self.naive_utc().nanosecond();
+        if nanos_behind(nanos, digits) == 0 {
+            return self;
+        }
+        self.checked_add_signed(way_to_digits(nanos, digits))
+            .unwrap()
+    }
+
+    fn trunc_subsecs(self, digits: u16) -> DateTime<Tz> {
+        match nanos_behind(self.naive_utc().nanosecond(), digits) {
+            0 => self,
+            behind => instant_cut(self, behind),
+        }
+    }
+}
+
+impl SubsecRound for NaiveTime {
+    ghost shown = { λ time. reading_on (pos 0) (time_of time) };
+
+    ghost IsShowing = { λ _ r answer. time_of answer ≡ time_at r };
+
+    ghost MayShow = { λ _ _. ⊤ };
+
+    fn round_subsecs(self, digits: u16) -> NaiveTime {
+        if nanos_behind(NaiveTime::nanosecond(&self), digits) == 0 {
+            return self;
+        }
+        on_day_0(self).round_subsecs(digits).time()
+    }
+
+    fn trunc_subsecs(self, digits: u16) -> NaiveTime {
+        let fraction = NaiveTime::nanosecond(&self);
+        match nanos_behind(fraction, digits) {
+            0 => self,
+            behind => self.with_nanosecond(fraction - behind).unwrap(),
+        }
+    }
+}
+
+// That time of 1970-01-01.
+fn on_day_0(time: NaiveTime) -> NaiveDateTime
+    ensures { reading result ≡ reading_on (pos 0) (time_of time) }
+{
+    NaiveDateTime::default().date().and_time(time)
+}
+
+// The instant of the same second, so many nanoseconds earlier.
+fn instant_cut<Tz: TimeZone>(here: DateTime<Tz>, behind: u32) -> DateTime<Tz>
+    requires { behind ≤ (zoned here).utc.f }
+    ensures { let utc = (zoned here).utc in
+        IsAt (home_of here) (record { s = utc.s; f = utc.f - behind }) (zoned result) }
+{
+    here.checked_sub_signed(TimeDelta::nanoseconds(behind as i64))
+        .unwrap()
+}
+
+#[cfg(test)]
+mod tests;
