@@ -1,0 +1,15 @@
+use Rattle.std.proofs.Common.{◌≡◌, ap, subst, sym, ◌∙◌, refl}
+use Rattle.naive_base.specs.NaiveDateTime.{reading}
+use Rattle.naive_base.specs.NaiveTime.{second_of, fraction_of}
+use Rattle.naive_base.specs.Reading.{Reading, reading_at}
+use Rattle.zoned_time.specs.Choice.{IsUnresolved}
+use Rattle.zoned_series.specs.DailySeries.{series_of}
+use Rattle.zoned_series.specs.Series.{reading_of, unresolved}
+use Rattle.zoned_series.proofs.series.DailySeries.at.Goals as goal
+
+pub returns-in-Err : goal.returns-in-Err
+returns-in-Err g c =
+    let s = series_of c.args.self.now in
+    let same : reading c.and_time.result ≡ reading_of s c.args.n = c.and_time.ensures.value ∙ ap (λ day. reading_at day s.second s.fraction) c.in-Some.ensures.1 in
+    unresolved c.in-Err.cause c.in-Some.ensures.0
+    (subst (λ r. IsUnresolved (g.Tz.TimeZone.law c.args.self.now.zone).off r.s s.choice c.in-Err.cause) same c.in-Err.ensures) refl

@@ -1,0 +1,3 @@
+pub mod DailySeries
+pub mod Numbers
+pub mod Series

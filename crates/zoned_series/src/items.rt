@@ -1,0 +1,75 @@
+//! The days of a series, one after another.
+ghost use Rattle.std.specs.Prelude.{◌≡◌, ◌-◌};
+ghost use Rattle.std.specs.Iterator.{at_most};
+ghost use Rattle.zoned_series.specs.DailySeries.{series_of, items_of};
+ghost use Rattle.zoned_series.specs.Series.{Gives, GivesBack};
+ghost use Rattle.zoned_time.specs.DateTime.{zoned};
+
+use crate::{DailySeries, SeriesError};
+use std::iter::{DoubleEndedIterator, ExactSizeIterator, FusedIterator};
+use zoned_time::{DateTime, TimeZone};
+
+/// The days of a series, one after another. From [`DailySeries::days`].
+///
+/// A day without an instant is an `Err`, and the days behind it still come.
+#[derive(Clone, Copy)]
+pub struct DailyItems<Tz> {
+    series: DailySeries<Tz>,
+    next: u32,
+    end: u32,
+}
+
+impl<Tz: TimeZone> DailyItems<Tz> {
+    pub(crate) fn new(series: DailySeries<Tz>, count: u32) -> DailyItems<Tz>
+        ensures { items_of result ≡ record { series = series_of series; next = 0; end = count } }
+    {
+        DailyItems {
+            series,
+            next: 0,
+            end: count,
+        }
+    }
+}
+
+impl<Tz: TimeZone> Iterator for DailyItems<Tz> {
+    type Item = Result<DateTime<Tz>, SeriesError>;
+
+    ghost next_gives = { λ s r t. Gives (Tz.law s.series.zone) zoned (items_of s) r (items_of t) };
+
+    ghost remaining = { λ s. at_most ((items_of s).end - (items_of s).next) };
+
+    fn next(&mut self) -> Option<Result<DateTime<Tz>, SeriesError>> {
+        if self.next >= self.end {
+            return None;
+        }
+        let item = self.series.at(self.next);
+        self.next += 1;
+        Some(item)
+    }
+
+    fn size_hint(&self) -> (usize, Option<usize>) {
+        let len = self.len();
+        (len, Some(len))
+    }
+}
+
+impl<Tz: TimeZone> DoubleEndedIterator for DailyItems<Tz> {
+    ghost next_back_gives = { λ s r t. GivesBack (Tz.law s.series.zone) zoned (items_of s) r
+        (items_of t) };
+
+    fn next_back(&mut self) -> Option<Result<DateTime<Tz>, SeriesError>> {
+        if self.next >= self.end {
+            return None;
+        }
+        self.end -= 1;
+        Some(self.series.at(self.end))
+    }
+}
+
+impl<Tz: TimeZone> FusedIterator for DailyItems<Tz> {}
+
+impl<Tz: TimeZone> ExactSizeIterator for DailyItems<Tz> {
+    fn len(&self) -> usize {
+        self.end.saturating_sub(self.next) as usize
+    }
+}
