@@ -1,46 +1,35 @@
 -- The instants that a zone gives are those of the types in force.
-use Rattle.std.proofs.Common.{◌≡◌, ℤ, ap, sym, ◌∙◌}
+use Rattle.std.proofs.Common.{◌≡◌, ℤ, refl, subst, Option}
+use Rattle.std.specs.Prelude.{SomeIff}
 use Rattle.offset_core.specs.declared.local_result.LocalResult.{LocalResult}
-use Rattle.offset_core.specs.declared.local_result.LocalResult.TheVariants.{Single, Ambiguous, None}
-use Rattle.offset_core.specs.LocalResult.{map_of}
-use Rattle.offset_core.specs.WallAnswer.{HasOneValue}
-use Rattle.offset_core.proofs.WallAnswers.{one_wall_answer}
-use Rattle.naive_base.specs.Range.{IsWide}
+use Rattle.offset_core.specs.declared.local_result.LocalResult.TheVariants.{Single, Ambiguous, None as none}
+use Rattle.offset_core.specs.LocalResult.{all_or_none}
+use Rattle.offset_core.proofs.ForCallers.{one_wall_answer}
 use Rattle.naive_base.specs.Reading.{Reading}
 use Rattle.tz_info.specs.LocalTypes.{LocalType}
-use Rattle.tz_info.specs.Zones.{Zone}
-use Rattle.zoned_time.specs.Relocal.{AreInstantsOf, IsRelocal}
-use Rattle.zoned_time.specs.Zone.{Shows}
+use Rattle.tz_info.specs.WallClocks.{Shows}
+use Rattle.tz_info.specs.Zones.{Zone, TypeAt}
+use Rattle.tz_info.proofs.ForCallers.{type_once}
+use Rattle.zoned_time.specs.Relocal.{HasInstant, instant_of}
 use Rattle.zoned_time.specs.Zoned.{Zoned}
-use Rattle.zoned_ref.specs.Instants.{in_seconds, AreTypesFor, AreInstantsAt}
-use Rattle.zoned_ref.specs.Offsets.{IsNarrow, AreOffsetsOf}
-use Rattle.zoned_ref.proofs.Walls.{zone_wall}
+use Rattle.zoned_ref.specs.Instants.{AreTypesFor, AreInstantsAt}
 
-offsets_once : (off : ℤ → ℤ) (l : ℤ) → HasOneValue (Shows off l)
-offsets_once off l u a b x y = x.offset ∙ sym y.offset
+-- the instants of the types in force, where there is but one answer
+pub instants_for : (z : Zone) (l : Reading) (types : LocalResult LocalType) (instants : LocalResult (Zoned ℤ))
+    → AreTypesFor z l types → AreInstantsAt l types instants → (other : LocalResult LocalType) → AreTypesFor z l other → AreInstantsAt l other instants
+instants_for z l types instants wall at other also =
+    let same : types ≡ other = one_wall_answer (Shows (TypeAt z) l.s) (λ u a b x y. type_once z u a b x.type y.type) types other wall also in
+    subst (λ (t : LocalResult LocalType). AreInstantsAt l t instants) same at
 
-told_in_seconds : {O : Type 0} (seconds : O → ℤ) (l : Reading) (offsets : LocalResult O) (answer : LocalResult (Zoned O))
-    → AreInstantsOf seconds l offsets answer → AreInstantsOf (λ k. k) l (map_of seconds offsets) (map_of (in_seconds seconds) answer)
-told_in_seconds seconds l None None h = h
-told_in_seconds seconds l None (Single d) h = h
-told_in_seconds seconds l None (Ambiguous d e) h = h
-told_in_seconds seconds l (Single o) None h = h
-told_in_seconds seconds l (Single o) (Single d) h = (h.0, ap (in_seconds seconds) h.1)
-told_in_seconds seconds l (Single o) (Ambiguous d e) h = h
-told_in_seconds seconds l (Ambiguous o p) None h = h
-told_in_seconds seconds l (Ambiguous o p) (Single d) h = h
-told_in_seconds seconds l (Ambiguous o p) (Ambiguous d e) h = (h.0, h.1, ap (in_seconds seconds) h.2, ap (in_seconds seconds) h.3)
+-- the instant of one type, and of two
+pub of_one : (l : Reading) (t : LocalType) (a : Option (Zoned ℤ)) → SomeIff a (HasInstant (λ k. k) l t.offset) (instant_of (λ k. k) l t.offset)
+    → AreInstantsAt l (Single t) (all_or_none (Single a))
+of_one l t a h = record { answers = Single a; asked = (a, tt, h, refl); kept = refl }
 
-pub instants_told : {O : Type 0} (seconds : O → ℤ) (home : O → ℤ → ℤ) (z : Zone) (off : ℤ → ℤ) (l : Reading) (answer : LocalResult (Zoned O))
-    → IsNarrow z → AreOffsetsOf z off → IsWide l.s → IsRelocal seconds home off l answer
-    → (types : LocalResult LocalType) → AreTypesFor z l types → AreInstantsAt l types (map_of (in_seconds seconds) answer)
-instants_told seconds home z off l answer narrow of_zone wide h types wall =
-    let same : map_of seconds h.offsets ≡ map_of (λ t. t.offset) types =
-    one_wall_answer (Shows off l.s) (offsets_once off l.s) _ _ h.wall.wall (zone_wall z off l.s narrow of_zone wide types wall) in
-    rw (← same) (told_in_seconds seconds l h.offsets answer h.instants)
+pub of_two : (l : Reading) (t s : LocalType) (a b : Option (Zoned ℤ))
+    → SomeIff a (HasInstant (λ k. k) l t.offset) (instant_of (λ k. k) l t.offset) → SomeIff b (HasInstant (λ k. k) l s.offset) (instant_of (λ k. k) l s.offset)
+    → AreInstantsAt l (Ambiguous t s) (all_or_none (Ambiguous a b))
+of_two l t s a b h k = record { answers = Ambiguous a b; asked = (a, b, tt, tt, h, k, refl); kept = refl }
 
--- a map after a map
-pub map_of_map : {A B C : Type 0} (f : B → C) (g : A → B) (x : LocalResult A) → map_of f (map_of g x) ≡ map_of (λ a. f (g a)) x
-map_of_map f g None = cc
-map_of_map f g (Single a) = cc
-map_of_map f g (Ambiguous a b) = cc
+pub of_none : (l : Reading) → AreInstantsAt l none none
+of_none l = record { answers = none; asked = refl; kept = refl }

@@ -1,3 +1,5 @@
+pub mod ForCallers
+pub mod Instants
 pub mod Offsets
 pub mod Walls
-pub mod Instants
+pub mod Gaps

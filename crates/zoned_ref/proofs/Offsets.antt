@@ -5,19 +5,18 @@ use Rattle.std.proofs.lemmas.Int.{ints}
 use Rattle.std.specs.Coded.{Coded-set, coded_ℤ}
 use Rattle.offset_core.specs.Offset.{IsWithinDay}
 use Rattle.naive_base.specs.Year.{floor_div, year_of}
-use Rattle.naive_base.proofs.Years.{lies_in}
+use Rattle.naive_base.proofs.ForCallers.{lies_in}
 use Rattle.tz_info.specs.LocalTypes.{LocalType}
 use Rattle.tz_info.specs.Moments.{type_when}
 use Rattle.tz_info.specs.Rules.{Alternate as AlternateRule}
 use Rattle.tz_info.specs.Zones.{Zone, TypeAt, IsValid, IsTypeRefused, by_leap_time, by_rule, IsRefusedBy, IsRuleOrNone, IsTypeOf}
 use Rattle.tz_info.specs.declared.rule.transition_rule.TransitionRule.{TransitionRule}
 use Rattle.tz_info.specs.declared.rule.transition_rule.TransitionRule.TheVariants.{Fixed, Alternate}
-use Rattle.tz_info.proofs.LeapOrder.{leap_times_answer}
-use Rattle.tz_info.proofs.RuleLaws.{rule_year}
-use Rattle.tz_info.proofs.ZoneLaws.{type_decided, type_listed}
+use Rattle.tz_info.proofs.ForCallers.{leap_times_answer, rule_year, type_decided, type_listed}
 use Rattle.zoned_time.specs.Zone.{IsZoneSecond}
 use Rattle.zoned_ref.specs.Offsets.{rule_types, IsNarrow, HasOffset, HasOffsets, AreOffsetsOf}
-use Rattle.zoned_ref.specs.OffsetAt.{one_offset, offset_at, offset_at_is}
+use Rattle.zoned_ref.specs.OffsetAt.{offset_at}
+use Rattle.zoned_ref.specs.Steps.OffsetAt.{one_offset, the_offset_is}
 
 -- a rule answers in the years of the range
 rule_not_refused : (rule : Option TransitionRule) (u : ℤ) → IsZoneSecond u → IsRefusedBy rule u → ⊥
@@ -43,7 +42,7 @@ pub are_offsets : (z : Zone) (some : ∥ HasOffsets z ∥₁) → HasOffsets z �
 are_offsets z some has u inside =
     let k = has u inside in
     let same : offset_at z some u ≡ k.0 =
-    ∥∥₁_elim (offset_at_is z some u inside) (Coded-set coded_ℤ (offset_at z some u) k.0) (λ a. one_offset z u (offset_at z some u) k.0 a k.1) in
+    ∥∥₁_elim (the_offset_is z some u inside) (Coded-set coded_ℤ (offset_at z some u) k.0) (λ a. one_offset z u (offset_at z some u) k.0 a k.1) in
     record { type = k.1.type; in_force = k.1.in_force; offset = same ∙ k.1.offset }
 
 -- ---- in a narrow zone it is within a day

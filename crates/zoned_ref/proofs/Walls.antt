@@ -7,17 +7,17 @@ use Rattle.offset_core.specs.declared.local_result.LocalResult.TheVariants.{Sing
 use Rattle.offset_core.specs.LocalResult.{map_of}
 use Rattle.offset_core.specs.Offset.{IsWithinDay}
 use Rattle.offset_core.specs.WallAnswer.{IsWallAnswer}
-use Rattle.offset_core.proofs.WallAnswers.{IsWallAnswer-map_of}
+use Rattle.offset_core.proofs.ForCallers.{IsWallAnswer-map_of}
 use Rattle.naive_base.specs.Range.{IsWide}
 use Rattle.tz_info.specs.LocalTypes.{LocalType}
 use Rattle.tz_info.specs.WallClocks as types
 use Rattle.tz_info.specs.Zones.{Zone, TypeAt}
-use Rattle.tz_info.proofs.ZoneLaws.{type_once}
+use Rattle.tz_info.proofs.ForCallers.{type_once}
 use Rattle.zoned_time.specs.Zone as offsets
 use Rattle.zoned_ref.specs.Offsets.{IsNarrow, AreOffsetsOf}
 use Rattle.zoned_ref.proofs.Offsets.{type_within}
 
-shown_by_type : (z : Zone) (off : ℤ → ℤ) (l : ℤ) → IsNarrow z → AreOffsetsOf z off → IsWide l → (u : ℤ) (t : LocalType) → types.Shows (TypeAt z) l u t → offsets.Shows off l u t.offset
+pub shown_by_type : (z : Zone) (off : ℤ → ℤ) (l : ℤ) → IsNarrow z → AreOffsetsOf z off → IsWide l → (u : ℤ) (t : LocalType) → types.Shows (TypeAt z) l u t → offsets.Shows off l u t.offset
 shown_by_type z off l narrow of_zone wide u t s =
     let day = type_within z u t narrow s.type in
     let shown : u +ℤ t.offset ≡ l = s.shown in
@@ -25,7 +25,7 @@ shown_by_type z off l narrow of_zone wide u t s =
     let there = of_zone u inside in
     record { in_zone = inside; offset = ap (λ y. y.offset) (type_once z u t there.type s.type there.in_force) ∙ sym there.offset; shown = shown }
 
-shown_by_offset : (z : Zone) (off : ℤ → ℤ) (l : ℤ) → AreOffsetsOf z off → (u k : ℤ) → offsets.Shows off l u k → (t : LocalType) × types.Shows (TypeAt z) l u t
+pub shown_by_offset : (z : Zone) (off : ℤ → ℤ) (l : ℤ) → AreOffsetsOf z off → (u k : ℤ) → offsets.Shows off l u k → (t : LocalType) × types.Shows (TypeAt z) l u t
 shown_by_offset z off l of_zone u k s =
     let there = of_zone u s.in_zone in
     let inside = s.in_zone in
@@ -43,13 +43,13 @@ each_within z l narrow (Single t) wall = type_within z wall.second t narrow wall
 each_within z l narrow (Ambiguous a b) wall = (type_within z wall.first a narrow wall.at_first.type, type_within z wall.last b narrow wall.at_last.type)
 
 -- and their offsets are what the zone gives
-pub one_given : {O : Type 0} (seconds : O → ℤ) (home : O → ℤ → ℤ) (z : Zone) (off : ℤ → ℤ) (l : ℤ) (t : LocalType) (o : O) → IsNarrow z → AreOffsetsOf z off → IsWide l
-    → seconds o ≡ t.offset → home o ≡ off → IsWallAnswer (types.Shows (TypeAt z) l) (Single t) → offsets.AreOffsetsFor seconds home off l (Single o)
-one_given seconds home z off l t o narrow of_zone wide same home_is wall =
+pub one_given : {O : Type 0} (m : offsets.Meaning O) (z : Zone) (off : ℤ → ℤ) (l : ℤ) (t : LocalType) (o : O) → IsNarrow z → AreOffsetsOf z off → IsWide l
+    → m.seconds o ≡ t.offset → m.home o ≡ off → IsWallAnswer (types.Shows (TypeAt z) l) (Single t) → offsets.AreOffsetsFor {m = m} (record { off = off }) l (Single o)
+one_given m z off l t o narrow of_zone wide same home_is wall =
     record { wall = rw same (zone_wall z off l narrow of_zone wide (Single t) wall); same_home = λ u inside. rw home_is refl }
 
-pub two_given : {O : Type 0} (seconds : O → ℤ) (home : O → ℤ → ℤ) (z : Zone) (off : ℤ → ℤ) (l : ℤ) (a b : LocalType) (o p : O) → IsNarrow z → AreOffsetsOf z off → IsWide l
-    → seconds o ≡ a.offset → seconds p ≡ b.offset → home o ≡ off → home p ≡ off
-    → IsWallAnswer (types.Shows (TypeAt z) l) (Ambiguous a b) → offsets.AreOffsetsFor seconds home off l (Ambiguous o p)
-two_given seconds home z off l a b o p narrow of_zone wide first last first_home last_home wall =
+pub two_given : {O : Type 0} (m : offsets.Meaning O) (z : Zone) (off : ℤ → ℤ) (l : ℤ) (a b : LocalType) (o p : O) → IsNarrow z → AreOffsetsOf z off → IsWide l
+    → m.seconds o ≡ a.offset → m.seconds p ≡ b.offset → m.home o ≡ off → m.home p ≡ off
+    → IsWallAnswer (types.Shows (TypeAt z) l) (Ambiguous a b) → offsets.AreOffsetsFor {m = m} (record { off = off }) l (Ambiguous o p)
+two_given m z off l a b o p narrow of_zone wide first last first_home last_home wall =
     record { wall = rw (first, last) (zone_wall z off l narrow of_zone wide (Ambiguous a b) wall); same_home = ((λ u inside. rw first_home refl), (λ u inside. rw last_home refl)) }

@@ -12,10 +12,6 @@ use Rattle.zoned_time.specs.Relocal.{AreInstantsOf}
 use Rattle.zoned_time.specs.Zoned.{Zoned}
 use Rattle.zoned_ref.specs.Offsets.{IsNarrow}
 
--- an instant, with the offset in plain seconds
-abbrev pub in_seconds : {O : Type 0} → (O → ℤ) → Zoned O → Zoned ℤ
-in_seconds seconds d = record { utc = d.utc; offset = seconds d.offset }
-
 -- the types in force at the first and at the last second of 64 bits at which the clocks of the zone show l
 abbrev pub AreTypesFor : Zone → Reading → LocalResult LocalType → Type 0
 AreTypesFor z l types = IsWallAnswer (Shows (TypeAt z) l.s) types

@@ -1,6 +1,7 @@
-pub mod Offsets
-pub mod OffsetAt
-pub mod TimeZoneRef
-pub mod ZoneOffset
 pub mod Instants
+pub mod OffsetAt
+pub mod Offsets
+pub mod Steps
+pub mod TimeZoneRef
 pub mod WallClock
+pub mod ZoneOffset

@@ -1,39 +1,9 @@
--- The offset of a zone as a function of the second: 0 outside the range that zones answer in, and in it the offset that
--- `HasOffset` allows, of which there is one. Contracts say so by `AreOffsetsOf`, and nothing else of it matters.
-use Rattle.std.specs.Prelude.{◌≡◌, ℤ, pos, neg_ℤ}
-use Rattle.std.specs.Coded.{Coded-set, coded_ℤ}
-use Rattle.std.specs.Int.Signed.{clash_ℤ}
-use Rattle.std.proofs.Common.{sym, ap, ◌∙◌}
-use Rattle.std.proofs.Math.Logic.{∥∥₁_prop, ∥∥₁_elim}
-use Rattle.std.proofs.lemmas.Int.{by_lt_z}
-use mathlib.Core.HLevel.{Σ_prop_path}
+-- The offset of a zone at a second.
+use Rattle.std.specs.Prelude.{ℤ}
 use Rattle.tz_info.specs.Zones.{Zone}
-use Rattle.tz_info.proofs.ZoneLaws.{type_once}
-use Rattle.zoned_time.specs.Zone.{IsZoneSecond}
-use Rattle.zoned_ref.specs.Offsets.{HasOffset, HasOffsets}
+use Rattle.zoned_ref.specs.Offsets.{HasOffsets}
+use Rattle.zoned_ref.specs.Steps.OffsetAt.{the_offset}
 
--- a second has at most one offset
-pub one_offset : (z : Zone) (u j k : ℤ) → HasOffset z u j → HasOffset z u k → j ≡ k
-one_offset z u j k a b =
-    a.offset ∙ ap (λ t. t.offset) (type_once z u a.type b.type a.in_force b.in_force) ∙ sym b.offset
-
--- so where it has some, that is one to speak of
-only_offset : (z : Zone) (u : ℤ) → IsProp ((k : ℤ) × ∥ HasOffset z u k ∥₁)
-only_offset z u a b = Σ_prop_path (λ k. ∥∥₁_prop)
-    (∥∥₁_elim a.1 (Coded-set coded_ℤ a.0 b.0) (λ x. ∥∥₁_elim b.1 (Coded-set coded_ℤ a.0 b.0) (λ y. one_offset z u a.0 b.0 x y)))
-
-the_offset : (z : Zone) (u : ℤ) → ∥ HasOffsets z ∥₁ → IsZoneSecond u → (k : ℤ) × ∥ HasOffset z u k ∥₁
-the_offset z u some inside = ∥∥₁_elim some (only_offset z u) (λ has. let k = has u inside in (k.0, ∣ k.1 ∣₁))
-
-offset_or_0 : (z : Zone) (u : ℤ) → ∥ HasOffsets z ∥₁ → (k : ℤ) × (IsZoneSecond u → ∥ HasOffset z u k ∥₁)
-offset_or_0 z u some =
-    by_lt_z u (neg_ℤ (pos 8_334_601_401_600)) (λ before. (pos 0, λ inside. clash_ℤ before inside.0)) (λ from.
-    by_lt_z (pos 8_210_267_049_599) u (λ behind. (pos 0, λ inside. clash_ℤ behind inside.1)) (λ to.
-    let k = the_offset z u some (from, to) in (k.0, λ _. k.1)))
-
-pub offset_at : (z : Zone) → ∥ HasOffsets z ∥₁ → ℤ → ℤ
-offset_at z some u = (offset_or_0 z u some).0
-
-pub offset_at_is : (z : Zone) (some : ∥ HasOffsets z ∥₁) (u : ℤ) → IsZoneSecond u → ∥ HasOffset z u (offset_at z some u) ∥₁
-unfolding offset_at
-offset_at_is z some u inside = (offset_or_0 z u some).1 inside
+-- that of the type in force, at each second of the range that zones answer in; 0 outside it
+abbrev pub offset_at : (z : Zone) → ∥ HasOffsets z ∥₁ → ℤ → ℤ
+offset_at z some u = the_offset z some u

@@ -1,20 +1,15 @@
 -- What a `WallClock` shows.
-use Rattle.std.specs.Prelude.{◌+◌, ◌*◌, length, option_map}
+use Rattle.std.specs.Prelude.{option_map}
 use Rattle.offset_core.specs.LocalResult.{map_of}
 use Rattle.offset_core.specs.FixedOffset.{seconds_of}
 use Rattle.naive_base.specs.Reading.{Reading}
-use Rattle.tz_info.specs.Counts.{Counts, RoseWithin}
-use Rattle.tz_info.specs.Digits.{digits}
 use Rattle.tz_info.specs.Zones.{Zone}
 use Rattle.zoned_time.specs.DateTime.{zoned}
-use Rattle.zoned_ref.specs.Instants.{in_seconds, AreTypesFor, AreInstantsFor}
+use Rattle.zoned_time.specs.Zoned.{in_seconds}
+use Rattle.zoned_ref.specs.Instants.{AreTypesFor, AreInstantsFor}
 use Rattle.zoned_ref.specs.declared.wall_clock.WallClock.{WallClock}
 
 -- it tells when the clocks of the zone show l, and with which types
 pub record Tells (z : Zone) (l : Reading) (w : WallClock) : Type 0 where
   pub types : AreTypesFor z l w.types
   pub instants : AreInstantsFor z l (option_map (map_of (λ d. in_seconds seconds_of (zoned d))) w.instants)
-
--- what the counts may rise by meanwhile
-abbrev pub IsCounted : Zone → Counts → Counts → Type 0
-IsCounted z before after = RoseWithin before after ((length z.types + 2) * (digits (length z.transitions) + 2)) (length z.types + 2)

@@ -2,7 +2,9 @@
 use Rattle.std.specs.Prelude.{ℤ}
 use Rattle.offset_core.specs.declared.fixed_offset.FixedOffset.{FixedOffset}
 use Rattle.offset_core.specs.FixedOffset.{seconds_of}
+use Rattle.zoned_time.specs.Zone.{Meaning, Law}
 use Rattle.zoned_ref.specs.TimeZoneRef.{off_of}
+use Rattle.zoned_ref.specs.declared.time_zone_ref.TimeZoneRef.{TimeZoneRef}
 use Rattle.zoned_ref.specs.declared.zone_offset.ZoneOffset.{ZoneOffset}
 
 -- the offset as nothing but its seconds
@@ -15,3 +17,11 @@ ahead_of o = seconds_of (fixed_of o)
 -- the offsets of the zone that it came from
 abbrev pub home_of : ZoneOffset → ℤ → ℤ
 home_of o = off_of o.zone
+
+-- what its offsets mean
+abbrev pub meaning_of : Meaning ZoneOffset
+meaning_of = record { seconds = ahead_of; home = home_of }
+
+-- the law of a zone
+abbrev pub law_of : TimeZoneRef → Law meaning_of
+law_of r = record { off = off_of r }

@@ -1,9 +1,8 @@
 //! A borrowed zone's lookups: those of the parsed zone, as offsets.
-ghost use Rattle.std.specs.Prelude.{◌≡◌};
+ghost use Rattle.std.specs.Prelude.{◌≡◌, refl};
 ghost use Rattle.naive_base.specs.NaiveDateTime.{reading};
 ghost use Rattle.zoned_time.specs.Zone.{IsZoneSecond, IsOffsetAt, midnight_of};
-ghost use Rattle.zoned_ref.specs.TimeZoneRef.{off_of};
-ghost use Rattle.zoned_ref.specs.ZoneOffset.{ahead_of, home_of};
+ghost use Rattle.zoned_ref.specs.ZoneOffset.{meaning_of, law_of};
 
 use crate::{TimeZoneRef, ZoneOffset};
 use naive_base::{NaiveDate, NaiveDateTime, NaiveTime};
@@ -13,11 +12,13 @@ use zoned_time::TimeZone;
 impl<'a> TimeZone for TimeZoneRef<'a> {
     type Offset = ZoneOffset<'a>;
 
-    ghost off = { off_of };
+    ghost meaning = { meaning_of };
 
-    ghost home = { home_of };
+    ghost law = { law_of };
 
     ghost within_day = { λ zone. zone.within_day };
+
+    ghost told = { λ _. refl };
 
     fn from_offset(offset: &ZoneOffset<'a>) -> TimeZoneRef<'a> {
         offset.zone()
@@ -49,13 +50,20 @@ impl<'a> TimeZone for TimeZoneRef<'a> {
     fn offset_from_local_date(&self, local: &NaiveDate) -> LocalResult<ZoneOffset<'a>> {
         self.offset_from_local_datetime(&midnight(local))
     }
+
+    fn offset_before_gap(&self, local: &NaiveDateTime) -> Option<ZoneOffset<'a>> {
+        match self.zone().find_local_time_type_before_gap(*local) {
+            Some(before) => Some(ZoneOffset::new(*self, &before)),
+            None => None,
+        }
+    }
 }
 
 impl<'a> TimeZoneRef<'a> {
     // The offset of the type in force.
     fn offset_at(&self, second: i64) -> ZoneOffset<'a>
         requires { IsZoneSecond second }
-        ensures { IsOffsetAt ahead_of home_of (off_of self.now) second result }
+        ensures { IsOffsetAt (law_of self.now) second result }
     {
         match self.zone().find_local_time_type(second) {
             Ok(found) => ZoneOffset::new(*self, found),

@@ -393,8 +393,9 @@ fn from_a_file_to_instants(rt: HostRuntime) -> Result<(), Fail> {
             instants,
             "{local}"
         );
-        // one transition and two types: at most 4 * 3 looks, and none of a rule
-        assert!(rt; probes.reads() > 0 && probes.reads() <= 12);
+        // one transition makes at most two pieces, which take two looks; there is no rule
+        assert_eq!(rt; probes.reads(), 0);
+        assert!(rt; probes.piece_reads() > 0 && probes.piece_reads() <= 2);
         assert_eq!(rt; probes.rule_questions(), 0);
     }
     Ok(())
@@ -414,7 +415,7 @@ fn from_bytes_that_are_no_zone(rt: HostRuntime) -> Result<(), Fail> {
         Ok(_) => panic!(rt; "24 hours"),
         Err(e) => assert_eq!(rt; e.number(), 6),
     }
-    assert_eq!(rt; (probes.reads(), probes.rule_questions()), (0, 0));
+    assert_eq!(rt; (probes.piece_reads(), probes.rule_questions()), (0, 0));
     Ok(())
 }
 
@@ -437,6 +438,6 @@ fn from_a_text_to_instants(rt: HostRuntime) -> Result<(), Fail> {
         }
         Err(e) => panic!(rt; "{}", e.number()),
     }
-    assert!(rt; probes.rule_questions() <= 4);
+    assert!(rt; probes.rule_questions() <= 2);
     Ok(())
 }

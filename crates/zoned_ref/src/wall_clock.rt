@@ -1,17 +1,22 @@
 //! When the clocks of a zone show a reading: from the bytes of a file, or a TZ text, to the instants.
-ghost use Rattle.std.specs.Prelude.{◌≡◌, ◌⊎◌, IfOk, IfErr, MatchResult, option_map};
+ghost use Rattle.std.specs.Prelude.{◌≡◌, ◌⊎◌, IfOk, IfErr, MatchResult, SomeIff, option_map};
 ghost use Rattle.offset_core.specs.FixedOffset.{seconds_of};
 ghost use Rattle.offset_core.specs.LocalResult.{map_of};
 ghost use Rattle.naive_base.specs.NaiveDateTime.{reading};
 ghost use Rattle.tz_info.specs.Counts.{HasRoom};
 ghost use Rattle.tz_info.specs.Errors.{number_of};
 ghost use Rattle.tz_info.specs.FilePieces.{FilePieces, HasPieces};
+ghost use Rattle.tz_info.specs.Looks.{RoseByWallClock};
 ghost use Rattle.tz_info.specs.PosixZones.{IsPosixZone, IsPosixFault};
 ghost use Rattle.tz_info.specs.TzFiles.{IsTzFile, IsZoneFault};
 ghost use Rattle.tz_info.specs.Zones.{Zone, IsValid};
 ghost use Rattle.tz_info.specs.declared.error.Error.TheVariants.{OutOfMemory};
 ghost use Rattle.zoned_time.specs.DateTime.{zoned};
-ghost use Rattle.zoned_ref.specs.Instants.{in_seconds, AreInstantsFor};
+ghost use Rattle.zoned_time.specs.Zoned.{in_seconds};
+ghost use Rattle.zoned_ref.specs.Instants.{AreTypesFor, AreInstantsAt, AreInstantsFor};
+ghost use Rattle.zoned_time.specs.Relocal.{HasInstant, instant_of};
+ghost use Rattle.zoned_time.specs.Zone.{Each};
+ghost use Rattle.offset_core.specs.Offset.{IsWithinDay};
 
 use crate::TimeZoneRef;
 use naive_base::NaiveDateTime;
@@ -35,7 +40,7 @@ pub struct WallClock {
 }
 
 impl WallClock {
-    ghost use Rattle.zoned_ref.specs.WallClock.{Tells, IsCounted};
+    ghost use Rattle.zoned_ref.specs.WallClock.{Tells};
 
     /// When the clocks of a TZif file's zone show a reading. Of the looks at the zone those that find the types are counted,
     /// as [`WallClock::in_zone`] says.
@@ -51,13 +56,16 @@ impl WallClock {
     ) -> Result<WallClock, Error>
         requires { HasRoom probes.old }
         // What is told, and how many looks it took, is that of the file's zone.
-        ensures found { IfOk result (λ told. (z : Zone) × IsTzFile bytes.now z × IsValid z × Tells z (reading local.now) told × IsCounted z probes.old probes.new) }
+        ensures found { IfOk result (λ told. (z : Zone) × IsTzFile bytes.now z × IsValid z
+            × Tells z (reading local.now) told × RoseByWallClock z probes.old probes.new) }
         // Of a file that has a valid zone it is told, unless memory runs out.
-        ensures only { (z : Zone) → IsTzFile bytes.now z → IsValid z → MatchResult result (λ told. Tells z (reading local.now) told) (λ e. e ≡ OutOfMemory) }
+        ensures only { (z : Zone) → IsTzFile bytes.now z → IsValid z
+            → MatchResult result (λ told. Tells z (reading local.now) told) (λ e. e ≡ OutOfMemory) }
         // Where the file is refused, what the number says stands in it.
         ensures fault { IfErr result (λ e. IsZoneFault bytes.now (number_of e)) }
-        // Memory is asked for only where every piece of the file is there.
-        ensures memory { IfErr result (λ e. e ≡ OutOfMemory → (p : FilePieces) × HasPieces bytes.now p) }
+        // Want of memory is answered only where every piece of the file is there.
+        ensures memory { IfErr result (λ e. e ≡ OutOfMemory
+            → (p : FilePieces) × HasPieces bytes.now p) }
         ensures kept { IfErr result (λ _. probes.new ≡ probes.old) }
     {
         match tz_info::TimeZone::from_tz_data(alloc, bytes) {
@@ -80,11 +88,15 @@ impl WallClock {
     ) -> Result<WallClock, Error>
         requires { HasRoom probes.old }
         // What is told, and how many looks it took, is that of the text's zone.
-        ensures found { IfOk result (λ told. (z : Zone) × IsPosixZone text.now z × Tells z (reading local.now) told × IsCounted z probes.old probes.new) }
+        ensures found { IfOk result (λ told. (z : Zone) × IsPosixZone text.now z
+            × Tells z (reading local.now) told × RoseByWallClock z probes.old probes.new) }
         // Of a text that has a zone it is told, unless memory runs out.
-        ensures only { (z : Zone) → IsPosixZone text.now z → MatchResult result (λ told. Tells z (reading local.now) told) (λ e. number_of e ≡ 17) }
+        ensures only { (z : Zone) → IsPosixZone text.now z
+            → MatchResult result (λ told. Tells z (reading local.now) told) (λ e. number_of e ≡ 17) }
         // Where the text is refused, what the number says stands in it, or there is no memory.
         ensures fault { IfErr result (λ e. (number_of e ≡ 17) ⊎ IsPosixFault text.now (number_of e)) }
+        // Want of memory is answered only of a text that has a zone.
+        ensures memory { IfErr result (λ e. number_of e ≡ 17 → (z : Zone) × IsPosixZone text.now z) }
         ensures kept { IfErr result (λ _. probes.new ≡ probes.old) }
     {
         match tz_info::TimeZone::from_posix_tz(alloc, text) {
@@ -93,9 +105,8 @@ impl WallClock {
         }
     }
 
-    /// When the clocks of the zone show a reading. Finding the types takes at most types + 2 questions to the rule and, with
-    /// `digits` for the number of binary digits, `(types + 2) * (digits(transitions) + 2)` looks at transitions, which
-    /// `probes` counts.
+    /// When the clocks of the zone show a reading. It takes at most 2 questions to the rule and, with `digits` for the
+    /// number of binary digits, `digits(2 * transitions + 1)` looks at pieces of the zone's index, which `probes` counts.
     pub fn in_zone(
         zone: &tz_info::TimeZone,
         local: &NaiveDateTime,
@@ -103,39 +114,79 @@ impl WallClock {
     ) -> WallClock
         requires { HasRoom probes.old }
         ensures told { Tells zone.now (reading local.now) result }
-        ensures cost { IsCounted zone.now probes.old probes.new }
+        ensures cost { RoseByWallClock zone.now probes.old probes.new }
     {
-        match zone.find_local_time_type_from_local_counted(*local, probes) {
-            Ok(types) => WallClock {
-                types,
-                instants: instants(zone, local),
-            },
+        let types = match zone.find_local_time_type_from_local_counted(*local, probes) {
+            Ok(types) => types,
             Err(_) => unreachable!(),
-        }
+        };
+        let instants = instants(zone, local, &types);
+        WallClock { types, instants }
     }
 }
 
-// The instants when the clocks of a narrow zone show the reading.
+// The instants at which clocks of those types show the reading, where the zone is narrow.
 fn instants(
     zone: &tz_info::TimeZone,
     local: &NaiveDateTime,
+    types: &LocalResult<LocalTimeType>,
 ) -> Option<LocalResult<DateTime<FixedOffset>>>
-    ensures { AreInstantsFor zone.now (reading local.now) (option_map (map_of (λ d. in_seconds seconds_of (zoned d))) result) }
+    requires { AreTypesFor zone.now (reading local.now) types.now }
+    ensures { AreInstantsFor zone.now (reading local.now)
+        (option_map (map_of (λ d. in_seconds seconds_of (zoned d))) result) }
 {
-    let zone = TimeZoneRef::new(zone)?;
-    Some(fixed_offsets(zone.from_local_datetime(local)))
+    let _narrow = TimeZoneRef::new(zone)?;
+    Some(instants_of(local, types))
 }
 
-fn fixed_offsets<Tz: TimeZone>(
-    instants: LocalResult<DateTime<Tz>>,
+// The instant of each type; none at all where one of them is out of range.
+fn instants_of(
+    local: &NaiveDateTime,
+    types: &LocalResult<LocalTimeType>,
 ) -> LocalResult<DateTime<FixedOffset>>
-    ensures { map_of (λ d. in_seconds seconds_of (zoned d)) result ≡ map_of (λ d. in_seconds Tz.Offset.seconds (zoned d)) instants }
+    requires { Each (λ t. IsWithinDay t.offset) types.now }
+    ensures { AreInstantsAt (reading local.now) types.now
+        (map_of (λ d. in_seconds seconds_of (zoned d)) result) }
 {
-    match instants {
+    match types {
         LocalResult::None => LocalResult::None,
-        LocalResult::Single(only) => LocalResult::Single(only.fixed_offset()),
-        LocalResult::Ambiguous(first, last) => {
-            LocalResult::Ambiguous(first.fixed_offset(), last.fixed_offset())
-        }
+        LocalResult::Single(only) => match instant_of(local, only) {
+            Some(instant) => LocalResult::Single(instant),
+            None => LocalResult::None,
+        },
+        LocalResult::Ambiguous(first, last) => instants_of_two(local, first, last),
     }
+}
+
+fn instants_of_two(
+    local: &NaiveDateTime,
+    first: &LocalTimeType,
+    last: &LocalTimeType,
+) -> LocalResult<DateTime<FixedOffset>>
+    requires first { IsWithinDay first.now.offset }
+    requires last { IsWithinDay last.now.offset }
+    ensures { AreInstantsAt (reading local.now) (LocalResult.Ambiguous first.now last.now)
+        (map_of (λ d. in_seconds seconds_of (zoned d)) result) }
+{
+    let one = instant_of(local, first);
+    let other = instant_of(local, last);
+    match one {
+        Some(one) => match other {
+            Some(other) => LocalResult::Ambiguous(one, other),
+            None => LocalResult::None,
+        },
+        None => LocalResult::None,
+    }
+}
+
+// The instant at which a clock of that type shows the reading, where it is in range.
+fn instant_of(local: &NaiveDateTime, local_type: &LocalTimeType) -> Option<DateTime<FixedOffset>>
+    requires { IsWithinDay local_type.now.offset }
+    ensures { let k = local_type.now.offset in let l = reading local.now in
+        SomeIff (option_map (λ d. in_seconds seconds_of (zoned d)) result)
+        (HasInstant (λ k. k) l k) (instant_of (λ k. k) l k) }
+{
+    let offset = FixedOffset::east(local_type.offset());
+    let utc = local.checked_sub_offset(offset)?;
+    Some(DateTime::from_naive_utc_and_offset(utc, offset))
 }

@@ -2,7 +2,7 @@ use Rattle.std.proofs.Common.{ap}
 use Rattle.offset_core.specs.declared.local_result.LocalResult.TheVariants.{Single, Ambiguous}
 use Rattle.naive_base.specs.NaiveDateTime.{reading}
 use Rattle.zoned_ref.specs.TimeZoneRef.{off_of}
-use Rattle.zoned_ref.specs.ZoneOffset.{ahead_of, home_of}
+use Rattle.zoned_ref.specs.ZoneOffset.{meaning_of}
 use Rattle.zoned_ref.proofs.Walls.{each_within, one_given, two_given}
 use Rattle.zoned_ref.proofs.lookup.TimeZoneRefTimeZone.offset_from_local_datetime.Goals as goal
 
@@ -19,10 +19,10 @@ new-requires-in-Ambiguous-2 c = let both = c.in-Ambiguous in
 
 pub returns-in-Single : goal.returns-in-Single
 returns-in-Single c = let local = c.args.local.now in
-    one_given ahead_of home_of c.zone.result.now (off_of c.args.self.now) (reading local).s c.in-Single.only c.new.result c.zone.ensures.narrow c.zone.ensures.offsets local.in_range.0
+    one_given meaning_of c.zone.result.now (off_of c.args.self.now) (reading local).s c.in-Single.only c.new.result c.zone.ensures.narrow c.zone.ensures.offsets local.in_range.0
     c.new.ensures.seconds (ap off_of c.new.ensures.zone) (rw c.in-Single.is at c.in-Ok.ensures)
 
 pub returns-in-Ambiguous : goal.returns-in-Ambiguous
 returns-in-Ambiguous c = let local = c.args.local.now in let first = c.new-in-Ambiguous in let last = c.new-in-Ambiguous-2 in
-    two_given ahead_of home_of c.zone.result.now (off_of c.args.self.now) (reading local).s c.in-Ambiguous.first c.in-Ambiguous.last first.result last.result c.zone.ensures.narrow c.zone.ensures.offsets local.in_range.0
+    two_given meaning_of c.zone.result.now (off_of c.args.self.now) (reading local).s c.in-Ambiguous.first c.in-Ambiguous.last first.result last.result c.zone.ensures.narrow c.zone.ensures.offsets local.in_range.0
     first.ensures.seconds last.ensures.seconds (ap off_of first.ensures.zone) (ap off_of last.ensures.zone) (rw c.in-Ambiguous.is at c.in-Ok.ensures)

@@ -1,5 +1,5 @@
 use Rattle.std.proofs.Common.{refl, sym, ap, ◌∙◌, to_z-of_z}
-use Rattle.tz_info.proofs.ZoneLaws.{type_once, type_not_refused}
+use Rattle.tz_info.proofs.ForCallers.{type_once, type_not_refused}
 use Rattle.zoned_ref.proofs.Offsets.{type_within}
 use Rattle.zoned_ref.proofs.time_zone_ref.TimeZoneRef.offset_at.Goals as goal
 

@@ -1,0 +1,50 @@
+-- The type before a gap tells the offset before it.
+use Rattle.std.proofs.Common.{◌≡◌, ℤ, pos, ◌+ℤ◌, ◌-ℤ◌, ◌<ℤ◌, ◌≤ℤ◌, arith, refl, sym, ap, ◌∙◌, Some, None}
+use Rattle.std.proofs.lemmas.Int.{ints}
+use Rattle.offset_core.specs.Offset.{IsWithinDay}
+use Rattle.naive_base.specs.Range.{IsWide}
+use Rattle.tz_info.specs.Gaps as types
+use Rattle.tz_info.specs.LocalTypes.{LocalType}
+use Rattle.tz_info.specs.WallClocks.{Shows as ShowsType}
+use Rattle.tz_info.specs.Zones.{Zone, TypeAt}
+use Rattle.tz_info.proofs.ForCallers.{type_once}
+use Rattle.zoned_time.specs.Choice.{IsBeforeGap, IsOffsetBeforeGap}
+use Rattle.zoned_time.specs.Zone.{Meaning, IsZoneSecond, Shows}
+use Rattle.zoned_ref.specs.Offsets.{IsNarrow, AreOffsetsOf}
+use Rattle.zoned_ref.proofs.Offsets.{type_within}
+use Rattle.zoned_ref.proofs.Walls.{shown_by_type, shown_by_offset}
+
+-- the offset at a second is that of the type in force
+offset_is : (z : Zone) (off : ℤ → ℤ) (u : ℤ) (t : LocalType) → AreOffsetsOf z off → IsZoneSecond u → TypeAt z u t → off u ≡ t.offset
+offset_is z off u t of_zone inside k = let there = of_zone u inside in there.offset ∙ ap (λ y. y.offset) (type_once z u there.type t there.in_force k)
+
+pub before_within : (z : Zone) (l : ℤ) (t : LocalType) → IsNarrow z → types.IsBeforeGap (TypeAt z) l t → IsWithinDay t.offset
+before_within z l t narrow g = type_within z (g.first -ℤ pos 1) t narrow g.before
+
+pub before_gap : (z : Zone) (off : ℤ → ℤ) (l : ℤ) (t : LocalType) → IsNarrow z → AreOffsetsOf z off → IsWide l → types.IsBeforeGap (TypeAt z) l t → IsBeforeGap off l t.offset
+before_gap z off l t narrow of_zone wide g =
+    let c = g.first in
+    let day = type_within z c g.more.type narrow g.more.here in
+    let more = g.more.more in
+    let late : ℤ = l +ℤ pos 86_400 in
+    let late_inside : IsZoneSecond late = (omega (arith, ints, wide.0, wide.1), omega (arith, ints, wide.0, wide.1)) in
+    let there = of_zone late late_inside in
+    let there_day = type_within z late there.type narrow there.in_force in
+    let to = g.least late (record { type = there.type; here = there.in_force; more = omega (arith, ints, there_day.0, there_day.1) }) in
+    let inside : IsZoneSecond c = (omega (arith, ints, wide.0, wide.1, day.0, day.1), omega (arith, ints, wide.0, wide.1, day.0, day.1)) in
+    let inside_before : IsZoneSecond (c -ℤ pos 1) = (omega (arith, ints, wide.0, wide.1, day.0, day.1), omega (arith, ints, wide.0, wide.1, day.0, day.1)) in
+    record {
+      never = λ u k s. let h = shown_by_offset z off l of_zone u k s in g.never u h.0 h.1;
+      first = c;
+      in_zone = (inside, inside_before);
+      more = rw (offset_is z off c g.more.type of_zone inside g.more.here) more;
+      least = λ u inside_u m. let at = of_zone u inside_u in g.least u (record { type = at.type; here = at.in_force; more = rw at.offset at m });
+      before = sym (offset_is z off (c -ℤ pos 1) t of_zone inside_before g.before);
+    }
+
+pub gap_given : {O : Type 0} (m : Meaning O) (z : Zone) (off : ℤ → ℤ) (l : ℤ) (t : LocalType) (o : O) → IsNarrow z → AreOffsetsOf z off → IsWide l
+    → m.seconds o ≡ t.offset → m.home o ≡ off → types.IsBeforeGap (TypeAt z) l t → IsOffsetBeforeGap {m = m} (record { off = off }) l (Some o)
+gap_given m z off l t o narrow of_zone wide same home_is g = (rw same (before_gap z off l t narrow of_zone wide g), λ u inside. rw home_is refl)
+
+pub no_gap : {O : Type 0} (m : Meaning O) (z : Zone) (off : ℤ → ℤ) (l : ℤ) → IsNarrow z → AreOffsetsOf z off → IsWide l → types.IsShown (TypeAt z) l → IsOffsetBeforeGap {m = m} (record { off = off }) l None
+no_gap m z off l narrow of_zone wide (u, t, s) = (u, t.offset, shown_by_type z off l narrow of_zone wide u t s)

@@ -1,0 +1,19 @@
+use Rattle.std.proofs.Common.{◌≡◌, subst, Option, Some, None}
+use Rattle.std.specs.Prelude.{option_map}
+use Rattle.offset_core.specs.declared.local_result.LocalResult.TheVariants.{Single, Ambiguous}
+use Rattle.offset_core.specs.FixedOffset.{seconds_of}
+use Rattle.offset_core.specs.LocalResult.{all_or_none}
+use Rattle.naive_base.specs.NaiveDateTime.{reading}
+use Rattle.zoned_time.specs.DateTime.{zoned}
+use Rattle.zoned_time.specs.Zoned.{in_seconds}
+use Rattle.zoned_ref.specs.Instants.{AreInstantsAt}
+use Rattle.zoned_ref.proofs.Instants.{of_one}
+use Rattle.zoned_ref.proofs.wall_clock.instants_of.Goals as goal
+
+pub returns-in-Some : goal.returns-in-Some
+returns-in-Some c =
+    rw c.in-Single.is (rw c.in-Some.is at (of_one (reading c.args.local.now) c.in-Single.only (option_map (λ d. in_seconds seconds_of (zoned d)) c.instant_of.result) c.instant_of.ensures))
+
+pub returns-in-None-instant_of : goal.returns-in-None-instant_of
+returns-in-None-instant_of c =
+    rw c.in-Single.is (rw c.in-None-instant_of.is at (of_one (reading c.args.local.now) c.in-Single.only (option_map (λ d. in_seconds seconds_of (zoned d)) c.instant_of.result) c.instant_of.ensures))
