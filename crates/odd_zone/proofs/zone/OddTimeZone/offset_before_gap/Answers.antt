@@ -1,0 +1,11 @@
+use Rattle.std.proofs.Common.{pos, rules, refl}
+use Rattle.odd_zone.proofs.Walls.{shown_twice, shown_never}
+use Rattle.odd_zone.proofs.zone.OddTimeZone.offset_before_gap.Goals as goal
+
+pub returns-in-Even : goal.returns-in-Even
+returns-in-Even c = let local = c.args.local.now in
+    let twice = shown_twice local.secs local.in_range.0 (search rules) in (twice.last, pos 0, twice.at_last)
+
+pub returns-in-Odd : goal.returns-in-Odd
+returns-in-Odd c = let local = c.args.local.now in
+    (shown_never local.secs local.in_range.0 (search rules), λ _ _. refl)
