@@ -1,22 +1,21 @@
 -- Every line has an answer, so that answers to a front of an input can be carried on to its end.
-use Rattle.std.proofs.Common.{◌≡◌, ◌≢◌, ℕ, ◌<◌, inl, inr, refl, ap, sym, ◌∙◌, subst, List, [], ◌∷◌, ◌++◌, append_assoc, Option, Some, None, length, codes}
+use Rattle.std.proofs.Common.{◌≡◌, ◌≢◌, ℕ, ◌<◌, inl, inr, refl, ap, sym, ◌∙◌, subst, List, [], ◌∷◌, ◌++◌, append_assoc, Option, Some, None, length, codes, arith}
 use Rattle.std.specs.List.{flat_map}
 use Rattle.std.proofs.lemmas.Bool.{cases_eq}
-use Rattle.std.proofs.lemmas.List.{append-nil}
+use Rattle.std.proofs.lemmas.List.{append-nil, length-append}
 use Rattle.std.proofs.lemmas.List.Elements.{All-nil, All-cons, All-head, All-tail}
 use Rattle.tz_info.specs.Zones.{Zone, IsValid, IsRuleOrNone}
-use Rattle.tz_info.proofs.ZoneLaws.{type_decided}
-use Rattle.tz_info.proofs.FileZoneLaws.{file_rule_fits}
-use Rattle.tz_info.proofs.PosixZoneLaws.{posix_zone_valid}
+use Rattle.tz_info.proofs.ForCallers.{type_decided, file_rule_fits, posix_zone_valid, wall_decided}
 use Rattle.zone_query.specs.Answers.{AnswersLine, AnswersLines, type_text, wall_text, refusal_text}
 use Rattle.zone_query.specs.Lines.{HasNoNewline, IsCut, ended_lines}
 use Rattle.zone_query.specs.Questions.{Query, Text, Data, At, Wall, Show, Asks}
 use Rattle.zone_query.specs.Runs.{AnswersBefore, BeginsAnswers}
-use Rattle.zone_query.specs.Steps.{Answered, AnswersLast}
+use Rattle.zone_query.specs.Steps.Blocks.{Answered}
+use Rattle.zone_query.specs.Steps.Hopeless.{IsKeptFor}
+use Rattle.zone_query.specs.Steps.LastLine.{AnswersLast}
 use Rattle.zone_query.proofs.Deciding.{asks_or_bad}
 use Rattle.zone_query.proofs.Showing.{show_covered}
-use Rattle.zone_query.proofs.WallTimes.{wall_decided}
-use Rattle.zone_query.proofs.Standing.{answered_join, answers_all}
+use Rattle.zone_query.proofs.Joining.{answered_join, answers_all}
 
 -- the zone, if there is one, is valid, and the numbers of its rule are in their limits
 abbrev pub IsGiven : Option Zone → Type 0
@@ -102,6 +101,11 @@ is_cut (c ∷ bytes) =
       | inr other ↦ behind c bytes t.0 t.1 other t.2
     ]
 
+-- what could not be answered has bytes
+some_failed : (rest front left : List ℕ) → IsKeptFor rest front → 0 < length (rest ++ left) → 0 < length (front ++ left)
+some_failed rest front left (inl same) some = subst (λ (l : List ℕ). 0 < length (l ++ left)) (sym same) some
+some_failed rest front left (inr both) some = let l = length-append front left in let h = both.0.some in omega (arith, l, h)
+
 -- answers to a front of the input, of which a part is written, go on to answers to all of it
 pub begins_answers : (done left output more : List ℕ) (z : Option Zone) (rest : List ℕ) → Answered None [] done (output ++ more) z rest → BeginsAnswers (done ++ left) output
 begins_answers done left output more z rest s =
@@ -109,7 +113,7 @@ begins_answers done left output more z rest s =
     let cut = is_cut (rest ++ left) in
     let next = lines_covered z (ended_lines cut.0) given in
     let last = last_covered z cut.1 given in
-    let behind_it : Answered z rest left next.0 z cut.1 = record { pieces = cut.0; cut = cut.2; answered = next.1 } in (
+    let behind_it : Answered z rest left next.0 z cut.1 = record { pieces = cut.0; front = cut.1; cut = cut.2; kept = inl refl; lone = cut.2.last; answered = next.1 } in (
       more ++ (next.0 ++ last.0),
       simp append_assoc at (answers_all (done ++ left) ((output ++ more) ++ next.0) z cut.1 last.0 (answered_join None [] done (output ++ more) z rest left next.0 z cut.1 s behind_it) last.1),
     )
@@ -118,13 +122,13 @@ begins_answers done left output more z rest s =
 pub answers_before : (done left output : List ℕ) (z : Option Zone) (rest : List ℕ) → 0 < length (rest ++ left) → Answered None [] done output z rest → AnswersBefore (done ++ left) output
 answers_before done left output z rest some s =
     let ends = λ (piece : List ℕ). piece ++ codes "\n" in
-    let whole : done ≡ flat_map ends s.pieces ++ rest = s.cut.whole in (
+    let whole : done ≡ flat_map ends s.pieces ++ s.front = s.cut.whole in (
       s.pieces,
       flat_map ends s.pieces,
-      rest ++ left,
+      s.front ++ left,
       z,
-      ap (λ w. w ++ left) whole ∙ append_assoc (flat_map ends s.pieces) rest left,
-      some,
+      ap (λ w. w ++ left) whole ∙ append_assoc (flat_map ends s.pieces) s.front left,
+      some_failed rest s.front left s.kept some,
       record { whole = sym (append-nil (flat_map ends s.pieces)); each = s.cut.each; last = All-nil (λ b. b ≢ 10) },
       s.answered,
     )

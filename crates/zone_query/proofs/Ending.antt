@@ -1,15 +1,16 @@
 -- What stands written where a run ends.
-use Rattle.std.proofs.Common.{◌≡◌, ◌==◌, ◌&&◌, ◌||◌, ℕ, ◌<◌, refl, ◌∙◌, Bool, true, false, List, [], ◌++◌, append_assoc, Option, None, Result, Ok, Err, OnOk, IfErr, MatchResult, length, take, nat_lt, arith}
+use Rattle.std.proofs.Common.{◌≡◌, ◌==◌, ◌&&◌, ◌||◌, ℕ, ◌<◌, inl, inr, refl, sym, ◌∙◌, subst, Bool, true, false, List, [], ◌++◌, append_assoc, Option, None, Result, Ok, Err, OnOk, IfErr, IsErrAnd, MatchResult, length, take, nat_lt, arith}
 use Rattle.std.specs.Io.KnownBytes.{Appends, Consumes, IsAtEnd}
 use Rattle.std.proofs.lemmas.Bool.Decides.{nat_tests}
 use Rattle.std.proofs.lemmas.List.{append-nil, length-append}
 use Rattle.tz_info.specs.Zones.{Zone}
 use Rattle.zone_query.specs.Runs.{Answers, StopsWith}
-use Rattle.zone_query.specs.Steps.{Answered, AnswersLast, StopsIn, StopsAtLast}
-use Rattle.zone_query.specs.declared.runs.RunError.{RunError}
-use Rattle.zone_query.specs.declared.runs.RunError.TheVariants as errors
+use Rattle.zone_query.specs.Steps.Blocks.{Answered, StopsIn}
+use Rattle.zone_query.specs.Steps.LastLine.{AnswersAtEnd, StopsAtEnd}
+use Rattle.zone_query.specs.declared.run_error.RunError.{RunError}
+use Rattle.zone_query.specs.declared.run_error.RunError.TheVariants as errors
 use Rattle.zone_query.proofs.Bytes.{appends_join, consumes_join}
-use Rattle.zone_query.proofs.Standing.{answered_join, answers_all}
+use Rattle.zone_query.proofs.Joining.{answered_join, answers_all}
 use Rattle.zone_query.proofs.Covering.{begins_answers, answers_before}
 
 pub not_failed : (f g : Bool) → f ≡ (g || false) → g ≡ false → f ≡ false
@@ -43,12 +44,24 @@ block_stopped rf wf n ra rb rc wa wb wc input output z rest block errors.Memory 
 block_stopped rf wf n ra rb rc wa wb wc input output z rest block errors.Read works took wrote s took' stop = absurd stop
 block_stopped rf wf n ra rb rc wa wb wc input output z rest block errors.TooLong works took wrote s took' stop = absurd stop
 
+-- the stop was passed on
+pub stop_passed_on : (r : Result (Unit {0}) RunError) (e : RunError) (re rf wf : Bool) (n : ℕ) (ra rc wa wc : Option (List ℕ)) → IsErrAnd r (λ x. x ≡ e)
+    → (x : List ℕ) × (y : List ℕ) × Consumes ra rc x × Appends wa wc y × StopsWith rf wf n e x y
+    → (x : List ℕ) × (y : List ℕ) × Consumes ra rc x × Appends wa wc y × MatchResult r (λ _. (re ≡ true) × IsAtEnd rc × (rf ≡ false) × (wf ≡ false) × Answers x y) (λ e. StopsWith rf wf n e x y)
+stop_passed_on (Ok u) e re rf wf n ra rc wa wc h s = absurd h
+stop_passed_on (Err x) e re rf wf n ra rc wa wc h s = (s.0, s.1, s.2, s.3, subst (λ (z : RunError). StopsWith rf wf n z s.0 s.1) (sym h) s.4)
+
 -- the last line stopped the run
-pub last_stopped : (rf wf : Bool) (n : ℕ) (wa wb wc : Option (List ℕ)) (input output : List ℕ) (z : Option Zone) (rest : List ℕ) (e : RunError) → rf ≡ false → Appends wa wb output → Answered None [] input output z rest → StopsAtLast wf wb wc z rest e → (y : List ℕ) × Appends wa wc y × StopsWith rf wf n e input y
-last_stopped rf wf n wa wb wc input output z rest errors.Write works wrote s stop = (
-  output ++ stop.1,
-  appends_join wa wb wc output stop.1 wrote stop.4,
-  (works, stop.0, (stop.2, rw append_assoc (answers_all input output z rest (stop.1 ++ stop.2) s stop.3))),
+pub last_stopped : (rf wf : Bool) (n : ℕ) (wa wb wc : Option (List ℕ)) (input output : List ℕ) (z : Option Zone) (rest : List ℕ) (e : RunError) → rf ≡ false → Appends wa wb output → Answered None [] input output z rest → StopsAtEnd wf wb wc z rest e → (y : List ℕ) × Appends wa wc y × StopsWith rf wf n e input y
+last_stopped rf wf n wa wb wc input output z rest errors.Write works wrote s (failed, inl part) = (
+  output ++ part.0,
+  appends_join wa wb wc output part.0 wrote part.3,
+  (works, failed, (part.1, rw append_assoc (answers_all input output z rest (part.0 ++ part.1) s part.2))),
+)
+last_stopped rf wf n wa wb wc input output z rest errors.Write works wrote s (failed, inr none) = (
+  output ++ [],
+  appends_join wa wb wc output [] wrote none,
+  (works, failed, rw append-nil (rw append-nil at (begins_answers input [] output [] z rest (rw append-nil s)))),
 )
 last_stopped rf wf n wa wb wc input output z rest errors.Memory works wrote s stop =
     let some : 0 < length (rest ++ []) = rw append-nil stop.1 in (
@@ -60,7 +73,7 @@ last_stopped rf wf n wa wb wc input output z rest errors.Read works wrote s stop
 last_stopped rf wf n wa wb wc input output z rest errors.TooLong works wrote s stop = absurd stop
 
 -- the reader ended
-pub reader_ended : (re rf wf : Bool) (n : ℕ) (ra rb rc wa wb wc : Option (List ℕ)) (input output : List ℕ) (z : Option Zone) (rest block : List ℕ) (r : Result (Unit {0}) RunError) → re ≡ true → IsAtEnd rc → rf ≡ false → Consumes ra rb input → Appends wa wb output → Answered None [] input output z rest → Consumes rb rc (take 0 block) → OnOk r ((wf ≡ false) × ((last : List ℕ) × AnswersLast z rest last × Appends wb wc last)) → IfErr r (StopsAtLast wf wb wc z rest) → (x : List ℕ) × (y : List ℕ) × Consumes ra rc x × Appends wa wc y × MatchResult r (λ _. (re ≡ true) × IsAtEnd rc × (rf ≡ false) × (wf ≡ false) × Answers x y) (λ e. StopsWith rf wf n e x y)
+pub reader_ended : (re rf wf : Bool) (n : ℕ) (ra rb rc wa wb wc : Option (List ℕ)) (input output : List ℕ) (z : Option Zone) (rest block : List ℕ) (r : Result (Unit {0}) RunError) → re ≡ true → IsAtEnd rc → rf ≡ false → Consumes ra rb input → Appends wa wb output → Answered None [] input output z rest → Consumes rb rc (take 0 block) → OnOk r (AnswersAtEnd wf wb wc z rest) → IfErr r (StopsAtEnd wf wb wc z rest) → (x : List ℕ) × (y : List ℕ) × Consumes ra rc x × Appends wa wc y × MatchResult r (λ _. (re ≡ true) × IsAtEnd rc × (rf ≡ false) × (wf ≡ false) × Answers x y) (λ e. StopsWith rf wf n e x y)
 reader_ended re rf wf n ra rb rc wa wb wc input output z rest block (Ok u) ended at_end works took wrote s took' ok err =
     let last = ok.1 in (
       input,

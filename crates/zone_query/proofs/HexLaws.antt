@@ -9,7 +9,8 @@ use Rattle.std.proofs.lemmas.List.Elements.{All-head, All-tail}
 use Rattle.hex.specs.Hex.{decode_of, decode_pairs, hex_digit_value, is_hex_digit, pair_value}
 use Rattle.hex.proofs.HexLemmas.{decode_of-even, decode_of-ok, decode_of-same}
 use Rattle.hex.proofs.Pairs.{cons_byte, decode_pairs-ok_pair}
-use Rattle.zone_query.specs.Hex.{IsHex, bytes_of}
+use Rattle.zone_query.specs.Hex.{IsHex}
+use Rattle.zone_query.specs.Steps.HexBytes.{bytes_of}
 use Rattle.zone_query.proofs.Spelling.{all_digits}
 
 -- pairs of digits spell bytes

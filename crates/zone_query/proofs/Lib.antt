@@ -1,7 +1,7 @@
 pub mod Digits
 pub mod HexLaws
 pub mod ZoneAnswers
-pub mod Standing
+pub mod Joining
 pub mod Bytes
 pub mod Stopping
 pub mod Spelling
@@ -9,7 +9,8 @@ pub mod Cutting
 pub mod LocalTimes
 pub mod Timestamps
 pub mod Showing
-pub mod WallTimes
 pub mod Deciding
 pub mod Covering
 pub mod Ending
+pub mod Sending
+pub mod HopelessLaws

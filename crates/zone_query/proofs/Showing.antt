@@ -12,11 +12,12 @@ use Rattle.naive_base.specs.Reading.{Reading}
 use Rattle.naive_base.specs.Year.{floor_mod}
 use Rattle.tz_info.specs.LocalTypes.{LocalType}
 use Rattle.tz_info.specs.Zones.{Zone, IsValid, IsRuleOrNone}
-use Rattle.zoned_time.specs.Stamps.{IsStamp, IsSubsecond, IsAtWhere, of_secs}
-use Rattle.zoned_time.specs.Zone.{IsZoneSecond}
+use Rattle.naive_base.specs.Stamp.{IsStamp, IsSubsecond, of_secs}
+use Rattle.zoned_time.specs.Stamps.{IsAtWhere}
+use Rattle.zoned_time.specs.Zone.{Meaning, Law, IsZoneSecond}
 use Rattle.zoned_time.specs.Zoned.{Zoned}
 use Rattle.zoned_ref.specs.Offsets.{IsNarrow, AreOffsetsOf, rule_types}
-use Rattle.zoned_ref.proofs.Offsets.{zone_has_offsets}
+use Rattle.zoned_ref.proofs.ForCallers.{zone_has_offsets}
 use Rattle.zone_query.specs.Answers.{AnswersShow, instant_text}
 
 within_or_not : (k : ℤ) → IsWithinDay k ⊎ (IsWithinDay k → ⊥)
@@ -86,8 +87,8 @@ shown_instant z off seconds nanos utc k narrow offsets stamp same there =
     inr (inr (narrow, stamp, (at_second.type, at_second.in_force, rw (same, there, at_second.offset) refl)))
 
 -- no instant is given but of a timestamp
-pub no_stamp : {O D : Type 0} (ahead_of : O → ℤ) (home : O → ℤ → ℤ) (off : ℤ → ℤ) (p : Type 0) (r : Reading) (f : D → Zoned O) (given : LocalResult D)
-    → ((d : D) → given ≡ Single d → ⊥) → IsAtWhere ahead_of home off p r (map_of f given) → p → ⊥
-no_stamp ahead_of home off p r f (Single d) other h = absurd (other d refl)
-no_stamp ahead_of home off p r f (Ambiguous d e) other h = absurd h
-no_stamp ahead_of home off p r f None other h = h
+pub no_stamp : {O D : Type 0} {m : Meaning O} (law : Law m) (p : Type 0) (r : Reading) (f : D → Zoned O) (given : LocalResult D)
+    → ((d : D) → given ≡ Single d → ⊥) → IsAtWhere law p r (map_of f given) → p → ⊥
+no_stamp law p r f (Single d) other h = absurd (other d refl)
+no_stamp law p r f (Ambiguous d e) other h = absurd h
+no_stamp law p r f None other h = h

@@ -1,17 +1,20 @@
 -- What stands written where a step of a run goes on or stops.
-use Rattle.std.proofs.Common.{◌≡◌, ◌==◌, ℕ, ◌<◌, refl, ap, sym, ◌∙◌, subst, Bool, true, false, List, [], ◌∷◌, ◌++◌, append_assoc, Option, Result, Ok, Err, OnOk, IfErr, length, codes, take, drop, arith}
+use Rattle.std.proofs.Common.{◌≡◌, ◌==◌, ℕ, ◌<◌, inl, refl, ap, sym, ◌∙◌, subst, Bool, true, false, List, [], ◌∷◌, ◌++◌, append_assoc, Option, Result, Ok, Err, OnOk, IfErr, length, codes, take, drop, arith}
 use Rattle.std.specs.Io.KnownBytes.{Appends}
 use Rattle.std.proofs.lemmas.Bool.Decides.{nat_tests}
 use Rattle.std.proofs.lemmas.List.{append-nil, length-append, take-append-drop, nil_from_length}
-use Rattle.std.proofs.lemmas.Result.{on_ok_weaker}
+use Rattle.std.proofs.lemmas.Result.{on_ok_weaker, IfErr-weaker}
 use Rattle.tz_info.specs.Zones.{Zone}
 use Rattle.zone_query.specs.Answers.{AnswersLine}
 use Rattle.zone_query.specs.Lines.{HasNoNewline, without_return}
-use Rattle.zone_query.specs.Steps.{Answered, AnswersLast, Replies, StopsAt, StopsIn, StopsAtLast}
-use Rattle.zone_query.specs.declared.runs.RunError.{RunError}
-use Rattle.zone_query.specs.declared.runs.RunError.TheVariants as errors
+use Rattle.zone_query.specs.Steps.Blocks.{Answered, StopsIn}
+use Rattle.zone_query.specs.Steps.Hopeless.{IsKeptFor}
+use Rattle.zone_query.specs.Steps.LastLine.{AnswersLast, AnswersAtEnd, StopsAtEnd}
+use Rattle.zone_query.specs.Steps.Replies.{Replies, StopsAt}
+use Rattle.zone_query.specs.declared.run_error.RunError.{RunError}
+use Rattle.zone_query.specs.declared.run_error.RunError.TheVariants as errors
 use Rattle.zone_query.proofs.Bytes.{appends_join}
-use Rattle.zone_query.proofs.Standing.{answered_line, answered_more, answered_join}
+use Rattle.zone_query.proofs.Joining.{answered_line, answered_more, answered_join}
 
 -- what `is_empty` says of a vector's items
 pub no_items : (b : Bool) (n : ℕ) (xs : List ℕ) → b ≡ (n == 0) → b ≡ true → n ≡ length xs → xs ≡ []
@@ -42,7 +45,7 @@ line_taken z b block done output m k rest piece more answer next r e s h cut lin
     let cut' : piece ++ 10 ∷ more ≡ (piece ++ codes "\n") ++ more = sym (append_assoc piece (codes "\n") more) in (
       e ∙ ap (λ w. done ++ w) (cut ∙ cut') ∙ sym (append_assoc done (piece ++ codes "\n") more),
       subst (λ (w : List ℕ). Answered z b (done ++ (piece ++ codes "\n")) (output ++ (answer ++ codes "\n")) next w) (sym none)
-          (answered_join z b done output m k (piece ++ codes "\n") (answer ++ codes "\n") next [] s (answered_line m k piece answer next s.cut.last h line)),
+          (answered_join z b done output m k (piece ++ codes "\n") (answer ++ codes "\n") next [] s (answered_line m k piece answer next s.lone h line)),
     )
 
 -- a line of a block stopped the run
@@ -66,32 +69,28 @@ line_stops f a b' c z b block done output m k rest piece more errors.Memory e s 
 line_stops f a b' c z b block done output m k rest piece more errors.Read e s h cut wrote stop = stop
 line_stops f a b' c z b block done output m k rest piece more errors.TooLong e s h cut wrote stop = stop
 
--- what is behind the last newline of a block is kept
-pub rest_kept : (z : Option Zone) (b block done output : List ℕ) (m : Option Zone) (k rest : List ℕ) (m' : Option Zone) (k' : List ℕ) → block ≡ done ++ rest → Answered z b done output m k → HasNoNewline rest → m' ≡ m → k' ≡ k ++ rest → Answered z b block output m' k'
-rest_kept z b block done output m k rest m' k' e s h same kept =
-    rw (e, same, kept) (rw append-nil at (answered_join z b done output m k rest [] m (k ++ rest) s (answered_more m k rest s.cut.last h)))
-
--- the answers to a block could not be sent on their way
-pub flush_stops : (r : Result (Unit {0}) RunError) (f : Bool) (a c : Option (List ℕ)) (z : Option Zone) (b block output : List ℕ) (m : Option Zone) (k : List ℕ) → Answered z b block output m k → Appends a c output → IfErr r (λ e. (e ≡ errors.Write) × (f ≡ true)) → IfErr r (StopsIn f a c z b block)
-flush_stops (Ok u) f a c z b block output m k s wrote stop = tt
-flush_stops (Err e) f a c z b block output m k s wrote stop =
-    subst (StopsIn f a c z b block) (sym stop.0) (stop.1, output, [], block, [], m, k, sym (append-nil block), rw append-nil s, wrote)
+-- what is behind the last newline of a block is kept, or stood for
+pub rest_kept : (z : Option Zone) (b block done output : List ℕ) (m : Option Zone) (k rest : List ℕ) (m' : Option Zone) (k' : List ℕ) → block ≡ done ++ rest → Answered z b done output m k → HasNoNewline rest → m' ≡ m → IsKeptFor k' (k ++ rest) → HasNoNewline k' → Answered z b block output m' k'
+rest_kept z b block done output m k rest m' k' e s h same kept lone =
+    rw (e, same) (rw append-nil at (answered_join z b done output m k rest [] m k' s (answered_more m k rest k' s.lone h kept lone)))
 
 -- the last line was answered
 pub last_answered : (z : Option Zone) (l answer : List ℕ) (after : Option Zone) → 0 < length l → AnswersLine z l answer after → AnswersLast z l (answer ++ codes "\n")
 last_answered z [] answer after some h = absurd (omega arith)
 last_answered z (c ∷ l) answer after some h = (answer, after, h, refl)
 
--- the last line's answer could not be sent on its way
-pub last_flush_stops : (r : Result (Unit {0}) RunError) (f : Bool) (a c : Option (List ℕ)) (z : Option Zone) (l output : List ℕ) → AnswersLast z l output → Appends a c output → IfErr r (λ e. (e ≡ errors.Write) × (f ≡ true)) → IfErr r (StopsAtLast f a c z l)
-last_flush_stops (Ok u) f a c z l output h wrote stop = tt
-last_flush_stops (Err e) f a c z l output h wrote stop =
-    subst (StopsAtLast f a c z l) (sym stop.0) (stop.1, output, [], rw append-nil h, wrote)
-
 -- the last line stopped the run
-pub last_stops : (f : Bool) (a c : Option (List ℕ)) (z : Option Zone) (l : List ℕ) (e : RunError) → 0 < length l → StopsAt f a c z l e → StopsAtLast f a c z l e
+pub last_stops : (f : Bool) (a c : Option (List ℕ)) (z : Option Zone) (l : List ℕ) (e : RunError) → 0 < length l → StopsAt f a c z l e → StopsAtEnd f a c z l e
 last_stops f a c z l errors.Write some stop =
-    (stop.0, stop.1, stop.2, rw stop.6 (last_answered z l stop.3 stop.4 some stop.5), stop.7)
+    (stop.0, inl (stop.1, stop.2, rw stop.6 (last_answered z l stop.3 stop.4 some stop.5), stop.7))
 last_stops f a c z l errors.Memory some stop = (stop.0, some, stop.1)
 last_stops f a c z l errors.Read some stop = stop
 last_stops f a c z l errors.TooLong some stop = stop
+
+-- the last line's answer was written
+pub last_replied : (r : Result (Unit {0}) RunError) (f : Bool) (a c : Option (List ℕ)) (z : Option Zone) (l : List ℕ) (after : Option Zone) → 0 < length l → OnOk r (Replies f a c z l after) → OnOk r (AnswersAtEnd f a c z l)
+last_replied r f a c z l after some ok = on_ok_weaker r (λ h. (h.0, (h.1.0 ++ codes "\n", last_answered z l h.1.0 after some h.1.1, h.1.2))) ok
+
+-- it was not
+pub last_not_replied : (r : Result (Unit {0}) RunError) (f : Bool) (a c : Option (List ℕ)) (z : Option Zone) (l : List ℕ) → 0 < length l → IfErr r (StopsAt f a c z l) → IfErr r (StopsAtEnd f a c z l)
+last_not_replied r f a c z l some err = IfErr-weaker r (StopsAt f a c z l) (StopsAtEnd f a c z l) (λ e stop. last_stops f a c z l e some stop) err

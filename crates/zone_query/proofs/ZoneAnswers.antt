@@ -7,7 +7,7 @@ use Rattle.tz_info.specs.Zones.{Zone, IsValid}
 use Rattle.tz_info.specs.declared.error.Error.{Error}
 use Rattle.tz_info.specs.declared.zone.time_zone.TimeZone.{TimeZone}
 use Rattle.zone_query.specs.Answers.{AnswersRead, AnswersLine, zone_text, refusal_text}
-use Rattle.zone_query.specs.Hex.{bytes_of}
+use Rattle.zone_query.specs.Steps.HexBytes.{bytes_of}
 use Rattle.zone_query.specs.Questions.{Text, Data, Asks}
 
 -- what is written and kept of what was read

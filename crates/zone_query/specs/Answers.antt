@@ -15,7 +15,7 @@ use Rattle.tz_info.specs.Zones.{Zone, IsValid, TypeAt, IsTypeRefused}
 use Rattle.tz_info.specs.declared.rule.transition_rule.TransitionRule.{TransitionRule}
 use Rattle.tz_info.specs.declared.rule.transition_rule.TransitionRule.TheVariants as rules
 use Rattle.zoned_ref.specs.Offsets.{IsNarrow}
-use Rattle.zoned_time.specs.Stamps.{IsStamp, of_secs}
+use Rattle.naive_base.specs.Stamp.{IsStamp, of_secs}
 use Rattle.zone_query.specs.Questions.{Query, Text, Data, At, Wall, Show, Asks, IsBadLine}
 
 abbrev pub mark_text : Bool → List ℕ

@@ -10,3 +10,8 @@ has_failed (Err e) = true
 abbrev pub gave_nothing : {E : Type 0} → Result ℕ E → ℕ → Bool
 gave_nothing (Ok n) given = (n == 0) && nat_lt 0 given
 gave_nothing (Err e) given = false
+
+-- the call answered that it gave or took some bytes
+abbrev pub gave_something : {E : Type 0} → Result ℕ E → Bool
+gave_something (Ok n) = nat_lt 0 n
+gave_something (Err e) = false

@@ -1,7 +1,7 @@
 -- What a program says of a run that stopped.
 use Rattle.std.specs.Prelude.{ℕ, List, codes}
-use Rattle.zone_query.specs.declared.runs.RunError.{RunError}
-use Rattle.zone_query.specs.declared.runs.RunError.TheVariants as errors
+use Rattle.zone_query.specs.declared.run_error.RunError.{RunError}
+use Rattle.zone_query.specs.declared.run_error.RunError.TheVariants as errors
 
 abbrev pub fault_text : RunError → List ℕ
 fault_text errors.Read = codes "zoneq: read failed"

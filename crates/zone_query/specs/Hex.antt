@@ -9,9 +9,3 @@ IsHex digits (byte ∷ bytes) =
     (high : ℕ) × (low : ℕ) × (rest : List ℕ)
     × (digits ≡ high ∷ low ∷ rest) × (digit_value high < 16) × (digit_value low < 16)
     × (byte ≡ 16 * digit_value high + digit_value low) × IsHex rest bytes
-
--- the bytes that pairs of digits spell
-abbrev pub bytes_of : List ℕ → List ℕ
-bytes_of [] = []
-bytes_of (high ∷ []) = []
-bytes_of (high ∷ low ∷ rest) = (16 * digit_value high + digit_value low) ∷ bytes_of rest

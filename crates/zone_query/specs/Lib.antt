@@ -4,9 +4,9 @@ pub mod Numerals
 pub mod Words
 pub mod Hex
 pub mod Questions
-pub mod QuestionView
 pub mod Answers
 pub mod Lines
 pub mod Faults
+pub mod Endings
 pub mod Runs
 pub mod Steps

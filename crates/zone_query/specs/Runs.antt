@@ -4,8 +4,8 @@ use Rattle.std.specs.Prelude.{◌≡◌, ℕ, ◌<◌, ◌^◌, ◌-◌, List, [
 use Rattle.tz_info.specs.Zones.{Zone}
 use Rattle.zone_query.specs.Answers.{AnswersLines}
 use Rattle.zone_query.specs.Lines.{IsCut, ended_lines, last_line}
-use Rattle.zone_query.specs.declared.runs.RunError.{RunError}
-use Rattle.zone_query.specs.declared.runs.RunError.TheVariants as errors
+use Rattle.zone_query.specs.declared.run_error.RunError.{RunError}
+use Rattle.zone_query.specs.declared.run_error.RunError.TheVariants as errors
 
 -- the output answers each line of the input
 abbrev pub Answers : List ℕ → List ℕ → Type 0

@@ -5,4 +5,5 @@ pub record Watch (T : Type 0) : Type 0 where
   pub inner : T
   pub failed : Bool
   pub ended : Bool
+  pub unsent : Bool
   pub reads : ℕ

@@ -8,7 +8,7 @@ ghost use Rattle.zoned_time.specs.Zoned.{local_of};
 ghost use Rattle.tz_info.specs.Errors.{number_of};
 ghost use Rattle.tz_info.specs.TzFiles.{IsTzFile, IsZoneFault};
 ghost use Rattle.tz_info.specs.Zones.{IsValid};
-ghost use Rattle.zone_query.specs.Hex.{bytes_of};
+ghost use Rattle.zone_query.specs.Steps.HexBytes.{bytes_of};
 ghost use Rattle.zone_query.specs.Answers.{AnswersLine, AnswersAt, AnswersWall, AnswersShow, type_text, wall_text, zone_text, rule_text, refusal_text};
 
 use crate::question::Question;
@@ -29,7 +29,8 @@ pub fn answer(
     line: &[u8],
     out: &mut String,
 ) -> Result<(), AllocError>
-    ensures { OnOk result ((text : List ℕ) × (string_bytes out.new ≡ text ++ 10 ∷ []) × AnswersLine zone.old line.now text zone.new) }
+    ensures { OnOk result ((text : List ℕ) × (string_bytes out.new ≡ text ++ 10 ∷ [])
+        × AnswersLine zone.old line.now text zone.new) }
 {
     out.clear();
     match Question::parse(line) {
@@ -47,7 +48,8 @@ pub fn answer(
 // The zone of the file whose bytes hex digits spell.
 fn read_file(alloc: Global, digits: &[u8]) -> Result<TimeZone, Error>
     ensures found { IfOk result (λ z. IsTzFile (bytes_of digits.now) z × IsValid z) }
-    ensures fault { IfErr result (λ e. (number_of e ≡ 17) ⊎ IsZoneFault (bytes_of digits.now) (number_of e)) }
+    ensures fault { IfErr result (λ e.
+        (number_of e ≡ 17) ⊎ IsZoneFault (bytes_of digits.now) (number_of e)) }
 {
     match hex::decode(alloc, digits) {
         Ok(bytes) => TimeZone::from_tz_data(alloc, bytes.as_slice()),
@@ -59,15 +61,16 @@ fn read_file(alloc: Global, digits: &[u8]) -> Result<TimeZone, Error>
 // Takes the zone that was read, if there is one.
 fn set_zone(
     zone: &mut Option<TimeZone>,
-    read: Result<TimeZone, Error>,
+    outcome: Result<TimeZone, Error>,
     out: &mut String,
 ) -> Result<(), AllocError>
-    ensures { OnOk result ((answer : List ℕ) × (string_bytes out.new ≡ string_bytes out.old ++ (answer ++ 10 ∷ []))
-        × MatchResult read
+    ensures { OnOk result ((answer : List ℕ)
+        × (string_bytes out.new ≡ string_bytes out.old ++ (answer ++ 10 ∷ []))
+        × MatchResult outcome
         (λ found. (answer ≡ zone_text found) × (zone.new ≡ Some found))
         (λ fault. (answer ≡ refusal_text (number_of fault)) × (zone.new ≡ zone.old))) }
 {
-    match read {
+    match outcome {
         Ok(found) => {
             writeln!(out, "{}", Accepted(&found))?;
             *zone = Some(found);
@@ -79,7 +82,9 @@ fn set_zone(
 
 // Looks up the type in force.
 fn tell_type(zone: &Option<TimeZone>, seconds: i64, out: &mut String) -> Result<(), AllocError>
-    ensures { OnOk result ((answer : List ℕ) × (string_bytes out.new ≡ string_bytes out.old ++ (answer ++ 10 ∷ [])) × AnswersAt zone.now seconds answer) }
+    ensures { OnOk result ((answer : List ℕ)
+        × (string_bytes out.new ≡ string_bytes out.old ++ (answer ++ 10 ∷ []))
+        × AnswersAt zone.now seconds answer) }
 {
     let Some(zone) = zone else {
         return writeln!(out, "no zone");
@@ -96,7 +101,9 @@ fn tell_types(
     local: NaiveDateTime,
     out: &mut String,
 ) -> Result<(), AllocError>
-    ensures { OnOk result ((answer : List ℕ) × (string_bytes out.new ≡ string_bytes out.old ++ (answer ++ 10 ∷ [])) × AnswersWall zone.now (reading local).s answer) }
+    ensures { OnOk result ((answer : List ℕ)
+        × (string_bytes out.new ≡ string_bytes out.old ++ (answer ++ 10 ∷ []))
+        × AnswersWall zone.now (reading local).s answer) }
 {
     let Some(zone) = zone else {
         return writeln!(out, "no zone");
@@ -114,7 +121,9 @@ fn tell_instant(
     nanoseconds: u32,
     out: &mut String,
 ) -> Result<(), AllocError>
-    ensures { OnOk result ((answer : List ℕ) × (string_bytes out.new ≡ string_bytes out.old ++ (answer ++ 10 ∷ [])) × AnswersShow zone.now seconds nanoseconds answer) }
+    ensures { OnOk result ((answer : List ℕ)
+        × (string_bytes out.new ≡ string_bytes out.old ++ (answer ++ 10 ∷ []))
+        × AnswersShow zone.now seconds nanoseconds answer) }
 {
     let Some(zone) = zone else {
         return writeln!(out, "no zone");
@@ -134,7 +143,9 @@ fn write_instant<Tz: Zone>(instant: &DateTime<Tz>, out: &mut String) -> Result<(
 where
     Tz::Offset: fmt::Display,
     ensures { IfSome (Tz.Offset.output (zoned instant.now).offset) (λ offset.
-        OnOk result (string_bytes out.new ≡ string_bytes out.old ++ ((reading_text 32 (local_of Tz.Offset.seconds (zoned instant.now)) ++ codes " " ++ offset) ++ 10 ∷ []))) }
+        OnOk result (string_bytes out.new ≡ string_bytes out.old
+        ++ ((reading_text 32 (local_of Tz.Offset.seconds (zoned instant.now))
+        ++ codes " " ++ offset) ++ 10 ∷ []))) }
 {
     writeln!(out, "{instant}")
 }

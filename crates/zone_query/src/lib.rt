@@ -8,15 +8,23 @@
 #![tactic(auto)]
 
 mod answer;
+mod dialogue;
 mod hex_digits;
+mod hopeless;
+mod laws;
 mod lines;
 mod numerals;
+mod output;
+mod program;
 mod question;
+mod run_error;
 mod runs;
 mod watched;
 mod words;
 
-pub use runs::{RunError, run};
+pub use program::report;
+pub use run_error::RunError;
+pub use runs::run;
 pub use watched::Watched;
 
 #[cfg(test)]

@@ -5,7 +5,8 @@ ghost use Rattle.zone_query.specs.Lines.{HasNoNewline, without_return};
 
 /// The bytes before the first newline and those behind it, if there is a newline.
 pub fn split_line(bytes: &[u8]) -> Option<(&[u8], &[u8])>
-    ensures { MatchOption result (HasNoNewline bytes.now) (λ p. HasNoNewline p.0.now × (bytes.now ≡ p.0.now ++ 10 ∷ p.1.now)) }
+    ensures { MatchOption result (HasNoNewline bytes.now)
+        (λ p. HasNoNewline p.0.now × (bytes.now ≡ p.0.now ++ 10 ∷ p.1.now)) }
 {
     for (i, b) in bytes.iter().enumerate() {
         if *b == b'\n' {

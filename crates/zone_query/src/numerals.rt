@@ -12,7 +12,8 @@ const MOST_NEGATIVE: u64 = 1 << 63;
 
 /// The number that a text spells in decimal digits, behind one `-` or none, if it is an `i64`.
 pub fn integer(text: &[u8]) -> Option<i64>
-    ensures { MatchOption result ((z : ℤ) → IsInteger text.now z → ¬ (FitsSigned w64 z)) (λ z. IsInteger text.now z) }
+    ensures { MatchOption result
+        ((z : ℤ) → IsInteger text.now z → ¬ (FitsSigned w64 z)) (λ z. IsInteger text.now z) }
 {
     match text.split_first() {
         Some((b'-', digits)) => match natural(digits, MOST_NEGATIVE) {
@@ -28,7 +29,8 @@ pub fn integer(text: &[u8]) -> Option<i64>
 
 /// The number that a text spells as for [`integer`], if it is an `i32`.
 pub fn small_integer(text: &[u8]) -> Option<i32>
-    ensures { MatchOption result ((z : ℤ) → IsInteger text.now z → ¬ (FitsSigned w32 z)) (λ z. IsInteger text.now z) }
+    ensures { MatchOption result
+        ((z : ℤ) → IsInteger text.now z → ¬ (FitsSigned w32 z)) (λ z. IsInteger text.now z) }
 {
     match integer(text) {
         Some(z) if z >= i64::from(i32::MIN) && z <= i64::from(i32::MAX) => Some(z as i32),
@@ -38,7 +40,8 @@ pub fn small_integer(text: &[u8]) -> Option<i32>
 
 /// The number that a text spells in decimal digits alone, if it is a `u32`.
 pub fn small_natural(text: &[u8]) -> Option<u32>
-    ensures { MatchOption result ((n : ℕ) → IsNatural text.now n → ¬ (n < 2 ^ 32)) (λ n. IsNatural text.now n) }
+    ensures { MatchOption result
+        ((n : ℕ) → IsNatural text.now n → ¬ (n < 2 ^ 32)) (λ n. IsNatural text.now n) }
 {
     match natural(text, u64::from(u32::MAX)) {
         Some(n) => Some(n as u32),
@@ -48,7 +51,8 @@ pub fn small_natural(text: &[u8]) -> Option<u32>
 
 // The number that decimal digits spell, if there is one and nothing else, and it is at most `limit`.
 fn natural(digits: &[u8], limit: u64) -> Option<u64>
-    ensures { SomeIff result (IsNumeral 10 digits.now × (digits_value 10 digits.now ≤ limit)) (digits_value 10 digits.now) }
+    ensures { SomeIff result
+        (IsNumeral 10 digits.now × (digits_value 10 digits.now ≤ limit)) (digits_value 10 digits.now) }
 {
     if digits.is_empty() {
         return None;
@@ -66,7 +70,9 @@ fn natural(digits: &[u8], limit: u64) -> Option<u64>
 // The number with one more digit behind its own.
 #[inline]
 fn with_digit(value: u64, digit: u8, limit: u64) -> Option<u64>
-    ensures { SomeIff result ((digit_value digit < 10) × (value * 10 + digit_value digit ≤ limit)) (value * 10 + digit_value digit) }
+    ensures { SomeIff result
+        ((digit_value digit < 10) × (value * 10 + digit_value digit ≤ limit))
+        (value * 10 + digit_value digit) }
 {
     if !digit.is_ascii_digit() {
         return None;

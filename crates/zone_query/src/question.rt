@@ -27,14 +27,15 @@ pub enum Question<'a> {
 
 impl<'a> Question<'a> {
     ghost use Rattle.zone_query.specs.Questions.{Asks, IsBadLine};
-    ghost use Rattle.zone_query.specs.QuestionView.{query_of};
+    ghost use Rattle.zone_query.specs.Steps.QueryOf.{query_of};
 
     /// The question that a line asks, or `None` for a bad line.
     ///
     /// A text that isn't UTF-8 makes a bad line, and so do digits that are no hex digits or odd in number, a number that
     /// doesn't fit its type, and a date or a time that doesn't exist.
     pub fn parse(line: &'a [u8]) -> Option<Question<'a>>
-        ensures { MatchOption result (IsBadLine line.now) (λ question. Asks line.now (query_of question)) }
+        ensures { MatchOption result
+            (IsBadLine line.now) (λ question. Asks line.now (query_of question)) }
     {
         if let Some(text) = line.strip_prefix(b"text ") {
             return match str::from_utf8(text) {
@@ -69,7 +70,8 @@ impl<'a> Question<'a> {
 
 // The date and time `Y M D h m s`, if there is such a one.
 fn local_time(text: &[u8]) -> Option<NaiveDateTime>
-    ensures { MatchOption result ((local : ℤ) → ¬ (IsLocalTime text.now local)) (λ local. IsLocalTime text.now (reading local).s) }
+    ensures { MatchOption result ((local : ℤ) → ¬ (IsLocalTime text.now local))
+        (λ local. IsLocalTime text.now (reading local).s) }
 {
     let (word, rest) = split_word(text);
     let year = small_integer(word)?;
@@ -86,7 +88,9 @@ fn local_time(text: &[u8]) -> Option<NaiveDateTime>
 
 // The seconds and the nanoseconds `SECS NANOS`.
 fn timestamp(text: &[u8]) -> Option<(i64, u32)>
-    ensures { MatchOption result ((seconds : ℤ) (nanos : ℕ) → ¬ (IsTimestamp text.now seconds nanos)) (λ p. IsTimestamp text.now p.0 p.1) }
+    ensures { MatchOption result
+        ((seconds : ℤ) (nanos : ℕ) → ¬ (IsTimestamp text.now seconds nanos))
+        (λ p. IsTimestamp text.now p.0 p.1) }
 {
     let (word, rest) = split_word(text);
     let seconds = integer(word)?;

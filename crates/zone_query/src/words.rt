@@ -21,7 +21,9 @@ pub fn split_word(text: &[u8]) -> (&[u8], &[u8])
 
 /// The number behind the one space that a text begins with, and the rest.
 pub fn next_number(text: &[u8]) -> Option<(u32, &[u8])>
-    ensures { MatchOption result ((n : ℕ) (rest : List ℕ) → IsNextNumber text.now n rest → ⊥) (λ p. IsNextNumber text.now p.0 p.1.now) }
+    ensures { MatchOption result
+        ((n : ℕ) (rest : List ℕ) → IsNextNumber text.now n rest → ⊥)
+        (λ p. IsNextNumber text.now p.0 p.1.now) }
 {
     let Some(behind) = text.strip_prefix(b" ") else {
         return None;

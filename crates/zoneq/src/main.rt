@@ -3,19 +3,15 @@
 
 use std::io::BufWriter;
 use std::process::ExitCode;
-use zone_query::{RunError, Watched, run};
+use zone_query::{RunError, Watched, report, run};
 
 // Room for the answers to a block of input, so that a block's answers mostly leave in one write.
 const OUTPUT: usize = 65536;
 
 fn main(rt: HostRuntime) -> ExitCode {
-    match answer_all(&rt) {
-        Ok(()) => ExitCode::SUCCESS,
-        Err(stop) => {
-            let _ = eprintln!(rt; "{}", stop.text());
-            ExitCode::FAILURE
-        }
-    }
+    let ended = answer_all(&rt);
+    let mut errors = Watched::new(rt.stderr());
+    ExitCode::from(report(ended, &mut errors))
 }
 
 fn answer_all(rt: &HostRuntime) -> Result<(), RunError> {

@@ -126,8 +126,10 @@ fn answers_files(rt: HostRuntime) -> Result<(), Fail> {
     let rows = [
         (
             GUAYAQUIL,
-            "at -1500000000\nat 0\nwall 1930 12 31 23 59 59\nwall 1931 1 1 0 0 0\nwall 1931 1 1 0 13 59\nwall 1931 1 1 0 14 0\n",
-            "ok 1 2 0 none\n-18840 std QMT\n-18000 std ECT\nsingle -18840 std QMT\nnone\nnone\nsingle -18000 std ECT\n",
+            "at -1500000000\nat 0\nwall 1930 12 31 23 59 59\nwall 1931 1 1 0 0 0\n\
+                wall 1931 1 1 0 13 59\nwall 1931 1 1 0 14 0\n",
+            "ok 1 2 0 none\n-18840 std QMT\n-18000 std ECT\nsingle -18840 std QMT\nnone\nnone\n\
+                single -18000 std ECT\n",
         ),
         (
             HONOLULU,

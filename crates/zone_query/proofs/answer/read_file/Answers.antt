@@ -2,7 +2,7 @@ use Rattle.std.proofs.Common.{◌≡◌, ◌⊎◌, ◌∙◌, inr}
 use Rattle.std.proofs.lemmas.Result.{IfErr-weaker}
 use Rattle.tz_info.specs.Errors.{number_of}
 use Rattle.tz_info.specs.TzFiles.{IsZoneFault}
-use Rattle.zone_query.specs.Hex.{bytes_of}
+use Rattle.zone_query.specs.Steps.HexBytes.{bytes_of}
 use Rattle.zone_query.proofs.HexLaws.{decoded}
 use Rattle.zone_query.proofs.answer.read_file.Goals as goal
 

@@ -31,5 +31,5 @@ pub returns-in_default-timestamp_opt : goal.returns-in_default-timestamp_opt
 returns-in_default-timestamp_opt c =
     let fits = c.ranges.seconds in
     let of_zone = c.in-Some-new.ensures in
-    let none = no_stamp _ _ _ _ _ _ c.timestamp_opt.result c.in_default-timestamp_opt.not-Single (simp to_z-of_z at c.timestamp_opt.ensures) in
+    let none = no_stamp _ _ _ _ c.timestamp_opt.result c.in_default-timestamp_opt.not-Single (simp to_z-of_z at c.timestamp_opt.ensures) in
     on_ok_weaker c.writeln-in_default-timestamp_opt.result (λ bytes. (codes "out of range", bytes, rw c.in-Some.is (inr (inl (of_zone.some.0 refl, none, refl))))) c.writeln-in_default-timestamp_opt.ensures.bytes

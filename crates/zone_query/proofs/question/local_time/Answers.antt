@@ -42,7 +42,7 @@ returns-then-not-is_empty c =
 pub returns-in_err-from_ymd_opt : goal.returns-in_err-from_ymd_opt
 returns-in_err-from_ymd_opt c =
     let fits : FitsSigned w32 c.in_ok-year.year = search rules in
-    let missing = simp to_z-of_z at c.in_err-from_ymd_opt.ensures in
+    let missing = simp to_z-of_z at c.in_err-from_ymd_opt.ensures.value in
     let are = (numbers_before c.split_word.result.1.now c.in_ok-month.month c.in_ok-month.rest.now (c.in_ok-day.day ∷ c.in_ok-hour.hour ∷ c.in_ok-minute.minute ∷ c.in_ok-second.second ∷ []) c.in_ok-month.ensures (numbers_before c.in_ok-month.rest.now c.in_ok-day.day c.in_ok-day.rest.now (c.in_ok-hour.hour ∷ c.in_ok-minute.minute ∷ c.in_ok-second.second ∷ []) c.in_ok-day.ensures (numbers_before c.in_ok-day.rest.now c.in_ok-hour.hour c.in_ok-hour.rest.now (c.in_ok-minute.minute ∷ c.in_ok-second.second ∷ []) c.in_ok-hour.ensures (numbers_before c.in_ok-hour.rest.now c.in_ok-minute.minute c.in_ok-minute.rest.now (c.in_ok-second.second ∷ []) c.in_ok-minute.ensures (numbers_before c.in_ok-minute.rest.now c.in_ok-second.second c.in_ok-second.rest.now ([]) c.in_ok-second.ensures (no_items c.is_empty.result (length c.in_ok-second.rest.now) c.in_ok-second.rest.now c.is_empty.ensures c.if-not-is_empty.false refl)))))) in
     rw c.from_residual-in_err-from_ymd_opt.ensures (none_such c.args.text.now c.split_word.result.0.now c.split_word.result.1.now c.in_ok-year.year c.in_ok-month.month c.in_ok-day.day c.in_ok-hour.hour c.in_ok-minute.minute c.in_ok-second.second
     (record { whole = c.split_word.ensures.whole; lone = c.split_word.ensures.word; ended = c.split_word.ensures.rest }) c.in_ok-year.ensures are (λ e. missing e.0 e.1))
@@ -50,7 +50,7 @@ returns-in_err-from_ymd_opt c =
 pub returns : goal.returns
 returns c =
     let fits : FitsSigned w32 c.in_ok-year.year = search rules in
-    let dated = simp to_z-of_z at c.in_ok-from_ymd_opt.ensures in
+    let dated = simp to_z-of_z at c.in_ok-from_ymd_opt.ensures.value in
     let are = (numbers_before c.split_word.result.1.now c.in_ok-month.month c.in_ok-month.rest.now (c.in_ok-day.day ∷ c.in_ok-hour.hour ∷ c.in_ok-minute.minute ∷ c.in_ok-second.second ∷ []) c.in_ok-month.ensures (numbers_before c.in_ok-month.rest.now c.in_ok-day.day c.in_ok-day.rest.now (c.in_ok-hour.hour ∷ c.in_ok-minute.minute ∷ c.in_ok-second.second ∷ []) c.in_ok-day.ensures (numbers_before c.in_ok-day.rest.now c.in_ok-hour.hour c.in_ok-hour.rest.now (c.in_ok-minute.minute ∷ c.in_ok-second.second ∷ []) c.in_ok-hour.ensures (numbers_before c.in_ok-hour.rest.now c.in_ok-minute.minute c.in_ok-minute.rest.now (c.in_ok-second.second ∷ []) c.in_ok-minute.ensures (numbers_before c.in_ok-minute.rest.now c.in_ok-second.second c.in_ok-second.rest.now ([]) c.in_ok-second.ensures (no_items c.is_empty.result (length c.in_ok-second.rest.now) c.in_ok-second.rest.now c.is_empty.ensures c.if-not-is_empty.false refl)))))) in
     timed c.args.text.now c.split_word.result.0.now c.split_word.result.1.now c.in_ok-year.year c.in_ok-month.month c.in_ok-day.day c.in_ok-hour.hour c.in_ok-minute.minute c.in_ok-second.second
-    (record { whole = c.split_word.ensures.whole; lone = c.split_word.ensures.word; ended = c.split_word.ensures.rest }) c.in_ok-year.ensures fits are c.in_ok-from_ymd_opt.field-0 dated c.and_hms_opt.result c.and_hms_opt.ensures
+    (record { whole = c.split_word.ensures.whole; lone = c.split_word.ensures.word; ended = c.split_word.ensures.rest }) c.in_ok-year.ensures fits are c.in_ok-from_ymd_opt.field-0 dated c.and_hms_opt.result c.and_hms_opt.ensures.value

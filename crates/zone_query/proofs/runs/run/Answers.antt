@@ -1,7 +1,8 @@
 use Rattle.std.proofs.Common.{arith, take, [], ◌++◌, None}
+use Rattle.std.proofs.lemmas.Result.{on_ok_weaker}
 use Rattle.zone_query.proofs.Bytes.{appends_join, consumes_join, still_works}
-use Rattle.zone_query.proofs.Standing.{answered_join}
-use Rattle.zone_query.proofs.Ending.{not_failed, ended_now, block_stopped, reader_ended}
+use Rattle.zone_query.proofs.Joining.{answered_join}
+use Rattle.zone_query.proofs.Ending.{not_failed, ended_now, block_stopped, stop_passed_on, reader_ended}
 use Rattle.zone_query.proofs.runs.run.Goals as goal
 
 pub loop-preserved : goal.loop-preserved
@@ -10,12 +11,13 @@ loop-preserved g c =
     let r = g.R.Read.remaining in
     let kept = c.loop.invariant in
     let f = kept.answered in
-    let t = c.in-Ok-take_block.ensures.ok.1 in
+    let t = c.in_ok-take_block-in-Ok.ensures.ok.1 in
     let given = take c.in-Ok.n c.read.new.buf in
     record {
       reader_works = not_failed c.read.new.self.failed c.loop.reader.failed c.in-Ok.ensures.failed kept.reader_works;
       goes_on = still_works c.read.new.self.ended c.loop.reader.ended _ c.in-Ok.n c.in-Ok.ensures.ended kept.goes_on c.in-Ok.n-test.1;
-      writer_works = c.in-Ok-take_block.ensures.ok.0;
+      writer_works = c.in_ok-take_block-in-Ok.ensures.ok.0;
+      sent = λ _. c.in_ok-take_block-in-Ok.ensures.sent c.in_ok-take_block-in-Ok.ensures.ok.0;
       room = omega (arith, c.read.auto.buf);
       bounded = λ some. omega (arith, c.in-Ok.ensures.reads);
       counted = omega (arith, c.in-Ok.ensures.reads);
@@ -28,17 +30,19 @@ loop-preserved g c =
       );
     }
 
-pub returns-in-Err-take_block : goal.returns-in-Err-take_block
-returns-in-Err-take_block g c =
+pub returns-in_err-take_block-in-Ok-clause-answers : goal.returns-in_err-take_block-in-Ok-clause-answers
+returns-in_err-take_block-in-Ok-clause-answers g c =
     let w = g.W.Write.contents in
     let r = g.R.Read.remaining in
     let kept = c.loop.invariant in
     let f = kept.answered in
-    block_stopped c.read.new.self.failed c.take_block.new.writer.failed c.read.new.self.reads (r c.args.reader.now.inner) (r c.loop.reader.inner) (r c.read.new.self.inner) (w c.args.writer.now.inner) (w c.loop.writer.inner) (w c.take_block.new.writer.inner) f.0 f.1 c.loop.dialogue.zone c.loop.dialogue.begun.items (take c.in-Ok.n c.read.new.buf) c.in-Err-take_block.e
-    (not_failed c.read.new.self.failed c.loop.reader.failed c.in-Ok.ensures.failed kept.reader_works) f.2 f.3 f.4 c.in-Ok.ensures.bytes.0 c.in-Err-take_block.ensures.err
+    stop_passed_on c.from_residual.result c.in_err-take_block-in-Ok.field-0.0 c.read.new.self.ended c.read.new.self.failed c.take_block.new.writer.failed c.read.new.self.reads (r c.args.reader.now.inner) (r c.read.new.self.inner) (w c.args.writer.now.inner) (w c.take_block.new.writer.inner)
+    c.from_residual.ensures.1
+    (block_stopped c.read.new.self.failed c.take_block.new.writer.failed c.read.new.self.reads (r c.args.reader.now.inner) (r c.loop.reader.inner) (r c.read.new.self.inner) (w c.args.writer.now.inner) (w c.loop.writer.inner) (w c.take_block.new.writer.inner) f.0 f.1 c.loop.dialogue.zone c.loop.dialogue.begun.items (take c.in-Ok.n c.read.new.buf) c.in_err-take_block-in-Ok.field-0.0
+    (not_failed c.read.new.self.failed c.loop.reader.failed c.in-Ok.ensures.failed kept.reader_works) f.2 f.3 f.4 c.in-Ok.ensures.bytes.0 c.in_err-take_block-in-Ok.ensures.err)
 
-pub returns-in-Ok-eq0 : goal.returns-in-Ok-eq0
-returns-in-Ok-eq0 g c =
+pub returns-in-Ok-eq0-clause-answers : goal.returns-in-Ok-eq0-clause-answers
+returns-in-Ok-eq0-clause-answers g c =
     let w = g.W.Write.contents in
     let r = g.R.Read.remaining in
     let kept = c.loop.invariant in
@@ -50,3 +54,6 @@ returns-in-Ok-eq0 g c =
     (read.ensures.bytes.1 none (omega (arith, c.read.auto.buf)))
     (not_failed c.read.new.self.failed c.loop.reader.failed read.ensures.failed kept.reader_works)
     f.2 f.3 f.4 (rw none at read.ensures.bytes.0) c.finish.ensures.ok c.finish.ensures.err
+
+pub returns-in-Ok-eq0-clause-sent : goal.returns-in-Ok-eq0-clause-sent
+returns-in-Ok-eq0-clause-sent g c = on_ok_weaker c.finish.result (λ ok. c.finish.ensures.sent ok.0) c.finish.ensures.ok

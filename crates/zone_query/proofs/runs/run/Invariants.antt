@@ -1,6 +1,6 @@
 use Rattle.std.proofs.Common.{◌≡◌, ◌≤◌, ◌<◌, ◌^◌, length, false, List, [], ℕ, None}
 use Rattle.std.specs.Io.KnownBytes.{Appends, Consumes}
-use Rattle.zone_query.specs.Steps.{Answered}
+use Rattle.zone_query.specs.Steps.Blocks.{Answered}
 use Rattle.zone_query.proofs.runs.run.Given as goal
 
 abbrev pub invariant-loop : goal.invariant-loop
@@ -8,6 +8,7 @@ invariant-loop g l = record {
   reader_works : l.reader.failed ≡ false;
   goes_on : l.reader.ended ≡ false;
   writer_works : l.writer.failed ≡ false;
+  sent : l.fn.writer.unsent ≡ false → l.writer.unsent ≡ false;
   room : 0 < length l.block;
   bounded : 0 < l.counter → l.reader.reads < 2 ^ 64;
   counted : l.counter ≤ l.reader.reads;

@@ -1,0 +1,169 @@
+-- Which beginnings of a line let no line ask anything.
+use Rattle.std.proofs.Common.{◌≡◌, ◌≢◌, ◌==◌, true, false, ℕ, ℤ, zero, suc, ◌+◌, ◌-◌, ◌<◌, ◌≤◌, ◌⊎◌, inl, inr, refl, ap, sym, ◌∙◌, subst, List, [], ◌∷◌, ◌++◌, append_assoc, All, length, get_or, take, drop, slice_index, codes, arith}
+use Rattle.std.specs.Char.{digit_value}
+use Rattle.std.specs.Str.Parse.{AllDigits}
+use Rattle.std.proofs.lemmas.Bool.{cases_eq, cases_lt}
+use Rattle.std.proofs.lemmas.Bool.Decides.{nat_tests}
+use Rattle.std.proofs.lemmas.List.{take-append-drop, take-append-le, length-append, length-take, get_or_append_left, get_or-append_right, get_or-take}
+use Rattle.std.proofs.lemmas.List.Elements.{All-nil, All-cons, All-append, All-get_or}
+use Rattle.zone_query.specs.Lines.{without_return}
+use Rattle.zone_query.specs.Numerals.{IsInteger}
+use Rattle.zone_query.specs.Questions.{Query, Text, Data, At, Wall, Show, Asks, IsBadLine, IsLocalTime, IsTimestamp}
+use Rattle.zone_query.specs.Steps.Hopeless.{IsHopeless, IsForeign}
+use Rattle.zone_query.specs.Words.{AreNumbers}
+
+-- ---- what is behind a word that numbers follow
+abbrev IsPlain : ℕ → Type 0
+IsPlain b = (b ≡ 32) ⊎ (b ≡ 45) ⊎ (digit_value b < 10)
+
+plain_digits : (digits : List ℕ) → AllDigits 10 digits → All IsPlain digits
+plain_digits [] h = All-nil IsPlain
+plain_digits (c ∷ digits) h = All-cons IsPlain c digits (inr (inr h.0)) (plain_digits digits h.1)
+
+plain_integer : (text : List ℕ) (z : ℤ) → IsInteger text z → All IsPlain text
+plain_integer text z (inl plain) = plain_digits text plain.1.0.1
+plain_integer text z (inr minus) = subst (All IsPlain) (sym minus.2) (All-cons IsPlain 45 minus.0 (inr (inl refl)) (plain_digits minus.0 minus.3.0.1))
+
+plain_numbers : (text : List ℕ) (numbers : List ℕ) → AreNumbers text numbers → All IsPlain text
+plain_numbers text [] h = subst (All IsPlain) (sym h) (All-nil IsPlain)
+plain_numbers text (n ∷ numbers) h =
+    subst (All IsPlain) (sym h.2) (All-cons IsPlain 32 (h.0 ++ h.1) (inl refl) (All-append IsPlain h.0 h.1 (plain_digits h.0 h.3.0.1) (plain_numbers h.1 numbers h.5)))
+
+plain_local_time : (text : List ℕ) (local : ℤ) → IsLocalTime text local → All IsPlain text
+plain_local_time text local h = subst (All IsPlain) (sym h.whole) (All-append IsPlain h.year h.others (plain_integer h.year h.y h.year_spelled) (plain_numbers h.others (h.m ∷ h.d ∷ h.h ∷ h.min ∷ h.s ∷ []) h.others_spelled))
+
+plain_timestamp : (text : List ℕ) (seconds : ℤ) (nanos : ℕ) → IsTimestamp text seconds nanos → All IsPlain text
+plain_timestamp text seconds nanos h = subst (All IsPlain) (sym h.whole) (All-append IsPlain h.first h.others (plain_integer h.first seconds h.seconds_spelled) (plain_numbers h.others (nanos ∷ []) h.nanos_spelled))
+
+not_foreign : (b : ℕ) → IsPlain b → IsForeign b → ⊥
+not_foreign b (inl space) h = h.1 space
+not_foreign b (inr (inl minus)) h = h.2 minus
+not_foreign b (inr (inr digit)) h = h.0 digit
+
+-- no foreign byte is there
+none_foreign : (word text line : List ℕ) (k i : ℕ) → line ≡ word ++ text → length word ≡ k → k ≤ i → i < length line → All IsPlain text → IsForeign (get_or line i 0) → ⊥
+none_foreign word text line k i e w from within plain h =
+    let lengths : length line ≡ length word + length text = ap length e ∙ length-append word text in
+    let byte : get_or line i 0 ≡ get_or text (i - k) 0 = ap (λ (l : List ℕ). get_or l i 0) e ∙ get_or-append_right word text k i 0 w from in
+    not_foreign (get_or text (i - k) 0) (All-get_or IsPlain text (i - k) 0 (omega (arith, lengths, w, from, within)) plain) (subst IsForeign byte h)
+
+-- a line of numbers with a foreign byte
+foreign_bad : (line : List ℕ) (i : ℕ) → 5 ≤ i → i < length line → IsForeign (get_or line i 0) → ((rest : List ℕ) → line ≢ codes "text " ++ rest) → ((rest : List ℕ) → line ≢ codes "data " ++ rest) → IsBadLine line
+foreign_bad line i from within foreign no_text no_data (Text text) h = no_text text h.0
+foreign_bad line i from within foreign no_text no_data (Data bytes) h = no_data h.0 h.1
+foreign_bad line i from within foreign no_text no_data (At seconds) h = none_foreign (codes "at ") h.0 line 3 i h.1 refl (omega (arith, from)) within (plain_integer h.0 seconds h.2) foreign
+foreign_bad line i from within foreign no_text no_data (Wall local) h = none_foreign (codes "wall ") h.0 line 5 i h.1 refl from within (plain_local_time h.0 local h.2) foreign
+foreign_bad line i from within foreign no_text no_data (Show seconds nanos) h = none_foreign (codes "show ") h.0 line 5 i h.1 refl from within (plain_timestamp h.0 seconds nanos h.2) foreign
+
+-- ---- lines that begin with the same five bytes
+-- where one of them begins with a word, so does the other
+same_word : (word t rest line front : List ℕ) → take 5 line ≡ take 5 front → line ≡ word ++ rest → take 5 (word ++ rest) ≡ word ++ t → front ≡ word ++ (t ++ drop 5 front)
+same_word word t rest line front same e begins =
+    sym (take-append-drop 5 front) ∙ ap (λ w. w ++ drop 5 front) (sym same ∙ ap (take 5) e ∙ begins) ∙ append_assoc word t (drop 5 front)
+
+no_word : (word : List ℕ) → (t : List ℕ → List ℕ) → ((rest : List ℕ) → take 5 (word ++ rest) ≡ word ++ t rest) → (line front : List ℕ) → take 5 line ≡ take 5 front → ((rest : List ℕ) → front ≢ word ++ rest) → (rest : List ℕ) → line ≢ word ++ rest
+no_word word t begins line front same none rest e = none (t rest ++ drop 5 front) (same_word word (t rest) rest line front same e (begins rest))
+
+no_text : (line front : List ℕ) → take 5 line ≡ take 5 front → ((rest : List ℕ) → front ≢ codes "text " ++ rest) → (rest : List ℕ) → line ≢ codes "text " ++ rest
+no_text line front same none = no_word (codes "text ") (take 0) (λ rest. refl) line front same none
+
+no_data : (line front : List ℕ) → take 5 line ≡ take 5 front → ((rest : List ℕ) → front ≢ codes "data " ++ rest) → (rest : List ℕ) → line ≢ codes "data " ++ rest
+no_data line front same none = no_word (codes "data ") (take 0) (λ rest. refl) line front same none
+
+-- no line that goes on from the front begins with a word
+wordless_bad : (line front : List ℕ) → take 5 line ≡ take 5 front → ((rest : List ℕ) → front ≢ codes "text " ++ rest) → ((rest : List ℕ) → front ≢ codes "data " ++ rest)
+    → ((rest : List ℕ) → front ≢ codes "at " ++ rest) × ((rest : List ℕ) → front ≢ codes "wall " ++ rest) × ((rest : List ℕ) → front ≢ codes "show " ++ rest) → IsBadLine line
+wordless_bad line front same nt nd others (Text text) h = no_text line front same nt text h.0
+wordless_bad line front same nt nd others (Data bytes) h = no_data line front same nd h.0 h.1
+wordless_bad line front same nt nd others (At seconds) h = no_word (codes "at ") (take 2) (λ rest. refl) line front same others.0 h.0 h.1
+wordless_bad line front same nt nd others (Wall local) h = no_word (codes "wall ") (take 0) (λ rest. refl) line front same others.1 h.0 h.1
+wordless_bad line front same nt nd others (Show seconds nanos) h = no_word (codes "show ") (take 0) (λ rest. refl) line front same others.2 h.0 h.1
+
+-- ---- with and without a carriage return
+-- a line that goes on from a front has its bytes
+record GoesOn (front line : List ℕ) : Type 0 where
+  begins : take 5 line ≡ take 5 front
+  has : (i : ℕ) → i < length front → IsForeign (get_or front i 0) → (i < length line) × IsForeign (get_or line i 0)
+
+goes_on : (front more : List ℕ) → 5 < length front → GoesOn front (front ++ more)
+goes_on front more some = record {
+  begins = take-append-le 5 front more (omega (arith, some));
+  has = λ i h foreign. let l = length-append front more in (omega (arith, l, h), subst IsForeign (sym (get_or_append_left front more 0 i h)) foreign);
+}
+
+take_shorter : (line : List ℕ) (n : ℕ) → 5 ≤ n → n ≤ length line → take 5 (take n line) ≡ take 5 line
+take_shorter line n h within =
+    let l = length-take n line in
+    sym (take-append-le 5 (take n line) (drop n line) (omega (arith, l, h, within))) ∙ ap (take 5) (take-append-drop n line)
+
+shortened : (front line : List ℕ) → 5 < length front → length front ≤ length line → slice_index line (length line - 1) ≡ 13 → GoesOn front line → GoesOn front (take (length line - 1) line)
+shortened front line some within last g = record {
+  begins = take_shorter line (length line - 1) (omega (arith, some, within)) (omega arith) ∙ g.begins;
+  has = λ i h foreign.
+      let there = g.has i h foreign in
+      elim (cases_lt i (length line - 1)) [
+        | inl before ↦
+            let l = length-take (length line - 1) line in
+            (omega (arith, l, before), subst IsForeign (sym (get_or-take (length line - 1) line i 0 before)) there.1)
+        | inr at ↦
+            let same : i ≡ length line - 1 = omega (arith, at, there.0) in
+            absurd (there.1.3 (ap (λ (k : ℕ). get_or line k 0) same ∙ last))
+      ];
+}
+
+cut_or_whole : (line : List ℕ) → ((slice_index line (length line - 1) ≡ 13) × (without_return line ≡ take (length line - 1) line)) ⊎ (without_return line ≡ line)
+cut_or_whole line = elim (cases_eq (slice_index line (length line - 1)) 13) [
+  | inl return ↦ let t : (slice_index line (length line - 1) == 13) ≡ true = grind (arith, nat_tests) in inl (return, rw t refl)
+  | inr other ↦ let t : (slice_index line (length line - 1) == 13) ≡ false = grind (arith, nat_tests) in inr (rw t refl)
+]
+
+hopeless : (front : List ℕ) → 5 < length front → ((line : List ℕ) → GoesOn front line → IsBadLine line) → IsHopeless front
+hopeless front some bad = record {
+  some = omega (arith, some);
+  whole = λ more. bad (front ++ more) (goes_on front more some);
+  ended = λ more. elim (cut_or_whole (front ++ more)) [
+    | inl cut ↦ let l = length-append front more in subst IsBadLine (sym cut.1) (bad _ (shortened front (front ++ more) some (omega (arith, l)) cut.0 (goes_on front more some)))
+    | inr whole ↦ subst IsBadLine (sym whole) (bad (front ++ more) (goes_on front more some))
+  ];
+}
+
+pub wordless : (front : List ℕ) → 5 < length front → ((rest : List ℕ) → front ≢ codes "text " ++ rest) → ((rest : List ℕ) → front ≢ codes "data " ++ rest)
+    → ((rest : List ℕ) → front ≢ codes "at " ++ rest) × ((rest : List ℕ) → front ≢ codes "wall " ++ rest) × ((rest : List ℕ) → front ≢ codes "show " ++ rest) → IsHopeless front
+wordless front some nt nd others = hopeless front some (λ line g. wordless_bad line front g.begins nt nd others)
+
+pub numberless : (front : List ℕ) (i : ℕ) → 5 < length front → 5 ≤ i → i < length front → IsForeign (get_or front i 0) → ((rest : List ℕ) → front ≢ codes "text " ++ rest) → ((rest : List ℕ) → front ≢ codes "data " ++ rest) → IsHopeless front
+numberless front i some from h foreign nt nd =
+    hopeless front some (λ line g. let there = g.has i h foreign in foreign_bad line i from there.0 there.1 (no_text line front g.begins nt) (no_data line front g.begins nd))
+
+-- more of a hopeless line is as hopeless
+pub more_hopeless : (front more : List ℕ) → IsHopeless front → IsHopeless (front ++ more)
+more_hopeless front more h = record {
+  some = let l = length-append front more in omega (arith, l, h.some);
+  whole = λ rest. subst IsBadLine (sym (append_assoc front more rest)) (h.whole (more ++ rest));
+  ended = λ rest. subst (λ (l : List ℕ). IsBadLine (without_return l)) (sym (append_assoc front more rest)) (h.ended (more ++ rest));
+}
+
+-- ---- the byte that is kept for a hopeless line
+heads : (c d : ℕ) (a b : List ℕ) → c ∷ a ≡ d ∷ b → c ≡ d
+heads c d a b e = cc
+
+marked_bad : (rest : List ℕ) → IsBadLine (63 ∷ rest)
+marked_bad rest (Text text) h = let e = heads 63 116 rest _ h.0 in absurd (omega (arith, e))
+marked_bad rest (Data bytes) h = let e = heads 63 100 rest _ h.1 in absurd (omega (arith, e))
+marked_bad rest (At seconds) h = let e = heads 63 97 rest _ h.1 in absurd (omega (arith, e))
+marked_bad rest (Wall local) h = let e = heads 63 119 rest _ h.1 in absurd (omega (arith, e))
+marked_bad rest (Show seconds nanos) h = let e = heads 63 115 rest _ h.1 in absurd (omega (arith, e))
+
+marked_cut : (rest : List ℕ) → slice_index (63 ∷ rest) (length (63 ∷ rest) - 1) ≡ 13 → IsBadLine (take (length (63 ∷ rest) - 1) (63 ∷ rest))
+marked_cut [] h = let e : 63 ≡ 13 = h in absurd (omega (arith, e))
+marked_cut (c ∷ rest) h = let e : length (63 ∷ c ∷ rest) - 1 ≡ suc (length rest) = omega arith in rw e (marked_bad (take (length rest) (c ∷ rest)))
+
+pub mark_hopeless : IsHopeless (63 ∷ [])
+mark_hopeless = record {
+  some = omega arith;
+  whole = λ more. marked_bad more;
+  ended = λ more. elim (cut_or_whole (63 ∷ more)) [
+    | inl cut ↦ subst IsBadLine (sym cut.1) (marked_cut more cut.0)
+    | inr whole ↦ subst IsBadLine (sym whole) (marked_bad more)
+  ];
+}

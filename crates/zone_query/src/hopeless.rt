@@ -1,0 +1,65 @@
+//! Beginnings of a line with which no line asks anything.
+
+ghost use Rattle.std.specs.Prelude.{◌≡◌, ◌≢◌, ◌≤◌, ◌<◌, ◌++◌, ℕ, List, true, false, length, get_or, MatchBool, codes};
+ghost use Rattle.zone_query.specs.Steps.Hopeless.{IsHopeless, IsForeign};
+
+// How many bytes the longest word of a question has, with the space behind it.
+const LONGEST_WORD: usize = 5;
+
+/// Whether a line that begins so may still ask something. Its first `judged` bytes were judged before.
+///
+/// A beginning that is refused is behind hope; of one that isn't, nothing is said.
+pub fn may_ask(front: &[u8], judged: usize) -> bool
+    requires { judged ≤ length front.now }
+    ensures { result ≡ false → IsHopeless front.now }
+{
+    if front.len() <= LONGEST_WORD {
+        return true;
+    }
+    if begins_with(front, b"text ") {
+        return true;
+    }
+    if begins_with(front, b"data ") {
+        return true;
+    }
+    if !asks_by_numbers(front) {
+        return false;
+    }
+    let (_, unjudged) = front.split_at(judged.max(LONGEST_WORD));
+    may_be_numbers(unjudged)
+}
+
+// Whether a line begins with a word that numbers follow.
+fn asks_by_numbers(line: &[u8]) -> bool
+    ensures { result ≡ false → ((rest : List ℕ) → line.now ≢ codes "at " ++ rest)
+        × ((rest : List ℕ) → line.now ≢ codes "wall " ++ rest)
+        × ((rest : List ℕ) → line.now ≢ codes "show " ++ rest) }
+{
+    begins_with(line, b"at ") || begins_with(line, b"wall ") || begins_with(line, b"show ")
+}
+
+fn begins_with(line: &[u8], word: &[u8]) -> bool
+    ensures { result ≡ false → (rest : List ℕ) → line.now ≢ word.now ++ rest }
+{
+    line.starts_with(word)
+}
+
+// Whether these bytes are such as numbers are made of, and what is between them and before a newline.
+fn may_be_numbers(bytes: &[u8]) -> bool
+    ensures { result ≡ false
+        → (i : ℕ) × (i < length bytes.now) × IsForeign (get_or bytes.now i 0) }
+{
+    for byte in bytes {
+        if is_foreign(*byte) {
+            return false;
+        }
+    }
+    true
+}
+
+#[inline]
+fn is_foreign(byte: u8) -> bool
+    ensures { result ≡ true → IsForeign byte }
+{
+    !byte.is_ascii_digit() && byte != b' ' && byte != b'-' && byte != b'\r'
+}

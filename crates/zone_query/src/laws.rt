@@ -1,0 +1,10 @@
+//! Theorems: each function is empty, its contract is proved; never called.
+
+ghost use Rattle.std.specs.Prelude.{◌≡◌, MatchBool};
+
+use crate::run_error::RunError;
+
+/// Two stops compare as equal where they are the same, and only there.
+pub fn stops_are_equal_where_they_are_the_same(a: RunError, b: RunError)
+    ensures { MatchBool (⟦<RunError as PartialEq>⟧.eq a b) (a ≡ b) (¬ (a ≡ b)) }
+{}
