@@ -5,9 +5,13 @@
 #[cfg(test)]
 mod cursors;
 #[cfg(test)]
+mod errors;
+#[cfg(test)]
 mod files;
 #[cfg(test)]
 mod lists;
+#[cfg(test)]
+mod local_search;
 #[cfg(test)]
 mod names;
 #[cfg(test)]
@@ -18,7 +22,6 @@ mod text_zones;
 mod texts;
 #[cfg(test)]
 mod values;
-#[cfg(test)]
-mod vectors;
+pub mod vectors;
 #[cfg(test)]
 mod wall_clocks;

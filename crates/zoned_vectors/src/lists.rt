@@ -212,14 +212,14 @@ fn counted_lookups(rt: HostRuntime) -> Result<(), Fail> {
         ruled.find_local_time_type_counted(3, &mut probes)?.offset(),
         0
     );
-    assert!(rt; probes.reads() <= 4);
+    assert_eq!(rt; probes.reads(), 4);
     assert_eq!(rt; probes.rule_questions(), 0);
     assert!(rt; probes.has_room());
     assert_eq!(rt;
         ruled.find_local_time_type_counted(9, &mut probes)?.offset(),
         0
     );
-    assert!(rt; probes.reads() <= 8);
+    assert_eq!(rt; probes.reads(), 8);
     assert_eq!(rt; probes.rule_questions(), 1);
     Ok(())
 }

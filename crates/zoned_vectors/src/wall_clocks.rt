@@ -9,12 +9,19 @@ use std::process::Abort;
 use std::test::Fail;
 use tz_info::{LeapSecond, LocalTimeType, Probes, TimeZone, Transition, TransitionRule};
 
-/// The offsets that the zone answers.
+/// The offsets that the zone answers, by its index and by the walk alike.
 fn offsets(rt: &impl Abort, zone: &TimeZone, local: NaiveDateTime) -> LocalResult<i32> {
-    match zone.find_local_time_type_from_local(local) {
-        Ok(answer) => answer.map(|local_type| local_type.offset()),
+    let mut probes = Probes::new();
+    let walked = match zone.find_local_time_type_from_local_by_walk(local, &mut probes) {
+        Ok(answer) => answer,
+        Err(_) => panic!(rt; "no answer by the walk"),
+    };
+    let found = match zone.find_local_time_type_from_local(local) {
+        Ok(answer) => answer,
         Err(_) => panic!(rt; "no answer"),
-    }
+    };
+    assert_eq!(rt; found, walked, "{local:?}");
+    found.map(|local_type| local_type.offset())
 }
 
 /// At that date and time the zone's clocks have these offsets.
@@ -100,18 +107,26 @@ fn a_gap_and_a_fold_of_a_rule(rt: HostRuntime) -> Result<(), Fail> {
 }
 
 #[test]
-fn daylight_saving_time_all_year(rt: HostRuntime) {
+fn daylight_saving_time_all_year(rt: HostRuntime) -> Result<(), Fail> {
     let local = clock(&rt, (2000, 1, 1), (0, 30, 0));
-    match TransitionRule::from_tz_string(b"EST5EDT,0/0,J365/25", true) {
-        Ok(rule) => match rule.find_local_time_type_from_local(local) {
-            Ok(answer) => {
-                let offset = answer.map(|local_type| local_type.offset());
-                assert_eq!(rt; offset, LocalResult::Single(-14_400));
-            }
-            Err(_) => panic!(&rt; "no answer"),
-        },
-        Err(_) => panic!(&rt; "no rule"),
+    let rule = TransitionRule::from_tz_string(b"EST5EDT,0/0,J365/25", true)?;
+    match rule.find_local_time_type_from_local(local) {
+        Ok(answer) => {
+            let offset = answer.map(|local_type| local_type.offset());
+            assert_eq!(rt; offset, LocalResult::Single(-14_400));
+        }
+        Err(_) => panic!(&rt; "no answer"),
     }
+    let alloc = rt.alloc();
+    let types = vec![in alloc;
+        named(&rt, -18_000, false, "EST"),
+        named(&rt, -14_400, true, "EDT"),
+    ]?;
+    let transitions = Vec::new(alloc);
+    let leaps = Vec::new(alloc);
+    let zone = TimeZone::new(alloc, transitions, types, leaps, Some(rule))?;
+    assert_eq!(rt; offsets(&rt, &zone, local), LocalResult::Single(-14_400));
+    Ok(())
 }
 
 #[test]
@@ -200,6 +215,7 @@ fn a_gap_of_the_rule_of_a_file(rt: HostRuntime) -> Result<(), Fail> {
     let zone = TimeZone::from_tz_data(alloc, &hex::decode(alloc, JERUSALEM)?)?;
     shown(&rt, &zone, (2038, 3, 26), (2, 0, 0), LocalResult::None);
     let after = clock(&rt, (2038, 3, 26), (3, 0, 0));
+    assert_eq!(rt; offsets(&rt, &zone, after), LocalResult::Single(10_800));
     let summer = named(&rt, 10_800, true, "IDT");
     match zone.find_local_time_type_from_local(after) {
         Ok(answer) => assert_eq!(rt; answer, LocalResult::Single(summer)),
@@ -342,7 +358,18 @@ fn counts_of_a_wall_clock(rt: HostRuntime) -> Result<(), Fail> {
     let mut probes = Probes::new();
     let local = clock(&rt, (1969, 12, 31), (23, 10, 0));
     let _answer = zone.find_local_time_type_from_local_counted(local, &mut probes);
-    assert!(rt; probes.reads() <= 20);
-    assert!(rt; probes.rule_questions() <= 5);
+    assert_eq!(rt; counts(&probes), (0, 2, 0));
+    let mut walked = Probes::new();
+    let _answer = zone.find_local_time_type_from_local_by_walk(local, &mut walked);
+    assert_eq!(rt; counts(&walked), (4, 0, 0));
     Ok(())
+}
+
+/// Looks at transitions, looks at pieces, questions to the rule.
+fn counts(probes: &Probes) -> (u128, u128, u128) {
+    (
+        probes.reads(),
+        probes.piece_reads(),
+        probes.rule_questions(),
+    )
 }
