@@ -4,7 +4,7 @@
 usage: tools/refuse_memory.py
 
 The program makes zones by each constructor, and prints a line for each. It is run with its first request for memory refused,
-then with its second one, and so on until a run has no request left to refuse. In each run
+then with its second one, and so on, as many requests as it makes; and once with none refused. In each run
 
 - every line is one of a run with memory enough, in their order;
 - where all lines are there, the status is 0;
@@ -13,7 +13,8 @@ then with its second one, and so on until a run has no request left to refuse. I
 
 The lines of headers whose counts say more than there is are never missing: they were refused before memory was asked for. In
 the run that meets no refusal no line is missing. And each zone's line is missing at least once, for each of them takes
-memory. Ends with status 1 where any of that is otherwise.
+memory. Ends with status 1 where any of that is otherwise. As many runs go on at once as there are processors; it takes a few
+minutes.
 
 Takes the command rt from the variable RT, if that is set.
 """
@@ -22,12 +23,14 @@ import os
 import re
 import subprocess
 import sys
-from itertools import count
+from concurrent.futures import ThreadPoolExecutor
 from pathlib import Path
 
 CRATE = Path(__file__).resolve().parent.parent / "crates/out_of_memory"
 RT = os.environ.get("RT", "rt")
 NO_MEMORY = 17
+# The number of a request that no run comes to.
+MORE_THAN_ALL = 1_000_000
 
 
 def run(refused):
@@ -53,26 +56,35 @@ def missing(due, lines):
     return gone if line is None else None
 
 
+def fault_of(due, zones, request):
+    """The zone's line that is missing where that request is refused (None: every zone was made), and what is amiss, or None."""
+    status, lines, requests = run(request)
+    gone = missing(due, lines)
+    if status == 0 and gone == []:
+        return None, None
+    if request <= requests and status == NO_MEMORY and gone is not None and len(gone) == 1 and gone[0] in zones:
+        return gone[0], None
+    told = "\n".join(lines)
+    return None, f"request {request} of {requests} refused: status {status}, and these lines:\n{told}"
+
+
 def main():
     due = (CRATE / "stdout").read_text().splitlines()
     zones = {line for line in due if "refused" not in line}
-    refused_once = set()
-    for request in count(1):
-        status, lines, requests = run(request)
-        gone = missing(due, lines)
-        met = request <= requests
-        none_gone = status == 0 and gone == []
-        one_gone = met and status == NO_MEMORY and gone is not None and len(gone) == 1 and gone[0] in zones
-        if not (none_gone or one_gone):
-            print(f"request {request} of {requests} refused: status {status}, and these lines:", *lines, sep="\n")
-            return 1
-        if not met:
-            break
-        refused_once.update(gone)
-        print(f"request {request} refused: {gone[0] if gone else 'every zone was made'}", flush=True)
-    never = zones - refused_once
+    _, lines, requests = run(MORE_THAN_ALL)
+    if lines != due:
+        print("with memory enough, these lines:", *lines, sep="\n")
+        return 1
+    never, faults = set(zones), 0
+    with ThreadPoolExecutor(os.cpu_count()) as runs:
+        tried = runs.map(lambda request: fault_of(due, zones, request), range(1, requests + 1))
+        for request, (gone, fault) in enumerate(tried, 1):
+            print(fault or f"request {request} refused: {gone or 'every zone was made'}", flush=True)
+            never.discard(gone)
+            faults += fault is not None
     if never:
         print("never refused:", *sorted(never), sep="\n")
+    if never or faults:
         return 1
     print(f"{requests} requests refused in turn, and every answer was the zone that is due or that there is no memory")
     return 0

@@ -34,8 +34,10 @@ impl Model for TimeZoneName {
 
     ghost use Rattle.std.proofs.Common.{ap, ◌≡◌, refl};
 
-    ghost inverse_ok = { λ n h i. record { buffer = padded_back n.buffer n.len h i;
-        len = length_back n.buffer n.len h i } };
+    ghost inverse_ok = { λ n h i. record {
+      buffer = padded_back n.buffer n.len h i;
+      len = length_back n.buffer n.len h i;
+    } };
 }
 
 impl TimeZoneName {

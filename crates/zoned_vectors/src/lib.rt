@@ -1,5 +1,5 @@
-//! Tests over the crates of time zones, by values that come from outside: what TZ texts, files and lists give, the types in
-//! force at instants, and wall clocks.
+//! Tests over the crates of time zones, by values that come from outside: what TZ texts, files and lists give, and the types
+//! in force at instants.
 #![tactic(auto)]
 
 #[cfg(test)]
@@ -11,8 +11,6 @@ mod files;
 #[cfg(test)]
 mod lists;
 #[cfg(test)]
-mod local_search;
-#[cfg(test)]
 mod names;
 #[cfg(test)]
 mod rules;
@@ -23,5 +21,3 @@ mod texts;
 #[cfg(test)]
 mod values;
 pub mod vectors;
-#[cfg(test)]
-mod wall_clocks;

@@ -64,11 +64,19 @@ impl Model for AlternateTime {
 
     ghost Value = { Alternate };
 
-    ghost view = { λ a. record { std = a.std_type; dst = a.dst_type; start = a.dst_start;
-        end = a.dst_end } };
+    ghost view = { λ a. record {
+      std = a.std_type;
+      dst = a.dst_type;
+      start = a.dst_start;
+      end = a.dst_end;
+    } };
 
-    ghost invariant = { λ a. IsAlternateRule (record { std = a.std_type; dst = a.dst_type;
-        start = a.dst_start; end = a.dst_end })
+    ghost invariant = { λ a. IsAlternateRule (record {
+      std = a.std_type;
+      dst = a.dst_type;
+      start = a.dst_start;
+      end = a.dst_end;
+    })
         × (a.starts ≡ seconds_by_kind a.dst_start a.std_type.offset)
         × (a.ends ≡ seconds_by_kind a.dst_end a.dst_type.offset) };
 
@@ -145,9 +153,12 @@ impl AlternateTime {
         dst_end: RuleDay,
         dst_end_time: i32,
     ) -> Result<AlternateTime, Error>
-        ensures { let shown : Alternate = record { std = std; dst = dst;
-            start = record { day = dst_start; time = dst_start_time };
-            end = record { day = dst_end; time = dst_end_time } } in
+        ensures { let shown : Alternate = record {
+          std = std;
+          dst = dst;
+          start = record { day = dst_start; time = dst_start_time };
+          end = record { day = dst_end; time = dst_end_time };
+        } in
             MatchResult result (λ a. IsAlternate shown × (a ≡ shown))
             (λ e. (number_of e ≡ 13) × ¬ (IsAlternate shown)) }
     {
@@ -327,10 +338,10 @@ impl Turns {
 fn is_dst_by_three(before: Turns, here: Turns, after: Turns, unix_time: i64) -> bool
     ensures { result ≡ (if int_le here.start here.end
         then is_between before.start before.end unix_time
-            || is_between here.start here.end unix_time || is_between after.start after.end unix_time
+        || is_between here.start here.end unix_time || is_between after.start after.end unix_time
         else not (is_between before.end before.start unix_time
-            || is_between here.end here.start unix_time
-            || is_between after.end after.start unix_time)) }
+        || is_between here.end here.start unix_time
+        || is_between after.end after.start unix_time)) }
 {
     if here.is_start_first() {
         is_any(

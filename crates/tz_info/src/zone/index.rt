@@ -35,8 +35,11 @@ impl Model for Index {
 
     ghost Value = { WallIndex };
 
-    ghost view = { λ i. record { before = i.before; pieces = i.pieces.items;
-        rule_from = i.rule_from } };
+    ghost view = { λ i. record {
+      before = i.before;
+      pieces = i.pieces.items;
+      rule_from = i.rule_from;
+    } };
 
     ghost invariant = { λ i. AreInOrder i.pieces.items };
 }

@@ -19,8 +19,11 @@ impl Model for Probes {
 
     ghost Value = { Counts };
 
-    ghost view = { λ p. record { reads = p.transition_reads; rule_questions = p.questions;
-        piece_reads = p.index_reads } };
+    ghost view = { λ p. record {
+      reads = p.transition_reads;
+      rule_questions = p.questions;
+      piece_reads = p.index_reads;
+    } };
 }
 
 impl Probes {

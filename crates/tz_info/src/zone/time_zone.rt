@@ -48,11 +48,19 @@ impl Model for TimeZone {
 
     ghost Value = { Zone };
 
-    ghost view = { λ z. record { transitions = z.table; types = z.local_types.items;
-        leaps = z.leap_seconds.items; rule = z.last_rule } };
+    ghost view = { λ z. record {
+      transitions = z.table;
+      types = z.local_types.items;
+      leaps = z.leap_seconds.items;
+      rule = z.last_rule;
+    } };
 
-    ghost invariant = { λ z. IsPrepared (record { transitions = z.table; types = z.local_types.items;
-        leaps = z.leap_seconds.items; rule = z.last_rule }) z.extremes z.index };
+    ghost invariant = { λ z. IsPrepared (record {
+      transitions = z.table;
+      types = z.local_types.items;
+      leaps = z.leap_seconds.items;
+      rule = z.last_rule;
+    }) z.extremes z.index };
 }
 
 // Of the lists alone: extremes and index follow from them.
@@ -116,8 +124,12 @@ impl TimeZone {
         leaps: Vec<LeapSecond>,
         rule: Option<TransitionRule>,
     ) -> Result<TimeZone, Error>
-        ensures { let lists : Zone = record { transitions = transitions.items; types = types.items;
-            leaps = leaps.items; rule = rule } in
+        ensures { let lists : Zone = record {
+          transitions = transitions.items;
+          types = types.items;
+          leaps = leaps.items;
+          rule = rule;
+        } in
             MatchResult result (λ z. IsValid lists × (z ≡ lists))
             (λ e. ((number_of e ≡ 12) × ¬ (IsValid lists)) ⊎ ((e ≡ OutOfMemory) × IsValid lists)) }
     {
@@ -290,8 +302,12 @@ fn is_valid(
     leaps: &[LeapSecond],
     rule: &Option<TransitionRule>,
 ) -> bool
-    ensures { IsTrue result ↔ IsValid (record { transitions = transitions.now; types = types.now;
-        leaps = leaps.now; rule = rule.now }) }
+    ensures { IsTrue result ↔ IsValid (record {
+      transitions = transitions.now;
+      types = types.now;
+      leaps = leaps.now;
+      rule = rule.now;
+    }) }
 {
     if types.is_empty() {
         return false;

@@ -4,12 +4,10 @@ use std::alloc::{AllocError, Global};
 use std::io::ErrorKind;
 use std::test::Fail;
 
-const LINES: &str =
-    "text EST5EDT,M3.2.0,M11.1.0\nwall 2021 3 14 2 0 0\nwall 2021 11 7 1 30 0\n\
+const LINES: &str = "text EST5EDT,M3.2.0,M11.1.0\nwall 2021 3 14 2 0 0\nwall 2021 11 7 1 30 0\n\
         show 1636264800 0\ntext FOO24\nat 0\nwall 2021 2 29 0 0 0\n";
 
-const ANSWERS: &str =
-    "ok 0 2 0 alternate\nnone\nambiguous -14400 dst EDT, -18000 std EST\n\
+const ANSWERS: &str = "ok 0 2 0 alternate\nnone\nambiguous -14400 dst EDT, -18000 std EST\n\
         2021-11-07 01:00:00 -05:00\nrefused 6\n-18000 std EST\nbad line\n";
 
 // The answers to the lines that end in a front of the input.

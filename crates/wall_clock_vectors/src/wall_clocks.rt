@@ -1,13 +1,13 @@
 //! Wall clocks of rules, files and lists, the odd ones too.
 
 use crate::values::{clock, named, type_at};
-use crate::vectors::{GUAYAQUIL, HONOLULU, JERUSALEM};
 use naive_base::NaiveDateTime;
 use offset_core::LocalResult;
 use std::alloc::Global;
 use std::process::Abort;
 use std::test::Fail;
 use tz_info::{LeapSecond, LocalTimeType, Probes, TimeZone, Transition, TransitionRule};
+use zoned_vectors::vectors::{GUAYAQUIL, HONOLULU, JERUSALEM};
 
 /// The offsets that the zone answers, by its index and by the walk alike.
 fn offsets(rt: &impl Abort, zone: &TimeZone, local: NaiveDateTime) -> LocalResult<i32> {
