@@ -53,4 +53,5 @@ pub mod ZoneFileLaws
 pub mod FileZoneLaws
 pub mod WallTimes
 pub mod Equalities
+pub mod ErrorEquality
 pub mod ForCallers

@@ -9,6 +9,7 @@ ghost use Rattle.offset_core.specs.FixedOffset.{seconds_of};
 ghost use Rattle.naive_base.specs.Range.{IsInRange};
 ghost use Rattle.naive_base.specs.Reading.{Reading, IsEarlier, total, of_total};
 ghost use Rattle.naive_base.specs.Stamp.{of_secs, IsStamp};
+ghost use Rattle.zoned_time.specs.declared.resolve_error.ResolveError.{ResolveError as Fault};
 ghost use Rattle.zoned_time.specs.declared.utc.Utc.{Utc as TheUtc};
 ghost use Rattle.zoned_time.specs.Relocal.{IsRelocal, HasInstant, instant_of, SingleIff};
 ghost use Rattle.zoned_time.specs.Stamps.{millis_of, micros_of, of_millis, of_micros, in_utc};
@@ -17,7 +18,7 @@ ghost use Rattle.zoned_time.specs.Order.{compared};
 ghost use Rattle.zoned_time.specs.Zone.{Each, SameOffsets};
 ghost use Rattle.zoned_time.specs.Zoned.{Zoned, local_of, IsAt, IsFixedFrom};
 
-use crate::{DateTime, Offset, TimeZone, Utc};
+use crate::{DateTime, Offset, ResolveError, TimeZone, Utc};
 use offset_core::FixedOffset;
 use std::hash::Hash;
 
@@ -99,4 +100,10 @@ pub fn one_instant_where_the_offset_is_fixed()
     ensures fixed { (zone : AnyFixed) (l : Reading) (answer : LocalResult (Zoned AnyFixed))
         → IsRelocal (⟦<FixedOffset as TimeZone>⟧.law zone) l answer
         → SingleIff answer (HasInstant seconds_of l zone) (instant_of seconds_of l zone) }
+{}
+
+/// Errors of a choice are equal where they are the same, and a clone is the error.
+pub fn resolve_errors()
+    ensures equal { (a b : Fault) → IsTrue (⟦<ResolveError as PartialEq>⟧.eq a b) ↔ (a ≡ b) }
+    ensures cloned { (a b : Fault) → ⟦<ResolveError as Clone>⟧.is_clone a b ↔ (a ≡ b) }
 {}

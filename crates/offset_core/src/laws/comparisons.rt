@@ -2,6 +2,9 @@
 ghost use Rattle.std.specs.Prelude.{◌≡◌, ◌↔◌, IsTrue, ◌<ℤ◌, pos};
 ghost use Rattle.std.specs.Ordering.{int_cmp};
 ghost use Rattle.std.specs.Hash as fed;
+ghost use Rattle.offset_core.specs.declared.choice.Choice.{Choice as AnyChoice};
+ghost use Rattle.offset_core.specs.declared.choice.FoldChoice.{FoldChoice as AnyFoldChoice};
+ghost use Rattle.offset_core.specs.declared.choice.GapChoice.{GapChoice as AnyGapChoice};
 ghost use Rattle.offset_core.specs.declared.fixed_offset.FixedOffset.{FixedOffset as AnyOffset};
 ghost use Rattle.offset_core.specs.declared.local_result.LocalResult.{LocalResult as AnyResult};
 ghost use Rattle.offset_core.specs.declared.time_delta.TimeDelta.{TimeDelta as AnyDelta};
@@ -9,7 +12,7 @@ ghost use Rattle.offset_core.specs.FixedOffset.{seconds_of};
 ghost use Rattle.offset_core.specs.LocalResult.{AreAlike};
 ghost use Rattle.offset_core.specs.TimeDelta.{nanos_of};
 
-use crate::{FixedOffset, LocalResult, TimeDelta};
+use crate::{Choice, FixedOffset, FoldChoice, GapChoice, LocalResult, TimeDelta};
 use std::hash::Hash;
 
 /// Offsets are equal exactly where their seconds are; a hash looks at the seconds, and a clone is the offset.
@@ -49,4 +52,14 @@ pub fn local_results<T: PartialEq + Clone>()
         (λ a b. IsTrue (T.PartialEq.eq a b)) x y }
     ensures cloned { (x y : AnyResult T) → ⟦<LocalResult<T> as Clone>⟧.is_clone x y
         ↔ AreAlike T.Clone.is_clone x y }
+{}
+
+/// Choices are equal exactly where they are the same, and a clone is the choice.
+pub fn choices()
+    ensures gaps { (a b : AnyGapChoice) → IsTrue (⟦<GapChoice as PartialEq>⟧.eq a b) ↔ (a ≡ b) }
+    ensures folds { (a b : AnyFoldChoice) → IsTrue (⟦<FoldChoice as PartialEq>⟧.eq a b) ↔ (a ≡ b) }
+    ensures both { (a b : AnyChoice) → IsTrue (⟦<Choice as PartialEq>⟧.eq a b) ↔ (a ≡ b) }
+    ensures gap_clone { (a b : AnyGapChoice) → ⟦<GapChoice as Clone>⟧.is_clone a b ↔ (a ≡ b) }
+    ensures fold_clone { (a b : AnyFoldChoice) → ⟦<FoldChoice as Clone>⟧.is_clone a b ↔ (a ≡ b) }
+    ensures clone { (a b : AnyChoice) → ⟦<Choice as Clone>⟧.is_clone a b ↔ (a ≡ b) }
 {}

@@ -5,12 +5,13 @@ ghost use Rattle.tz_info.specs.LocalTypes.{LocalType};
 ghost use Rattle.tz_info.specs.Rules.{Alternate as AlternateRule};
 ghost use Rattle.tz_info.specs.Zones.{Zone};
 ghost use Rattle.tz_info.specs.declared.error.Error.{Error as Refusal};
+ghost use Rattle.tz_info.specs.declared.error.Expected.{Expected as Wanted};
 ghost use Rattle.tz_info.specs.declared.rule.day.DayForm.{DayForm};
 ghost use Rattle.tz_info.specs.declared.rule.transition_rule.TransitionRule.{TransitionRule as Rule};
 ghost use Rattle.tz_info.specs.declared.zone.leap_second.LeapSecond.{LeapSecond as Leap};
 ghost use Rattle.tz_info.specs.declared.zone.transition.Transition.{Transition as Change};
 
-use crate::error::Error;
+use crate::error::{Error, Expected};
 use crate::local_time_type::LocalTimeType;
 use crate::name::TimeZoneName;
 use crate::rule::{AlternateTime, RuleDay, TransitionRule};
@@ -59,9 +60,16 @@ pub fn transition_rules()
     ensures clone { (a b : Rule) → ⟦<TransitionRule as Clone>⟧.is_clone a b ↔ (b ≡ a) }
 {}
 
-/// A clone of an error is that error.
+/// What was expected is equal where it is the same, and a clone is the value.
+pub fn expectations()
+    ensures equal { (a b : Wanted) → IsTrue (⟦<Expected as PartialEq>⟧.eq a b) ↔ (a ≡ b) }
+    ensures clone { (a b : Wanted) → ⟦<Expected as Clone>⟧.is_clone a b ↔ (b ≡ a) }
+{}
+
+/// Errors are equal where they are the same, and a clone is the error.
 pub fn errors()
-    ensures { (a b : Refusal) → ⟦<Error as Clone>⟧.is_clone a b ↔ (b ≡ a) }
+    ensures equal { (a b : Refusal) → IsTrue (⟦<Error as PartialEq>⟧.eq a b) ↔ (a ≡ b) }
+    ensures clone { (a b : Refusal) → ⟦<Error as Clone>⟧.is_clone a b ↔ (b ≡ a) }
 {}
 
 /// Zones are equal exactly where their transitions, types, leap seconds and rules are.
