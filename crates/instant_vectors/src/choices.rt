@@ -4,6 +4,8 @@ use crate::values::{new_york, told};
 use naive_base::{NaiveDate, NaiveDateTime, NaiveTime};
 use odd_zone::Odd;
 use offset_core::{Choice, FixedOffset, FoldChoice, GapChoice};
+use std::alloc::{AllocError, Global};
+use std::fmt::Display;
 use std::process::Abort;
 use std::test::Fail;
 use tz_info::{LeapSecond, LocalTimeType, Transition};
@@ -213,6 +215,7 @@ fn days_one_after_another(rt: HostRuntime) {
     assert!(rt; days.days(0).next().is_none());
     let mut two = days.days(2);
     assert_eq!(rt; two.len(), 2);
+    assert_eq!(rt; two.size_hint(), (2, Some(2)));
     assert_eq!(rt; item(two.next().expect(&rt, "a day")), Ok(0));
     assert_eq!(rt; item(two.next().expect(&rt, "a day")), Ok(86_400));
     assert!(rt; two.next().is_none());
@@ -230,4 +233,24 @@ fn gaps_of_the_odd_zone(rt: HostRuntime) {
     let days = series(&rt, Odd, (1970, 1, 1), (0, 0, 1), FoldChoice::Refuse);
     assert_eq!(rt; item(days.at(0)), Ok(1));
     assert_eq!(rt; item(days.at(1)), Ok(86_401));
+}
+
+fn text_of<T: Display>(alloc: Global, shown: &T) -> Result<String, AllocError> {
+    format!(in alloc; "{shown}")
+}
+
+#[test]
+fn texts_of_errors(rt: HostRuntime) -> Result<(), AllocError> {
+    let alloc = rt.alloc();
+    let gap = "no clock of the zone shows that time";
+    let fold = "clocks of the zone show that time more than once";
+    assert_eq!(rt; text_of(alloc, &ResolveError::Gap)?.as_str(), gap);
+    assert_eq!(rt; text_of(alloc, &ResolveError::Fold)?.as_str(), fold);
+    let shown = text_of(alloc, &ResolveError::OutOfRange)?;
+    assert_eq!(rt; shown.as_str(), "the instant is out of range");
+    let shown = text_of(alloc, &SeriesError::Date)?;
+    assert_eq!(rt; shown.as_str(), "the day is out of range");
+    let shown = text_of(alloc, &SeriesError::Resolve(ResolveError::Gap))?;
+    assert_eq!(rt; shown.as_str(), gap);
+    Ok(())
 }

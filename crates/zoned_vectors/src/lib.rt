@@ -5,6 +5,8 @@
 #[cfg(test)]
 mod cursors;
 #[cfg(test)]
+mod debug_texts;
+#[cfg(test)]
 mod errors;
 #[cfg(test)]
 mod files;
