@@ -32,6 +32,7 @@ pub mod AnswerLaws
 pub mod LeapStarts
 pub mod WallPieces
 pub mod WallSegments
+pub mod OnePass
 pub mod ExtremeLaws
 pub mod WalkLaws
 pub mod WindowLaws

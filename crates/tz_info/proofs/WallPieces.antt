@@ -51,7 +51,7 @@ start_by_pushed (q ∷ ps) p l h =
       by_place q ps l a b zero d m = a
       by_place q ps l a b (suc k) d m = b k d (omega arith)
 
-start_by_push : (ps : List Piece) (p : Piece) (l : ℤ) → StartBy ps l → p.start ≤ℤ l → StartBy (ps ++ (p ∷ [])) l
+pub start_by_push : (ps : List Piece) (p : Piece) (l : ℤ) → StartBy ps l → p.start ≤ℤ l → StartBy (ps ++ (p ∷ [])) l
 start_by_push ps p l h s = All-push (λ (q : Piece). q.start ≤ℤ l) ps p h s
 
 -- the first i pieces of xs and the first j of ys are merged

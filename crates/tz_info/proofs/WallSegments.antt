@@ -67,7 +67,7 @@ pieces_joined z low middle high bx by xs ys out valid h k a b m = record {
 -- ---- one segment of the table
 
 -- the segment is not the rule's
-own_segment : (rule : Option TransitionRule) (k n : ℕ) → k < table_count_by rule n → (k < n) ⊎ ((rule ≡ none) × (k ≤ n))
+pub own_segment : (rule : Option TransitionRule) (k n : ℕ) → k < table_count_by rule n → (k < n) ⊎ ((rule ≡ none) × (k ≤ n))
 own_segment (some rule) k n h = inl h
 own_segment none k n h = inr (refl, omega arith)
 
@@ -79,7 +79,7 @@ listed_or_else : (rule : Option TransitionRule) (u : ℤ) (h : Type 0) (t : Loca
 listed_or_else none u h t e k = k
 listed_or_else (some rule) u h t e k = cc
 
-listed_once : (z : Zone) (i : ℕ) (s t : LocalType) → HasType z i s → HasType z i t → s ≡ t
+pub listed_once : (z : Zone) (i : ℕ) (s t : LocalType) → HasType z i s → HasType z i t → s ≡ t
 listed_once z i s t h k = cc
 
 -- its type is the listed one
@@ -206,7 +206,7 @@ closing_below n k h = let t : nat_lt n (suc k) ≡ false = grind (arith, nat_tes
 closing_last : (n k : ℕ) → k ≡ n → closing n (suc k) ≡ 1
 closing_last n k h = let t : nat_lt n (suc k) ≡ true = grind (arith, nat_tests) in rw t refl
 
-abbrev piece : ℤ → LocalResult ℕ → Piece
+abbrev pub piece : ℤ → LocalResult ℕ → Piece
 piece start answer = record { start = start; answer = answer }
 
 -- the only segment of a zone without transitions
@@ -243,7 +243,7 @@ last_pieces z (suc k) a i t valid own later n of has offset cut = record {
 
 -- a segment between two transitions
 pub inner_pieces : (z : Zone) (k : ℕ) (a b : ℤ) (i : ℕ) (t : LocalType) → IsValid z → k < table_count z → 0 < k → k < length z.transitions → i ≡ index_of z.transitions k → HasType z i t → IsUtOffset t.offset → IsCut z.transitions z.leaps k t.offset a → IsCut z.transitions z.leaps (suc k) t.offset b
-    → a <ℤ b → ArePieces z k (suc k) None (piece a (Single i) ∷ piece b None ∷ [])
+    → a ≤ℤ b → ArePieces z k (suc k) None (piece a (Single i) ∷ piece b None ∷ [])
 inner_pieces z zero a b i t valid own later n of has offset cut_a cut_b less = absurd (omega arith)
 inner_pieces z (suc k) a b i t valid own later n of has offset cut_a cut_b less = record {
   ordered = piece_list_ordered (piece a (Single i)) (piece b None) (omega (arith, ints));

@@ -7,6 +7,7 @@ mod index;
 mod leap_second;
 mod leap_time;
 mod lookup;
+mod one_pass;
 mod pieces;
 mod posix;
 pub(crate) mod probes;

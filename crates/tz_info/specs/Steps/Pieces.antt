@@ -1,12 +1,14 @@
 -- The pieces of some neighbouring segments, and the search in them.
-use Rattle.std.specs.Prelude.{ℕ, zero, suc, ℤ, ◌≡◌, ◌+◌, ◌*◌, ◌<◌, ◌≤◌, ◌≤ℤ◌, ◌<ℤ◌, if◌then◌else◌, nat_lt, List, length, take, slice_index_or, slice_get, Some as some}
+use Rattle.std.specs.Prelude.{ℕ, zero, suc, ℤ, ◌≡◌, ◌⊎◌, ◌+◌, ◌-◌, ◌*◌, ◌<◌, ◌≤◌, ◌≤ℤ◌, ◌<ℤ◌, if◌then◌else◌, nat_lt, List, length, take, slice_index_or, slice_get, Some as some}
 use Rattle.naive_base.specs.Range.{IsWide}
 use Rattle.offset_core.specs.WallAnswer.{IsWallAnswer}
 use Rattle.offset_core.specs.declared.local_result.LocalResult.{LocalResult}
 use Rattle.offset_core.specs.declared.local_result.LocalResult.TheVariants.{None, Single, Ambiguous}
-use Rattle.tz_info.specs.LocalTypes.{LocalType}
+use Rattle.tz_info.specs.LocalTypes.{LocalType, IsUtOffset}
+use Rattle.tz_info.specs.Segments.{index_of}
+use Rattle.tz_info.specs.Steps.Starts.{IsCut}
 use Rattle.tz_info.specs.WallPieces.{AreInOrder, ListedAmong, answer_before, answer_at}
-use Rattle.tz_info.specs.Zones.{Zone}
+use Rattle.tz_info.specs.Zones.{Zone, HasType}
 use Rattle.tz_info.specs.declared.zone.pieces.Piece.{Piece}
 use Rattle.tz_info.specs.declared.zone.segments.Lists.{Lists}
 
@@ -49,3 +51,29 @@ pub record ArePieces (z : Zone) (low high : ℕ) (before : LocalResult ℕ) (pie
   pub most : length pieces + opening low + closing (length z.transitions) high + 2 * low ≤ 2 * high
   pub some : low ≡ 0 → 0 < length z.transitions → 0 < length pieces
   pub answers : (local : ℤ) → IsWide local → IsWallAnswer (ListedAmong z low high local) (answer_at before pieces local)
+
+-- one segment ends and the next starts: from the first of the two cuts up to the last neither shows the local time, as in a gap
+pub record IsGap (end start : ℤ) (index : ℕ) (first last : Piece) : Type 0 where
+  pub order : end ≤ℤ start
+  pub none : first ≡ record { start = end; answer = None }
+  pub next : last ≡ record { start = start; answer = Single index }
+
+-- or both do, as in a fold
+pub record IsFold (end start : ℤ) (index_before index : ℕ) (first last : Piece) : Type 0 where
+  pub order : start ≤ℤ end
+  pub both : first ≡ record { start = start; answer = Ambiguous index_before index }
+  pub next : last ≡ record { start = end; answer = Single index }
+
+-- the two pieces where the segment at that place starts and the one before it ends
+pub record ArePiecesAt (z : Zone) (place : ℕ) (first last : Piece) : Type 0 where
+  pub type_before : LocalType
+  pub type : LocalType
+  pub end : ℤ
+  pub start : ℤ
+  pub listed_before : HasType z (index_of z.transitions (place - 1)) type_before
+  pub listed : HasType z (index_of z.transitions place) type
+  pub offset_before : IsUtOffset type_before.offset
+  pub offset : IsUtOffset type.offset
+  pub ends : IsCut z.transitions z.leaps place type_before.offset end
+  pub starts : IsCut z.transitions z.leaps place type.offset start
+  pub pieces : IsGap end start (index_of z.transitions place) first last ⊎ IsFold end start (index_of z.transitions (place - 1)) (index_of z.transitions place) first last

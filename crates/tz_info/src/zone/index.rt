@@ -12,6 +12,7 @@ use crate::error::Error;
 use crate::local_time_type::LocalTimeType;
 use crate::rule::TransitionRule;
 use crate::zone::leap_second::LeapSecond;
+use crate::zone::one_pass::pieces_in_one_pass;
 use crate::zone::pieces::{Piece, latest};
 use crate::zone::probes::Probes;
 use crate::zone::segments::{Lists, index_of_segment, listed, pieces_of, table_count};
@@ -53,8 +54,10 @@ impl Index {
         if lists.transitions.is_empty() {
             return Ok(Index::without_pieces(alloc, lists));
         }
-        let count = table_count(lists);
-        let all = pieces_of(alloc, lists, 0, count)?;
+        let all = match pieces_in_one_pass(alloc, lists)? {
+            Some(pieces) => pieces,
+            None => pieces_of(alloc, lists, 0, table_count(lists))?,
+        };
         Ok(Index {
             before: all.before,
             pieces: all.pieces,

@@ -1,8 +1,10 @@
 //! The first second at which so many transitions have come, and what a clock shows then.
 
-ghost use Rattle.std.specs.Prelude.{◌≡◌, ℤ, pos, ◌≤ℤ◌, ◌↔◌, ◌<◌, ◌≤◌, length, take};
+ghost use Rattle.std.specs.Prelude.{◌≡◌, ℤ, pos, ◌+ℤ◌, ◌≤ℤ◌, ◌↔◌, ◌<◌, ◌≤◌, length, take};
+ghost use Rattle.std.specs.Int.{saturate_signed, w64};
 ghost use Rattle.tz_info.specs.Leaps.{AreLeapSeconds, corrections};
 ghost use Rattle.tz_info.specs.Lists.{last_else};
+ghost use Rattle.tz_info.specs.LocalTypes.{IsUtOffset};
 ghost use Rattle.tz_info.specs.Steps.Starts.{HaveCome, IsReachedFrom, IsCut};
 ghost use Rattle.tz_info.specs.Transitions.{AreRising};
 ghost use Rattle.tz_info.specs.WallPieces.{IsStart};
@@ -63,6 +65,14 @@ pub(super) fn start_of(transitions: &[Transition], leaps: &[LeapSecond], count: 
     first_second(leaps, transitions[count - 1].unix_leap_time)
 }
 
+/// What a clock of that type shows at the second.
+pub(super) fn cut_at(second: i64, local_type: &LocalTimeType) -> i64
+    ensures offset { IsUtOffset local_type.now.offset }
+    ensures sum { result ≡ saturate_signed w64 (second +ℤ local_type.now.offset) }
+{
+    second.saturating_add(local_type.offset() as i64)
+}
+
 /// What a clock of that type shows at the first second at which so many transitions have come.
 pub(super) fn cut_of(
     transitions: &[Transition],
@@ -76,5 +86,5 @@ pub(super) fn cut_of(
     requires count { count ≤ length transitions.now }
     ensures { IsCut transitions.now leaps.now count local_type.now.offset result }
 {
-    start_of(transitions, leaps, count).saturating_add(local_type.offset() as i64)
+    cut_at(start_of(transitions, leaps, count), local_type)
 }
