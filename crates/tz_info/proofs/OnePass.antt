@@ -5,11 +5,12 @@ use Rattle.std.proofs.lemmas.List.{length_push}
 use Rattle.std.proofs.lemmas.List.Quantifiers.{all_pairs_push}
 use Rattle.offset_core.specs.declared.local_result.LocalResult.{LocalResult}
 use Rattle.offset_core.specs.declared.local_result.LocalResult.TheVariants.{None, Single, Ambiguous}
+use Rattle.tz_info.specs.Leaps.{least_time}
 use Rattle.tz_info.specs.LocalTypes.{LocalType, IsUtOffset}
 use Rattle.tz_info.specs.Segments.{index_of, table_count, table_count_by}
 use Rattle.tz_info.specs.Steps.Answers.{joined}
 use Rattle.tz_info.specs.Steps.Merging.{IsMerged}
-use Rattle.tz_info.specs.Steps.Pieces.{ArePieces, ArePiecesAt, IsGap, IsFold}
+use Rattle.tz_info.specs.Steps.Pieces.{ArePieces, ArePiecesAt, IsGap, IsFold, IsCutAt, AreCutsCrossed}
 use Rattle.tz_info.specs.Steps.Starts.{IsCut}
 use Rattle.tz_info.specs.WallPieces.{answer_before, answer_at, AreInOrder}
 use Rattle.tz_info.specs.Zones.{Zone, IsValid, HasType}
@@ -150,7 +151,7 @@ ends_behind z place latest p q a h = ⊎_elim
     (λ fold. let o = fold.order in let i : latest ≤ℤ a.start = rw fold.both at h in omega (arith, ints))
     a.pieces
 
-within_table : (z : Zone) (k : ℕ) → k < table_count z → k ≤ length z.transitions
+pub within_table : (z : Zone) (k : ℕ) → k < table_count z → k ≤ length z.transitions
 within_table z k h = ⊎_elim (λ less. omega arith) (λ q. q.1) (own_segment z.rule k (length z.transitions) h)
 
 -- the pieces of one segment more
@@ -176,3 +177,34 @@ open_more z place b ps out latest p q valid inner_start table o a h e =
           let segment = last_pieces z place a.start (index_of z.transitions place) a.type valid table inner_start (omega arith) refl a.listed a.offset a.starts in
           rw (joined_none b) at (pieces_joined z 0 place (suc place) b None (ps ++ (piece a.end None ∷ [])) (piece a.start (Single (index_of z.transitions place)) ∷ []) ((ps ++ (p ∷ [])) ++ (q ∷ [])) valid inner_start (omega arith) first segment r.merged);
     })
+
+-- ---- cuts that cross
+
+pub first_cut : (z : Zone) (place : ℕ) (p q : Piece) → ArePiecesAt z place p q → IsCutAt z place p.start
+first_cut z place p q a = ⊎_elim
+    (λ gap. rw gap.none (record { type = a.type_before; listed = inl a.listed_before; is_cut = a.ends }))
+    (λ fold. rw fold.both (record { type = a.type; listed = inr a.listed; is_cut = a.starts }))
+    a.pieces
+
+pub last_cut : (z : Zone) (place : ℕ) (p q : Piece) → ArePiecesAt z place p q → IsCutAt z place q.start
+last_cut z place p q a = ⊎_elim
+    (λ gap. rw gap.next (record { type = a.type; listed = inr a.listed; is_cut = a.starts }))
+    (λ fold. rw fold.next (record { type = a.type_before; listed = inl a.listed_before; is_cut = a.ends }))
+    a.pieces
+
+-- the last cut before that place, or the least number where there is none
+abbrev pub IsLatest : Zone → ℕ → ℤ → Type 0
+IsLatest z place latest = ((place ≡ 1) × (latest ≡ least_time)) ⊎ ((1 < place) × IsCutAt z (place - 1) latest)
+
+pub latest_more : (z : Zone) (place : ℕ) (cut : ℤ) → 0 < place → IsCutAt z place cut → IsLatest z (suc place) cut
+latest_more z place cut h c = let one : suc place - 1 ≡ place = omega arith in inr (omega arith, rw one c)
+
+pub crossed_by : (z : Zone) (place : ℕ) (latest cut : ℤ) → place ≤ length z.transitions → IsLatest z place latest → IsCutAt z place cut → least_time ≤ℤ cut → cut <ℤ latest → AreCutsCrossed z
+crossed_by z zero latest cut n l c low less = ⊎_elim (λ h. let e = h.0 in absurd (omega arith)) (λ h. let e = h.0 in absurd (omega arith)) l
+crossed_by z (suc k) latest cut n l c low less = ⊎_elim
+    (λ h. let e = h.1 in absurd (omega (arith, ints)))
+    (λ h.
+    let one : suc k - 1 ≡ k = omega arith in
+    let more = h.0 in
+    record { place = k; first = omega arith; within = n; cut = latest; next_cut = cut; is_cut = rw one at h.1; is_next_cut = c; crossed = less })
+    l

@@ -77,3 +77,20 @@ pub record ArePiecesAt (z : Zone) (place : ℕ) (first last : Piece) : Type 0 wh
   pub ends : IsCut z.transitions z.leaps place type_before.offset end
   pub starts : IsCut z.transitions z.leaps place type.offset start
   pub pieces : IsGap end start (index_of z.transitions place) first last ⊎ IsFold end start (index_of z.transitions (place - 1)) (index_of z.transitions place) first last
+
+-- `cut` is a local time at which the segment before that place ends, or the one at that place starts
+pub record IsCutAt (z : Zone) (place : ℕ) (cut : ℤ) : Type 0 where
+  pub type : LocalType
+  pub listed : HasType z (index_of z.transitions (place - 1)) type ⊎ HasType z (index_of z.transitions place) type
+  pub is_cut : IsCut z.transitions z.leaps place type.offset cut
+
+-- of two neighbouring transitions the later one cuts the axis before the earlier one does
+pub record AreCutsCrossed (z : Zone) : Type 0 where
+  pub place : ℕ
+  pub first : 0 < place
+  pub within : place < length z.transitions
+  pub cut : ℤ
+  pub next_cut : ℤ
+  pub is_cut : IsCutAt z place cut
+  pub is_next_cut : IsCutAt z (suc place) next_cut
+  pub crossed : next_cut <ℤ cut

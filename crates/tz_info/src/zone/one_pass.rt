@@ -1,8 +1,8 @@
 //! The pieces of a zone's table in one pass over its transitions, where their cuts come in order.
 
-ghost use Rattle.std.specs.Prelude.{◌≡◌, ◌<◌, length, IfSome, MatchResult};
+ghost use Rattle.std.specs.Prelude.{◌≡◌, ◌<◌, length, MatchOption, MatchResult};
 ghost use Rattle.tz_info.specs.Segments.{table_count};
-ghost use Rattle.tz_info.specs.Steps.Pieces.{zone_in, ArePieces, ArePiecesAt};
+ghost use Rattle.tz_info.specs.Steps.Pieces.{zone_in, ArePieces, ArePiecesAt, AreCutsCrossed};
 ghost use Rattle.tz_info.specs.Zones.{IsValid};
 ghost use Rattle.tz_info.specs.declared.error.Error.TheVariants.{OutOfMemory};
 
@@ -19,8 +19,8 @@ pub(super) fn pieces_in_one_pass(alloc: Global, lists: Lists) -> Result<Option<P
     requires valid { IsValid (zone_in lists) }
     requires some { 0 < length lists.transitions.now }
     ensures { MatchResult result
-        (λ made. IfSome made (λ s.
-        ArePieces (zone_in lists.entry) 0 (table_count (zone_in lists.entry)) s.before s.pieces.items))
+        (λ made. MatchOption made (AreCutsCrossed (zone_in lists.entry)) (λ s. ArePieces
+        (zone_in lists.entry) 0 (table_count (zone_in lists.entry)) s.before s.pieces.items))
         (λ e. e ≡ OutOfMemory) }
 {
     let count = table_count(lists);

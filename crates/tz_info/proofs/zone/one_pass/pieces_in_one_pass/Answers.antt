@@ -1,24 +1,49 @@
-use Rattle.std.proofs.Common.{◌≡◌, ◌++◌, ◌∷◌, [], ◌∙◌, ap, List, arith, add-one, to_z-of_z, w64, rules}
+use Rattle.std.proofs.Common.{◌≡◌, ◌++◌, ◌∷◌, [], ◌∙◌, ap, refl, inl, inr, List, arith, add-one, to_z-of_z, w64, rules}
 use mir.Val.{SFits}
 use Rattle.std.proofs.lemmas.Int.{ints}
 use Rattle.tz_info.specs.Segments.{table_count}
 use Rattle.tz_info.specs.Steps.Pieces.{zone_in}
 use Rattle.tz_info.specs.declared.zone.pieces.Piece.{Piece}
-use Rattle.tz_info.proofs.OnePass.{open_first, open_more, table_most}
+use Rattle.tz_info.proofs.OnePass.{open_first, open_more, table_most, within_table, first_cut, last_cut, latest_more, crossed_by}
 use Rattle.tz_info.proofs.zone.one_pass.pieces_in_one_pass.Goals as goal
 use Rattle.tz_info.proofs.zone.one_pass.pieces_in_one_pass.Goals.{then-count-lists+else-end-latest+in_ok-push-3, else-count-lists}
 
 pub loop-place-init : goal.loop-place-init
-loop-place-init c = rw c.in_ok-pieces.ensures.items (open_first (zone_in c.args.lists) _ c.requires.valid c.requires.some)
+loop-place-init c = record {
+  pieces = rw c.in_ok-pieces.ensures.items (open_first (zone_in c.args.lists) _ c.requires.valid c.requires.some);
+  latest = inl (refl, refl);
+}
 
 pub loop-place-preserved : goal.loop-place-preserved
 loop-place-preserved c =
     let ff : SFits w64 c.pieces_at.result.0.start = search rules in
     let fl : SFits w64 c.pieces_at.result.1.start = search rules in
     let count = c.table_count-count.ensures in
-    let held = rw c.loop-place.latest-is at c.loop-place.invariant in
-    let out = (c.in_ok-push-2.ensures.items ∙ ap (λ (ps : List Piece). ps ++ (c.pieces_at.result.1 ∷ [])) c.in_ok-push.ensures.items) in
-    rw add-one (simp to_z-of_z (open_more (zone_in c.args.lists) c.loop-place.place _ c.loop-place.pieces.items _ c.loop-place.latest c.pieces_at.result.0 c.pieces_at.result.1 c.requires.valid (omega arith) (omega arith) held c.pieces_at.ensures (omega (arith, ints)) out))
+    let held = rw c.loop-place.latest-is at c.loop-place.invariant.pieces in
+    let out = c.in_ok-push-2.ensures.items ∙ ap (λ (ps : List Piece). ps ++ (c.pieces_at.result.1 ∷ [])) c.in_ok-push.ensures.items in
+    rw add-one (record {
+      pieces = simp to_z-of_z (open_more (zone_in c.args.lists) c.loop-place.place _ c.loop-place.pieces.items _ c.loop-place.latest c.pieces_at.result.0 c.pieces_at.result.1 c.requires.valid (omega arith) (omega arith) held c.pieces_at.ensures (omega (arith, ints)) out);
+      latest = simp to_z-of_z (latest_more (zone_in c.args.lists) c.loop-place.place c.pieces_at.result.1.start (omega arith) (last_cut (zone_in c.args.lists) c.loop-place.place c.pieces_at.result.0 c.pieces_at.result.1 c.pieces_at.ensures));
+    })
+
+pub returns-then-first-latest : goal.returns-then-first-latest
+returns-then-first-latest c =
+    let ff : SFits w64 c.pieces_at.result.0.start = search rules in
+    let count = c.table_count-count.ensures in
+    let held = rw c.loop-place.latest-is at c.loop-place.invariant.latest in
+    crossed_by (zone_in c.args.lists) c.loop-place.place c.loop-place.latest c.pieces_at.result.0.start (within_table (zone_in c.args.lists) c.loop-place.place (omega arith)) held
+    (first_cut (zone_in c.args.lists) c.loop-place.place c.pieces_at.result.0 c.pieces_at.result.1 c.pieces_at.ensures) (omega (arith, ints)) (omega (arith, ints))
+
+pub returns-then-end-latest : goal.returns-then-end-latest
+returns-then-end-latest c =
+    let fe : SFits w64 c.cut_of-end.result = search rules in
+    let some = c.requires.some in
+    let until = c.loop-place.auto.place-end (omega arith) in
+    let here : c.table_count-count.result ≡ c.loop-place.place = let far = c.loop-place-test.false in omega arith in
+    let held = rw c.loop-place.latest-is at c.loop-place.invariant.latest in
+    let has = rw (c.index_of_segment.ensures.index, here) at c.listed-last_type.ensures.listed in
+    crossed_by (zone_in c.args.lists) c.loop-place.place c.loop-place.latest c.cut_of-end.result (omega arith) held
+    (record { type = c.listed-last_type.result.now; listed = inl has; is_cut = rw here at c.cut_of-end.ensures }) (omega (arith, ints)) (omega (arith, ints))
 
 pub returns : goal.returns
 returns c =
@@ -32,6 +57,6 @@ returns c =
           let fe : SFits w64 w.cut_of-end.result = search rules in
           let here : c.table_count-count.result ≡ c.loop-place.place = omega arith in
           let has = rw (w.index_of_segment.ensures.index, here) at w.listed-last_type.ensures.listed in
-          rw (w.pieces-is, simp to_z-of_z at w.in_ok-push-3.ensures.items, c.index_of_segment-2.ensures.index) (rw all at (c.loop-place.invariant.closed (omega arith) w.listed-last_type.result.now w.cut_of-end.result has w.listed-last_type.ensures.offset (rw here at w.cut_of-end.ensures) (omega (arith, ints))))
-      | else-count-lists w ↦ rw (w.pieces-is, c.index_of_segment-2.ensures.index) (rw all at (c.loop-place.invariant.whole (let rule = w.if-count-lists.false in omega arith)))
+          rw (w.pieces-is, simp to_z-of_z at w.in_ok-push-3.ensures.items, c.index_of_segment-2.ensures.index) (rw all at (c.loop-place.invariant.pieces.closed (omega arith) w.listed-last_type.result.now w.cut_of-end.result has w.listed-last_type.ensures.offset (rw here at w.cut_of-end.ensures) (omega (arith, ints))))
+      | else-count-lists w ↦ rw (w.pieces-is, c.index_of_segment-2.ensures.index) (rw all at (c.loop-place.invariant.pieces.whole (let rule = w.if-count-lists.false in omega arith)))
     ]
