@@ -13,8 +13,8 @@ use crate::zone::starts::{cut_at, cut_of, start_of};
 use offset_core::MappedLocalTime;
 use std::alloc::Global;
 
-/// The pieces of the table, two for each transition. None where a transition cuts before the cuts
-/// of the one before, as where the two lie closer together than their offsets differ.
+/// The pieces of the table, two for each transition. None where a transition cuts the axis before
+/// the one before it does, as where the two lie closer together than their offsets differ.
 pub(super) fn pieces_in_one_pass(alloc: Global, lists: Lists) -> Result<Option<Pieces>, Error>
     requires valid { IsValid (zone_in lists) }
     requires some { 0 < length lists.transitions.now }
