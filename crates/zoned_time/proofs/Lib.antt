@@ -1,3 +1,4 @@
+pub mod Answered
 pub mod ForCallers
 pub mod Homes
 pub mod Instants

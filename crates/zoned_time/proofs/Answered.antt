@@ -1,0 +1,93 @@
+-- Each choice has an answer for each reading that the wall clock has one for.
+use Rattle.std.proofs.Common.{◌≡◌, ℕ, zero, suc, ℤ, pos, neg_ℤ, ◌+ℤ◌, ◌-ℤ◌, ◌<ℤ◌, ◌≤ℤ◌, ◌⊎◌, inl, inr, refl, arith}
+use Rattle.std.proofs.lemmas.Int.{ints, by_lt_z}
+use Rattle.offset_core.specs.Offset.{IsWithinDay}
+use Rattle.offset_core.specs.WallAnswer.{IsWallAnswer, IsNeverShown}
+use Rattle.offset_core.specs.declared.choice.Choice.{Choice}
+use Rattle.offset_core.specs.declared.choice.GapChoice.{GapChoice}
+use Rattle.offset_core.specs.declared.choice.GapChoice.TheVariants.{Refuse as RefuseGap, ShiftForward}
+use Rattle.offset_core.specs.declared.choice.FoldChoice.{FoldChoice}
+use Rattle.offset_core.specs.declared.choice.FoldChoice.TheVariants.{Refuse as RefuseFold, Earliest, Latest}
+use Rattle.offset_core.specs.declared.local_result.LocalResult.{LocalResult}
+use Rattle.offset_core.specs.declared.local_result.LocalResult.TheVariants.{Single, Ambiguous, None}
+use Rattle.naive_base.specs.Range.{IsInRange, IsWide}
+use Rattle.zoned_time.specs.Choice.{IsBeforeGap, IsTaken, once, earliest, latest, shifted, IsUnresolved, gap, fold, out_of_range}
+use Rattle.zoned_time.specs.Zone.{IsZoneSecond, Shows}
+use Rattle.zoned_time.specs.declared.resolve_error.ResolveError.{ResolveError}
+use Rattle.zoned_time.specs.declared.resolve_error.ResolveError.TheVariants.{Gap, Fold, OutOfRange}
+
+-- the first second from a start on of which p holds, where p is decided and holds of some later second
+first_from : (p : ℤ → Type 0) → ((u : ℤ) → p u ⊎ (p u → ⊥)) → (n : ℕ) (start end : ℤ) → end ≡ start +ℤ pos n → p end
+    → (first : ℤ) × (start ≤ℤ first) × (first ≤ℤ end) × p first × ((u : ℤ) → start ≤ℤ u → p u → first ≤ℤ u)
+first_from p decide zero start end e h = (end, omega (arith, ints, e), omega (arith, ints), h, λ u from k. omega (arith, ints, e, from))
+first_from p decide (suc n) start end e h = elim (decide start) [
+  | inl here ↦ (start, omega (arith, ints), omega (arith, ints, e), here, λ u from k. from)
+  | inr not ↦
+      let later = first_from p decide n (start +ℤ pos 1) end (omega (arith, ints, e)) h in
+      let from_later = later.1 in
+      (later.0, omega (arith, ints, from_later), later.2, later.3, λ u from k.
+        by_lt_z start u (λ behind. later.4 u (omega (arith, ints, behind)) k)
+        (λ at. let same : start ≡ u = omega (arith, ints, at, from) in absurd (not (rw same k))))
+]
+
+less_or_not : (a b : ℤ) → (a <ℤ b) ⊎ (a <ℤ b → ⊥)
+less_or_not a b = by_lt_z a b (λ less. inl less) (λ more. inr (λ less. absurd (omega (arith, ints, more, less))))
+
+-- a reading that no clock shows has an offset before it
+pub gap_has_offset : (off : ℤ → ℤ) (l : ℤ) → ((u : ℤ) → IsZoneSecond u → IsWithinDay (off u)) → IsWide l → IsNeverShown (Shows off l) → (k : ℤ) × IsBeforeGap off l k
+gap_has_offset off l day wide never =
+    let p = λ (u : ℤ). l <ℤ (u +ℤ off u) in
+    let start : ℤ = l -ℤ pos 86_399 in
+    let end : ℤ = l +ℤ pos 86_400 in
+    let end_day = day end (omega (arith, ints, wide.0, wide.1), omega (arith, ints, wide.0, wide.1)) in
+    let found = first_from p (λ u. less_or_not l (u +ℤ off u)) 172_799 start end (omega (arith, ints)) (omega (arith, ints, end_day.0)) in
+    let c = found.0 in
+    let from = found.1 in
+    let to = found.2 in (
+      off (c -ℤ pos 1),
+      record {
+        never = never;
+        first = c;
+        in_zone = ((omega (arith, ints, wide.0, from), omega (arith, ints, wide.1, to)), (omega (arith, ints, wide.0, from), omega (arith, ints, wide.1, to)));
+        more = found.3;
+        least = λ u inside more. by_lt_z u start (λ early. let within = day u inside in absurd (omega (arith, ints, within.1, early, more))) (λ late. found.4 u late more);
+        before = refl;
+      },
+    )
+
+range_or_not : (s : ℤ) → IsInRange s ⊎ (IsInRange s → ⊥)
+range_or_not s = by_lt_z s (neg_ℤ (pos 8_334_601_228_800))
+    (λ low. inr (λ h. let from = h.0 in omega (arith, ints, low, from)))
+    (λ from. by_lt_z (pos 8_210_266_876_799) s (λ high. inr (λ h. let to = h.1 in omega (arith, ints, high, to))) (λ to. inl (from, to)))
+
+-- an instant in range, by the offset that is taken; or why there is none
+abbrev pub IsDecided : (ℤ → ℤ) → ℤ → Choice → Type 0
+IsDecided off l choice = ((k : ℤ) × IsTaken off l choice k × IsInRange (l -ℤ k)) ⊎ ((e : ResolveError) × IsUnresolved off l choice e)
+
+by_offset : (off : ℤ → ℤ) (l : ℤ) (choice : Choice) (k : ℤ) → IsTaken off l choice k → IsDecided off l choice
+by_offset off l choice k taken = elim (range_or_not (l -ℤ k)) [
+  | inl inside ↦ inl (k, taken, inside)
+  | inr outside ↦ inr (OutOfRange, out_of_range k taken outside refl)
+]
+
+in_fold : (c : FoldChoice) → (c ≡ RefuseFold) ⊎ (c ≡ Earliest) ⊎ (c ≡ Latest)
+in_fold RefuseFold = inl refl
+in_fold Earliest = inr (inl refl)
+in_fold Latest = inr (inr refl)
+
+in_gap : (c : GapChoice) → (c ≡ RefuseGap) ⊎ (c ≡ ShiftForward)
+in_gap RefuseGap = inl refl
+in_gap ShiftForward = inr refl
+
+pub choice_decided : (off : ℤ → ℤ) (l : ℤ) (choice : Choice) → ((u : ℤ) → IsZoneSecond u → IsWithinDay (off u)) → IsWide l
+    → (shown : LocalResult ℤ) → IsWallAnswer (Shows off l) shown → IsDecided off l choice
+choice_decided off l choice day wide (Single k) wall = by_offset off l choice k (once wall)
+choice_decided off l choice day wide (Ambiguous a b) wall = elim (in_fold choice.fold) [
+  | inl refused ↦ inr (Fold, fold a b wall refused refl)
+  | inr (inl first) ↦ by_offset off l choice a (earliest b wall first)
+  | inr (inr last) ↦ by_offset off l choice b (latest a wall last)
+]
+choice_decided off l choice day wide None wall = elim (in_gap choice.gap) [
+  | inl refused ↦ inr (Gap, gap wall refused refl)
+  | inr shift ↦ let before = gap_has_offset off l day wide wall in by_offset off l choice before.0 (shifted before.1 shift)
+]
