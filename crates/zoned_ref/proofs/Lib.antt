@@ -3,3 +3,4 @@ pub mod Instants
 pub mod Offsets
 pub mod Walls
 pub mod Gaps
+pub mod Choices

@@ -1,0 +1,23 @@
+-- Each choice has an answer for each reading, by the offsets of a narrow zone.
+use Rattle.std.proofs.Common.{ℤ, ◌-ℤ◌, ◌⊎◌}
+use Rattle.offset_core.specs.declared.choice.Choice.{Choice}
+use Rattle.offset_core.specs.LocalResult.{map_of}
+use Rattle.naive_base.specs.Range.{IsInRange, IsWide}
+use Rattle.tz_info.specs.Zones.{Zone, IsValid, IsRuleOrNone}
+use Rattle.tz_info.proofs.ForCallers.{wall_decided}
+use Rattle.zoned_time.specs.Choice.{IsTaken, IsUnresolved}
+use Rattle.zoned_time.specs.declared.resolve_error.ResolveError.{ResolveError}
+use Rattle.zoned_time.proofs.ForCallers.{choice_decided}
+use Rattle.zoned_ref.specs.Offsets.{IsNarrow, AreOffsetsOf}
+use Rattle.zoned_ref.specs.OffsetAt.{offset_at}
+use Rattle.zoned_ref.proofs.Offsets.{zone_has_offsets, are_offsets, offsets_within}
+use Rattle.zoned_ref.proofs.Walls.{zone_wall}
+
+pub choice_covered : (z : Zone) (l : ℤ) (choice : Choice) → IsValid z → IsRuleOrNone z.rule → IsNarrow z → IsWide l
+    → (off : ℤ → ℤ) × AreOffsetsOf z off × (((k : ℤ) × IsTaken off l choice k × IsInRange (l -ℤ k)) ⊎ ((e : ResolveError) × IsUnresolved off l choice e))
+choice_covered z l choice valid rule narrow wide =
+    let has = zone_has_offsets z valid rule in
+    let off = offset_at z ∣ has ∣₁ in
+    let of_zone = are_offsets z ∣ has ∣₁ has in
+    let types = wall_decided z l valid rule in
+    (off, of_zone, choice_decided off l choice (offsets_within z ∣ has ∣₁ has narrow) wide (map_of (λ t. t.offset) types.0) (zone_wall z off l narrow of_zone wide types.0 types.1))
