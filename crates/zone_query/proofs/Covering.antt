@@ -8,12 +8,14 @@ use Rattle.tz_info.specs.Zones.{Zone, IsValid, IsRuleOrNone}
 use Rattle.tz_info.proofs.ForCallers.{type_decided, file_rule_fits, posix_zone_valid, wall_decided}
 use Rattle.zone_query.specs.Answers.{AnswersLine, AnswersLines, type_text, wall_text, refusal_text}
 use Rattle.zone_query.specs.Lines.{HasNoNewline, IsCut, ended_lines}
-use Rattle.zone_query.specs.Questions.{Query, Text, Data, At, Wall, Show, Asks}
+use Rattle.zone_query.specs.Questions.{Query, Text, Data, At, Wall, Resolve, Show, Asks}
 use Rattle.zone_query.specs.Runs.{AnswersBefore, BeginsAnswers}
 use Rattle.zone_query.specs.Steps.Blocks.{Answered}
 use Rattle.zone_query.specs.Steps.Hopeless.{IsKeptFor}
 use Rattle.zone_query.specs.Steps.LastLine.{AnswersLast}
 use Rattle.zone_query.proofs.Deciding.{asks_or_bad}
+use Rattle.zone_query.proofs.LocalTimes.{time_in_range}
+use Rattle.zone_query.proofs.Resolving.{resolve_covered}
 use Rattle.zone_query.proofs.Showing.{show_covered}
 use Rattle.zone_query.proofs.Joining.{answered_join, answers_all}
 
@@ -29,6 +31,7 @@ line_gives z line answer after given (inl (Data bytes, asks, inl found)) = subst
 line_gives z line answer after given (inl (Data bytes, asks, inr refused)) = subst IsGiven (sym refused.3) given
 line_gives z line answer after given (inl (At seconds, asks, told)) = subst IsGiven (sym told.1) given
 line_gives z line answer after given (inl (Wall local, asks, told)) = subst IsGiven (sym told.1) given
+line_gives z line answer after given (inl (Resolve l choice, asks, told)) = subst IsGiven (sym told.1) given
 line_gives z line answer after given (inl (Show seconds nanos, asks, told)) = subst IsGiven (sym told.1) given
 line_gives z line answer after given (inr bad) = subst IsGiven (sym bad.2) given
 
@@ -49,6 +52,10 @@ query_covered None line (Wall local) given asks = (codes "no zone", inl (Wall lo
 query_covered (Some zone) line (Wall local) given asks =
     let types = wall_decided zone local given.0 given.1 in
     (wall_text types.0, inl (Wall local, asks, ((types.0, types.1, refl), refl)))
+query_covered None line (Resolve l choice) given asks = (codes "no zone", inl (Resolve l choice, asks, (refl, refl)))
+query_covered (Some zone) line (Resolve l choice) given asks =
+    let resolved = resolve_covered zone l choice given.0 given.1 (time_in_range asks.2.time l.s asks.2.local) in
+    (resolved.0, inl (Resolve l choice, asks, (resolved.1, refl)))
 query_covered None line (Show seconds nanos) given asks = (codes "no zone", inl (Show seconds nanos, asks, (refl, refl)))
 query_covered (Some zone) line (Show seconds nanos) given asks =
     let shown = show_covered zone seconds nanos given.0 given.1 in

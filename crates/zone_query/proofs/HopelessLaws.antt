@@ -1,39 +1,17 @@
 -- Which beginnings of a line let no line ask anything.
-use Rattle.std.proofs.Common.{◌≡◌, ◌≢◌, ◌==◌, true, false, ℕ, ℤ, zero, suc, ◌+◌, ◌-◌, ◌<◌, ◌≤◌, ◌⊎◌, inl, inr, refl, ap, sym, ◌∙◌, subst, List, [], ◌∷◌, ◌++◌, append_assoc, All, length, get_or, take, drop, slice_index, codes, arith}
-use Rattle.std.specs.Char.{digit_value}
-use Rattle.std.specs.Str.Parse.{AllDigits}
-use Rattle.std.proofs.lemmas.Bool.{cases_eq, cases_lt}
+use Rattle.std.proofs.Common.{◌≡◌, ◌≢◌, ◌==◌, true, false, ℕ, suc, ◌+◌, ◌-◌, ◌<◌, ◌≤◌, ◌⊎◌, inl, inr, refl, ap, sym, ◌∙◌, subst, List, [], ◌∷◌, ◌++◌, append_assoc, All, length, get_or, take, drop, slice_index, codes, arith}
+use Rattle.std.proofs.lemmas.Bool.{cases_eq}
 use Rattle.std.proofs.lemmas.Bool.Decides.{nat_tests}
 use Rattle.std.proofs.lemmas.List.{take-append-drop, take-append-le, length-append, length-take, get_or_append_left, get_or-append_right, get_or-take}
-use Rattle.std.proofs.lemmas.List.Elements.{All-nil, All-cons, All-append, All-get_or}
+use Rattle.std.proofs.lemmas.List.Elements.{All-get_or}
+use Rattle.offset_core.specs.declared.choice.Choice.{Choice}
+use Rattle.naive_base.specs.Reading.{Reading}
+use Rattle.zone_query.specs.Choices.{choice_text}
 use Rattle.zone_query.specs.Lines.{without_return}
-use Rattle.zone_query.specs.Numerals.{IsInteger}
-use Rattle.zone_query.specs.Questions.{Query, Text, Data, At, Wall, Show, Asks, IsBadLine, IsLocalTime, IsTimestamp}
+use Rattle.zone_query.specs.Questions.{Text, Data, At, Wall, Resolve, Show, IsBadLine, IsChosenTime}
 use Rattle.zone_query.specs.Steps.Hopeless.{IsHopeless, IsForeign}
-use Rattle.zone_query.specs.Words.{AreNumbers}
-
--- ---- what is behind a word that numbers follow
-abbrev IsPlain : ℕ → Type 0
-IsPlain b = (b ≡ 32) ⊎ (b ≡ 45) ⊎ (digit_value b < 10)
-
-plain_digits : (digits : List ℕ) → AllDigits 10 digits → All IsPlain digits
-plain_digits [] h = All-nil IsPlain
-plain_digits (c ∷ digits) h = All-cons IsPlain c digits (inr (inr h.0)) (plain_digits digits h.1)
-
-plain_integer : (text : List ℕ) (z : ℤ) → IsInteger text z → All IsPlain text
-plain_integer text z (inl plain) = plain_digits text plain.1.0.1
-plain_integer text z (inr minus) = subst (All IsPlain) (sym minus.2) (All-cons IsPlain 45 minus.0 (inr (inl refl)) (plain_digits minus.0 minus.3.0.1))
-
-plain_numbers : (text : List ℕ) (numbers : List ℕ) → AreNumbers text numbers → All IsPlain text
-plain_numbers text [] h = subst (All IsPlain) (sym h) (All-nil IsPlain)
-plain_numbers text (n ∷ numbers) h =
-    subst (All IsPlain) (sym h.2) (All-cons IsPlain 32 (h.0 ++ h.1) (inl refl) (All-append IsPlain h.0 h.1 (plain_digits h.0 h.3.0.1) (plain_numbers h.1 numbers h.5)))
-
-plain_local_time : (text : List ℕ) (local : ℤ) → IsLocalTime text local → All IsPlain text
-plain_local_time text local h = subst (All IsPlain) (sym h.whole) (All-append IsPlain h.year h.others (plain_integer h.year h.y h.year_spelled) (plain_numbers h.others (h.m ∷ h.d ∷ h.h ∷ h.min ∷ h.s ∷ []) h.others_spelled))
-
-plain_timestamp : (text : List ℕ) (seconds : ℤ) (nanos : ℕ) → IsTimestamp text seconds nanos → All IsPlain text
-plain_timestamp text seconds nanos h = subst (All IsPlain) (sym h.whole) (All-append IsPlain h.first h.others (plain_integer h.first seconds h.seconds_spelled) (plain_numbers h.others (nanos ∷ []) h.nanos_spelled))
+use Rattle.zone_query.proofs.ChoiceWords.{choice_length}
+use Rattle.zone_query.proofs.Plain.{IsPlain, plain_integer, plain_local_time, plain_timestamp}
 
 not_foreign : (b : ℕ) → IsPlain b → IsForeign b → ⊥
 not_foreign b (inl space) h = h.1 space
@@ -47,13 +25,28 @@ none_foreign word text line k i e w from within plain h =
     let byte : get_or line i 0 ≡ get_or text (i - k) 0 = ap (λ (l : List ℕ). get_or l i 0) e ∙ get_or-append_right word text k i 0 w from in
     not_foreign (get_or text (i - k) 0) (All-get_or IsPlain text (i - k) 0 (omega (arith, lengths, w, from, within)) plain) (subst IsForeign byte h)
 
--- a line of numbers with a foreign byte
-foreign_bad : (line : List ℕ) (i : ℕ) → 5 ≤ i → i < length line → IsForeign (get_or line i 0) → ((rest : List ℕ) → line ≢ codes "text " ++ rest) → ((rest : List ℕ) → line ≢ codes "data " ++ rest) → IsBadLine line
+-- nor before a choice, which has 15 bytes at most, and the space before it
+none_before_choice : (text : List ℕ) (l : Reading) (choice : Choice) (line : List ℕ) (i : ℕ) → line ≡ codes "wall " ++ text → 5 ≤ i → i + 16 < length line → IsChosenTime text l choice → IsForeign (get_or line i 0) → ⊥
+none_before_choice text l choice line i e from within h =
+    let end = codes " " ++ choice_text choice in
+    let whole : line ≡ codes "wall " ++ (h.time ++ end) = e ∙ ap (λ (t : List ℕ). codes "wall " ++ t) h.whole in
+    let short = choice_length choice.gap choice.fold in
+    let lengths : length line ≡ 5 + length (h.time ++ end) = ap length whole ∙ length-append (codes "wall ") (h.time ++ end) in
+    let parts = length-append h.time end in
+    let last : length end ≡ 1 + length (choice_text choice) = length-append (codes " ") (choice_text choice) in
+    let inside : i - 5 < length h.time = omega (arith, from, within, short, lengths, parts, last) in
+    let byte : get_or line i 0 ≡ get_or h.time (i - 5) 0 =
+    ap (λ (t : List ℕ). get_or t i 0) whole ∙ get_or-append_right (codes "wall ") (h.time ++ end) 5 i 0 refl from ∙ get_or_append_left h.time end 0 (i - 5) inside in
+    λ foreign. not_foreign (get_or h.time (i - 5) 0) (All-get_or IsPlain h.time (i - 5) 0 inside (plain_local_time h.time l.s h.local)) (subst IsForeign byte foreign)
+
+-- a line of numbers with a foreign byte that is no part of a choice
+foreign_bad : (line : List ℕ) (i : ℕ) → 5 ≤ i → i + 16 < length line → IsForeign (get_or line i 0) → ((rest : List ℕ) → line ≢ codes "text " ++ rest) → ((rest : List ℕ) → line ≢ codes "data " ++ rest) → IsBadLine line
 foreign_bad line i from within foreign no_text no_data (Text text) h = no_text text h.0
 foreign_bad line i from within foreign no_text no_data (Data bytes) h = no_data h.0 h.1
-foreign_bad line i from within foreign no_text no_data (At seconds) h = none_foreign (codes "at ") h.0 line 3 i h.1 refl (omega (arith, from)) within (plain_integer h.0 seconds h.2) foreign
-foreign_bad line i from within foreign no_text no_data (Wall local) h = none_foreign (codes "wall ") h.0 line 5 i h.1 refl from within (plain_local_time h.0 local h.2) foreign
-foreign_bad line i from within foreign no_text no_data (Show seconds nanos) h = none_foreign (codes "show ") h.0 line 5 i h.1 refl from within (plain_timestamp h.0 seconds nanos h.2) foreign
+foreign_bad line i from within foreign no_text no_data (At seconds) h = none_foreign (codes "at ") h.0 line 3 i h.1 refl (omega (arith, from)) (omega (arith, within)) (plain_integer h.0 seconds h.2) foreign
+foreign_bad line i from within foreign no_text no_data (Wall local) h = none_foreign (codes "wall ") h.0 line 5 i h.1 refl from (omega (arith, within)) (plain_local_time h.0 local h.2) foreign
+foreign_bad line i from within foreign no_text no_data (Resolve l choice) h = none_before_choice h.0 l choice line i h.1 from within h.2 foreign
+foreign_bad line i from within foreign no_text no_data (Show seconds nanos) h = none_foreign (codes "show ") h.0 line 5 i h.1 refl from (omega (arith, within)) (plain_timestamp h.0 seconds nanos h.2) foreign
 
 -- ---- lines that begin with the same five bytes
 -- where one of them begins with a word, so does the other
@@ -77,18 +70,19 @@ wordless_bad line front same nt nd others (Text text) h = no_text line front sam
 wordless_bad line front same nt nd others (Data bytes) h = no_data line front same nd h.0 h.1
 wordless_bad line front same nt nd others (At seconds) h = no_word (codes "at ") (take 2) (λ rest. refl) line front same others.0 h.0 h.1
 wordless_bad line front same nt nd others (Wall local) h = no_word (codes "wall ") (take 0) (λ rest. refl) line front same others.1 h.0 h.1
+wordless_bad line front same nt nd others (Resolve l choice) h = no_word (codes "wall ") (take 0) (λ rest. refl) line front same others.1 h.0 h.1
 wordless_bad line front same nt nd others (Show seconds nanos) h = no_word (codes "show ") (take 0) (λ rest. refl) line front same others.2 h.0 h.1
 
 -- ---- with and without a carriage return
--- a line that goes on from a front has its bytes
+-- a line that goes on from a front has its bytes; but for the last ones, which may be a choice and a carriage return
 record GoesOn (front line : List ℕ) : Type 0 where
   begins : take 5 line ≡ take 5 front
-  has : (i : ℕ) → i < length front → IsForeign (get_or front i 0) → (i < length line) × IsForeign (get_or line i 0)
+  has : (i : ℕ) → i + 17 < length front → IsForeign (get_or front i 0) → (i + 16 < length line) × IsForeign (get_or line i 0)
 
 goes_on : (front more : List ℕ) → 5 < length front → GoesOn front (front ++ more)
 goes_on front more some = record {
   begins = take-append-le 5 front more (omega (arith, some));
-  has = λ i h foreign. let l = length-append front more in (omega (arith, l, h), subst IsForeign (sym (get_or_append_left front more 0 i h)) foreign);
+  has = λ i h foreign. let l = length-append front more in (omega (arith, l, h), subst IsForeign (sym (get_or_append_left front more 0 i (omega (arith, h)))) foreign);
 }
 
 take_shorter : (line : List ℕ) (n : ℕ) → 5 ≤ n → n ≤ length line → take 5 (take n line) ≡ take 5 line
@@ -96,19 +90,13 @@ take_shorter line n h within =
     let l = length-take n line in
     sym (take-append-le 5 (take n line) (drop n line) (omega (arith, l, h, within))) ∙ ap (take 5) (take-append-drop n line)
 
-shortened : (front line : List ℕ) → 5 < length front → length front ≤ length line → slice_index line (length line - 1) ≡ 13 → GoesOn front line → GoesOn front (take (length line - 1) line)
-shortened front line some within last g = record {
+shortened : (front line : List ℕ) → 5 < length front → length front ≤ length line → GoesOn front line → GoesOn front (take (length line - 1) line)
+shortened front line some within g = record {
   begins = take_shorter line (length line - 1) (omega (arith, some, within)) (omega arith) ∙ g.begins;
   has = λ i h foreign.
       let there = g.has i h foreign in
-      elim (cases_lt i (length line - 1)) [
-        | inl before ↦
-            let l = length-take (length line - 1) line in
-            (omega (arith, l, before), subst IsForeign (sym (get_or-take (length line - 1) line i 0 before)) there.1)
-        | inr at ↦
-            let same : i ≡ length line - 1 = omega (arith, at, there.0) in
-            absurd (there.1.3 (ap (λ (k : ℕ). get_or line k 0) same ∙ last))
-      ];
+      let l = length-take (length line - 1) line in
+      (omega (arith, l, h, within), subst IsForeign (sym (get_or-take (length line - 1) line i 0 (omega (arith, h, within)))) there.1);
 }
 
 cut_or_whole : (line : List ℕ) → ((slice_index line (length line - 1) ≡ 13) × (without_return line ≡ take (length line - 1) line)) ⊎ (without_return line ≡ line)
@@ -122,7 +110,7 @@ hopeless front some bad = record {
   some = omega (arith, some);
   whole = λ more. bad (front ++ more) (goes_on front more some);
   ended = λ more. elim (cut_or_whole (front ++ more)) [
-    | inl cut ↦ let l = length-append front more in subst IsBadLine (sym cut.1) (bad _ (shortened front (front ++ more) some (omega (arith, l)) cut.0 (goes_on front more some)))
+    | inl cut ↦ let l = length-append front more in subst IsBadLine (sym cut.1) (bad _ (shortened front (front ++ more) some (omega (arith, l)) (goes_on front more some)))
     | inr whole ↦ subst IsBadLine (sym whole) (bad (front ++ more) (goes_on front more some))
   ];
 }
@@ -131,7 +119,7 @@ pub wordless : (front : List ℕ) → 5 < length front → ((rest : List ℕ) �
     → ((rest : List ℕ) → front ≢ codes "at " ++ rest) × ((rest : List ℕ) → front ≢ codes "wall " ++ rest) × ((rest : List ℕ) → front ≢ codes "show " ++ rest) → IsHopeless front
 wordless front some nt nd others = hopeless front some (λ line g. wordless_bad line front g.begins nt nd others)
 
-pub numberless : (front : List ℕ) (i : ℕ) → 5 < length front → 5 ≤ i → i < length front → IsForeign (get_or front i 0) → ((rest : List ℕ) → front ≢ codes "text " ++ rest) → ((rest : List ℕ) → front ≢ codes "data " ++ rest) → IsHopeless front
+pub numberless : (front : List ℕ) (i : ℕ) → 5 < length front → 5 ≤ i → i + 17 < length front → IsForeign (get_or front i 0) → ((rest : List ℕ) → front ≢ codes "text " ++ rest) → ((rest : List ℕ) → front ≢ codes "data " ++ rest) → IsHopeless front
 numberless front i some from h foreign nt nd =
     hopeless front some (λ line g. let there = g.has i h foreign in foreign_bad line i from there.0 there.1 (no_text line front g.begins nt) (no_data line front g.begins nd))
 
@@ -152,6 +140,7 @@ marked_bad rest (Text text) h = let e = heads 63 116 rest _ h.0 in absurd (omega
 marked_bad rest (Data bytes) h = let e = heads 63 100 rest _ h.1 in absurd (omega (arith, e))
 marked_bad rest (At seconds) h = let e = heads 63 97 rest _ h.1 in absurd (omega (arith, e))
 marked_bad rest (Wall local) h = let e = heads 63 119 rest _ h.1 in absurd (omega (arith, e))
+marked_bad rest (Resolve l choice) h = let e = heads 63 119 rest _ h.1 in absurd (omega (arith, e))
 marked_bad rest (Show seconds nanos) h = let e = heads 63 115 rest _ h.1 in absurd (omega (arith, e))
 
 marked_cut : (rest : List ℕ) → slice_index (63 ∷ rest) (length (63 ∷ rest) - 1) ≡ 13 → IsBadLine (take (length (63 ∷ rest) - 1) (63 ∷ rest))

@@ -8,6 +8,9 @@ pub mod Spelling
 pub mod Cutting
 pub mod LocalTimes
 pub mod Timestamps
+pub mod Plain
+pub mod ChoiceWords
+pub mod Resolving
 pub mod Showing
 pub mod Deciding
 pub mod Covering

@@ -1,6 +1,6 @@
 -- Which texts are a date and a time.
 use Rattle.std.proofs.Common.{◌≡◌, ℕ, ℤ, pos, neg_ℤ, ◌<◌, ◌≤◌, zero, suc, length, ◌≤ℤ◌, ◌⊎◌, inl, inr, refl, ap, sym, ◌∙◌, subst, List, [], ◌∷◌, arith}
-use Rattle.std.specs.Prelude.{FitsSigned, MatchOption, Option, Some, None}
+use Rattle.std.specs.Prelude.{FitsSigned, MatchOption, Option, Some, None, ◌+ℤ◌}
 use Rattle.std.specs.Int.{w32}
 use Rattle.std.proofs.lemmas.Bool.{cases_lt}
 use Rattle.std.proofs.lemmas.Int.{by_lt_z, ints}
@@ -12,7 +12,9 @@ use Rattle.naive_base.specs.NaiveDateTime.{reading, IsReadingOn}
 use Rattle.naive_base.specs.Reading.{Reading, reading_at}
 use Rattle.naive_base.specs.declared.date.NaiveDate.{NaiveDate}
 use Rattle.naive_base.specs.declared.datetime.NaiveDateTime.{NaiveDateTime}
-use Rattle.naive_base.specs.Year.{is_leap}
+use Rattle.naive_base.specs.Range.{IsInRange}
+use Rattle.naive_base.specs.Year.{is_leap, year_start}
+use Rattle.naive_base.proofs.ForCallers.{date_lies, starts_rise}
 use Rattle.zone_query.specs.Numerals.{IsInteger}
 use Rattle.zone_query.specs.Questions.{Exists, IsLocalTime}
 use Rattle.zone_query.specs.Words.{IsNextNumber, AreNumbers}
@@ -174,12 +176,32 @@ such_time text word rest y m d h min s local split year fits are exists shown = 
 }
 
 -- what the calendar and the clock say of the numbers
-pub timed : (text word rest : List ℕ) (y : ℤ) (m d h min s : ℕ) → IsSplit text word rest → IsInteger word y → FitsSigned w32 y → AreNumbers rest (m ∷ d ∷ h ∷ min ∷ s ∷ []) → (date : NaiveDate) → IsDateOf y m d (Some date) → (answer : Option NaiveDateTime) → IsReadingOn (day_of date) (IsClock h min s) (clock_second h min s) 0 answer → MatchOption answer ((local : ℤ) → IsLocalTime text local → ⊥) (λ found. IsLocalTime text (reading found).s)
+pub timed : (text word rest : List ℕ) (y : ℤ) (m d h min s : ℕ) → IsSplit text word rest → IsInteger word y → FitsSigned w32 y → AreNumbers rest (m ∷ d ∷ h ∷ min ∷ s ∷ []) → (date : NaiveDate) → IsDateOf y m d (Some date) → (answer : Option NaiveDateTime) → IsReadingOn (day_of date) (IsClock h min s) (clock_second h min s) 0 answer → MatchOption answer ((local : ℤ) → IsLocalTime text local → ⊥) (λ found. IsLocalTime text (reading found).s × ((reading found).f ≡ 0))
 timed text word rest y m d h min s split year fits are date dated None none =
     none_such text word rest y m d h min s split year are (λ e. none e.2 (omega arith, λ leap. absurd (omega (arith, leap))))
-timed text word rest y m d h min s split year fits are date dated (Some found) shown =
-    such_time text word rest y m d h min s (reading found).s split year fits are (dated.0, dated.1, shown.0)
-    (ap (λ (r : Reading). r.s) shown.2 ∙ ap (λ (day : ℤ). (reading_at day (clock_second h min s) 0).s) dated.2)
+timed text word rest y m d h min s split year fits are date dated (Some found) shown = (
+  such_time text word rest y m d h min s (reading found).s split year fits are (dated.0, dated.1, shown.0)
+      (ap (λ (r : Reading). r.s) shown.2 ∙ ap (λ (day : ℤ). (reading_at day (clock_second h min s) 0).s) dated.2),
+  ap (λ (r : Reading). r.f) shown.2,
+)
+
+-- a date and a time are in range
+first_day : year_start (neg_ℤ (pos 262_143)) ≡ neg_ℤ (pos 96_465_292)
+unfolding year_start
+first_day = refl
+
+day_behind : year_start (pos 262_142 +ℤ pos 1) ≡ pos 95_026_237
+unfolding year_start
+day_behind = refl
+
+pub time_in_range : (text : List ℕ) (local : ℤ) → IsLocalTime text local → IsInRange local
+time_in_range text local l =
+    let lies = date_lies l.y l.m l.d l.exists.1 in
+    let from = starts_rise (neg_ℤ (pos 262_143)) l.y l.exists.0.0 in
+    let to = starts_rise (l.y +ℤ pos 1) (pos 262_142 +ℤ pos 1) (omega (arith, ints, l.exists.0.1)) in
+    let clock = l.exists.2 in
+    let shown = l.shown in
+    (omega (arith, ints, lies.0, from, first_day, shown), omega (arith, ints, lies.1, to, day_behind, shown, clock.0, clock.1, clock.2))
 
 -- whether a text is a date and a time, where its year and its numbers are known
 time_by : (text word rest : List ℕ) (y : ℤ) → IsSplit text word rest → IsInteger word y → FitsSigned w32 y → (ns : List ℕ) → length ns ≡ 5 → AreNumbers rest ns → ((local : ℤ) × IsLocalTime text local) ⊎ ((local : ℤ) → IsLocalTime text local → ⊥)

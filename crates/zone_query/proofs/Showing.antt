@@ -35,7 +35,7 @@ all_or_not (t ∷ types) = elim (within_or_not t.offset) [
   | inr not ↦ inr (λ h. not (All-head (λ (s : LocalType). IsWithinDay s.offset) t types h))
 ]
 
-narrow_or_not : (z : Zone) → IsNarrow z ⊎ (IsNarrow z → ⊥)
+pub narrow_or_not : (z : Zone) → IsNarrow z ⊎ (IsNarrow z → ⊥)
 narrow_or_not z = elim (all_or_not z.types) [
   | inl types ↦ elim (all_or_not (rule_types z.rule)) [
     | inl rule ↦ inl (record { types = types; rule = rule })

@@ -3,6 +3,7 @@ use Rattle.std.specs.Prelude.{◌≡◌, ℕ, ℤ, List, [], ◌∷◌, ◌++◌
 use Rattle.std.specs.Fmt.{signed_decimal}
 use Rattle.offset_core.specs.Offset.{offset_text}
 use Rattle.offset_core.specs.WallAnswer.{IsWallAnswer}
+use Rattle.offset_core.specs.declared.choice.Choice.{Choice}
 use Rattle.offset_core.specs.declared.local_result.LocalResult.{LocalResult}
 use Rattle.offset_core.specs.declared.local_result.LocalResult.TheVariants as results
 use Rattle.naive_base.specs.Reading.{Reading, ahead}
@@ -14,9 +15,14 @@ use Rattle.tz_info.specs.WallClocks.{Shows}
 use Rattle.tz_info.specs.Zones.{Zone, IsValid, TypeAt, IsTypeRefused}
 use Rattle.tz_info.specs.declared.rule.transition_rule.TransitionRule.{TransitionRule}
 use Rattle.tz_info.specs.declared.rule.transition_rule.TransitionRule.TheVariants as rules
-use Rattle.zoned_ref.specs.Offsets.{IsNarrow}
+use Rattle.zoned_time.specs.Choice.{IsResolved, IsUnresolved}
+use Rattle.zoned_time.specs.ResolveNumbers.{number_of as resolve_number}
+use Rattle.zoned_time.specs.Zone.{Meaning, Law}
+use Rattle.zoned_time.specs.Zoned.{Zoned}
+use Rattle.zoned_time.specs.declared.resolve_error.ResolveError.{ResolveError}
+use Rattle.zoned_ref.specs.Offsets.{IsNarrow, AreOffsetsOf}
 use Rattle.naive_base.specs.Stamp.{IsStamp, of_secs}
-use Rattle.zone_query.specs.Questions.{Query, Text, Data, At, Wall, Show, Asks, IsBadLine}
+use Rattle.zone_query.specs.Questions.{Query, Text, Data, At, Wall, Resolve, Show, Asks, IsBadLine}
 
 abbrev pub mark_text : Bool → List ℕ
 mark_text true = codes "dst"
@@ -81,6 +87,23 @@ AnswersWall None local answer = answer ≡ codes "no zone"
 AnswersWall (Some zone) local answer =
     (types : LocalResult LocalType) × IsWallAnswer (Shows (TypeAt zone) local) types × (answer ≡ wall_text types)
 
+-- the law of a zone with these offsets, each of them nothing but its seconds
+abbrev pub seconds_in : (ℤ → ℤ) → Meaning ℤ
+seconds_in off = record { seconds = λ k. k; home = λ _. off }
+
+abbrev pub law_by : (off : ℤ → ℤ) → Law (seconds_in off)
+law_by off = record { off = off }
+
+-- the instant that the choice takes for that reading, as `show` prints it, or the number of why there is none: over the
+-- offsets of the zone, one at each second; or that some clock of the zone is a day or more away from UTC
+abbrev pub AnswersResolve : Option Zone → Reading → Choice → List ℕ → Type 0
+AnswersResolve None l choice answer = answer ≡ codes "no zone"
+AnswersResolve (Some zone) l choice answer =
+    (¬ (IsNarrow zone) × (answer ≡ codes "wide zone"))
+    ⊎ (IsNarrow zone × ((off : ℤ → ℤ) × AreOffsetsOf zone off
+    × (((d : Zoned ℤ) × IsResolved (law_by off) l choice d × (answer ≡ instant_text d.utc d.offset))
+    ⊎ ((e : ResolveError) × IsUnresolved off l.s choice e × (answer ≡ refusal_text (resolve_number e))))))
+
 -- what the zone's clocks show at those seconds and nanoseconds; or that some clock of the zone is a day or more away from
 -- UTC, or else that no timestamp is so
 abbrev pub AnswersShow : Option Zone → ℤ → ℕ → List ℕ → Type 0
@@ -96,6 +119,7 @@ AnswersQuery zone (Text text) answer after = AnswersText zone text answer after
 AnswersQuery zone (Data bytes) answer after = AnswersData zone bytes answer after
 AnswersQuery zone (At seconds) answer after = AnswersAt zone seconds answer × (after ≡ zone)
 AnswersQuery zone (Wall local) answer after = AnswersWall zone local answer × (after ≡ zone)
+AnswersQuery zone (Resolve l choice) answer after = AnswersResolve zone l choice answer × (after ≡ zone)
 AnswersQuery zone (Show seconds nanos) answer after = AnswersShow zone seconds nanos answer × (after ≡ zone)
 
 -- the answer to a line, without its newline

@@ -3,6 +3,7 @@ pub mod Watch
 pub mod Numerals
 pub mod Words
 pub mod Hex
+pub mod Choices
 pub mod Questions
 pub mod Answers
 pub mod Lines

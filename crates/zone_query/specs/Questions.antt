@@ -2,22 +2,26 @@
 use Rattle.std.specs.Prelude.{◌≡◌, ℕ, ℤ, List, [], ◌∷◌, ◌++◌, codes, FitsSigned}
 use Rattle.std.specs.Int.{w32, w64}
 use Rattle.std.specs.Str.{IsUtf8}
+use Rattle.offset_core.specs.declared.choice.Choice.{Choice}
 use Rattle.naive_base.specs.Clock.{IsClock, clock_second}
 use Rattle.naive_base.specs.Date.{IsDate, day_number}
 use Rattle.naive_base.specs.Range.{IsYearInRange}
-use Rattle.naive_base.specs.Reading.{reading_at}
+use Rattle.naive_base.specs.Reading.{Reading, reading_at}
+use Rattle.zone_query.specs.Choices.{choice_text}
 use Rattle.zone_query.specs.Hex.{IsHex}
 use Rattle.zone_query.specs.Numerals.{IsInteger}
 use Rattle.zone_query.specs.Words.{AreNumbers}
 
 -- a question: to read a TZ text or the bytes of a TZif file as the zone; for the type in force at a Unix time; for the
 -- types that are in force when a clock shows a local time, the seconds from 1970-01-01 00:00:00 on the clock, every day
--- counted as 86,400; or for what the zone's clocks show at a Unix time, and nanoseconds beside it
+-- counted as 86,400; for the instant that a choice for gaps and folds takes for a reading of a clock; or for what the
+-- zone's clocks show at a Unix time, and nanoseconds beside it
 pub data Query : Type 0 where
   Text : List ℕ → Query
   Data : List ℕ → Query
   At : ℤ → Query
   Wall : ℤ → Query
+  Resolve : Reading → Choice → Query
   Show : ℤ → ℕ → Query
 
 -- the calendar has the date, its year is in range, and a clock has the hands
@@ -42,6 +46,13 @@ pub record IsLocalTime (text : List ℕ) (local : ℤ) : Type 0 where
   pub exists : Exists y m d h min s
   pub shown : local ≡ (reading_at (day_number y m d) (clock_second h min s) 0).s
 
+-- the text is that of a local time and, behind one space, a choice; the reading is this local time, a whole second
+pub record IsChosenTime (text : List ℕ) (l : Reading) (choice : Choice) : Type 0 where
+  pub time : List ℕ
+  pub whole : text ≡ time ++ (codes " " ++ choice_text choice)
+  pub local : IsLocalTime time l.s
+  pub second : l.f ≡ 0
+
 -- the text is seconds of 64 bits and, behind one space, nanoseconds of 32 bits
 pub record IsTimestamp (text : List ℕ) (seconds : ℤ) (nanos : ℕ) : Type 0 where
   pub first : List ℕ
@@ -57,6 +68,7 @@ Asks line (Text text) = (line ≡ codes "text " ++ text) × IsUtf8 text
 Asks line (Data bytes) = (digits : List ℕ) × (line ≡ codes "data " ++ digits) × IsHex digits bytes
 Asks line (At seconds) = (number : List ℕ) × (line ≡ codes "at " ++ number) × IsInteger number seconds × FitsSigned w64 seconds
 Asks line (Wall local) = (text : List ℕ) × (line ≡ codes "wall " ++ text) × IsLocalTime text local
+Asks line (Resolve l choice) = (text : List ℕ) × (line ≡ codes "wall " ++ text) × IsChosenTime text l choice
 Asks line (Show seconds nanos) = (text : List ℕ) × (line ≡ codes "show " ++ text) × IsTimestamp text seconds nanos
 
 -- the line asks nothing

@@ -9,11 +9,11 @@ ghost use Rattle.tz_info.specs.Errors.{number_of};
 ghost use Rattle.tz_info.specs.TzFiles.{IsTzFile, IsZoneFault};
 ghost use Rattle.tz_info.specs.Zones.{IsValid};
 ghost use Rattle.zone_query.specs.Steps.HexBytes.{bytes_of};
-ghost use Rattle.zone_query.specs.Answers.{AnswersLine, AnswersAt, AnswersWall, AnswersShow, type_text, wall_text, zone_text, rule_text, refusal_text};
+ghost use Rattle.zone_query.specs.Answers.{AnswersLine, AnswersAt, AnswersWall, AnswersResolve, AnswersShow, type_text, wall_text, zone_text, rule_text, refusal_text};
 
 use crate::question::Question;
 use naive_base::NaiveDateTime;
-use offset_core::MappedLocalTime;
+use offset_core::{Choice, MappedLocalTime};
 use std::alloc::{AllocError, Global};
 use std::fmt;
 use std::fmt::Write;
@@ -38,6 +38,7 @@ pub fn answer(
         Some(Question::Data(digits)) => set_zone(zone, read_file(alloc, digits), out),
         Some(Question::At(seconds)) => tell_type(zone, seconds, out),
         Some(Question::Wall(local)) => tell_types(zone, local, out),
+        Some(Question::Resolve(local, choice)) => tell_resolved(zone, local, choice, out),
         Some(Question::Show(seconds, nanoseconds)) => {
             tell_instant(zone, seconds, nanoseconds, out)
         }
@@ -111,6 +112,29 @@ fn tell_types(
     match zone.find_local_time_type_from_local(local) {
         Ok(found) => writeln!(out, "{}", ShownAll(found)),
         Err(fault) => writeln!(out, "refused {}", fault.number()),
+    }
+}
+
+// Tells the instant that a choice takes for a date and time.
+fn tell_resolved(
+    zone: &Option<TimeZone>,
+    local: NaiveDateTime,
+    choice: Choice,
+    out: &mut String,
+) -> Result<(), AllocError>
+    ensures { OnOk result ((answer : List ℕ)
+        × (string_bytes out.new ≡ string_bytes out.old ++ (answer ++ 10 ∷ []))
+        × AnswersResolve zone.now (reading local) choice answer) }
+{
+    let Some(zone) = zone else {
+        return writeln!(out, "no zone");
+    };
+    let Some(narrow) = TimeZoneRef::new(zone) else {
+        return writeln!(out, "wide zone");
+    };
+    match narrow.resolve(&local, choice) {
+        Ok(instant) => write_instant(&instant, out),
+        Err(refusal) => writeln!(out, "refused {}", refusal.number()),
     }
 }
 

@@ -6,6 +6,9 @@ ghost use Rattle.zone_query.specs.Steps.Hopeless.{IsHopeless, IsForeign};
 // How many bytes the longest word of a question has, with the space behind it.
 const LONGEST_WORD: usize = 5;
 
+// How many bytes a choice for gaps and folds may add to a line: the space before it, its longest word, and a carriage return.
+const LONGEST_CHOICE: usize = 17;
+
 /// Whether a line that begins so may still ask something. Its first `judged` bytes were judged before.
 ///
 /// A beginning that is refused is behind hope; of one that isn't, nothing is said.
@@ -25,7 +28,13 @@ pub fn may_ask(front: &[u8], judged: usize) -> bool
     if !asks_by_numbers(front) {
         return false;
     }
-    let (_, unjudged) = front.split_at(judged.max(LONGEST_WORD));
+    let end = front.len().saturating_sub(LONGEST_CHOICE);
+    let start = judged.saturating_sub(LONGEST_CHOICE).max(LONGEST_WORD);
+    if end <= start {
+        return true;
+    }
+    let (numbers, _) = front.split_at(end);
+    let (_, unjudged) = numbers.split_at(start);
     may_be_numbers(unjudged)
 }
 

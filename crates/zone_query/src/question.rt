@@ -4,10 +4,12 @@ ghost use Rattle.std.specs.Prelude.{◌≡◌, ℕ, ℤ, MatchOption};
 ghost use Rattle.naive_base.specs.NaiveDateTime.{reading};
 ghost use Rattle.zone_query.specs.Questions.{IsLocalTime, IsTimestamp};
 
+use crate::choices::strip_choice;
 use crate::hex_digits::spell_bytes;
 use crate::numerals::{integer, small_integer};
 use crate::words::{next_number, split_word};
 use naive_base::{NaiveDate, NaiveDateTime};
+use offset_core::Choice;
 use std::str;
 
 /// What a line asks.
@@ -21,6 +23,8 @@ pub enum Question<'a> {
     At(i64),
     /// `wall Y M D h m s`: for the local time types in force when a clock shows this date and time.
     Wall(NaiveDateTime),
+    /// `wall Y M D h m s GAP/FOLD`: for the instant that this choice takes for this date and time.
+    Resolve(NaiveDateTime, Choice),
     /// `show SECS NANOS`: for what the zone's clocks show at this Unix time, so many nanoseconds behind it.
     Show(i64, u32),
 }
@@ -32,7 +36,7 @@ impl<'a> Question<'a> {
     /// The question that a line asks, or `None` for a bad line.
     ///
     /// A text that isn't UTF-8 makes a bad line, and so do digits that are no hex digits or odd in number, a number that
-    /// doesn't fit its type, and a date or a time that doesn't exist.
+    /// doesn't fit its type, a date or a time that doesn't exist, and a word behind it that is no choice.
     pub fn parse(line: &'a [u8]) -> Option<Question<'a>>
         ensures { MatchOption result
             (IsBadLine line.now) (λ question. Asks line.now (query_of question)) }
@@ -53,6 +57,12 @@ impl<'a> Question<'a> {
             };
         }
         if let Some(text) = line.strip_prefix(b"wall ") {
+            if let Some((time, choice)) = strip_choice(text) {
+                return match local_time(time) {
+                    Some(local) => Some(Question::Resolve(local, choice)),
+                    None => None,
+                };
+            }
             return match local_time(text) {
                 Some(local) => Some(Question::Wall(local)),
                 None => None,
@@ -71,7 +81,7 @@ impl<'a> Question<'a> {
 // The date and time `Y M D h m s`, if there is such a one.
 fn local_time(text: &[u8]) -> Option<NaiveDateTime>
     ensures { MatchOption result ((local : ℤ) → ¬ (IsLocalTime text.now local))
-        (λ local. IsLocalTime text.now (reading local).s) }
+        (λ local. IsLocalTime text.now (reading local).s × ((reading local).f ≡ 0)) }
 {
     let (word, rest) = split_word(text);
     let year = small_integer(word)?;

@@ -1,3 +1,4 @@
+mod choices;
 mod ends;
 mod fakes;
 mod files;

@@ -1,7 +1,7 @@
 -- A question as what a line asks.
 use Rattle.naive_base.specs.NaiveDateTime.{reading}
 use Rattle.zone_query.specs.Steps.HexBytes.{bytes_of}
-use Rattle.zone_query.specs.Questions.{Query, Text, Data, At, Wall, Show}
+use Rattle.zone_query.specs.Questions.{Query, Text, Data, At, Wall, Resolve, Show}
 use Rattle.zone_query.specs.declared.question.Question.{Question}
 use Rattle.zone_query.specs.declared.question.Question.TheVariants as questions
 
@@ -11,4 +11,5 @@ query_of (questions.Text text) = Text text.now
 query_of (questions.Data digits) = Data (bytes_of digits.now)
 query_of (questions.At seconds) = At seconds
 query_of (questions.Wall local) = Wall (reading local).s
+query_of (questions.Resolve local choice) = Resolve (reading local) choice
 query_of (questions.Show seconds nanos) = Show seconds nanos
