@@ -162,7 +162,7 @@ by_fold p decide = elim (decide folds.Refuse) [
 time_with : (text : List ℕ) (choice : Choice) → ((l : Reading) × IsChosenTime text l choice) ⊎ ((l : Reading) × IsChosenTime text l choice → ⊥)
 time_with text choice = elim (ends_so (codes " " ++ choice_text choice) text) [
   | inl found ↦ elim (local_time found.0) [
-    | inl local ↦ inl (record { s = local.0; f = 0 }, record { time = found.0; whole = found.1; local = local.1; second = refl })
+    | inl local ↦ inl (record { s = local.0; f = 0 }, record { time = found.0; whole = found.1; local = local.1; no_fraction = refl })
     | inr none ↦ inr (λ h. no_time_before text found.0 choice found.1 none h.0 choice h.1)
   ]
   | inr none ↦ inr (λ h. none h.1.time h.1.whole)

@@ -30,8 +30,8 @@ resolve_covered z l choice valid rule inside = elim (narrow_or_not z) [
       elim has.2 [
         | inl taken ↦
             let d = taken_instant has.0 l choice taken.0 taken.1 taken.2 in
-            (instant_text d.0.utc d.0.offset, inr (narrow, (has.0, has.1, inl (d.0, d.1, refl))))
-        | inr refused ↦ (refusal_text (number_of refused.0), inr (narrow, (has.0, has.1, inr (refused.0, refused.1, refl))))
+            (instant_text d.0.utc d.0.offset, inr (narrow, has.0, has.1, inl (d.0, d.1, refl)))
+        | inr refused ↦ (refusal_text (number_of refused.0), inr (narrow, has.0, has.1, inr (refused.0, refused.1, refl)))
       ]
   | inr wide ↦ (codes "wide zone", inl (wide, refl))
 ]
@@ -46,8 +46,8 @@ resolved_instant {O} {m} z law l choice d narrow offsets h =
       in_range = h.in_range;
       at = record { utc = h.at.utc; offset = record { there = h.at.offset.there; same_home = λ u inside. refl } };
     } in
-    inr (narrow, (law.off, offsets, inl (in_seconds m.seconds d, resolved, refl)))
+    inr (narrow, law.off, offsets, inl (in_seconds m.seconds d, resolved, refl))
 
 pub refused_reading : (z : Zone) (off : ℤ → ℤ) (l : Reading) (choice : Choice) (e : ResolveError) → IsNarrow z → AreOffsetsOf z off
     → IsUnresolved off l.s choice e → AnswersResolve (Some z) l choice (refusal_text (number_of e))
-refused_reading z off l choice e narrow offsets h = inr (narrow, (off, offsets, inr (e, h, refl)))
+refused_reading z off l choice e narrow offsets h = inr (narrow, off, offsets, inr (e, h, refl))

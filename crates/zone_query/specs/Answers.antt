@@ -94,15 +94,18 @@ seconds_in off = record { seconds = λ k. k; home = λ _. off }
 abbrev pub law_by : (off : ℤ → ℤ) → Law (seconds_in off)
 law_by off = record { off = off }
 
--- the instant that the choice takes for that reading, as `show` prints it, or the number of why there is none: over the
--- offsets of the zone, one at each second; or that some clock of the zone is a day or more away from UTC
+-- the instant that the choice takes for that reading, as `show` prints it; or the number of why there is none
+abbrev pub AnswersChoice : (ℤ → ℤ) → Reading → Choice → List ℕ → Type 0
+AnswersChoice off l choice answer =
+    ((d : Zoned ℤ) × IsResolved (law_by off) l choice d × (answer ≡ instant_text d.utc d.offset))
+    ⊎ ((e : ResolveError) × IsUnresolved off l.s choice e × (answer ≡ refusal_text (resolve_number e)))
+
+-- that over the offsets of the zone, one at each second; or that some clock of the zone is a day or more away from UTC
 abbrev pub AnswersResolve : Option Zone → Reading → Choice → List ℕ → Type 0
 AnswersResolve None l choice answer = answer ≡ codes "no zone"
 AnswersResolve (Some zone) l choice answer =
     (¬ (IsNarrow zone) × (answer ≡ codes "wide zone"))
-    ⊎ (IsNarrow zone × ((off : ℤ → ℤ) × AreOffsetsOf zone off
-    × (((d : Zoned ℤ) × IsResolved (law_by off) l choice d × (answer ≡ instant_text d.utc d.offset))
-    ⊎ ((e : ResolveError) × IsUnresolved off l.s choice e × (answer ≡ refusal_text (resolve_number e))))))
+    ⊎ (IsNarrow zone × (off : ℤ → ℤ) × AreOffsetsOf zone off × AnswersChoice off l choice answer)
 
 -- what the zone's clocks show at those seconds and nanoseconds; or that some clock of the zone is a day or more away from
 -- UTC, or else that no timestamp is so

@@ -51,7 +51,7 @@ pub record IsChosenTime (text : List ℕ) (l : Reading) (choice : Choice) : Type
   pub time : List ℕ
   pub whole : text ≡ time ++ (codes " " ++ choice_text choice)
   pub local : IsLocalTime time l.s
-  pub second : l.f ≡ 0
+  pub no_fraction : l.f ≡ 0
 
 -- the text is seconds of 64 bits and, behind one space, nanoseconds of 32 bits
 pub record IsTimestamp (text : List ℕ) (seconds : ℤ) (nanos : ℕ) : Type 0 where

@@ -9,7 +9,7 @@ pub returns-in-Some-local_time : goal.returns-in-Some-local_time
 returns-in-Some-local_time c =
     let behind = rw c.in-Some-strip_prefix-3.is at (strip_prefix_is Decides-eqb c.args.line.now (codes "wall ") c.strip_prefix-4.result c.strip_prefix-4.ensures.cases) in
     let time = c.in-Some-local_time.ensures in
-    (c.in-Some-strip_prefix-3.text.now, behind, record { time = c.in-Some-strip_choice.time.now; whole = c.in-Some-strip_choice.ensures; local = time.0; second = time.1 })
+    (c.in-Some-strip_prefix-3.text.now, behind, record { time = c.in-Some-strip_choice.time.now; whole = c.in-Some-strip_choice.ensures; local = time.0; no_fraction = time.1 })
 
 pub returns-in-None-local_time : goal.returns-in-None-local_time
 returns-in-None-local_time c =
