@@ -28,6 +28,7 @@ pub fn may_ask(front: &[u8], judged: usize) -> bool
     if !asks_by_numbers(front) {
         return false;
     }
+    // The last bytes may be those of a choice, of the earlier beginning too.
     let end = front.len().saturating_sub(LONGEST_CHOICE);
     let start = judged.saturating_sub(LONGEST_CHOICE).max(LONGEST_WORD);
     if end <= start {
