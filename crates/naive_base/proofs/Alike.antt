@@ -4,9 +4,9 @@ use Rattle.std.proofs.lemmas.Bool.{cases_lt}
 use Rattle.std.proofs.lemmas.Bool.Decides.{nat_tests}
 use Rattle.std.proofs.lemmas.Int.{ints, by_lt_z}
 use Rattle.offset_core.specs.Digits.{in_digits}
-use Rattle.naive_base.specs.Year.{year_of, is_leap}
+use Rattle.naive_base.specs.Year.{is_leap}
 use Rattle.naive_base.specs.Month.{days_in_month}
-use Rattle.naive_base.specs.Date.{month_of, day_of_month}
+use Rattle.naive_base.specs.DateOf.{year_of, month_of, day_of_month}
 use Rattle.naive_base.specs.Range.{IsWide, IsWideDay, IsWideYear}
 use Rattle.naive_base.specs.Reading.{Reading, day_at, second_at}
 use Rattle.naive_base.specs.Text.{four_digits, year_text, month_day_text, date_text, clock_text, fraction_text, time_text, reading_text}

@@ -2,9 +2,12 @@
 use Rattle.std.proofs.Common.{◌≡◌, ℕ, zero, suc, ◌+◌, ◌-◌, ◌*◌, ◌/◌, ◌%◌, ◌<◌, ◌≤◌, inl, inr, Bool, true, false, nat_lt, arith, refl, ℤ, pos, ◌+ℤ◌, ◌-ℤ◌, ◌≤ℤ◌, ◌<ℤ◌, unsigned_abs}
 use Rattle.std.proofs.lemmas.Bool.{cases_lt, cases_order}
 use Rattle.std.proofs.lemmas.Bool.Decides.{nat_tests}
-use Rattle.naive_base.specs.Year.{is_leap, days_in_year, year_start, year_of, LiesIn, IsYear, IsDay}
-use Rattle.naive_base.specs.Month.{days_in_month, days_of_months, place_from}
-use Rattle.naive_base.specs.Date.{IsDate, day_number, day_of_year, month_of, day_of_month}
+use Rattle.naive_base.specs.Year.{is_leap, days_in_year, year_start, LiesIn, IsYear, IsDay}
+use Rattle.naive_base.specs.Month.{days_in_month, days_of_months}
+use Rattle.naive_base.specs.Date.{IsDate, day_number}
+use Rattle.naive_base.specs.DateOf.{date_with, year_of, day_of_year, month_of, day_of_month}
+pub use Rattle.naive_base.specs.Steps.Dates.{months_step, months_all, place_is}
+use Rattle.naive_base.specs.Steps.Dates.{in_year}
 use Rattle.naive_base.proofs.Floor.{floors}
 use Rattle.naive_base.proofs.Years.{year_step, lies_in, one_year, gap_of, starts_rise, day_of_years}
 use Rattle.naive_base.specs.Steps.Cycle.{days_of_years}
@@ -12,11 +15,6 @@ use Rattle.naive_base.proofs.Cycle.{days_with_leap, january_start, year_found}
 use Rattle.naive_base.proofs.MonthDays.{leap_day, leap_at_most, months_early, months_late, march_place, late_day, first_months}
 
 -- Later months begin later.
-
-pub months_step : (b : Bool) (m : ℕ) → 1 ≤ m → days_of_months b m ≡ days_of_months b (m - 1) + days_in_month b m
-unfolding days_of_months
-months_step b zero h = absurd (omega arith)
-months_step b (suc m) h = let back : suc m - 1 ≡ m = omega arith in rw back
 
 months_more : (b : Bool) (m k : ℕ) → days_of_months b m ≤ days_of_months b (k + m)
 months_more b m zero = let same : 0 + m ≡ m = omega arith in rw same (omega arith)
@@ -26,9 +24,6 @@ months_more b m (suc k) =
 
 pub months_rise : (b : Bool) (m n : ℕ) → m ≤ n → days_of_months b m ≤ days_of_months b n
 months_rise b m n h = let same : n - m + m ≡ n = omega arith in rw same at (months_more b m (n - m))
-
-pub months_all : (y : ℤ) → days_of_months (is_leap y) 12 ≡ days_in_year y
-months_all y = omega (arith, months_late (is_leap y) 13 (omega arith) (omega arith), days_with_leap y)
 
 -- a date lies in its year
 pub date_lies : (y : ℤ) (m d : ℕ) → IsDate y m d → LiesIn (day_number y m d) y
@@ -70,49 +65,16 @@ one_date y m d y₂ m₂ d₂ h k e =
     let place = same_place (is_leap y₂) m d m₂ d₂ here.0 here.2 here.3 k.0 k.2 k.3 (places_of y₂ m d m₂ d₂ f) in
     (same, place.0, place.1)
 
--- the month and the day of the place k of a year
-pub record IsPlace (b : Bool) (k : ℕ) (p : ℕ × ℕ) : Type 0 where
-  pub month : (1 ≤ p.0) × (p.0 ≤ 12)
-  pub day : (1 ≤ p.1) × (p.1 ≤ days_in_month b p.0)
-  pub place : days_of_months b (p.0 - 1) + (p.1 - 1) ≡ k
-
--- which taking months away finds, from the first of month m on
-pub place_is : (n : ℕ) (b : Bool) (m k : ℕ) → m + n ≡ 12 → 1 ≤ m → days_of_months b (m - 1) + k < days_of_months b 12
-    → IsPlace b (days_of_months b (m - 1) + k) (place_from n b m k)
-unfolding place_from
-place_is zero b m k e low h =
-    let last : m ≡ 12 = omega arith in
-    let step = rw last at (months_step b m low) in
-    record { month = (low, omega arith); day = (omega arith, rw last (omega (arith, rw last at h))); place = omega arith }
-place_is (suc n) b m k e low h =
-    let step = months_step b m low in
-    elim (cases_lt k (days_in_month b m)) [
-      | inl lt ↦ let t : nat_lt k (days_in_month b m) ≡ true = grind (arith, nat_tests) in
-          rw t (record { month = (low, omega arith); day = (omega arith, omega arith); place = omega arith })
-      | inr ge ↦ let t : nat_lt k (days_in_month b m) ≡ false = grind (arith, nat_tests) in
-          let back : m + 1 - 1 ≡ m = omega arith in
-          let same : days_of_months b m + (k - days_in_month b m) ≡ days_of_months b (m - 1) + k = omega arith in
-          rw t (rw (back, same) at (place_is n b (m + 1) (k - days_in_month b m) (omega arith) (omega arith) (rw back (omega arith))))
-    ]
-
--- the place of a day between two starts
-in_year : (s t day : ℤ) (n : ℕ) → s ≤ℤ day → day <ℤ t → t ≡ s +ℤ pos n
-    → (unsigned_abs (day -ℤ s) < n) × (s +ℤ pos (unsigned_abs (day -ℤ s)) ≡ day)
-in_year s t day n low high e = let g = gap_of s day low in (omega (arith, floors), g)
-
 -- the date that a day number stands for
 pub date_is : (day : ℤ)
     → IsDate (year_of day) (month_of day) (day_of_month day)
     × (day_number (year_of day) (month_of day) (day_of_month day) ≡ day)
-unfolding day_number month_of day_of_month
+unfolding month_of day_of_month
 date_is day =
-    let y = year_of day in
-    let lies = lies_in day in
-    let at_day : (day_of_year day < days_in_year y) × (year_start y +ℤ pos (day_of_year day) ≡ day) =
-    unfold day_of_year in in_year (year_start y) (year_start (y +ℤ pos 1)) day (days_in_year y) lies.0 lies.1 (year_step y) in
-    let none : days_of_months (is_leap y) 0 ≡ 0 = unfold days_of_months in refl in
-    let p = place_is 11 (is_leap y) 1 (day_of_year day) refl (omega arith) (omega (arith, none, months_all y)) in
-    ((p.month.0, p.month.1, p.day.0, p.day.1), omega (arith, floors, none, p.place, at_day.1))
+    let own = date_with day in
+    let same : year_of day ≡ own.year =
+    one_year day (year_of day) own.year (lies_in day) (rw own.number at (date_lies own.year own.month own.day own.is_date)) in
+    rw same (own.is_date, own.number)
 
 -- and it is the only one
 pub date_only : (day : ℤ) (y : ℤ) (m d : ℕ) → IsDate y m d → day_number y m d ≡ day

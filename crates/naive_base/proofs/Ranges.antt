@@ -1,8 +1,9 @@
 -- The days of the years in range.
 use Rattle.std.proofs.Common.{◌≡◌, ℕ, ◌<◌, arith, refl, ℤ, pos, neg_ℤ, ◌+ℤ◌, ◌-ℤ◌}
 use Rattle.std.proofs.lemmas.Int.{by_lt_z}
-use Rattle.naive_base.specs.Year.{year_start, year_of, days_in_year}
+use Rattle.naive_base.specs.Year.{year_start, days_in_year}
 use Rattle.naive_base.specs.Date.{IsDate, day_number}
+use Rattle.naive_base.specs.DateOf.{year_of}
 use Rattle.naive_base.specs.Range.{IsYearInRange, IsInnerYear, IsDayInRange, IsWideDay, IsWideYear}
 use Rattle.naive_base.proofs.Floor.{floors}
 use Rattle.naive_base.proofs.Years.{lies_in, starts_rise, year_step}

@@ -1,8 +1,7 @@
 -- Weekdays come in turn, and a month's days one after another.
 use Rattle.std.proofs.Common.{◌≡◌, ◌∙◌, ap, sym, ℕ, ◌+◌, ◌/◌, ◌%◌, ◌<◌, arith, ℤ, pos, ◌+ℤ◌, ◌-ℤ◌}
 use Rattle.naive_base.specs.Weekday.{weekday_of}
-use Rattle.naive_base.specs.Year.{year_of}
-use Rattle.naive_base.specs.Date.{day_of_year}
+use Rattle.naive_base.specs.DateOf.{year_of, day_of_year}
 use Rattle.naive_base.specs.IsoWeek.{IsThursdayOf, IsWeekOf, iso_year, iso_number}
 use Rattle.naive_base.specs.declared.iso_week.IsoWeek.{IsoWeek}
 use Rattle.naive_base.proofs.Floor.{floors}

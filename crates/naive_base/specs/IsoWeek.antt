@@ -1,8 +1,7 @@
 -- Weeks of ISO 8601: a week runs from Monday to Sunday, and belongs to the year that its Thursday lies in, whose weeks are
 -- counted from 1.
 use Rattle.std.specs.Prelude.{◌≡◌, ℕ, ◌+◌, ◌/◌, ℤ, pos, ◌+ℤ◌, ◌-ℤ◌, ◌≤ℤ◌}
-use Rattle.naive_base.specs.Year.{year_of}
-use Rattle.naive_base.specs.Date.{day_of_year}
+use Rattle.naive_base.specs.DateOf.{year_of, day_of_year}
 use Rattle.naive_base.specs.Weekday.{weekday_of}
 use Rattle.naive_base.specs.declared.iso_week.IsoWeek.{IsoWeek}
 

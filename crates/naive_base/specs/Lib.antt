@@ -2,6 +2,7 @@ pub mod Year
 pub mod Month
 pub mod Months
 pub mod Date
+pub mod DateOf
 pub mod Weekday
 pub mod IsoWeek
 pub mod Range

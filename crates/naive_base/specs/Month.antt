@@ -1,5 +1,5 @@
 -- The months of a year, which is a leap year or is not. January is month 1.
-use Rattle.std.specs.Prelude.{ℕ, zero, suc, ◌+◌, ◌-◌, ◌==◌, nat_lt, Bool, ◌||◌, if◌then◌else◌}
+use Rattle.std.specs.Prelude.{ℕ, zero, suc, ◌+◌, ◌==◌, Bool, ◌||◌, if◌then◌else◌}
 
 -- thirty days have April, June, September and November
 abbrev pub days_in_month : Bool → ℕ → ℕ
@@ -11,13 +11,3 @@ days_in_month leap m =
 unfoldable pub days_of_months : Bool → ℕ → ℕ
 days_of_months leap zero = 0
 days_of_months leap (suc n) = days_of_months leap n + days_in_month leap (suc n)
-
--- the month and the day of the month that come k days after the first of month m, where n more months follow
-unfoldable pub place_from : ℕ → Bool → ℕ → ℕ → ℕ × ℕ
-place_from zero leap m k = (m, k + 1)
-place_from (suc n) leap m k =
-    if nat_lt k (days_in_month leap m) then (m, k + 1) else place_from n leap (m + 1) (k - days_in_month leap m)
-
--- the month and the day of the month that come k days after 1 January
-abbrev pub place_in_year : Bool → ℕ → ℕ × ℕ
-place_in_year leap k = place_from 11 leap 1 k

@@ -1,5 +1,5 @@
 -- Years of the proleptic Gregorian calendar, over all whole numbers. A day number counts days from 1970-01-01.
-use Rattle.std.specs.Prelude.{ℕ, ◌==◌, Bool, not, ◌&&◌, ◌||◌, if◌then◌else◌, ℤ, pos, neg_ℤ, ◌+ℤ◌, ◌-ℤ◌, ◌*ℤ◌, unsigned_abs, int_lt, ◌≤ℤ◌, ◌<ℤ◌}
+use Rattle.std.specs.Prelude.{ℕ, ◌==◌, Bool, not, ◌&&◌, ◌||◌, if◌then◌else◌, ℤ, pos, neg_ℤ, ◌+ℤ◌, ◌-ℤ◌, ◌*ℤ◌, unsigned_abs, ◌≤ℤ◌, ◌<ℤ◌}
 use Rattle.std.specs.Int.{int_div_euclid, int_rem_euclid}
 
 -- the greatest whole number whose n-fold is not above z
@@ -26,17 +26,6 @@ year_start y =
 -- the day lies in the year
 abbrev pub LiesIn : ℤ → ℤ → Type 0
 LiesIn day y = (year_start y ≤ℤ day) × (day <ℤ year_start (y +ℤ pos 1))
-
--- the day's year by the mean length of a year, 146097 / 400 days: at most one off
-abbrev pub mean_year : ℤ → ℤ
-mean_year day = floor_div (day *ℤ pos 400) 146097 +ℤ pos 1970
-
--- the year that the day lies in, in closed form: the mean year or one of its neighbours. `years_law` proves that the day
--- lies in it, and in no other
-unfoldable pub year_of : ℤ → ℤ
-year_of day =
-    if int_lt day (year_start (mean_year day)) then mean_year day -ℤ pos 1
-    else (if int_lt day (year_start (mean_year day +ℤ pos 1)) then mean_year day else mean_year day +ℤ pos 1)
 
 -- the years that 32 bits hold, and their days
 abbrev pub IsYear : ℤ → Type 0

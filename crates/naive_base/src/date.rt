@@ -1,7 +1,8 @@
 //! Dates.
 ghost use Rattle.std.specs.Prelude.{◌≡◌, ◌↔◌, IsTrue, IfSome, ◌+◌, ◌*◌, ◌≤◌, pos, ◌+ℤ◌, ◌-ℤ◌, ◌*ℤ◌};
-ghost use Rattle.naive_base.specs.Year.{floor_div, year_of};
-ghost use Rattle.naive_base.specs.Date.{IsDate, day_number, month_of, day_of_month};
+ghost use Rattle.naive_base.specs.Year.{floor_div};
+ghost use Rattle.naive_base.specs.Date.{IsDate, day_number};
+ghost use Rattle.naive_base.specs.DateOf.{year_of, month_of, day_of_month};
 ghost use Rattle.naive_base.specs.Range.{IsYearInRange, IsWideYear, IsDayInRange, IsInRange, IsWideDay, IsWide};
 ghost use Rattle.naive_base.specs.Clock.{IsClock, clock_second};
 ghost use Rattle.naive_base.specs.Reading.{reading_at, day_at, second_at};

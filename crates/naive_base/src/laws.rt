@@ -1,6 +1,7 @@
 //! Theorems: each function is empty, its contract is proved; never called.
 ghost use Rattle.std.specs.Prelude.{◌≡◌, ◌↔◌, IsTrue, ◌<◌, ◌<ℤ◌, ℕ, ℤ, pos, neg_ℤ};
-ghost use Rattle.naive_base.specs.Year.{floor_div, year_of};
+ghost use Rattle.naive_base.specs.Year.{floor_div};
+ghost use Rattle.naive_base.specs.DateOf.{year_of};
 ghost use Rattle.naive_base.specs.Range.{IsYearInRange, IsWideYear, IsDayInRange, IsWideDay, IsInRange, IsWide, first_reading, last_reading};
 ghost use Rattle.naive_base.specs.Reading.{Reading, reading_at, day_at, second_at, moved, difference, IsEarlier, IsEarlierTime, IsEarlierByDay};
 ghost use Rattle.naive_base.specs.NaiveDate.{day_of, printed_date};

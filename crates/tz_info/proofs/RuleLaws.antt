@@ -1,7 +1,8 @@
 -- A rule has one type at a second, or is refused there, and never both.
 use Rattle.std.proofs.Common.{◌≡◌, arith, ℤ, pos, neg_ℤ, Bool, not, ◌+ℤ◌, ◌≤ℤ◌, refl, sym, ◌∙◌, ap, subst, inl, inr, ◌⊎◌}
 use Rattle.std.proofs.lemmas.Int.{by_lt_z}
-use Rattle.naive_base.specs.Year.{floor_div, year_start, year_of, LiesIn}
+use Rattle.naive_base.specs.Year.{floor_div, year_start, LiesIn}
+use Rattle.naive_base.specs.DateOf.{year_of}
 use Rattle.naive_base.proofs.ForCallers.{floors, lies_in, one_year, starts_rise}
 use Rattle.tz_info.specs.LocalTypes.{LocalType}
 use Rattle.tz_info.specs.Rules.{Alternate as AlternateRule, IsAlternateRule}

@@ -4,7 +4,8 @@ use Rattle.std.proofs.Math.Logic.{∥∥₁_elim}
 use Rattle.std.proofs.lemmas.Int.{ints}
 use Rattle.std.specs.Coded.{Coded-set, coded_ℤ}
 use Rattle.offset_core.specs.Offset.{IsWithinDay}
-use Rattle.naive_base.specs.Year.{floor_div, year_of}
+use Rattle.naive_base.specs.Year.{floor_div}
+use Rattle.naive_base.specs.DateOf.{year_of}
 use Rattle.naive_base.proofs.ForCallers.{lies_in}
 use Rattle.tz_info.specs.LocalTypes.{LocalType}
 use Rattle.tz_info.specs.Moments.{type_when}

@@ -1,7 +1,6 @@
 -- Whole years from one reading to another.
 use Rattle.std.specs.Prelude.{◌≡◌, ◌<◌, ◌⊎◌, ℕ, ℤ, pos, ◌-ℤ◌, ◌≤ℤ◌, unsigned_abs, Option, SomeIff}
-use Rattle.naive_base.specs.Year.{year_of}
-use Rattle.naive_base.specs.Date.{month_of, day_of_month}
+use Rattle.naive_base.specs.DateOf.{year_of, month_of, day_of_month}
 use Rattle.naive_base.specs.Reading.{Reading, day_at, second_at, IsEarlierTime}
 
 -- in its year l comes before m in its own: by month, then day, then time

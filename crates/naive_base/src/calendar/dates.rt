@@ -1,8 +1,9 @@
 //! Dates: a year, a month and a day of the month.
 ghost use Rattle.std.specs.Prelude.{ℕ, ◌↔◌, IsTrue, ◌≡◌, ◌+◌, ◌-◌, ◌*◌, ◌/◌, ◌%◌, ◌<◌, ◌≤◌, ℤ, pos, ◌+ℤ◌};
 ghost use Rattle.std.specs.Int.{IsInRange};
-ghost use Rattle.naive_base.specs.Year.{days_in_year, year_start, LiesIn, year_of, IsDay};
-ghost use Rattle.naive_base.specs.Date.{IsDate, day_number, month_of, day_of_month};
+ghost use Rattle.naive_base.specs.Year.{days_in_year, year_start, LiesIn, IsDay};
+ghost use Rattle.naive_base.specs.Date.{IsDate, day_number};
+ghost use Rattle.naive_base.specs.DateOf.{year_of, month_of, day_of_month};
 ghost use Rattle.naive_base.specs.Steps.Cycle.{number_from_march};
 
 use super::years::{days_of_years, split_years, year_from_base, years_since_base};

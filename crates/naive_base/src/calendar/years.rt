@@ -1,8 +1,8 @@
 //! Years, laid end to end.
 ghost use Rattle.std.specs.Prelude.{ℕ, ◌↔◌, IsTrue, ◌≡◌, ◌+◌, ◌-◌, ◌*◌, ◌/◌, ◌%◌, ◌<◌, ◌≤◌, ℤ, pos, ◌+ℤ◌};
 ghost use Rattle.std.specs.Int.{IsInRange};
-ghost use Rattle.naive_base.specs.Year.{is_leap, days_in_year, year_start, LiesIn, year_of, IsYear, IsDay};
-ghost use Rattle.naive_base.specs.Date.{day_of_year};
+ghost use Rattle.naive_base.specs.Year.{is_leap, days_in_year, year_start, LiesIn, IsYear, IsDay};
+ghost use Rattle.naive_base.specs.DateOf.{year_of, day_of_year};
 ghost use Rattle.naive_base.specs.Steps.Cycle.{days_of_years};
 
 /// The first day of the years that an `i32` holds.

@@ -5,7 +5,7 @@ ghost use Rattle.naive_base.specs.Months.{months_of, days_of};
 ghost use Rattle.naive_base.specs.NaiveDateTime.{reading};
 ghost use Rattle.naive_base.specs.NaiveTime.{second_of, fraction_of};
 ghost use Rattle.naive_base.specs.Reading.{reading_at, day_at};
-ghost use Rattle.naive_base.specs.Year.{year_of};
+ghost use Rattle.naive_base.specs.DateOf.{year_of};
 ghost use Rattle.zoned_time.specs.DateTime.{zoned, wall_of, home_of, IsOnlyMonthsLater, IsOnlyDaysLater, IsDaysAdded};
 ghost use Rattle.zoned_time.specs.Relocal.{IsRelocal};
 ghost use Rattle.zoned_time.specs.Years.{IsEarlierInYear, IsWholeYears, IsYearsSince};

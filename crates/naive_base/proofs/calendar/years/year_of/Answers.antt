@@ -1,5 +1,5 @@
 use Rattle.std.proofs.Common.{arith, to_z, of_z, w32}
-use Rattle.naive_base.specs.Year.{year_of}
+use Rattle.naive_base.specs.DateOf.{year_of}
 use Rattle.naive_base.proofs.Floor.{floors}
 use Rattle.naive_base.proofs.Years.{lies_in, one_year}
 use Rattle.naive_base.proofs.Cycle.{year_found}
