@@ -1,7 +1,6 @@
 -- Each day has one date, and each date is one day.
-use Rattle.std.proofs.Common.{◌≡◌, ℕ, zero, suc, ◌+◌, ◌-◌, ◌*◌, ◌/◌, ◌%◌, ◌<◌, ◌≤◌, inl, inr, Bool, true, false, nat_lt, arith, refl, ℤ, pos, ◌+ℤ◌, ◌-ℤ◌, ◌≤ℤ◌, ◌<ℤ◌, unsigned_abs}
+use Rattle.std.proofs.Common.{◌≡◌, ℕ, zero, suc, ◌+◌, ◌-◌, ◌*◌, ◌/◌, ◌%◌, ◌<◌, ◌≤◌, inl, inr, Bool, arith, refl, ℤ, pos, ◌+ℤ◌, ◌-ℤ◌, ◌≤ℤ◌, ◌<ℤ◌}
 use Rattle.std.proofs.lemmas.Bool.{cases_lt, cases_order}
-use Rattle.std.proofs.lemmas.Bool.Decides.{nat_tests}
 use Rattle.naive_base.specs.Year.{is_leap, days_in_year, year_start, LiesIn, IsYear, IsDay}
 use Rattle.naive_base.specs.Month.{days_in_month, days_of_months}
 use Rattle.naive_base.specs.Date.{IsDate, day_number}
@@ -9,7 +8,7 @@ use Rattle.naive_base.specs.DateOf.{date_with, year_of, day_of_year, month_of, d
 pub use Rattle.naive_base.specs.Steps.Dates.{months_step, months_all, place_is}
 use Rattle.naive_base.specs.Steps.Dates.{in_year}
 use Rattle.naive_base.proofs.Floor.{floors}
-use Rattle.naive_base.proofs.Years.{year_step, lies_in, one_year, gap_of, starts_rise, day_of_years}
+use Rattle.naive_base.proofs.Years.{year_step, lies_in, one_year, starts_rise, day_of_years}
 use Rattle.naive_base.specs.Steps.Cycle.{days_of_years}
 use Rattle.naive_base.proofs.Cycle.{days_with_leap, january_start, year_found}
 use Rattle.naive_base.proofs.MonthDays.{leap_day, leap_at_most, months_early, months_late, march_place, late_day, first_months}

@@ -1,8 +1,7 @@
 -- Years laid end to end: each day lies in one of them.
-use Rattle.std.proofs.Common.{◌≡◌, ℕ, ◌+◌, ◌*◌, ◌<◌, ◌≤◌, arith, ℤ, pos, neg_ℤ, negsuc, true, false, cond, not, ◌&&◌, ◌||◌, ◌+ℤ◌, ◌-ℤ◌, ◌≤ℤ◌, refl, unsigned_abs, ◌==◌, ◌*ℤ◌, ◌<ℤ◌, zero, suc, int_lt}
+use Rattle.std.proofs.Common.{◌≡◌, ℕ, ◌≤◌, arith, ℤ, pos, neg_ℤ, ◌+ℤ◌, ◌-ℤ◌, ◌≤ℤ◌, refl, unsigned_abs, ◌<ℤ◌, zero, suc}
 use Rattle.std.proofs.lemmas.Bool.Decides.{nat_tests}
 use Rattle.std.proofs.lemmas.Int.{by_lt_z}
-use borrow.Author.Differences.{up, down}
 use Rattle.naive_base.specs.Year.{days_in_year, year_start, LiesIn, IsYear, IsDay}
 use Rattle.naive_base.specs.DateOf.{year_with, year_of}
 pub use Rattle.naive_base.specs.Steps.Years.{floor_mod_parts, year_step, gap_of}
@@ -17,6 +16,11 @@ days_at_most y = grind (arith, nat_tests)
 pub lies_in : (day : ℤ) → LiesIn day (year_of day)
 unfolding year_of
 lies_in day = (year_with day).1
+
+-- 1970-01-01 is day 0
+pub first_year_start : year_start (pos 1970) ≡ pos 0
+unfolding year_start
+first_year_start = refl
 
 -- Later years start later, so that no day lies in two.
 

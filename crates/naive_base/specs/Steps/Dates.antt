@@ -4,7 +4,7 @@ use Rattle.std.proofs.lemmas.Bool.{cases_lt}
 use Rattle.std.proofs.lemmas.Bool.Decides.{nat_tests}
 use Rattle.naive_base.specs.Year.{is_leap, days_in_year, year_start}
 use Rattle.naive_base.specs.Month.{days_in_month, days_of_months}
-use Rattle.naive_base.specs.Date.{IsDate, day_number, HasDate}
+use Rattle.naive_base.specs.Date.{day_number, HasDate}
 use Rattle.naive_base.specs.Steps.Floor.{floors}
 use Rattle.naive_base.specs.Steps.Years.{year_step, gap_of, some_year}
 

@@ -1,8 +1,9 @@
-use Rattle.naive_base.proofs.Years.{year_step, lies_in, one_year, day_of_years, year_of_days}
+use Rattle.naive_base.proofs.Years.{first_year_start, year_step, lies_in, one_year, day_of_years, year_of_days}
 use Rattle.naive_base.proofs.calendar.years.years_law.Goals as goal
 
 pub returns : goal.returns
 returns c = record {
+  first = first_year_start;
   step = year_step;
   found = lies_in;
   once = one_year;
