@@ -1,6 +1,8 @@
 -- Lemmas for the crates above.
+pub use Rattle.tz_info.proofs.FileFaults.{fault_or_zone as file_fault_or_zone}
 pub use Rattle.tz_info.proofs.FileZoneLaws.{file_rule_fits}
 pub use Rattle.tz_info.proofs.LeapOrder.{leap_times_answer}
+pub use Rattle.tz_info.proofs.PosixLaws.{fault_or_zone as text_fault_or_zone}
 pub use Rattle.tz_info.proofs.PosixZoneLaws.{posix_zone_valid}
 pub use Rattle.tz_info.proofs.RuleLaws.{rule_year}
 pub use Rattle.tz_info.proofs.WallTimes.{wall_decided}

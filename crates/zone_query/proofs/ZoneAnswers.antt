@@ -1,5 +1,7 @@
 -- The answer to a line that sets the zone, by what was read.
-use Rattle.std.proofs.Common.{◌≡◌, ℕ, ◌⊎◌, inl, inr, List, Option, Some, Result, Ok, Err, IfOk, IfErr, MatchResult}
+use Rattle.std.proofs.Common.{◌≡◌, ◌≢◌, ¬, ℕ, ◌⊎◌, inl, inr, elim, List, Option, Some, Result, Ok, Err, IfOk, IfErr, MatchResult}
+use Rattle.std.proofs.lemmas.Bool.{cases_eq}
+use Rattle.tz_info.proofs.ForCallers.{text_fault_or_zone, file_fault_or_zone}
 use Rattle.tz_info.specs.Errors.{number_of}
 use Rattle.tz_info.specs.PosixZones.{IsPosixZone, IsPosixFault}
 use Rattle.tz_info.specs.TzFiles.{IsTzFile, IsZoneFault}
@@ -15,16 +17,27 @@ abbrev Sets : Option Zone → Result TimeZone Error → List ℕ → Option Zone
 Sets before read answer after =
     MatchResult read (λ found. (answer ≡ zone_text found) × (after ≡ Some found)) (λ fault. (answer ≡ refusal_text (number_of fault)) × (after ≡ before))
 
-read_answered : (is_zone : Zone → Type 0) (is_fault : ℕ → Type 0) (before : Option Zone) (read : Result TimeZone Error) (answer : List ℕ) (after : Option Zone)
-    → IfOk read is_zone → IfErr read (λ e. (number_of e ≡ 17) ⊎ is_fault (number_of e)) → Sets before read answer after → AnswersRead is_zone is_fault before answer after
-read_answered is_zone is_fault before (Ok found) answer after ok err sets = inl (found, ok, sets.0, sets.1)
-read_answered is_zone is_fault before (Err fault) answer after ok err sets = inr (number_of fault, err, sets.0, sets.1)
+-- a fault other than want of memory leaves no zone
+told : (is_zone : Zone → Type 0) (is_fault : ℕ → Type 0) → ((n : ℕ) → is_fault n → n ≢ 17 → (z : Zone) → ¬ (is_zone z)) → (n : ℕ)
+    → (n ≡ 17) ⊎ is_fault n → (n ≡ 17) ⊎ (is_fault n × ((z : Zone) → ¬ (is_zone z)))
+told is_zone is_fault apart n (inl memory) = inl memory
+told is_zone is_fault apart n (inr fault) = elim (cases_eq n 17) [
+  | inl same ↦ inl same
+  | inr other ↦ inr (fault, apart n fault other)
+]
+
+read_answered : (is_zone : Zone → Type 0) (is_fault : ℕ → Type 0) → ((n : ℕ) → is_fault n → n ≢ 17 → (z : Zone) → ¬ (is_zone z))
+    → (before : Option Zone) (read : Result TimeZone Error) (answer : List ℕ) (after : Option Zone) → IfOk read is_zone → IfErr read (λ e. (number_of e ≡ 17) ⊎ is_fault (number_of e)) → Sets before read answer after → AnswersRead is_zone is_fault before answer after
+read_answered is_zone is_fault apart before (Ok found) answer after ok err sets = inl (found, ok, sets.0, sets.1)
+read_answered is_zone is_fault apart before (Err fault) answer after ok err sets =
+    inr (number_of fault, told is_zone is_fault apart (number_of fault) err, sets.0, sets.1)
 
 pub text_answered : (zone : Option Zone) (line text : List ℕ) (read : Result TimeZone Error) (answer : List ℕ) (after : Option Zone) → Asks line (Text text)
     → IfOk read (λ z. IsPosixZone text z) → IfErr read (λ e. (number_of e ≡ 17) ⊎ IsPosixFault text (number_of e)) → Sets zone read answer after → AnswersLine zone line answer after
-text_answered zone line text read answer after asks ok err sets = inl (Text text, asks, read_answered (IsPosixZone text) (IsPosixFault text) zone read answer after ok err sets)
+text_answered zone line text read answer after asks ok err sets = inl (Text text, asks, read_answered (IsPosixZone text) (IsPosixFault text) (λ n fault _ z. text_fault_or_zone text n z fault) zone read answer after ok err sets)
 
 pub data_answered : (zone : Option Zone) (line digits : List ℕ) (read : Result TimeZone Error) (answer : List ℕ) (after : Option Zone) → Asks line (Data (bytes_of digits))
     → IfOk read (λ z. IsTzFile (bytes_of digits) z × IsValid z) → IfErr read (λ e. (number_of e ≡ 17) ⊎ IsZoneFault (bytes_of digits) (number_of e)) → Sets zone read answer after → AnswersLine zone line answer after
 data_answered zone line digits read answer after asks ok err sets =
-    inl (Data (bytes_of digits), asks, read_answered (λ found. IsTzFile (bytes_of digits) found × IsValid found) (IsZoneFault (bytes_of digits)) zone read answer after ok err sets)
+    inl (Data (bytes_of digits), asks, read_answered (λ found. IsTzFile (bytes_of digits) found × IsValid found) (IsZoneFault (bytes_of digits))
+    (λ n fault other z is. file_fault_or_zone (bytes_of digits) n z fault other is.0 is.1) zone read answer after ok err sets)

@@ -59,12 +59,13 @@ zone_text zone =
 abbrev pub refusal_text : ℕ → List ℕ
 refusal_text number = codes "refused " ++ decimal number
 
--- a zone is read, which is the zone from here on; or it is refused, by a fault that stands in what was to be read or for
--- want of memory (17), and the earlier zone stays
+-- a zone is read, which is the zone from here on; or it is refused, and the earlier zone stays: for want of memory (17), or
+-- by a fault that stands in what was to be read, and then no zone is spelled there
 abbrev pub AnswersRead : (Zone → Type 0) → (ℕ → Type 0) → Option Zone → List ℕ → Option Zone → Type 0
 AnswersRead is_zone is_fault zone answer after =
     ((found : Zone) × is_zone found × (answer ≡ zone_text found) × (after ≡ Some found))
-    ⊎ ((number : ℕ) × ((number ≡ 17) ⊎ is_fault number) × (answer ≡ refusal_text number) × (after ≡ zone))
+    ⊎ ((number : ℕ) × ((number ≡ 17) ⊎ (is_fault number × ((found : Zone) → ¬ (is_zone found)))) × (answer ≡ refusal_text number)
+    × (after ≡ zone))
 
 -- a TZ text is read
 abbrev pub AnswersText : Option Zone → List ℕ → List ℕ → Option Zone → Type 0
