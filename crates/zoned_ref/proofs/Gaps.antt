@@ -1,15 +1,14 @@
 -- The type before a gap tells the offset before it.
-use Rattle.std.proofs.Common.{◌≡◌, ℤ, pos, ◌+ℤ◌, ◌-ℤ◌, ◌<ℤ◌, ◌≤ℤ◌, arith, refl, sym, ap, ◌∙◌, Some, None}
+use Rattle.std.proofs.Common.{◌≡◌, ℤ, pos, ◌+ℤ◌, ◌-ℤ◌, arith, refl, sym, ap, ◌∙◌, Some, None}
 use Rattle.std.proofs.lemmas.Int.{ints}
 use Rattle.offset_core.specs.Offset.{IsWithinDay}
 use Rattle.naive_base.specs.Range.{IsWide}
 use Rattle.tz_info.specs.Gaps as types
 use Rattle.tz_info.specs.LocalTypes.{LocalType}
-use Rattle.tz_info.specs.WallClocks.{Shows as ShowsType}
 use Rattle.tz_info.specs.Zones.{Zone, TypeAt}
 use Rattle.tz_info.proofs.ForCallers.{type_once}
 use Rattle.zoned_time.specs.Choice.{IsBeforeGap, IsOffsetBeforeGap}
-use Rattle.zoned_time.specs.Zone.{Meaning, IsZoneSecond, Shows}
+use Rattle.zoned_time.specs.Zone.{Meaning, IsZoneSecond}
 use Rattle.zoned_ref.specs.Offsets.{IsNarrow, AreOffsetsOf}
 use Rattle.zoned_ref.proofs.Offsets.{type_within}
 use Rattle.zoned_ref.proofs.Walls.{shown_by_type, shown_by_offset}

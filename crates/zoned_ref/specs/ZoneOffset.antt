@@ -2,6 +2,7 @@
 use Rattle.std.specs.Prelude.{ℤ}
 use Rattle.offset_core.specs.declared.fixed_offset.FixedOffset.{FixedOffset}
 use Rattle.offset_core.specs.FixedOffset.{seconds_of}
+use Rattle.tz_info.specs.LocalTypes.{LocalType}
 use Rattle.zoned_time.specs.Zone.{Meaning, Law}
 use Rattle.zoned_ref.specs.TimeZoneRef.{off_of}
 use Rattle.zoned_ref.specs.declared.time_zone_ref.TimeZoneRef.{TimeZoneRef}
@@ -13,6 +14,10 @@ fixed_of o = o.fixed
 
 abbrev pub ahead_of : ZoneOffset → ℤ
 ahead_of o = seconds_of (fixed_of o)
+
+-- the type of local time that it is the offset of
+abbrev pub type_of : ZoneOffset → LocalType
+type_of o = o.local_type
 
 -- the offsets of the zone that it came from
 abbrev pub home_of : ZoneOffset → ℤ → ℤ

@@ -5,6 +5,7 @@
 //! [`WallClock`] goes the whole way, from bytes to the instants at which a clock shows a reading.
 #![tactic(auto)]
 
+pub mod laws;
 mod lookup;
 #[cfg(test)]
 mod tests;

@@ -1,8 +1,15 @@
 //! A borrowed zone's lookups: those of the parsed zone, as offsets.
-ghost use Rattle.std.specs.Prelude.{◌≡◌, refl};
+ghost use Rattle.std.specs.Prelude.{◌≡◌, MatchOption, refl};
+ghost use Rattle.offset_core.specs.LocalResult.{map_of};
+ghost use Rattle.offset_core.specs.WallAnswer.{IsWallAnswer};
 ghost use Rattle.naive_base.specs.NaiveDateTime.{reading};
-ghost use Rattle.zoned_time.specs.Zone.{IsZoneSecond, IsOffsetAt, midnight_of};
-ghost use Rattle.zoned_ref.specs.ZoneOffset.{meaning_of, law_of};
+ghost use Rattle.tz_info.specs.Gaps.{IsBeforeGap, IsShown};
+ghost use Rattle.tz_info.specs.WallClocks.{Shows};
+ghost use Rattle.tz_info.specs.Zones.{TypeAt};
+ghost use Rattle.zoned_time.specs.Choice.{IsOffsetBeforeGap};
+ghost use Rattle.zoned_time.specs.Zone.{IsZoneSecond, IsOffsetAt, AreOffsetsFor, midnight_of};
+ghost use Rattle.zoned_ref.specs.TimeZoneRef.{zone_of};
+ghost use Rattle.zoned_ref.specs.ZoneOffset.{meaning_of, law_of, type_of};
 
 use crate::{TimeZoneRef, ZoneOffset};
 use naive_base::{NaiveDate, NaiveDateTime, NaiveTime};
@@ -24,7 +31,11 @@ impl<'a> TimeZone for TimeZoneRef<'a> {
         offset.zone()
     }
 
-    fn offset_from_utc_datetime(&self, utc: &NaiveDateTime) -> ZoneOffset<'a> {
+    fn offset_from_utc_datetime(&self, utc: &NaiveDateTime) -> ZoneOffset<'a>
+        ensures offset { IsOffsetAt (law_of self.now) (reading utc.now).s result }
+        // It is the offset of the type in force.
+        ensures local_type { TypeAt (zone_of self.now) (reading utc.now).s (type_of result) }
+    {
         self.offset_at(utc.secs_since_epoch())
     }
 
@@ -32,7 +43,12 @@ impl<'a> TimeZone for TimeZoneRef<'a> {
         self.offset_from_utc_datetime(&midnight(utc))
     }
 
-    fn offset_from_local_datetime(&self, local: &NaiveDateTime) -> LocalResult<ZoneOffset<'a>> {
+    fn offset_from_local_datetime(&self, local: &NaiveDateTime) -> LocalResult<ZoneOffset<'a>>
+        ensures offsets { AreOffsetsFor (law_of self.now) (reading local.now).s result }
+        // They are the offsets of the types in force.
+        ensures local_types { IsWallAnswer (Shows (TypeAt (zone_of self.now)) (reading local.now).s)
+            (map_of type_of result) }
+    {
         let types = match self.zone().find_local_time_type_from_local(*local) {
             Ok(types) => types,
             Err(_) => unreachable!(),
@@ -51,7 +67,13 @@ impl<'a> TimeZone for TimeZoneRef<'a> {
         self.offset_from_local_datetime(&midnight(local))
     }
 
-    fn offset_before_gap(&self, local: &NaiveDateTime) -> Option<ZoneOffset<'a>> {
+    fn offset_before_gap(&self, local: &NaiveDateTime) -> Option<ZoneOffset<'a>>
+        ensures offset { IsOffsetBeforeGap (law_of self.now) (reading local.now).s result }
+        // It is the offset of the type before the gap.
+        ensures local_type { MatchOption result
+            (IsShown (TypeAt (zone_of self.now)) (reading local.now).s)
+            (λ o. IsBeforeGap (TypeAt (zone_of self.now)) (reading local.now).s (type_of o)) }
+    {
         match self.zone().find_local_time_type_before_gap(*local) {
             Some(before) => Some(ZoneOffset::new(*self, &before)),
             None => None,
@@ -63,7 +85,8 @@ impl<'a> TimeZoneRef<'a> {
     // The offset of the type in force.
     fn offset_at(&self, second: i64) -> ZoneOffset<'a>
         requires { IsZoneSecond second }
-        ensures { IsOffsetAt (law_of self.now) second result }
+        ensures offset { IsOffsetAt (law_of self.now) second result }
+        ensures local_type { TypeAt (zone_of self.now) second (type_of result) }
     {
         match self.zone().find_local_time_type(second) {
             Ok(found) => ZoneOffset::new(*self, found),

@@ -5,6 +5,7 @@ use naive_base::{NaiveDate, NaiveDateTime};
 use offset_core::{FixedOffset, LocalResult};
 use std::alloc::{AllocError, Global};
 use std::fmt;
+use std::hash::{DefaultHasher, Hash, Hasher};
 use std::process::Abort;
 use std::test::Fail;
 use tz_info::{LeapSecond, LocalTimeType, Probes, Transition, TransitionRule};
@@ -231,6 +232,63 @@ fn an_offset_prints_as_its_seconds(rt: HostRuntime) -> Result<(), Fail> {
         assert_eq!(rt; format!(in rt.alloc(); "{offset}")?.as_str(), text);
         assert_eq!(rt; format!(in rt.alloc(); "{offset:?}")?.as_str(), text);
     }
+    Ok(())
+}
+
+/// The abbreviation and the mark of what a zone gives at a UTC reading.
+fn named(
+    zone: &TimeZoneRef<'_>,
+    alloc: Global,
+    utc: &NaiveDateTime,
+) -> Result<(String, bool), AllocError> {
+    let offset = zone.offset_from_utc_datetime(utc);
+    let name = match offset.name() {
+        Some(name) => name.as_str().to_string(alloc)?,
+        None => "none".to_string(alloc)?,
+    };
+    Ok((name, offset.is_dst()))
+}
+
+#[test]
+fn an_offset_tells_its_abbreviation(rt: HostRuntime) -> Result<(), Fail> {
+    let alloc = rt.alloc();
+    let parsed = of_text(&rt, alloc, NEW_YORK);
+    let zone = TimeZoneRef::new(&parsed).ok_or("a narrow zone")?;
+    let (summer, is_dst) = named(&zone, alloc, &reading(&rt, 1_636_263_000))?;
+    assert_eq!(rt; (summer.as_str(), is_dst), ("EDT", true));
+    let (winter, is_dst) = named(&zone, alloc, &reading(&rt, 1_636_264_800))?;
+    assert_eq!(rt; (winter.as_str(), is_dst), ("EST", false));
+
+    // a type of a list needn't have a name
+    let parsed = of_lists(&rt, alloc, &[], &[3_600], &[], None)?;
+    let zone = TimeZoneRef::new(&parsed).ok_or("a narrow zone")?;
+    let (none, is_dst) = named(&zone, alloc, &reading(&rt, 0))?;
+    assert_eq!(rt; (none.as_str(), is_dst), ("none", false));
+    Ok(())
+}
+
+/// Two zones in which clocks are two hours ahead: Kaliningrad's in winter and Berlin's in summer.
+#[test]
+fn offsets_compare_by_their_types(rt: HostRuntime) -> Result<(), Fail> {
+    let berlin = of_text(&rt, rt.alloc(), "CET-1CEST,M3.5.0,M10.5.0/3");
+    let berlin = TimeZoneRef::new(&berlin).ok_or("a narrow zone")?;
+    let paris = of_text(&rt, rt.alloc(), "CET-1CEST,M3.5.0,M10.5.0/3");
+    let paris = TimeZoneRef::new(&paris).ok_or("a narrow zone")?;
+    let kaliningrad = of_text(&rt, rt.alloc(), "EET-2");
+    let kaliningrad = TimeZoneRef::new(&kaliningrad).ok_or("a narrow zone")?;
+    // 1 July 2021, and 1 January
+    let (july, january) = (reading(&rt, 1_625_097_600), reading(&rt, 1_609_459_200));
+    let summer = berlin.offset_from_utc_datetime(&july);
+    assert!(rt; summer == paris.offset_from_utc_datetime(&july));
+    assert!(rt; summer != berlin.offset_from_utc_datetime(&january));
+    let eet = kaliningrad.offset_from_utc_datetime(&july);
+    assert_eq!(rt; eet.fix(), summer.fix());
+    assert!(rt; summer != eet);
+    let mut fed = DefaultHasher::new();
+    summer.hash(&mut fed);
+    let mut same = DefaultHasher::new();
+    paris.offset_from_utc_datetime(&july).hash(&mut same);
+    assert_eq!(rt; fed.finish(), same.finish());
     Ok(())
 }
 

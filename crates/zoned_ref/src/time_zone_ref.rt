@@ -12,14 +12,18 @@ use tz_info::{LocalTimeType, TransitionRule};
 /// local time that is in force then.
 ///
 /// It borrows the parsed zone, and so does each instant that it gives: none of them can be used once that zone is gone.
-/// [`DateTime::fixed_offset`](zoned_time::DateTime::fixed_offset) gives an instant that prints alike and borrows nothing.
+/// [`DateTime::fixed_offset`](zoned_time::DateTime::fixed_offset) gives an instant that prints alike and borrows nothing: that is
+/// the one to keep and to sort. Print an instant of a borrowed zone, or map a closure over such instants, in a function that is
+/// generic over the zone: in other code the checker doesn't cover `{instant}`, `==`, a copy or a closure of it yet.
 ///
 /// ```
-/// let parsed = tz_info::TimeZone::from_posix_tz(alloc, "EST5EDT,M3.2.0,M11.1.0")?;
-/// let new_york = TimeZoneRef::new(&parsed)?;
-/// new_york.timestamp(1_636_264_800, 0); // 2021-11-07 01:00:00 -05:00
-/// new_york.with_ymd_and_hms(2021, 11, 7, 1, 30, 0).earliest(); // 2021-11-07 01:30:00 -04:00
-/// new_york.with_ymd_and_hms(2021, 3, 14, 2, 30, 0); // none: it lies in a gap
+/// let parsed = tz_info::TimeZone::from_tz_data(alloc, bytes)?; // New York's file
+/// let new_york = TimeZoneRef::new(&parsed).ok_or(MyError::WideZone)?;
+/// let instant = new_york.timestamp(1_636_266_600, 0); // 2021-11-07 01:30:00 -05:00
+/// instant.offset().name(); // EST
+/// let kept = instant.fixed_offset(); // a DateTime<FixedOffset>
+/// new_york.with_ymd_and_hms(2021, 3, 14, 2, 30, 0); // None: it lies in a gap
+/// new_york.with_ymd_and_hms(2021, 11, 7, 1, 30, 0); // Ambiguous: at -04:00, and an hour later at -05:00
 /// ```
 #[derive(Clone, Copy)]
 pub struct TimeZoneRef<'a> {

@@ -1,12 +1,17 @@
 //! The offsets of a borrowed zone.
-ghost use Rattle.std.specs.Prelude.{◌≡◌, Some};
-ghost use Rattle.offset_core.specs.FixedOffset.{printed_offset};
+ghost use Rattle.std.specs.Prelude.{◌≡◌, Some, option_map};
+ghost use Rattle.std.specs.Cmp.Rules.{hashing};
+ghost use Rattle.std.specs.Hash as fed;
+ghost use Rattle.std.specs.Ordering.{on};
+ghost use Rattle.std.proofs.Common.{rules};
+ghost use Rattle.offset_core.specs.FixedOffset.{printed_offset, seconds_of};
 ghost use Rattle.offset_core.specs.Offset.{IsWithinDay};
 
 use crate::TimeZoneRef;
 use offset_core::FixedOffset;
 use std::fmt;
-use tz_info::LocalTimeType;
+use std::hash::{Hash, Hasher};
+use tz_info::{LocalTimeType, TimeZoneName};
 use zoned_time::Offset;
 
 /// How far the clocks of a borrowed zone are from UTC at some instant.
@@ -15,25 +20,37 @@ use zoned_time::Offset;
 /// [`TimeZone::from_offset`](zoned_time::TimeZone::from_offset) leads back to the zone, and not to one that is fixed at this
 /// offset. It lives no longer than the parsed zone.
 ///
-/// It prints as its [`FixedOffset`].
+/// It prints as its [`FixedOffset`]. Two are equal where their types of local time are: seconds, daylight saving mark and
+/// abbreviation. Their zones are not compared.
+///
+/// ```
+/// let fold = new_york.with_ymd_and_hms(2021, 11, 7, 1, 30, 0).earliest()?;
+/// fold.offset().name(); // EDT
+/// fold.offset().is_dst(); // true
+/// ```
 #[derive(Clone, Copy)]
 pub struct ZoneOffset<'a> {
     zone: TimeZoneRef<'a>,
     fixed: FixedOffset,
+    local_type: LocalTimeType,
+    // The two agree.
+    pub ghost agreed: { seconds_of fixed ≡ local_type.offset },
 }
 
 impl<'a> ZoneOffset<'a> {
-    ghost use Rattle.zoned_ref.specs.ZoneOffset.{ahead_of};
+    ghost use Rattle.zoned_ref.specs.ZoneOffset.{ahead_of, type_of};
 
     // The offset of a type of the zone.
     pub(crate) fn new(zone: TimeZoneRef<'a>, local_type: &LocalTimeType) -> ZoneOffset<'a>
         requires { IsWithinDay local_type.now.offset }
         ensures seconds { ahead_of result ≡ local_type.now.offset }
         ensures zone { result.zone ≡ zone.entry }
+        ensures local_type { type_of result ≡ local_type.now }
     {
         ZoneOffset {
             zone,
             fixed: FixedOffset::east(local_type.offset()),
+            local_type: *local_type,
         }
     }
 
@@ -42,6 +59,54 @@ impl<'a> ZoneOffset<'a> {
         ensures { result ≡ self.now.zone }
     {
         self.zone
+    }
+
+    /// The abbreviation of the type of local time, as `EST` or `-03`. `None` where the zone gives it none.
+    pub fn name(&self) -> Option<&TimeZoneName>
+        ensures { option_map (λ n. n.now) result ≡ (type_of self.now).name }
+    {
+        self.local_type.name()
+    }
+
+    /// Whether the type of local time is daylight saving time, by the mark that the zone gives it.
+    pub fn is_dst(&self) -> bool
+        ensures { result ≡ (type_of self.now).dst }
+    {
+        self.local_type.is_dst()
+    }
+}
+
+impl PartialEq for ZoneOffset<'_> {
+    ghost use Rattle.std.specs.Cmp.{on_per};
+    ghost use Rattle.tz_info.specs.contracts.local_time_type.LocalTimeTypePartialEq.TheImpl.Laws.{laws-law};
+    ghost use Rattle.zoned_ref.specs.ZoneOffset.{type_of};
+
+    ghost eq = { on type_of ⟦<LocalTimeType as PartialEq>⟧.eq };
+
+    ghost laws = { on_per type_of laws-law };
+
+    fn eq(&self, other: &ZoneOffset<'_>) -> bool {
+        self.local_type == other.local_type
+    }
+}
+
+impl Eq for ZoneOffset<'_> {
+    ghost use Rattle.std.specs.Cmp.{on_equiv};
+    ghost use Rattle.tz_info.specs.contracts.local_time_type.LocalTimeTypeEq.TheImpl.Laws.{laws-law};
+    ghost use Rattle.zoned_ref.specs.ZoneOffset.{type_of};
+
+    ghost laws = { on_equiv type_of laws-law };
+}
+
+impl Hash for ZoneOffset<'_> {
+    ghost use Rattle.zoned_ref.specs.ZoneOffset.{type_of};
+
+    ghost hash_input = { λ o. fed.i32 (type_of o).offset };
+
+    ghost respects_eq = { Prim.search (hashing, rules) };
+
+    fn hash<H: Hasher>(&self, state: &mut H) {
+        self.local_type.offset().hash(state);
     }
 }
 

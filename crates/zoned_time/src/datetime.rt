@@ -34,6 +34,23 @@ use std::marker::PhantomData;
 /// let here = there.with_timezone(&FixedOffset::west(5 * 3600)); // 2021-11-07 01:00:00 -05:00
 /// ```
 ///
+/// An instant of a borrowed zone, as `TimeZoneRef` of `zoned_ref`, can be used no longer than that zone. Keep and sort
+/// [`DateTime::fixed_offset`] of it, which prints alike. Print it, or map a closure over such instants, in a function for all
+/// zones:
+///
+/// ```
+/// fn line<Tz: TimeZone>(alloc: Global, instant: &DateTime<Tz>) -> Result<String, AllocError>
+/// where
+///     Tz::Offset: fmt::Display,
+/// {
+///     format!(in alloc; "{instant}")
+/// }
+///
+/// fn by_clock<Tz: TimeZone>(zone: &Tz, local: &NaiveDateTime) -> LocalResult<DateTime<FixedOffset>> {
+///     zone.from_local_datetime(local).map(|instant| instant.fixed_offset())
+/// }
+/// ```
+///
 /// `O` is always the zone's [`TimeZone::Offset`]; it has a name of its own so that an instant can be `Copy`.
 pub struct DateTime<Tz: TimeZone, O = <Tz as TimeZone>::Offset> {
     datetime: NaiveDateTime,

@@ -21,8 +21,8 @@ use offset_core::{Choice, FoldChoice, GapChoice, LocalResult};
 
 /// A time zone: an offset for each second.
 ///
-/// An implementation writes [`TimeZone::from_offset`] and the four `offset_from_*`. It can't replace the other calls, which
-/// mean the same in every zone.
+/// An implementation writes [`TimeZone::from_offset`], the four `offset_from_*` and [`TimeZone::offset_before_gap`]. It can't
+/// replace the other calls, which mean the same in every zone.
 ///
 /// A wall clock needn't show each reading once. In New York clocks were set forward on 2021-03-14 at 02:00:00, to 03:00:00:
 /// no clock showed 02:30:00, which lies in a gap. On 2021-11-07 they were set back at 02:00:00, to 01:00:00: they showed
@@ -93,22 +93,24 @@ pub trait TimeZone: Sized + Copy {
             .and_then(|offset| DateTime::<Self>::from_local_opt(local, offset))
     }
 
-    /// The instant that a choice takes for a reading. New York's clocks skipped 02:30 on 2021-03-14, and showed 01:30 twice on
-    /// 2021-11-07:
+    /// The instant that a choice takes for a reading. There are six outcomes. New York's clocks were set forward on 2021-03-14
+    /// at 02:00, and back on 2021-11-07 at 02:00:
     ///
-    /// | reading | choice | answer |
-    /// |---|---|---|
-    /// | 02:30 | `ShiftForward` | 03:30 -04:00 |
-    /// | 02:30 | `Refuse` in gaps | [`ResolveError::Gap`] |
-    /// | 01:30 | `Earliest` | 01:30 -04:00 |
-    /// | 01:30 | `Latest` | 01:30 -05:00 |
-    /// | 01:30 | `Refuse` in folds | [`ResolveError::Fold`] |
+    /// | reading | shown | choice | answer |
+    /// |---|---|---|---|
+    /// | 2021-03-14 02:30 | never | gap: [`GapChoice::Refuse`] | [`ResolveError::Gap`], whose number is 21 |
+    /// | 2021-03-14 02:30 | never | gap: [`GapChoice::ShiftForward`] | 2021-03-14 03:30 -04:00 |
+    /// | 2021-11-07 01:30 | twice | fold: [`FoldChoice::Refuse`] | [`ResolveError::Fold`], whose number is 22 |
+    /// | 2021-11-07 01:30 | twice | fold: [`FoldChoice::Earliest`] | 2021-11-07 01:30 -04:00 |
+    /// | 2021-11-07 01:30 | twice | fold: [`FoldChoice::Latest`] | 2021-11-07 01:30 -05:00 |
+    /// | 2021-07-01 12:00 | once | any | 2021-07-01 12:00 -04:00 |
     ///
     /// Nanoseconds are kept.
     ///
     /// # Errors
     ///
-    /// As in the table; [`ResolveError::OutOfRange`] if the UTC reading of the instant that is taken is out of range.
+    /// As in the table; [`ResolveError::OutOfRange`], whose number is 23, if the UTC reading of the instant that is taken is out
+    /// of range.
     final fn resolve(
         &self,
         local: &NaiveDateTime,

@@ -1,12 +1,8 @@
-use Rattle.std.proofs.Common.{◌≡◌, subst, Option, Some, None}
 use Rattle.std.specs.Prelude.{option_map}
-use Rattle.offset_core.specs.declared.local_result.LocalResult.TheVariants.{Single, Ambiguous}
 use Rattle.offset_core.specs.FixedOffset.{seconds_of}
-use Rattle.offset_core.specs.LocalResult.{all_or_none}
 use Rattle.naive_base.specs.NaiveDateTime.{reading}
 use Rattle.zoned_time.specs.DateTime.{zoned}
 use Rattle.zoned_time.specs.Zoned.{in_seconds}
-use Rattle.zoned_ref.specs.Instants.{AreInstantsAt}
 use Rattle.zoned_ref.proofs.Instants.{of_two}
 use Rattle.zoned_ref.proofs.wall_clock.instants_of_two.Goals as goal
 

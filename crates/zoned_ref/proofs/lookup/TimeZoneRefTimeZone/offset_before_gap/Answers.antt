@@ -8,11 +8,11 @@ use Rattle.zoned_ref.proofs.lookup.TimeZoneRefTimeZone.offset_before_gap.Goals a
 pub new-requires : goal.new-requires
 new-requires c = before_within c.zone.result.now (reading c.args.local.now).s c.in-Some.before c.zone.ensures.narrow c.in-Some.ensures
 
-pub returns-in-Some : goal.returns-in-Some
-returns-in-Some c = let local = c.args.local.now in
+pub returns-in-Some-clause-offset : goal.returns-in-Some-clause-offset
+returns-in-Some-clause-offset c = let local = c.args.local.now in
     gap_given meaning_of c.zone.result.now (off_of c.args.self.now) (reading local).s c.in-Some.before c.new.result c.zone.ensures.narrow c.zone.ensures.offsets local.in_range.0
     c.new.ensures.seconds (ap off_of c.new.ensures.zone) c.in-Some.ensures
 
-pub returns-in-None : goal.returns-in-None
-returns-in-None c = let local = c.args.local.now in
+pub returns-in-None-clause-offset : goal.returns-in-None-clause-offset
+returns-in-None-clause-offset c = let local = c.args.local.now in
     no_gap meaning_of c.zone.result.now (off_of c.args.self.now) (reading local).s c.zone.ensures.narrow c.zone.ensures.offsets local.in_range.0 c.in-None.ensures

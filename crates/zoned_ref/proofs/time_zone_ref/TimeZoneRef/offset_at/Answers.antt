@@ -13,8 +13,8 @@ unreachable-requires c = let fits = c.ranges.second in
     let refused = simp to_z-of_z at c.in-Err.ensures in
     type_not_refused c.zone.result.now c.args.second there.type there.in_force refused.1
 
-pub returns : goal.returns
-returns c = let fits = c.ranges.second in
+pub returns-clause-offset : goal.returns-clause-offset
+returns-clause-offset c = let fits = c.ranges.second in
     let there = c.zone.ensures.offsets c.args.second c.requires in
     let same = type_once c.zone.result.now c.args.second c.in-Ok.found.now there.type (simp to_z-of_z at c.in-Ok.ensures) there.in_force in
     record {
