@@ -1,0 +1,234 @@
+//! What the documents say that the examples answer. Unix times are those of New York's clocks by Python's `zoneinfo`.
+
+use crate::{
+    FirstLines, MyError, Nepal, by_clock, daily, earliest_first, first_lines, keep, line, outcome,
+    reading,
+};
+use std::alloc::Global;
+use std::process::Abort;
+use std::test::Fail;
+use zoned::{
+    Choice, DateTime, FixedOffset, FoldChoice, GapChoice, LocalResult, NaiveDate, NaiveTime,
+    ResolveError, TimeZone, TimeZoneRef, Utc, tz_info,
+};
+
+/// New York since 2007, as a TZif file: the changes of that year, and the rule.
+const NEW_YORK: &[u8] = b"TZif2\x00\x00\x00\x00\x00\x00\x00\x00\x00\x00\x00\x00\x00\x00\x00\
+    \x00\x00\x00\x00\x00\x00\x00\x00\x00\x00\x00\x00\x00\x00\x00\x02\x00\x00\x00\x02\x00\x00\x00\x08\
+    E\xf3\xa8\xf0G-_\xe0\x01\x00\xff\xff\xb9\xb0\x00\x00\xff\xff\xc7\xc0\x01\x04EST\x00EDT\x00\
+    TZif2\x00\x00\x00\x00\x00\x00\x00\x00\x00\x00\x00\x00\x00\x00\x00\
+    \x00\x00\x00\x00\x00\x00\x00\x00\x00\x00\x00\x00\x00\x00\x00\x02\x00\x00\x00\x02\x00\x00\x00\x08\
+    \x00\x00\x00\x00E\xf3\xa8\xf0\x00\x00\x00\x00G-_\xe0\x01\x00\
+    \xff\xff\xb9\xb0\x00\x00\xff\xff\xc7\xc0\x01\x04EST\x00EDT\x00\nEST5EDT,M3.2.0,M11.1.0\n";
+
+fn choice(gap: GapChoice, fold: FoldChoice) -> Choice {
+    Choice { gap, fold }
+}
+
+#[test]
+fn the_first_lines_of_the_readme(rt: HostRuntime) {
+    let told = match reading((2021, 3, 14), 2, 30) {
+        Ok(local) => first_lines(rt.alloc(), NEW_YORK, local),
+        Err(e) => Err(e),
+    };
+    let instant = FixedOffset::west(14_400).timestamp(1_615_707_000, 0);
+    assert_eq!(rt;
+        told,
+        Ok(FirstLines {
+            gap: LocalResult::None,
+            fold: LocalResult::Ambiguous(1_636_263_000, 1_636_266_600),
+            instant,
+        })
+    );
+}
+
+/// The text of an outcome, or the number of its refusal.
+fn told(
+    rt: &impl Abort,
+    alloc: Global,
+    date: (i32, u32, u32),
+    time: (u32, u32),
+    choice: Choice,
+) -> Result<String, u8> {
+    let local = reading(date, time.0, time.1).expect(rt, "a reading");
+    match outcome(alloc, NEW_YORK, local, choice) {
+        Ok(text) => Ok(text),
+        Err(MyError::Clocks(cause)) => Err(cause.number()),
+        Err(_) => panic!(rt; "no zone"),
+    }
+}
+
+#[test]
+fn six_outcomes(rt: HostRuntime) {
+    let gaps = [GapChoice::Refuse, GapChoice::ShiftForward];
+    let folds = [FoldChoice::Refuse, FoldChoice::Earliest, FoldChoice::Latest];
+    for fold in folds {
+        let gap = told(
+            &rt,
+            rt.alloc(),
+            (2021, 3, 14),
+            (2, 30),
+            choice(GapChoice::Refuse, fold),
+        );
+        assert!(rt; matches!(&gap, Err(21)));
+        match told(
+            &rt,
+            rt.alloc(),
+            (2021, 3, 14),
+            (2, 30),
+            choice(GapChoice::ShiftForward, fold),
+        ) {
+            Ok(text) => assert_eq!(rt; text.as_str(), "2021-03-14 03:30:00 -04:00"),
+            Err(_) => panic!(rt; "refused"),
+        }
+    }
+    for gap in gaps {
+        let fold = told(
+            &rt,
+            rt.alloc(),
+            (2021, 11, 7),
+            (1, 30),
+            choice(gap, FoldChoice::Refuse),
+        );
+        assert!(rt; matches!(&fold, Err(22)));
+        for (fold, expected) in [
+            (FoldChoice::Earliest, "2021-11-07 01:30:00 -04:00"),
+            (FoldChoice::Latest, "2021-11-07 01:30:00 -05:00"),
+        ] {
+            match told(&rt, rt.alloc(), (2021, 11, 7), (1, 30), choice(gap, fold)) {
+                Ok(text) => assert_eq!(rt; text.as_str(), expected),
+                Err(_) => panic!(rt; "refused"),
+            }
+        }
+        for fold in folds {
+            match told(&rt, rt.alloc(), (2021, 7, 1), (12, 0), choice(gap, fold)) {
+                Ok(text) => assert_eq!(rt; text.as_str(), "2021-07-01 12:00:00 -04:00"),
+                Err(_) => panic!(rt; "refused"),
+            }
+        }
+    }
+}
+
+#[test]
+fn a_meeting_on_each_day(rt: HostRuntime) {
+    for (first, time, expected) in [
+        (
+            (2021, 3, 13),
+            (2, 30),
+            [
+                "2021-03-13 02:30:00 -05:00",
+                "2021-03-14 03:30:00 -04:00",
+                "2021-03-15 02:30:00 -04:00",
+            ],
+        ),
+        (
+            (2021, 11, 6),
+            (1, 30),
+            [
+                "2021-11-06 01:30:00 -04:00",
+                "2021-11-07 01:30:00 -04:00",
+                "2021-11-08 01:30:00 -05:00",
+            ],
+        ),
+    ] {
+        let first = NaiveDate::from_ymd_opt(first.0, first.1, first.2).expect(&rt, "a date");
+        let time = NaiveTime::from_hms_opt(time.0, time.1, 0).expect(&rt, "a time");
+        let choice = choice(GapChoice::ShiftForward, FoldChoice::Earliest);
+        match daily(rt.alloc(), NEW_YORK, first, time, choice, 3) {
+            Ok(lines) => {
+                assert_eq!(rt; lines.len(), 3);
+                for (line, text) in lines.iter().zip(expected) {
+                    assert_eq!(rt; line.as_str(), text);
+                }
+            }
+            Err(_) => panic!(rt; "no meetings"),
+        }
+    }
+}
+
+/// 2021 has 365 days. On one of them the clocks show 03:30 and not 02:30; on 238 of them they are 4 hours behind UTC.
+#[test]
+fn a_meeting_on_each_day_of_a_year(rt: HostRuntime) {
+    let first = NaiveDate::from_ymd_opt(2021, 1, 1).expect(&rt, "a date");
+    let time = NaiveTime::from_hms_opt(2, 30, 0).expect(&rt, "a time");
+    let choice = choice(GapChoice::ShiftForward, FoldChoice::Earliest);
+    let mut moved = 0u32;
+    let mut summer = 0u32;
+    match daily(rt.alloc(), NEW_YORK, first, time, choice, 365) {
+        Ok(lines) => {
+            for line in &lines {
+                if !line.as_str().contains(" 02:30:00 ") {
+                    assert_eq!(rt; line.as_str(), "2021-03-14 03:30:00 -04:00");
+                    moved = moved.saturating_add(1);
+                }
+                if line.as_str().ends_with("-04:00") {
+                    summer = summer.saturating_add(1);
+                }
+            }
+        }
+        Err(_) => panic!(rt; "no meetings"),
+    }
+    assert_eq!(rt; moved, 1);
+    assert_eq!(rt; summer, 238);
+}
+
+#[test]
+fn instants_to_keep(rt: HostRuntime) -> Result<(), Fail> {
+    let Ok(parsed) = tz_info::TimeZone::from_tz_data(rt.alloc(), NEW_YORK) else {
+        panic!(rt; "no zone");
+    };
+    let new_york = TimeZoneRef::new(&parsed).ok_or("a narrow zone")?;
+    let instant = new_york.timestamp(1_636_266_600, 0);
+    let kept = keep(&instant);
+    assert_eq!(rt;
+        line(rt.alloc(), &instant)?.as_str(),
+        "2021-11-07 01:30:00 -05:00"
+    );
+    assert_eq!(rt;
+        line(rt.alloc(), &kept)?.as_str(),
+        "2021-11-07 01:30:00 -05:00"
+    );
+    match instant.offset().name() {
+        Some(name) => assert_eq!(rt; name.as_str(), "EST"),
+        None => panic!(rt; "no name"),
+    }
+    assert!(rt; !instant.offset().is_dst());
+
+    let Ok(fold) = reading((2021, 11, 7), 1, 30) else {
+        panic!(rt; "no reading");
+    };
+    let mut instants = Vec::new(rt.alloc());
+    instants.push(kept)?;
+    match by_clock(&new_york, &fold) {
+        LocalResult::Ambiguous(first, last) => {
+            assert_eq!(rt; last, kept);
+            instants.push(first)?;
+        }
+        _ => panic!(rt; "not two instants"),
+    }
+    let sorted = earliest_first(instants)?;
+    assert_eq!(rt; sorted[0].timestamp(), 1_636_263_000);
+    assert_eq!(rt; sorted[1].timestamp(), 1_636_266_600);
+    Ok(())
+}
+
+/// Kathmandu is 5 hours and 45 minutes ahead of UTC.
+#[test]
+fn a_zone_of_ones_own(rt: HostRuntime) -> Result<(), Fail> {
+    let there = DateTime::<Utc>::from_timestamp(0, 0)
+        .ok_or("the epoch")?
+        .with_timezone(&Nepal);
+    assert_eq!(rt;
+        line(rt.alloc(), &there)?.as_str(),
+        "1970-01-01 05:45:00 +05:45"
+    );
+    let noon = Nepal.with_ymd_and_hms(2021, 1, 1, 12, 0, 0).single();
+    assert_eq!(rt; noon.ok_or("an instant")?.timestamp(), 1_609_481_700);
+    let Ok(local) = reading((2021, 1, 1), 12, 0) else {
+        panic!(rt; "no reading");
+    };
+    let refuse = choice(GapChoice::Refuse, FoldChoice::Refuse);
+    let instant: Result<DateTime<Nepal>, ResolveError> = Nepal.resolve(&local, refuse);
+    assert_eq!(rt; instant.ok(), noon);
+    Ok(())
+}
