@@ -58,9 +58,17 @@
 //! ```
 //! let half_past_two = NaiveTime::from_hms_opt(2, 30, 0).ok_or(MyError::NoSuchTime)?;
 //! let first = NaiveDate::from_ymd_opt(2021, 3, 13).ok_or(MyError::NoSuchTime)?;
-//! let series = DailySeries::new(new_york, first, half_past_two, choice);
-//! for instant in series.days(3) {
-//!     lines.push(line(alloc, &instant?)?)?;
+//! lines(alloc, &DailySeries::new(new_york, first, half_past_two, choice), 3)?;
+//!
+//! fn lines<Tz: TimeZone>(alloc: Global, series: &DailySeries<Tz>, days: u32) -> Result<Vec<String>, MyError>
+//! where
+//!     Tz::Offset: fmt::Display,
+//! {
+//!     let mut lines = Vec::new(alloc);
+//!     for instant in series.days(days) {
+//!         lines.push(line(alloc, &instant?)?)?;
+//!     }
+//!     Ok(lines)
 //! }
 //! ```
 //!

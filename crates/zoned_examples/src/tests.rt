@@ -8,8 +8,8 @@ use std::alloc::Global;
 use std::process::Abort;
 use std::test::Fail;
 use zoned::{
-    Choice, DateTime, FixedOffset, FoldChoice, GapChoice, LocalResult, NaiveDate, NaiveTime,
-    ResolveError, TimeZone, TimeZoneRef, Utc, tz_info,
+    Choice, DateTime, FixedOffset, FoldChoice, GapChoice, LocalResult, NaiveDate, NaiveDateTime,
+    NaiveTime, ResolveError, TimeZone, TimeZoneRef, Utc, tz_info,
 };
 
 /// New York since 2007, as a TZif file: the changes of that year, and the rule.
@@ -42,71 +42,84 @@ fn the_first_lines_of_the_readme(rt: HostRuntime) {
     );
 }
 
-/// The text of an outcome, or the number of its refusal.
-fn told(
+/// What is taken prints that text, or is refused with that number.
+fn answers(
     rt: &impl Abort,
     alloc: Global,
-    date: (i32, u32, u32),
-    time: (u32, u32),
+    local: NaiveDateTime,
     choice: Choice,
-) -> Result<String, u8> {
-    let local = reading(date, time.0, time.1).expect(rt, "a reading");
+    expected: Result<&str, u8>,
+) {
     match outcome(alloc, NEW_YORK, local, choice) {
-        Ok(text) => Ok(text),
-        Err(MyError::Clocks(cause)) => Err(cause.number()),
+        Ok(text) => assert!(rt; expected == Ok(text.as_str())),
+        Err(MyError::Clocks(cause)) => assert!(rt; expected == Err(cause.number())),
         Err(_) => panic!(rt; "no zone"),
     }
 }
 
 #[test]
-fn six_outcomes(rt: HostRuntime) {
-    let gaps = [GapChoice::Refuse, GapChoice::ShiftForward];
-    let folds = [FoldChoice::Refuse, FoldChoice::Earliest, FoldChoice::Latest];
-    for fold in folds {
-        let gap = told(
-            &rt,
-            rt.alloc(),
-            (2021, 3, 14),
-            (2, 30),
-            choice(GapChoice::Refuse, fold),
-        );
-        assert!(rt; matches!(&gap, Err(21)));
-        match told(
-            &rt,
-            rt.alloc(),
-            (2021, 3, 14),
-            (2, 30),
-            choice(GapChoice::ShiftForward, fold),
-        ) {
-            Ok(text) => assert_eq!(rt; text.as_str(), "2021-03-14 03:30:00 -04:00"),
-            Err(_) => panic!(rt; "refused"),
-        }
-    }
-    for gap in gaps {
-        let fold = told(
-            &rt,
-            rt.alloc(),
-            (2021, 11, 7),
-            (1, 30),
-            choice(gap, FoldChoice::Refuse),
-        );
-        assert!(rt; matches!(&fold, Err(22)));
-        for (fold, expected) in [
-            (FoldChoice::Earliest, "2021-11-07 01:30:00 -04:00"),
-            (FoldChoice::Latest, "2021-11-07 01:30:00 -05:00"),
-        ] {
-            match told(&rt, rt.alloc(), (2021, 11, 7), (1, 30), choice(gap, fold)) {
-                Ok(text) => assert_eq!(rt; text.as_str(), expected),
-                Err(_) => panic!(rt; "refused"),
-            }
-        }
-        for fold in folds {
-            match told(&rt, rt.alloc(), (2021, 7, 1), (12, 0), choice(gap, fold)) {
-                Ok(text) => assert_eq!(rt; text.as_str(), "2021-07-01 12:00:00 -04:00"),
-                Err(_) => panic!(rt; "refused"),
-            }
-        }
-    }
+fn a_gap(rt: HostRuntime) {
+    let Ok(local) = reading((2021, 3, 14), 2, 30) else {
+        panic!(rt; "no reading");
+    };
+    let refuse = choice(GapChoice::Refuse, FoldChoice::Earliest);
+    answers(&rt, rt.alloc(), local, refuse, Err(21));
+    let shift = choice(GapChoice::ShiftForward, FoldChoice::Refuse);
+    answers(
+        &rt,
+        rt.alloc(),
+        local,
+        shift,
+        Ok("2021-03-14 03:30:00 -04:00"),
+    );
+}
+
+#[test]
+fn a_fold(rt: HostRuntime) {
+    let Ok(local) = reading((2021, 11, 7), 1, 30) else {
+        panic!(rt; "no reading");
+    };
+    let refuse = choice(GapChoice::ShiftForward, FoldChoice::Refuse);
+    answers(&rt, rt.alloc(), local, refuse, Err(22));
+    let earliest = choice(GapChoice::Refuse, FoldChoice::Earliest);
+    answers(
+        &rt,
+        rt.alloc(),
+        local,
+        earliest,
+        Ok("2021-11-07 01:30:00 -04:00"),
+    );
+    let latest = choice(GapChoice::Refuse, FoldChoice::Latest);
+    answers(
+        &rt,
+        rt.alloc(),
+        local,
+        latest,
+        Ok("2021-11-07 01:30:00 -05:00"),
+    );
+}
+
+#[test]
+fn a_reading_that_is_shown_once(rt: HostRuntime) {
+    let Ok(local) = reading((2021, 7, 1), 12, 0) else {
+        panic!(rt; "no reading");
+    };
+    let refuse = choice(GapChoice::Refuse, FoldChoice::Refuse);
+    answers(
+        &rt,
+        rt.alloc(),
+        local,
+        refuse,
+        Ok("2021-07-01 12:00:00 -04:00"),
+    );
+    let shift = choice(GapChoice::ShiftForward, FoldChoice::Latest);
+    answers(
+        &rt,
+        rt.alloc(),
+        local,
+        shift,
+        Ok("2021-07-01 12:00:00 -04:00"),
+    );
 }
 
 #[test]
@@ -194,21 +207,31 @@ fn instants_to_keep(rt: HostRuntime) -> Result<(), Fail> {
     }
     assert!(rt; !instant.offset().is_dst());
 
+    Ok(())
+}
+
+#[test]
+fn instants_in_order(rt: HostRuntime) -> Result<(), Fail> {
+    let Ok(parsed) = tz_info::TimeZone::from_tz_data(rt.alloc(), NEW_YORK) else {
+        panic!(rt; "no zone");
+    };
+    let new_york = TimeZoneRef::new(&parsed).ok_or("a narrow zone")?;
     let Ok(fold) = reading((2021, 11, 7), 1, 30) else {
         panic!(rt; "no reading");
     };
     let mut instants = Vec::new(rt.alloc());
-    instants.push(kept)?;
     match by_clock(&new_york, &fold) {
         LocalResult::Ambiguous(first, last) => {
-            assert_eq!(rt; last, kept);
+            instants.push(last)?;
             instants.push(first)?;
         }
         _ => panic!(rt; "not two instants"),
     }
     let sorted = earliest_first(instants)?;
-    assert_eq!(rt; sorted[0].timestamp(), 1_636_263_000);
-    assert_eq!(rt; sorted[1].timestamp(), 1_636_266_600);
+    let earliest = sorted.first().ok_or("an instant")?;
+    assert_eq!(rt; earliest.timestamp(), 1_636_263_000);
+    let latest = sorted.last().ok_or("an instant")?;
+    assert_eq!(rt; latest.timestamp(), 1_636_266_600);
     Ok(())
 }
 
