@@ -1,5 +1,5 @@
 -- The answer to a line that sets the zone, by what was read.
-use Rattle.std.proofs.Common.{◌≡◌, ◌≢◌, ¬, ℕ, ◌⊎◌, inl, inr, elim, List, Option, Some, Result, Ok, Err, IfOk, IfErr, MatchResult}
+use Rattle.std.proofs.Common.{◌≡◌, ◌≢◌, ¬, ℕ, ◌⊎◌, inl, inr, List, Option, Some, Result, Ok, Err, IfOk, IfErr, MatchResult}
 use Rattle.std.proofs.lemmas.Bool.{cases_eq}
 use Rattle.tz_info.proofs.ForCallers.{text_fault_or_zone, file_fault_or_zone}
 use Rattle.tz_info.specs.Errors.{number_of}
@@ -39,5 +39,9 @@ text_answered zone line text read answer after asks ok err sets = inl (Text text
 pub data_answered : (zone : Option Zone) (line digits : List ℕ) (read : Result TimeZone Error) (answer : List ℕ) (after : Option Zone) → Asks line (Data (bytes_of digits))
     → IfOk read (λ z. IsTzFile (bytes_of digits) z × IsValid z) → IfErr read (λ e. (number_of e ≡ 17) ⊎ IsZoneFault (bytes_of digits) (number_of e)) → Sets zone read answer after → AnswersLine zone line answer after
 data_answered zone line digits read answer after asks ok err sets =
-    inl (Data (bytes_of digits), asks, read_answered (λ found. IsTzFile (bytes_of digits) found × IsValid found) (IsZoneFault (bytes_of digits))
-    (λ n fault other z is. file_fault_or_zone (bytes_of digits) n z fault other is.0 is.1) zone read answer after ok err sets)
+    inl (
+      Data (bytes_of digits),
+      asks,
+      read_answered (λ found. IsTzFile (bytes_of digits) found × IsValid found) (IsZoneFault (bytes_of digits))
+          (λ n fault other z is. file_fault_or_zone (bytes_of digits) n z fault other is.0 is.1) zone read answer after ok err sets,
+    )
