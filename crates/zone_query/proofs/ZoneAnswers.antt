@@ -1,5 +1,5 @@
 -- The answer to a line that sets the zone, by what was read.
-use Rattle.std.proofs.Common.{◌≡◌, ◌≢◌, ¬, ℕ, ◌⊎◌, inl, inr, List, Option, Some, Result, Ok, Err, IfOk, IfErr, MatchResult}
+use Rattle.std.proofs.Common.{◌≡◌, ◌≢◌, ℕ, ◌⊎◌, inl, inr, List, Option, Some, Result, Ok, Err, IfOk, IfErr, MatchResult}
 use Rattle.std.proofs.lemmas.Bool.{cases_eq}
 use Rattle.tz_info.proofs.ForCallers.{text_fault_or_zone, file_fault_or_zone}
 use Rattle.tz_info.specs.Errors.{number_of}
