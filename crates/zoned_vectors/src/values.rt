@@ -3,22 +3,6 @@
 use std::process::Abort;
 use tz_info::{AlternateTime, LocalTimeType, RuleDay, TransitionRule};
 
-/// The day `Jn`.
-pub fn julian_1(rt: &impl Abort, n: u16) -> RuleDay {
-    match RuleDay::julian_1(n) {
-        Ok(day) => day,
-        Err(_) => panic!(rt; "no day J{n}"),
-    }
-}
-
-/// The day `n`.
-pub fn julian_0(rt: &impl Abort, n: u16) -> RuleDay {
-    match RuleDay::julian_0(n) {
-        Ok(day) => day,
-        Err(_) => panic!(rt; "no day {n}"),
-    }
-}
-
 /// The day `Mm.w.d`.
 pub fn month_weekday(rt: &impl Abort, month: u8, week: u8, weekday: u8) -> RuleDay {
     match RuleDay::month_weekday(month, week, weekday) {
@@ -32,14 +16,6 @@ pub fn named(rt: &impl Abort, ut_offset: i32, is_dst: bool, name: &str) -> Local
     match LocalTimeType::new(ut_offset, is_dst, Some(name.as_bytes())) {
         Ok(local) => local,
         Err(_) => panic!(rt; "no type {name}"),
-    }
-}
-
-/// The type of that offset, without a name.
-pub fn nameless(rt: &impl Abort, ut_offset: i32, is_dst: bool) -> LocalTimeType {
-    match LocalTimeType::new(ut_offset, is_dst, None) {
-        Ok(local) => local,
-        Err(_) => panic!(rt; "no offset {ut_offset}"),
     }
 }
 
