@@ -47,7 +47,8 @@
 //!
 //! ```
 //! let choice = Choice { gap: GapChoice::ShiftForward, fold: FoldChoice::Earliest };
-//! let local = NaiveDate::from_ymd_opt(2021, 3, 14).ok_or(MyError::NoSuchTime)?.and_hms_opt(2, 30, 0).ok_or(MyError::NoSuchTime)?;
+//! let day = NaiveDate::from_ymd_opt(2021, 3, 14).ok_or(MyError::NoSuchTime)?;
+//! let local = day.and_hms_opt(2, 30, 0).ok_or(MyError::NoSuchTime)?;
 //! let instant = new_york.resolve(&local, choice)?; // 2021-03-14 03:30:00 -04:00
 //! ```
 //!

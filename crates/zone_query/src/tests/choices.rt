@@ -31,7 +31,8 @@ fn takes_an_instant_by_a_choice(rt: HostRuntime) {
         ),
         // Clocks are set back an hour at 0 and once more half an hour later: three instants show 23:10:00.
         (
-            b"data 545a69660000000000000000000000000000000000000000000000000000000000000002000000030000000400000000000007080102000000000000fffff1f00000ffffe3e0000041424300\n\
+            b"data 545a69660000000000000000000000000000000000000000000000000000000000000002000\
+                000030000000400000000000007080102000000000000fffff1f00000ffffe3e0000041424300\n\
                 wall 1969 12 31 23 10 0 refuse/earliest\nwall 1969 12 31 23 10 0 refuse/latest\n\
                 wall 1969 12 31 23 10 0 refuse/refuse\n",
             "ok 2 3 0 none\n1969-12-31 23:10:00 +00:00\n1969-12-31 23:10:00 -02:00\nrefused 22\n",
@@ -104,7 +105,8 @@ fn tells_choices_apart_from_other_words(rt: HostRuntime) {
         ),
         // One type, a whole day ahead of UTC.
         (
-            b"data 545a69660000000000000000000000000000000000000000000000000000000000000000000000010000000400015180000041424300\n\
+            b"data 545a69660000000000000000000000000000000000000000000000000000000000000000000\
+                000010000000400015180000041424300\n\
                 wall 1970 1 2 0 0 0 shift/earliest\nwall 1970 1 2 0 0 0 shift\n",
             "ok 0 1 0 none\nwide zone\nbad line\n",
         ),
