@@ -47,7 +47,8 @@ of_total-plain n = (floor_mod_parts n 1_000_000_000 (omega arith)).1
 pub moved-plain_again : (r : Reading) (d : ℤ) → r.f < 1_000_000_000 → (moved r d).f < 1_000_000_000
 moved-plain_again r d h = rw (moved-plain r d h) (of_total-plain (total r +ℤ d))
 
-total-moved : (r : Reading) (d : ℤ) → r.f < 1_000_000_000 → total (moved r d) ≡ total r +ℤ d
+-- outside leap seconds all of it goes on by as much
+pub total-moved : (r : Reading) (d : ℤ) → r.f < 1_000_000_000 → total (moved r d) ≡ total r +ℤ d
 total-moved r d h = rw (moved-plain r d h) (total-of_total (total r +ℤ d))
 
 undone : (n d : ℤ) → (n +ℤ d) +ℤ neg_ℤ d ≡ n

@@ -1,10 +1,10 @@
--- The days of the years in range.
-use Rattle.std.proofs.Common.{◌≡◌, ℕ, ◌<◌, arith, refl, ℤ, pos, neg_ℤ, ◌+ℤ◌, ◌-ℤ◌}
+-- The days of the years in range, and the seconds.
+use Rattle.std.proofs.Common.{◌≡◌, ℕ, ◌<◌, arith, refl, ℤ, pos, neg_ℤ, ◌+ℤ◌, ◌-ℤ◌, ◌⊎◌, inl, inr}
 use Rattle.std.proofs.lemmas.Int.{by_lt_z}
 use Rattle.naive_base.specs.Year.{year_start, days_in_year}
 use Rattle.naive_base.specs.Date.{IsDate, day_number}
 use Rattle.naive_base.specs.DateOf.{year_of}
-use Rattle.naive_base.specs.Range.{IsYearInRange, IsInnerYear, IsDayInRange, IsWideDay, IsWideYear}
+use Rattle.naive_base.specs.Range.{IsInRange, IsYearInRange, IsInnerYear, IsDayInRange, IsWideDay, IsWideYear}
 use Rattle.naive_base.proofs.Floor.{floors}
 use Rattle.naive_base.proofs.Years.{lies_in, starts_rise, year_step}
 use Rattle.naive_base.proofs.Dates.{date_between}
@@ -73,3 +73,8 @@ day_in_years y n h k =
     let high = starts_rise (y +ℤ pos 1) (pos 262_142 +ℤ pos 1) (omega (arith, floors)) in
     let step = year_step y in
     (omega (arith, floors, first_day_is), omega (arith, floors, end_day))
+
+pub in_range_or_not : (s : ℤ) → IsInRange s ⊎ (IsInRange s → ⊥)
+in_range_or_not s = by_lt_z s (neg_ℤ (pos 8_334_601_228_800))
+    (λ low. inr (λ h. let from = h.0 in omega (arith, floors, low, from)))
+    (λ from. by_lt_z (pos 8_210_266_876_799) s (λ high. inr (λ h. let to = h.1 in omega (arith, floors, high, to))) (λ to. inl (from, to)))

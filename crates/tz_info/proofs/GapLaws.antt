@@ -24,7 +24,8 @@ use Rattle.tz_info.proofs.ExtremeLaws.{at_most_greatest, at_least_least}
 use Rattle.tz_info.proofs.LeapOrder.{leap_times_answer}
 use Rattle.tz_info.proofs.RuleLaws.{rule_year}
 use Rattle.tz_info.proofs.SegmentLaws.{segments_rise, segment_most, type_before, type_from, come_by_time, come_at_time}
-use Rattle.tz_info.proofs.ZoneLaws.{type_decided, type_once, leap_time_decided}
+use Rattle.tz_info.proofs.WallSegments.{leap_time_of}
+use Rattle.tz_info.proofs.ZoneLaws.{type_decided, type_once, some_once}
 
 abbrev pub IsNever : Zone → ℤ → Type 0
 IsNever z l = IsNeverShown (Shows (TypeAt z) l)
@@ -53,9 +54,6 @@ abbrev IsSteady : Option TransitionRule → Type 0
 IsSteady None = Unit {0}
 IsSteady (Some (Fixed t)) = Unit {0}
 IsSteady (Some (Alternate a)) = ⊥
-
-some_once : (o : Option LocalType) (s t : LocalType) → o ≡ Some s → o ≡ Some t → s ≡ t
-some_once o s t h k = cc
 
 steady_once : (rule : Option TransitionRule) (o : Option LocalType) (u v : ℤ) (s t : LocalType) → IsSteady rule → RuleOrElse rule u (o ≡ Some s) s → RuleOrElse rule v (o ≡ Some t) t → s ≡ t
 steady_once None o u v s t steady h k = some_once o s t h k
@@ -129,16 +127,10 @@ pub less_into : (z : Zone) (l low high : ℤ) (i : ℕ) → IsNever z l → IsRe
 less_into z l low high i never reach at = record { seen = low; near = reach.near_low; less = less_low z l low high never reach; segment = omega arith }
 
 -- ---- the next segment
-near_leap : (z : Zone) (u : ℤ) → IsValid z → IsNear u → (x : ℤ) × IsLeapTime z.leaps u x
-near_leap z u valid near = elim (leap_time_decided z.leaps u) [
-  | inl x ↦ x
-  | inr refused ↦ absurd (leap_times_answer z.leaps u valid.leaps near.0 near.1 refused)
-]
-
 -- the segment behind the transition at place k begins where that transition has come
 pub starts_at : (z : Zone) (k : ℕ) (t : Transition) (start : ℤ) → IsValid z → k < length z.transitions → t ≡ get_or z.transitions k t → IsReachedFrom z.leaps t.unix_leap_time start → Starts z (k + 1) start
 starts_at z k t start valid h item reached u near =
-    let x = near_leap z u valid near in
+    let x = leap_time_of z u valid near in
     let come = come_by_time z.transitions x.0 k t valid.transitions.rising h in
     let segment = come_at_time z u x.0 x.1 in
     let time = ap (λ (s : Transition). s.unix_leap_time) item in

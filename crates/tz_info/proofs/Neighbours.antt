@@ -71,9 +71,6 @@ place year other low high = by_lt_z other year
     (λ less. inl (omega (arith, floors)))
     (λ not_less. inr (by_lt_z year other (λ more. inr (omega (arith, floors))) (λ not_more. inl (omega (arith, floors)))))
 
-pub below_true : (a b : ℤ) → a <ℤ b → int_lt a b ≡ true
-below_true a b h = grind (arith, ints)
-
 between_true : (first last u : ℤ) → first ≤ℤ u → u <ℤ last → is_between first last u ≡ true
 between_true first last u from before = grind (arith, ints)
 

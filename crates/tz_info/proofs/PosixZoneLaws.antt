@@ -8,6 +8,7 @@ use Rattle.tz_info.specs.PosixZones.{IsPosixZone, types_of}
 use Rattle.tz_info.specs.declared.rule.transition_rule.TransitionRule.{TransitionRule}
 use Rattle.tz_info.specs.declared.rule.transition_rule.TransitionRule.TheVariants as rules
 use Rattle.tz_info.proofs.TextFits.{alternate_text_fits}
+use Rattle.tz_info.proofs.ZoneLaws.{zone_of_rule_valid}
 
 pub text_rule_fits : (extended : Bool) (bytes : List ℕ) (rule : TransitionRule) → IsTzText extended bytes rule → IsRule rule
 text_rule_fits extended bytes (rules.Fixed t) h = tt
@@ -18,12 +19,8 @@ has_type (rules.Fixed t) = omega arith
 has_type (rules.Alternate a) = omega arith
 
 -- types and a rule, without transitions and leap seconds, make a zone where there is a type
-valid_zone : (types : List LocalType) (rule : Option TransitionRule) → 0 < length types → IsValid (zone_of_rule types rule)
-valid_zone types (Some rule) h = record { some = h; transitions = record { indexes = search rules; rising = search rules }; leaps = record { first = search rules; next = search rules }; agrees = tt }
-valid_zone types None h = record { some = h; transitions = record { indexes = search rules; rising = search rules }; leaps = record { first = search rules; next = search rules }; agrees = tt }
-
 pub posix_zone_valid : (text : List ℕ) (zone : Zone) → IsPosixZone text zone → IsValid zone × IsRuleOrNone zone.rule
 posix_zone_valid text zone h = elim h [
-  | inl a ↦ subst (λ (y : Zone). IsValid y × IsRuleOrNone y.rule) (sym a.1) (valid_zone _ None (omega arith), tt)
-  | inr a ↦ subst (λ (y : Zone). IsValid y × IsRuleOrNone y.rule) (sym a.zone) (valid_zone (types_of a.rule) (Some a.rule) (has_type a.rule), text_rule_fits false a.trimmed a.rule a.spells)
+  | inl a ↦ subst (λ (y : Zone). IsValid y × IsRuleOrNone y.rule) (sym a.1) (zone_of_rule_valid _ None (omega arith), tt)
+  | inr a ↦ subst (λ (y : Zone). IsValid y × IsRuleOrNone y.rule) (sym a.zone) (zone_of_rule_valid (types_of a.rule) (Some a.rule) (has_type a.rule), text_rule_fits false a.trimmed a.rule a.spells)
 ]

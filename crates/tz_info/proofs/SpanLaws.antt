@@ -7,10 +7,7 @@ use Rattle.tz_info.specs.LocalTypes.{LocalType}
 use Rattle.tz_info.specs.WallClocks.{Shows}
 use Rattle.tz_info.specs.Spans.{IsSpan, widened, IsAsked, answer_of}
 use Rattle.tz_info.specs.declared.span.Span.{Span}
-use Rattle.tz_info.proofs.Prefixes.{lt_false}
-
-lt_true : (a b : ℤ) → a <ℤ b → int_lt a b ≡ true
-lt_true a b h = grind (arith, ints)
+use Rattle.tz_info.proofs.Prefixes.{lt_true, lt_false}
 
 -- q takes what p takes, and at most the second c besides
 pub record Adds (p q : ℤ → LocalType → Type 0) (c : ℤ) : Type 0 where
@@ -28,7 +25,7 @@ widened_span p q c t (Some x) a h s =
     (λ m. rw (lt_false c x.first g, lt_false x.last c m) (a.old _ _ s.0, a.old _ _ s.1, λ u f k. ⊎_elim (λ i. s.2 u f i) (λ e. (omega (arith, ints), omega (arith, ints))) (a.only u f k))))
 
 -- where q takes nothing at c, the span stays
-same_span : (p q : ℤ → LocalType → Type 0) (c : ℤ) (span : Option Span) → Adds p q c → ((t : LocalType) → q c t → ⊥) → IsSpan p span → IsSpan q span
+pub same_span : (p q : ℤ → LocalType → Type 0) (c : ℤ) (span : Option Span) → Adds p q c → ((t : LocalType) → q c t → ⊥) → IsSpan p span → IsSpan q span
 same_span p q c None a n s = λ u f k. ⊎_elim (s u f) (λ e. n f (subst (λ (z : ℤ). q z f) e k)) (a.only u f k)
 same_span p q c (Some x) a n s = (a.old _ _ s.0, a.old _ _ s.1, λ u f k. ⊎_elim (s.2 u f) (λ e. absurd (n f (subst (λ (z : ℤ). q z f) e k))) (a.only u f k))
 

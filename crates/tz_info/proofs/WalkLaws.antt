@@ -35,6 +35,7 @@ use Rattle.tz_info.proofs.SegmentLaws.{segment_is, segment_at, segment_here, seg
 use Rattle.tz_info.proofs.SpanLaws.{shown_at}
 use Rattle.tz_info.proofs.TableSearch.{Between}
 use Rattle.tz_info.proofs.WallSegments.{leap_time_of, rule_begun}
+use Rattle.tz_info.proofs.ZoneLaws.{some_once}
 
 -- q takes what p takes, and besides at most the second c, where that shows the local time; and then c is behind the others
 pub record Gains (at p q : ℤ → LocalType → Type 0) (local c : ℤ) : Type 0 where
@@ -74,18 +75,15 @@ segment_gains z l o i valid one = record {
   behind = λ t k u f h. later_segment z u (l -ℤ o) valid (let b = h.before in let e = k.type.segment in omega arith);
 }
 
-some_same : (o : Option LocalType) (s t : LocalType) → o ≡ Some s → o ≡ Some t → s ≡ t
-some_same o s t h k = cc
-
 -- between neighbouring transitions at most one second shows the local time
 pub one_before : (z : Zone) (l : ℤ) (i : ℕ) (x : LocalType) → AreRising z.transitions → i < length z.transitions → HasType z (index_of z.transitions i) x → (u : ℤ) (t : LocalType) → Shows (TypeIn z i) l u t → u ≡ l -ℤ x.offset
-one_before z l i x r h k u t s = shown_at u l t x s.shown (some_same (slice_get z.types (index_of z.transitions i)) t x (type_before z i u t r s.type h) k)
+one_before z l i x r h k u t s = shown_at u l t x s.shown (some_once (slice_get z.types (index_of z.transitions i)) t x (type_before z i u t r s.type h) k)
 
 -- and so behind the last one where there is no rule
 pub one_last : (z : Zone) (l : ℤ) (x : LocalType) → AreRising z.transitions → z.rule ≡ None → HasType z (index_of z.transitions (length z.transitions)) x → (u : ℤ) (t : LocalType) → Shows (TypeIn z (length z.transitions)) l u t → u ≡ l -ℤ x.offset
 one_last z l x r none k u t s =
     let f = rw none at (type_from z u t r s.type) in
-    shown_at u l t x s.shown (some_same (slice_get z.types (index_of z.transitions (length z.transitions))) t x f k)
+    shown_at u l t x s.shown (some_once (slice_get z.types (index_of z.transitions (length z.transitions))) t x f k)
 
 -- ---- what was tried
 -- the test is whether the leap time lies in the segment

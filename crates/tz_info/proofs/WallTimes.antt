@@ -10,7 +10,7 @@ use Rattle.tz_info.specs.Spans.{IsSpan, widened, answer_of}
 use Rattle.tz_info.specs.WallClocks.{Shows}
 use Rattle.tz_info.specs.Zones.{Zone, IsValid, IsRuleOrNone, TypeAt}
 use Rattle.tz_info.specs.declared.span.Span.{Span}
-use Rattle.tz_info.proofs.SpanLaws.{Adds, widened_span, span_answer}
+use Rattle.tz_info.proofs.SpanLaws.{Adds, widened_span, same_span, span_answer}
 use Rattle.tz_info.proofs.ZoneLaws.{fits_or_not, type_once, type_not_refused, type_decided}
 
 -- each second shows a type, or shows none
@@ -22,10 +22,6 @@ abbrev Before : (ℤ → LocalType → Type 0) → ℤ → ℤ → LocalType →
 Before p end u t = p u t × (u <ℤ end)
 
 -- where q takes nothing at c, the span stays
-kept : (p q : ℤ → LocalType → Type 0) (c : ℤ) (span : Option Span) → Adds p q c → ((t : LocalType) → q c t → ⊥) → IsSpan p span → IsSpan q span
-kept p q c None adds none s = λ u t h. elim (adds.only u t h) [ inl old ↦ s u t old | inr new ↦ none t (subst (λ (z : ℤ). q z t) new h) ]
-kept p q c (Some x) adds none s = (adds.old x.first x.first_type s.0, adds.old x.last x.last_type s.1, λ u t h. elim (adds.only u t h) [ inl old ↦ s.2 u t old | inr new ↦ absurd (none t (subst (λ (z : ℤ). q z t) new h)) ])
-
 -- where p takes no second before the start, those before each later end have a first and a last, or there is none
 span_before : (p : ℤ → LocalType → Type 0) → IsDecided p → (start : ℤ) → ((u : ℤ) (t : LocalType) → p u t → start ≤ℤ u) → (n : ℕ) → (span : Option Span) × IsSpan (Before p (start +ℤ pos n)) span
 span_before p decided start none zero = (None, λ u t h. let l = none u t h.0 in let r = h.1 in absurd (omega (arith, ints, l, r)))
@@ -39,7 +35,7 @@ span_before p decided start none (suc n) =
     } in
     elim (decided last) [
       | inl found ↦ (widened earlier.0 last found.0, widened_span (Before p last) (Before p end) last found.0 earlier.0 adds (found.1, omega (arith, ints)) earlier.1)
-      | inr missing ↦ (earlier.0, kept (Before p last) (Before p end) last earlier.0 adds (λ t h. missing t h.0) earlier.1)
+      | inr missing ↦ (earlier.0, same_span (Before p last) (Before p end) last earlier.0 adds (λ t h. missing t h.0) earlier.1)
     ]
 
 -- a span of the seconds before an end, where p takes none from there on

@@ -29,7 +29,7 @@ same_passed z u x y a b = ⊎_elim
     (λ h. rw (no_items z.transitions (omega arith)) refl)
     (cases_lt 0 (length z.transitions))
 
-some_once : (o : Option LocalType) (s t : LocalType) → o ≡ Some s → o ≡ Some t → s ≡ t
+pub some_once : (o : Option LocalType) (s t : LocalType) → o ≡ Some s → o ≡ Some t → s ≡ t
 some_once o s t h k = cc
 
 or_else_once : (rule : Option TransitionRule) (o : Option LocalType) (u : ℤ) (s t : LocalType) → RuleOrElse rule u (o ≡ Some s) s → RuleOrElse rule u (o ≡ Some t) t → s ≡ t

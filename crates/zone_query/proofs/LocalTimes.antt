@@ -13,8 +13,8 @@ use Rattle.naive_base.specs.Reading.{Reading, reading_at}
 use Rattle.naive_base.specs.declared.date.NaiveDate.{NaiveDate}
 use Rattle.naive_base.specs.declared.datetime.NaiveDateTime.{NaiveDateTime}
 use Rattle.naive_base.specs.Range.{IsInRange}
-use Rattle.naive_base.specs.Year.{is_leap, year_start}
-use Rattle.naive_base.proofs.ForCallers.{date_lies, starts_rise}
+use Rattle.naive_base.specs.Year.{is_leap}
+use Rattle.naive_base.proofs.ForCallers.{date_in_years}
 use Rattle.zone_query.specs.Numerals.{IsInteger}
 use Rattle.zone_query.specs.Questions.{Exists, IsLocalTime}
 use Rattle.zone_query.specs.Words.{IsNextNumber, AreNumbers}
@@ -186,22 +186,12 @@ timed text word rest y m d h min s split year fits are date dated (Some found) s
 )
 
 -- a date and a time are in range
-first_day : year_start (neg_ℤ (pos 262_143)) ≡ neg_ℤ (pos 96_465_292)
-unfolding year_start
-first_day = refl
-
-day_behind : year_start (pos 262_142 +ℤ pos 1) ≡ pos 95_026_237
-unfolding year_start
-day_behind = refl
-
 pub time_in_range : (text : List ℕ) (local : ℤ) → IsLocalTime text local → IsInRange local
 time_in_range text local l =
-    let lies = date_lies l.y l.m l.d l.exists.1 in
-    let from = starts_rise (neg_ℤ (pos 262_143)) l.y l.exists.0.0 in
-    let to = starts_rise (l.y +ℤ pos 1) (pos 262_142 +ℤ pos 1) (omega (arith, ints, l.exists.0.1)) in
+    let day = date_in_years l.y l.m l.d l.exists.0 l.exists.1 in
     let clock = l.exists.2 in
     let shown = l.shown in
-    (omega (arith, ints, lies.0, from, first_day, shown), omega (arith, ints, lies.1, to, day_behind, shown, clock.0, clock.1, clock.2))
+    (omega (arith, ints, day.0, shown), omega (arith, ints, day.1, shown, clock.0, clock.1, clock.2))
 
 -- whether a text is a date and a time, where its year and its numbers are known
 time_by : (text word rest : List ℕ) (y : ℤ) → IsSplit text word rest → IsInteger word y → FitsSigned w32 y → (ns : List ℕ) → length ns ≡ 5 → AreNumbers rest ns → ((local : ℤ) × IsLocalTime text local) ⊎ ((local : ℤ) → IsLocalTime text local → ⊥)

@@ -10,6 +10,7 @@ use Rattle.offset_core.specs.declared.local_result.LocalResult.TheVariants.{Sing
 use Rattle.naive_base.specs.Range.{IsInRange}
 use Rattle.naive_base.specs.Reading.{Reading}
 use Rattle.naive_base.specs.Year.{floor_mod}
+use Rattle.naive_base.proofs.ForCallers.{in_range_or_not}
 use Rattle.tz_info.specs.LocalTypes.{LocalType}
 use Rattle.tz_info.specs.Zones.{Zone, IsValid, IsRuleOrNone}
 use Rattle.naive_base.specs.Stamp.{IsStamp, IsSubsecond, of_secs}
@@ -43,11 +44,6 @@ narrow_or_not z = elim (all_or_not z.types) [
   ]
   | inr not ↦ inr (λ h. not h.types)
 ]
-
-in_range_or_not : (s : ℤ) → IsInRange s ⊎ (IsInRange s → ⊥)
-in_range_or_not s = by_lt_z s (neg_ℤ (pos 8_334_601_228_800))
-    (λ low. inr (λ h. let from = h.0 in omega (arith, ints, low, from)))
-    (λ from. by_lt_z (pos 8_210_266_876_799) s (λ high. inr (λ h. let to = h.1 in omega (arith, ints, high, to))) (λ to. inl (from, to)))
 
 subsecond_or_not : (s : ℤ) (f : ℕ) → IsSubsecond s f ⊎ (IsSubsecond s f → ⊥)
 subsecond_or_not s f = elim (cases_lt f 2_000_000_000) [

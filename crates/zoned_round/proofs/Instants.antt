@@ -2,9 +2,8 @@
 use Rattle.std.proofs.Common.{◌≡◌, ◌∙◌, ap, ◌<◌, arith, ℤ, pos, ◌+ℤ◌}
 use Rattle.std.proofs.lemmas.Int.{by_lt_z}
 use Rattle.naive_base.specs.Reading.{Reading, total, moved}
-use Rattle.naive_base.proofs.ForCallers.{floors}
+use Rattle.naive_base.proofs.ForCallers.{floors, total-moved}
 use Rattle.zoned_round.specs.Durations.{IsGone}
-use Rattle.zoned_round.proofs.Moves.{total-moved}
 
 -- outside leap seconds a value is that much later
 pub total-gone : {T : Type 0} (instant : T → Reading) (IsMoved : ℤ → T → Type 0) (value answer : T) (way : ℤ)

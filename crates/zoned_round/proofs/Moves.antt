@@ -27,9 +27,3 @@ moved-earlier r d behind f less is =
     moved-leap r d (omega (arith, floors))
     ∙ moved_leap-within r.s (pos r.f +ℤ d) (omega (arith, floors)) (omega (arith, floors))
     ∙ rw rest refl)
-
--- outside leap seconds all of it goes on by as much
-pub total-moved : (r : Reading) (d : ℤ) → r.f < 1_000_000_000 → total (moved r d) ≡ total r +ℤ d
-total-moved r d plain =
-    let parts = floor_mod_parts (total r +ℤ d) 1_000_000_000 (omega arith) in
-    rw (moved-plain r d plain) (omega (arith, floors))

@@ -11,6 +11,7 @@ use Rattle.offset_core.specs.declared.choice.FoldChoice.TheVariants.{Refuse as R
 use Rattle.offset_core.specs.declared.local_result.LocalResult.{LocalResult}
 use Rattle.offset_core.specs.declared.local_result.LocalResult.TheVariants.{Single, Ambiguous, None}
 use Rattle.naive_base.specs.Range.{IsInRange, IsWide}
+use Rattle.naive_base.proofs.ForCallers.{in_range_or_not}
 use Rattle.zoned_time.specs.Choice.{IsBeforeGap, IsTaken, once, earliest, latest, shifted, IsUnresolved, gap, fold, out_of_range}
 use Rattle.zoned_time.specs.Zone.{IsZoneSecond, Shows}
 use Rattle.zoned_time.specs.declared.resolve_error.ResolveError.{ResolveError}
@@ -60,17 +61,12 @@ gap_has_offset off l day wide never =
       },
     )
 
-range_or_not : (s : ℤ) → IsInRange s ⊎ (IsInRange s → ⊥)
-range_or_not s = by_lt_z s (neg_ℤ (pos 8_334_601_228_800))
-    (λ low. inr (λ h. let from = h.0 in omega (arith, ints, low, from)))
-    (λ from. by_lt_z (pos 8_210_266_876_799) s (λ high. inr (λ h. let to = h.1 in omega (arith, ints, high, to))) (λ to. inl (from, to)))
-
 -- an instant in range, by the offset that is taken; or why there is none
 abbrev pub IsDecided : (ℤ → ℤ) → ℤ → Choice → Type 0
 IsDecided off l choice = ((k : ℤ) × IsTaken off l choice k × IsInRange (l -ℤ k)) ⊎ ((e : ResolveError) × IsUnresolved off l choice e)
 
 by_offset : (off : ℤ → ℤ) (l : ℤ) (choice : Choice) (k : ℤ) → IsTaken off l choice k → IsDecided off l choice
-by_offset off l choice k taken = elim (range_or_not (l -ℤ k)) [
+by_offset off l choice k taken = elim (in_range_or_not (l -ℤ k)) [
   | inl inside ↦ inl (k, taken, inside)
   | inr outside ↦ inr (OutOfRange, out_of_range k taken outside refl)
 ]

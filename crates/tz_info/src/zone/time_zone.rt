@@ -4,6 +4,7 @@ ghost use Rattle.std.specs.Prelude.{◌≡◌, pos, ◌+◌, ◌*◌, ◌<◌, �
 ghost use Rattle.tz_info.specs.Errors.{number_of};
 ghost use Rattle.tz_info.specs.Leaps.{AreLeapSeconds, IsLeapTime, IsLeapTimeRefused, IsUnixTime, IsUnixTimeRefused};
 ghost use Rattle.tz_info.specs.LocalTypes.{IsUtOffset};
+ghost use Rattle.tz_info.specs.WallPieces.{WallIndex, IsIndex};
 ghost use Rattle.tz_info.specs.Zones.{Zone, IsValid, Agrees, IsRuleOrNone, plain_zone, zone_of_rule, zone_of_type};
 ghost use Rattle.tz_info.specs.declared.error.Error.TheVariants.{OutOfMemory};
 
@@ -262,7 +263,9 @@ impl TimeZone {
 
     /// How many pieces the zone's index of the wall-clock axis has.
     pub fn piece_count(&self) -> usize
-        ensures { result ≤ 2 * length self.now.transitions + 1 }
+        ensures pieces { (index : WallIndex) × IsIndex self.now index
+            × (result ≡ length index.pieces) }
+        ensures most { result ≤ 2 * length self.now.transitions + 1 }
     {
         self.index.len()
     }
