@@ -178,10 +178,7 @@ impl TimeZone {
             (λ e. ((number_of e ≡ 3) × ¬ (IsUtOffset ut_offset)) ⊎ ((number_of e ≡ 17)
             × IsUtOffset ut_offset)) }
     {
-        match LocalTimeType::with_offset(ut_offset) {
-            Ok(local) => TimeZone::of_type(alloc, local),
-            Err(e) => Err(e),
-        }
+        TimeZone::of_type(alloc, LocalTimeType::with_offset(ut_offset)?)
     }
 
     /// The zone of those types, of which there is one at least, and of that rule.
