@@ -1,5 +1,5 @@
 -- Whole years from one reading to another.
-use Rattle.std.specs.Prelude.{◌≡◌, ◌<◌, ◌⊎◌, ℕ, ℤ, pos, ◌-ℤ◌, ◌≤ℤ◌, unsigned_abs, Option, SomeIff}
+use Rattle.std.specs.Prelude.{◌≡◌, ◌<◌, ◌⊎◌, ℕ, ℤ, pos, ◌+ℤ◌, ◌≤ℤ◌, ◌<ℤ◌, unsigned_abs, Option, SomeIff}
 use Rattle.naive_base.specs.DateOf.{year_of, month_of, day_of_month}
 use Rattle.naive_base.specs.Reading.{Reading, day_at, second_at, IsEarlierTime}
 
@@ -11,10 +11,17 @@ IsEarlierInYear l m =
     × ((day_of_month (day_at l) < day_of_month (day_at m))
     ⊎ ((day_of_month (day_at l) ≡ day_of_month (day_at m)) × IsEarlierTime (second_at l) l.f (second_at m) m.f)))
 
--- the whole years from m to l: the difference of their years, less one where l is earlier in its year
+-- n years have passed from m to l: the year n years behind m's is before l's, or it is l's and l isn't earlier in it. From
+-- 29 February the first year has passed on 1 March.
+abbrev pub HaveYearsPassed : Reading → Reading → ℤ → Type 0
+HaveYearsPassed l m n =
+    ((year_of (day_at m) +ℤ n) <ℤ year_of (day_at l))
+    ⊎ ((year_of (day_at m) +ℤ n ≡ year_of (day_at l)) × ¬ (IsEarlierInYear l m))
+
+-- the whole years from m to l: the greatest number that have passed
 pub record IsWholeYears (l m : Reading) (n : ℤ) : Type 0 where
-  pub earlier : IsEarlierInYear l m → n ≡ year_of (day_at l) -ℤ year_of (day_at m) -ℤ pos 1
-  pub later : (IsEarlierInYear l m → ⊥) → n ≡ year_of (day_at l) -ℤ year_of (day_at m)
+  pub passed : HaveYearsPassed l m n
+  pub greatest : (k : ℤ) → HaveYearsPassed l m k → k ≤ℤ n
 
 -- these, where they are not negative
 abbrev pub IsYearsSince : Reading → Reading → Option ℕ → Type 0
