@@ -2,6 +2,7 @@ pub mod Errors
 pub mod Names
 pub mod LocalTypes
 pub mod RuleDays
+pub mod RuleDayOf
 pub mod Rules
 pub mod Moments
 pub mod Turns

@@ -16,3 +16,4 @@ pub mod StoredNames
 pub mod Gaps
 pub mod Search
 pub mod Kinds
+pub mod RuleDays

@@ -6,7 +6,8 @@ ghost use Rattle.naive_base.specs.Year.{is_leap, year_start};
 ghost use Rattle.naive_base.specs.Month.{days_in_month};
 ghost use Rattle.naive_base.specs.Date.{day_number};
 ghost use Rattle.naive_base.specs.Weekday.{weekday_of};
-ghost use Rattle.tz_info.specs.RuleDays.{IsWrittenDate, julian_place, weekday_place};
+ghost use Rattle.tz_info.specs.RuleDays.{IsWrittenDate};
+ghost use Rattle.tz_info.specs.Steps.RuleDays.{julian_place, weekday_place};
 ghost use Rattle.tz_info.specs.Errors.{number_of};
 
 use crate::error::{Error, Expected};
@@ -112,15 +113,17 @@ impl RuleDay {
 }
 
 impl RuleDay {
-    ghost use Rattle.tz_info.specs.RuleDays.{IsRuleDay, IsWrittenDate, rule_day};
+    ghost use Rattle.tz_info.specs.RuleDays.{IsRuleDay, IsWrittenDate};
+    ghost use Rattle.tz_info.specs.RuleDayOf.{rule_day};
+    ghost use Rattle.tz_info.specs.Steps.RuleDays.{closed_day};
     ghost use Rattle.tz_info.specs.Rules.{IsWithinWeek};
 
     /// The month, from 1, and the day of the month of the rule's day in the year.
     ///
     /// A plain day number of 365 is the day behind 31 December in a common year; its date is `(12, 32)`.
-    #[tactic(auto, unfolding(crate::specs::RuleDays::rule_day))]
     pub fn transition_date(&self, year: i32) -> (usize, i64)
-        ensures { IsWrittenDate (rule_day self.now year) year result.0 result.1 }
+        ensures date { IsWrittenDate (rule_day self.now year) year result.0 result.1 }
+        ensures rule { IsRuleDay self.now }
     {
         match self.form {
             DayForm::Julian1(n) => date_in_year(year, julian_place(year, n as u32)),
@@ -139,6 +142,7 @@ impl RuleDay {
         requires { (neg_ℤ (pos 4_611_686_018_427_387_904) ≤ℤ day_time)
             × (day_time ≤ℤ pos 4_611_686_018_427_387_904) }
         ensures value { result ≡ pos 86_400 *ℤ rule_day self.now year +ℤ day_time }
+        ensures rule { IsRuleDay self.now }
         ensures bound { (neg_ℤ (pos 4_700_000_000_000_000_000) ≤ℤ result)
             × (result ≤ℤ pos 4_700_000_000_000_000_000) }
     {
@@ -162,9 +166,10 @@ impl RuleDay {
 
     /// The day number of the rule's day in the year.
     #[inline(always)]
-    #[tactic(auto, unfolding(crate::specs::RuleDays::rule_day))]
+    #[tactic(auto, unfolding(crate::specs::Steps::RuleDays::closed_day))]
     fn number_in(&self, year: i32) -> i64
-        ensures value { result ≡ rule_day self.now year }
+        ensures value { result ≡ closed_day self.now year }
+        ensures rule { IsRuleDay self.now }
         ensures bound { (neg_ℤ (pos 784_353_015_833) ≤ℤ result) × (result ≤ℤ pos 784_351_577_141) }
     {
         match self.form {

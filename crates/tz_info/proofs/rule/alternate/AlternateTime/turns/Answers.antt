@@ -14,7 +14,7 @@ overflow_add-result c =
     let first = simp to_z-of_z at c.year_start-first.ensures.value in
     let bound = c.year_start-first.ensures.bound in
     let kind = simp to_z-of_z at c.kind_of-kind.ensures.place in
-    let near = kind_bounds a.dst_start a.std_type.offset c.args.year c.year_start-first.result (pos 0) a.starts c.kind_of-kind.result (starts_near shown c.self.invariant.0) c.self.invariant.1 kind first in
+    let near = kind_bounds a.dst_start a.std_type.offset c.args.year c.year_start-first.result (pos 0) a.starts c.kind_of-kind.result c.self.invariant.0.start_day (starts_near shown c.self.invariant.0) c.self.invariant.1 kind first in
     omega (arith, floors, bound, near)
 
 pub returns-clause-start : goal.returns-clause-start
@@ -25,13 +25,13 @@ returns-clause-start c =
     let first = simp to_z-of_z at c.year_start-first.ensures.value in
     let bound = c.year_start-first.ensures.bound in
     let kind = simp to_z-of_z at c.kind_of-kind.ensures.place in
-    let near = kind_bounds a.dst_start a.std_type.offset c.args.year c.year_start-first.result (pos 0) a.starts c.kind_of-kind.result (starts_near shown c.self.invariant.0) c.self.invariant.1 kind first in
+    let near = kind_bounds a.dst_start a.std_type.offset c.args.year c.year_start-first.result (pos 0) a.starts c.kind_of-kind.result c.self.invariant.0.start_day (starts_near shown c.self.invariant.0) c.self.invariant.1 kind first in
     let seconds : ℤ = get_or a.starts c.kind_of-kind.result (pos 0) in
     let at_first : SFits w64 c.year_start-first.result = omega (arith, floors, bound) in
     let at_midnight : SFits w64 (pos 86_400 *ℤ c.year_start-first.result) = omega (arith, floors, bound) in
     let at_seconds : SFits w64 seconds = omega (arith, floors, near) in
     let at_sum : SFits w64 (pos 86_400 *ℤ c.year_start-first.result +ℤ seconds) = omega (arith, floors, bound, near) in
-    simp to_z-of_z (rw (← c.self.view_is) (moment_by_kind a.dst_start a.std_type.offset c.args.year c.year_start-first.result (pos 0) a.starts c.kind_of-kind.result c.self.invariant.1 kind first))
+    simp to_z-of_z (rw (← c.self.view_is) (moment_by_kind a.dst_start a.std_type.offset c.args.year c.year_start-first.result (pos 0) a.starts c.kind_of-kind.result c.self.invariant.0.start_day c.self.invariant.1 kind first))
 
 pub overflow_add-result-2 : goal.overflow_add-result-2
 overflow_add-result-2 c =
@@ -41,7 +41,7 @@ overflow_add-result-2 c =
     let first = simp to_z-of_z at c.year_start-first.ensures.value in
     let bound = c.year_start-first.ensures.bound in
     let kind = simp to_z-of_z at c.kind_of-kind.ensures.place in
-    let near = kind_bounds a.dst_end a.dst_type.offset c.args.year c.year_start-first.result (pos 0) a.ends c.kind_of-kind.result (ends_near shown c.self.invariant.0) c.self.invariant.2 kind first in
+    let near = kind_bounds a.dst_end a.dst_type.offset c.args.year c.year_start-first.result (pos 0) a.ends c.kind_of-kind.result c.self.invariant.0.end_day (ends_near shown c.self.invariant.0) c.self.invariant.2 kind first in
     omega (arith, floors, bound, near)
 
 pub returns-clause-end : goal.returns-clause-end
@@ -52,10 +52,10 @@ returns-clause-end c =
     let first = simp to_z-of_z at c.year_start-first.ensures.value in
     let bound = c.year_start-first.ensures.bound in
     let kind = simp to_z-of_z at c.kind_of-kind.ensures.place in
-    let near = kind_bounds a.dst_end a.dst_type.offset c.args.year c.year_start-first.result (pos 0) a.ends c.kind_of-kind.result (ends_near shown c.self.invariant.0) c.self.invariant.2 kind first in
+    let near = kind_bounds a.dst_end a.dst_type.offset c.args.year c.year_start-first.result (pos 0) a.ends c.kind_of-kind.result c.self.invariant.0.end_day (ends_near shown c.self.invariant.0) c.self.invariant.2 kind first in
     let seconds : ℤ = get_or a.ends c.kind_of-kind.result (pos 0) in
     let at_first : SFits w64 c.year_start-first.result = omega (arith, floors, bound) in
     let at_midnight : SFits w64 (pos 86_400 *ℤ c.year_start-first.result) = omega (arith, floors, bound) in
     let at_seconds : SFits w64 seconds = omega (arith, floors, near) in
     let at_sum : SFits w64 (pos 86_400 *ℤ c.year_start-first.result +ℤ seconds) = omega (arith, floors, bound, near) in
-    simp to_z-of_z (rw (← c.self.view_is) (moment_by_kind a.dst_end a.dst_type.offset c.args.year c.year_start-first.result (pos 0) a.ends c.kind_of-kind.result c.self.invariant.2 kind first))
+    simp to_z-of_z (rw (← c.self.view_is) (moment_by_kind a.dst_end a.dst_type.offset c.args.year c.year_start-first.result (pos 0) a.ends c.kind_of-kind.result c.self.invariant.0.end_day c.self.invariant.2 kind first))

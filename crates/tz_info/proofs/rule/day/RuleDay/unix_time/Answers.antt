@@ -1,9 +1,11 @@
 use Rattle.std.proofs.Common.{arith, to_z-of_z}
 use Rattle.naive_base.proofs.ForCallers.{floors}
+use Rattle.tz_info.proofs.RuleDays.{rule_day_closed}
 use Rattle.tz_info.proofs.rule.day.RuleDay.unix_time.Goals as goal
 
 pub returns-clause-value : goal.returns-clause-value
 returns-clause-value c =
     let at_day = c.ranges.day_time in let in_range = c.ranges.year in
     let value = simp to_z-of_z at c.number_in.ensures.value in
+    let day = rule_day_closed c.args.self.now c.args.year c.number_in.ensures.rule in
     omega (arith, floors)
