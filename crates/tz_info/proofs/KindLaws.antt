@@ -7,14 +7,15 @@ use Rattle.naive_base.specs.Weekday.{weekday_of}
 use Rattle.naive_base.proofs.ForCallers.{floors, weekday_later, weekday_below}
 use Rattle.tz_info.specs.RuleDays.{IsRuleDay}
 use Rattle.tz_info.specs.RuleDayOf.{rule_day}
-use Rattle.tz_info.specs.Moments.{moment}
+use Rattle.tz_info.specs.Rules.{Alternate, IsAlternateRule}
+use Rattle.tz_info.specs.Moments.{moment, start_in, end_in}
 use Rattle.tz_info.specs.Steps.Kinds.{kind_place, second_in, seconds_by_kind}
 use Rattle.tz_info.specs.Steps.RuleDays.{julian_place, weekday_place, closed_day}
 use Rattle.tz_info.specs.declared.rule.alternate.DayTime.{DayTime}
 use Rattle.tz_info.specs.declared.rule.day.DayForm.{DayForm}
 use Rattle.tz_info.specs.declared.rule.day.DayForm.TheVariants.{Julian1, Julian0, MonthWeekday}
 use Rattle.tz_info.proofs.RuleDays.{rule_day_closed}
-use Rattle.tz_info.proofs.Neighbours.{IsNear}
+use Rattle.tz_info.proofs.Neighbours.{IsNear, starts_near, ends_near}
 
 -- how many days of a year of that kind come before the rule's day
 unfoldable place_by : DayForm → Bool → ℕ → ℕ
@@ -81,15 +82,22 @@ pub kinds_length : (t : DayTime) (offset : ℤ) → length (seconds_by_kind t of
 unfolding seconds_by_kind
 kinds_length t offset = refl
 
--- the moment of the year by the second at the place of its kind
-pub moment_by_kind : (t : DayTime) (offset year first d : ℤ) (seconds : List ℤ) (kind : ℕ) → IsRuleDay t.day → seconds ≡ seconds_by_kind t offset → kind ≡ kind_place year → first ≡ year_start year → pos 86_400 *ℤ first +ℤ get_or seconds kind d ≡ moment t offset year
-moment_by_kind t offset year first d seconds kind fits e f g =
-    let here : get_or seconds kind d ≡ second_in t offset year = rw (e, f) (kind_found t offset year d fits) in
-    omega (arith, floors)
+-- the second at the place of the year's kind makes the year's moment, and lies near the year
+abbrev pub IsKept : ℤ → ℤ → ℤ → Type 0
+IsKept first second at =
+    (pos 86_400 *ℤ first +ℤ second ≡ at) × (neg_ℤ (pos 691_198) ≤ℤ second) × (second ≤ℤ pos 32_227_198)
 
--- that second lies near its year
-pub kind_bounds : (t : DayTime) (offset year first d : ℤ) (seconds : List ℤ) (kind : ℕ) → IsRuleDay t.day → IsNear (moment t offset) → seconds ≡ seconds_by_kind t offset → kind ≡ kind_place year → first ≡ year_start year → (neg_ℤ (pos 691_198) ≤ℤ get_or seconds kind d) × (get_or seconds kind d ≤ℤ pos 32_227_198)
-kind_bounds t offset year first d seconds kind fits near e f g =
-    let here = moment_by_kind t offset year first d seconds kind fits e f g in
+moment_by_kind : (t : DayTime) (offset year first d : ℤ) (seconds : List ℤ) (kind : ℕ) → IsRuleDay t.day → IsNear (moment t offset) → seconds ≡ seconds_by_kind t offset → kind ≡ kind_place year → first ≡ year_start year → IsKept first (get_or seconds kind d) (moment t offset year)
+moment_by_kind t offset year first d seconds kind fits near e f g =
+    let here : get_or seconds kind d ≡ second_in t offset year = rw (e, f) (kind_found t offset year d fits) in
     let low = near.low year in let high = near.high year in
-    (omega (arith, floors), omega (arith, floors))
+    (omega (arith, floors), omega (arith, floors), omega (arith, floors))
+
+-- when daylight saving time starts, and when it ends, by what the rule keeps for the kinds of years
+pub start_by_kind : (a : Alternate) (year first : ℤ) (seconds : List ℤ) (kind : ℕ) → IsAlternateRule a → seconds ≡ seconds_by_kind a.start a.std.offset → kind ≡ kind_place year → first ≡ year_start year → IsKept first (get_or seconds kind (pos 0)) (start_in a year)
+start_by_kind a year first seconds kind rule e f g =
+    moment_by_kind a.start a.std.offset year first (pos 0) seconds kind rule.start_day (starts_near a rule) e f g
+
+pub end_by_kind : (a : Alternate) (year first : ℤ) (seconds : List ℤ) (kind : ℕ) → IsAlternateRule a → seconds ≡ seconds_by_kind a.end a.dst.offset → kind ≡ kind_place year → first ≡ year_start year → IsKept first (get_or seconds kind (pos 0)) (end_in a year)
+end_by_kind a year first seconds kind rule e f g =
+    moment_by_kind a.end a.dst.offset year first (pos 0) seconds kind rule.end_day (ends_near a rule) e f g

@@ -1,12 +1,40 @@
-use Rattle.std.proofs.Common.{arith, ap, sym, ◌∙◌, ◌≡◌, length, w64, to_z-of_z, rules}
+use Rattle.std.proofs.Common.{arith, ap, ◌+◌, sym, ◌∙◌, ◌≡◌, length, w64, to_z-of_z, rules}
 use mir.Val.{SFits}
 use Rattle.std.proofs.lemmas.Int.{ints}
+use Rattle.offset_core.specs.WallAnswer.{IsWallAnswer}
 use Rattle.tz_info.specs.Counts.{Counts}
+use Rattle.tz_info.specs.Steps.Walk.{IsShownIn}
+use Rattle.tz_info.specs.Windows.{IsWindow}
 use Rattle.tz_info.specs.declared.zone.transition.Transition.{Transition}
 use Rattle.tz_info.proofs.DigitLaws.{digits-le}
 use Rattle.tz_info.proofs.SegmentLaws.{between_passed, begin_next, index_next}
+use Rattle.tz_info.proofs.TableSearch.{Between}
 use Rattle.tz_info.proofs.WalkLaws.{none_before, tried_before, none_behind, all_segments, walked_most, rose_by_walk, inside_more}
 use Rattle.tz_info.proofs.zone.time_zone.TimeZone.walked_answer.Goals as goal
+use Rattle.tz_info.proofs.zone.time_zone.TimeZone.walked_answer.Goals.{After-window-window, After-passed_count-first, After-try_until-answer}
+
+seen : (c : goal.After-window-window) → IsWindow c.args.self.now c.args.local c.window-window.result.low c.window-window.result.high
+seen c =
+    let fl = c.ranges.local in
+    let fw : SFits w64 c.window-window.result.low = search rules in
+    let fh : SFits w64 c.window-window.result.high = search rules in
+    simp to_z-of_z at c.window-window.ensures.window
+
+-- the first transitions, before the window
+split : (c : goal.After-passed_count-first) → Between c.args.self.now.transitions c.window-window.result.low c.passed_count-first.result c.passed_count-first.result
+split c =
+    let fw : SFits w64 c.window-window.result.low = search rules in
+    between_passed c.args.self.now.transitions c.window-window.result.low c.passed_count-first.result c.window-window.ensures.valid.transitions.rising c.passed_count-first.ensures.within (simp to_z-of_z at c.passed_count-first.ensures.passed)
+
+-- one segment more was tried
+tried : (c : goal.After-try_until-answer) → IsWallAnswer (IsShownIn c.args.self.now c.args.local (c.loop-place.place + 1)) c.try_until-answer.result
+tried c =
+    let fl = c.ranges.local in
+    let fn : SFits w64 c.transition-next.result.unix_leap_time = search rules in
+    let i = c.loop-place.invariant in
+    let time = ap (λ (t : Transition). t.unix_leap_time) c.transition-next.ensures.item in
+    let answered = rw i.index at (simp to_z-of_z at c.try_until-answer.ensures) in
+    tried_before c.args.self.now c.args.local c.loop-place.place c.loop-place.current.unix_leap_time c.transition-next.result.unix_leap_time c.transition-next.result c.loop-place.answer c.try_until-answer.result c.window-window.ensures.valid (omega arith) i.begin time answered (simp to_z-of_z at i.found)
 
 pub passed_count-first-requires : goal.passed_count-first-requires
 passed_count-first-requires c = let n = c.transition_count-count.ensures in let r = c.requires.room.reads in omega (arith, digits-le (length c.args.self.now.transitions))
@@ -16,15 +44,12 @@ latest-current-requires-clause-room c = let k = c.passed_count-first.ensures.cos
 
 pub loop-place-init : goal.loop-place-init
 loop-place-init c =
-    let fl = c.ranges.local in
-    let fw : SFits w64 c.window-window.result.low = search rules in
-    let fh : SFits w64 c.window-window.result.high = search rules in
+    let at = goal.at.loop-place-init c in
     let valid = c.window-window.ensures.valid in
-    let w = simp to_z-of_z at c.window-window.ensures.window in
-    let b = between_passed c.args.self.now.transitions c.window-window.result.low c.passed_count-first.result valid.transitions.rising c.passed_count-first.ensures.within (simp to_z-of_z at c.passed_count-first.ensures.passed) in
+    let fl = c.ranges.local in
     let p = c.passed_count-first.ensures.cost in let q = c.latest-current.ensures.cost in
     record {
-      found = simp to_z-of_z (none_before c.args.self.now c.args.local c.window-window.result.low c.window-window.result.high c.passed_count-first.result valid w b);
+      found = simp to_z-of_z (none_before c.args.self.now c.args.local c.window-window.result.low c.window-window.result.high c.passed_count-first.result valid (seen at.After-window-window) (split at.After-passed_count-first));
       begin = c.latest-current.ensures.begin;
       index = c.latest-current.ensures.index;
       listed = c.latest-current.ensures.listed;
@@ -41,51 +66,34 @@ transition-next-requires-clause-room c = let k = c.loop-place.invariant.cost in 
 
 pub returns-then-window-next-clause-found : goal.returns-then-window-next-clause-found
 returns-then-window-next-clause-found c =
-    let fl = c.ranges.local in
-    let fw : SFits w64 c.window-window.result.low = search rules in
+    let at = goal.at.returns-then-window-next-clause-found c in
     let fh : SFits w64 c.window-window.result.high = search rules in
-    let valid = c.window-window.ensures.valid in
-    let w = simp to_z-of_z at c.window-window.ensures.window in
-    let b = between_passed c.args.self.now.transitions c.window-window.result.low c.passed_count-first.result valid.transitions.rising c.passed_count-first.ensures.within (simp to_z-of_z at c.passed_count-first.ensures.passed) in
     let fn : SFits w64 c.transition-next.result.unix_leap_time = search rules in
-    let i = c.loop-place.invariant in
     let time = ap (λ (t : Transition). t.unix_leap_time) c.transition-next.ensures.item in
-    let tried = rw i.index at (simp to_z-of_z at c.try_until-answer.ensures) in
-    let next = tried_before c.args.self.now c.args.local c.loop-place.place c.loop-place.current.unix_leap_time c.transition-next.result.unix_leap_time c.transition-next.result c.loop-place.answer c.try_until-answer.result valid (omega arith) i.begin time tried (simp to_z-of_z at i.found) in
-    none_behind c.args.self.now c.args.local c.window-window.result.low c.window-window.result.high c.loop-place.place c.transition-next.result c.try_until-answer.result valid w (omega arith) (omega (arith, ints)) next
+    none_behind c.args.self.now c.args.local c.window-window.result.low c.window-window.result.high c.loop-place.place c.transition-next.result c.try_until-answer.result c.window-window.ensures.valid (seen at.After-window-window) (omega arith) (omega (arith, ints)) (tried at.After-try_until-answer)
 
 pub returns-then-window-next-clause-cost : goal.returns-then-window-next-clause-cost
 returns-then-window-next-clause-cost c =
-    let fl = c.ranges.local in
-    let fw : SFits w64 c.window-window.result.low = search rules in
-    let fh : SFits w64 c.window-window.result.high = search rules in
-    let valid = c.window-window.ensures.valid in
-    let w = simp to_z-of_z at c.window-window.ensures.window in
-    let b = between_passed c.args.self.now.transitions c.window-window.result.low c.passed_count-first.result valid.transitions.rising c.passed_count-first.ensures.within (simp to_z-of_z at c.passed_count-first.ensures.passed) in
+    let at = goal.at.returns-then-window-next-clause-cost c in
     let i = c.loop-place.invariant in
     let counted = ap (λ (p : Counts). p.reads) c.transition-next.ensures.cost in
     let asked = ap (λ (p : Counts). p.rule_questions) c.transition-next.ensures.cost in
-    let walked = walked_most c.args.self.now.transitions c.window-window.result.low c.window-window.result.high c.passed_count-first.result c.loop-place.place b (omega arith) i.inside in
-    rose_by_walk c.args.self.now c.args.local c.window-window.result.low c.window-window.result.high c.args.probes.now c.transition-next.new.probes c.passed_count-first.result c.loop-place.place (λ h. let l = i.looked h in omega arith) (ap (λ (p : Counts). p.piece_reads) c.transition-next.ensures.cost ∙ i.pieces) w walked (omega arith) (omega arith) (omega arith) (omega arith)
+    let walked = walked_most c.args.self.now.transitions c.window-window.result.low c.window-window.result.high c.passed_count-first.result c.loop-place.place (split at.After-passed_count-first) (omega arith) i.inside in
+    rose_by_walk c.args.self.now c.args.local c.window-window.result.low c.window-window.result.high c.args.probes.now c.transition-next.new.probes c.passed_count-first.result c.loop-place.place (λ h. let l = i.looked h in omega arith) (ap (λ (p : Counts). p.piece_reads) c.transition-next.ensures.cost ∙ i.pieces) (seen at.After-window-window) walked (omega arith) (omega arith) (omega arith) (omega arith)
 
 pub loop-place-preserved : goal.loop-place-preserved
 loop-place-preserved c =
+    let at = goal.at.loop-place-preserved c in
     let fl = c.ranges.local in
-    let fw : SFits w64 c.window-window.result.low = search rules in
     let fh : SFits w64 c.window-window.result.high = search rules in
-    let valid = c.window-window.ensures.valid in
-    let w = simp to_z-of_z at c.window-window.ensures.window in
-    let b = between_passed c.args.self.now.transitions c.window-window.result.low c.passed_count-first.result valid.transitions.rising c.passed_count-first.ensures.within (simp to_z-of_z at c.passed_count-first.ensures.passed) in
     let fn : SFits w64 c.transition-next.result.unix_leap_time = search rules in
     let i = c.loop-place.invariant in
     let time = ap (λ (t : Transition). t.unix_leap_time) c.transition-next.ensures.item in
     let index = ap (λ (t : Transition). t.type_index) c.transition-next.ensures.item in
-    let tried = rw i.index at (simp to_z-of_z at c.try_until-answer.ensures) in
-    let next = tried_before c.args.self.now c.args.local c.loop-place.place c.loop-place.current.unix_leap_time c.transition-next.result.unix_leap_time c.transition-next.result c.loop-place.answer c.try_until-answer.result valid (omega arith) i.begin time tried (simp to_z-of_z at i.found) in
     let counted = ap (λ (p : Counts). p.reads) c.transition-next.ensures.cost in
     let asked = ap (λ (p : Counts). p.rule_questions) c.transition-next.ensures.cost in
     record {
-      found = simp to_z-of_z next;
+      found = simp to_z-of_z (tried at.After-try_until-answer);
       begin = time ∙ sym (begin_next c.args.self.now.transitions c.loop-place.place c.transition-next.result (omega arith));
       index = index ∙ sym (index_next c.args.self.now.transitions c.loop-place.place c.transition-next.result (omega arith));
       listed = c.transition-next.ensures.index;
@@ -109,13 +117,8 @@ returns-clause-found c =
 
 pub returns-clause-cost : goal.returns-clause-cost
 returns-clause-cost c =
-    let fl = c.ranges.local in
-    let fw : SFits w64 c.window-window.result.low = search rules in
-    let fh : SFits w64 c.window-window.result.high = search rules in
-    let valid = c.window-window.ensures.valid in
-    let w = simp to_z-of_z at c.window-window.ensures.window in
-    let b = between_passed c.args.self.now.transitions c.window-window.result.low c.passed_count-first.result valid.transitions.rising c.passed_count-first.ensures.within (simp to_z-of_z at c.passed_count-first.ensures.passed) in
+    let at = goal.at.returns-clause-cost c in
     let i = c.loop-place.invariant in
     let k = c.try_last.ensures.cost in
-    let walked = walked_most c.args.self.now.transitions c.window-window.result.low c.window-window.result.high c.passed_count-first.result c.loop-place.place b (omega arith) i.inside in
-    rose_by_walk c.args.self.now c.args.local c.window-window.result.low c.window-window.result.high c.args.probes.now c.try_last.new.probes c.passed_count-first.result c.loop-place.place (λ h. let l = i.looked h in let n = k.reads_kept in omega arith) (k.pieces_same ∙ i.pieces) w walked (omega arith) (omega arith) (omega arith) (omega arith)
+    let walked = walked_most c.args.self.now.transitions c.window-window.result.low c.window-window.result.high c.passed_count-first.result c.loop-place.place (split at.After-passed_count-first) (omega arith) i.inside in
+    rose_by_walk c.args.self.now c.args.local c.window-window.result.low c.window-window.result.high c.args.probes.now c.try_last.new.probes c.passed_count-first.result c.loop-place.place (λ h. let l = i.looked h in let n = k.reads_kept in omega arith) (k.pieces_same ∙ i.pieces) (seen at.After-window-window) walked (omega arith) (omega arith) (omega arith) (omega arith)
