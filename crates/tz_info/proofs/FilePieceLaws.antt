@@ -12,7 +12,7 @@ use Rattle.tz_info.specs.declared.file.header.Counts.{Counts}
 use Rattle.tz_info.specs.declared.file.header.Header.{Header}
 use Rattle.tz_info.proofs.ReadLaws.{bind_ok, bind_err, ok_same, err_same}
 use Rattle.tz_info.proofs.HeaderLaws.{header_takes, header_again, header_fails, header_refuses}
-use Rattle.tz_info.proofs.BlockLaws.{block_takes, block_again, block_fails, block_refuses}
+use Rattle.tz_info.proofs.BlockLaws.{block_law}
 
 second_takes : (bytes : List ℕ) (p : FilePieces) → later_version_at bytes ≡ Ok p → IsSecondHalf bytes p
 unfolding later_version_at
@@ -25,13 +25,13 @@ second_takes bytes p h =
       parts = b.0.0;
       footer = b.0.1;
       head = header_takes Second bytes a.0 a.1;
-      block = block_takes 8 a.0.0.counts a.0.1 b.0 b.1;
+      block = (block_law 8 a.0.0.counts).takes a.0.1 b.0.0 b.0.1 b.1;
       says = sym (ok_same _ _ _ refl b.2);
     }
 
 second_again : (bytes : List ℕ) (p : FilePieces) → IsSecondHalf bytes p → later_version_at bytes ≡ Ok p
 unfolding later_version_at
-second_again bytes p h = rw (header_again Second bytes h.header h.after h.head, block_again 8 h.header.counts h.after h.parts h.footer h.block) (rw h.says refl)
+second_again bytes p h = rw (header_again Second bytes h.header h.after h.head, (block_law 8 h.header.counts).again h.after h.parts h.footer h.block) (rw h.says refl)
 
 tail_takes : (v : Version) (c : Counts) (b : Parts) (rest : List ℕ) (p : FilePieces) → after_version v c b rest ≡ Ok p → IsAfterFirstBlock v c b rest p
 tail_takes One c b [] p h = (refl, sym (ok_same _ _ _ refl h))
@@ -56,14 +56,14 @@ pieces_takes bytes p h =
       parts = b.0.0;
       rest = b.0.1;
       head = header_takes First bytes a.0 a.1;
-      block = block_takes 4 a.0.0.counts a.0.1 b.0 b.1;
+      block = (block_law 4 a.0.0.counts).takes a.0.1 b.0.0 b.0.1 b.1;
       tail = tail_takes a.0.0.version a.0.0.counts b.0.0 b.0.1 p b.2;
     }
 
 pub pieces_again : (bytes : List ℕ) (p : FilePieces) → HasPieces bytes p → pieces_at bytes ≡ Ok p
 unfolding pieces_at
 pieces_again bytes p h =
-    rw (header_again First bytes h.header h.after h.head, block_again 4 h.header.counts h.after h.parts h.rest h.block)
+    rw (header_again First bytes h.header h.after h.head, (block_law 4 h.header.counts).again h.after h.parts h.rest h.block)
     (tail_again h.header.version h.header.counts h.parts h.rest p h.tail)
 
 -- ---- faults
@@ -72,7 +72,7 @@ unfolding later_version_at
 second_fails bytes middle h after b e ih not_one ib f = elim (bind_err (header_at Second middle) _ e f) [
   | inl k ↦ Second_header e h after b middle ih not_one ib (header_fails Second middle e k)
   | inr a ↦ elim (bind_err (block_at 8 a.0.0.counts a.0.1) _ e a.2) [
-    | inl k ↦ Second_block e h after b middle a.0.0 a.0.1 ih not_one ib (header_takes Second middle a.0 a.1) (block_fails 8 a.0.0.counts a.0.1 e k)
+    | inl k ↦ Second_block e h after b middle a.0.0 a.0.1 ih not_one ib (header_takes Second middle a.0 a.1) ((block_law 8 a.0.0.counts).fails a.0.1 e k)
     | inr b ↦ let q = b.2 in cc
   ]
 ]
@@ -88,8 +88,8 @@ unfolding pieces_at
 pieces_fails bytes e f = elim (bind_err (header_at First bytes) _ e f) [
   | inl k ↦ First_header e (header_fails First bytes e k)
   | inr a ↦ elim (bind_err (block_at 4 a.0.0.counts a.0.1) _ e a.2) [
-    | inl k ↦ First_block e a.0.0 a.0.1 (header_takes First bytes a.0 a.1) (block_fails 4 a.0.0.counts a.0.1 e k)
-    | inr b ↦ tail_fails a.0.0.version bytes b.0.1 a.0.0 a.0.1 b.0.0 e refl (header_takes First bytes a.0 a.1) (block_takes 4 a.0.0.counts a.0.1 b.0 b.1) b.2
+    | inl k ↦ First_block e a.0.0 a.0.1 (header_takes First bytes a.0 a.1) ((block_law 4 a.0.0.counts).fails a.0.1 e k)
+    | inr b ↦ tail_fails a.0.0.version bytes b.0.1 a.0.0 a.0.1 b.0.0 e refl (header_takes First bytes a.0 a.1) ((block_law 4 a.0.0.counts).takes a.0.1 b.0.0 b.0.1 b.1) b.2
   ]
 ]
 
@@ -108,17 +108,17 @@ second_header_refused rest n h = rw (header_refuses Second rest n h) refl
 
 second_block_refused : (rest : List ℕ) (n : ℕ) (k : Header) (after : List ℕ) → IsHeader Second rest k after → BlockFault 8 k.counts after n → later_version_at rest ≡ Err n
 unfolding later_version_at
-second_block_refused rest n k after head h = rw (header_again Second rest k after head, block_refuses 8 k.counts after n h) refl
+second_block_refused rest n k after head h = rw (header_again Second rest k after head, (block_law 8 k.counts).refuses after n h) refl
 
 pub pieces_refuses : (bytes : List ℕ) (n : ℕ) → PieceFault bytes n → pieces_at bytes ≡ Err n
 unfolding pieces_at
 pieces_refuses bytes n (First_header m h) = rw (header_refuses First bytes m h) refl
-pieces_refuses bytes n (First_block m h after head b) = rw (header_again First bytes h after head, block_refuses 4 h.counts after m b) refl
-pieces_refuses bytes n (More_bytes h after p b rest head one block) = rw (header_again First bytes h after head, block_again 4 h.counts after p (b ∷ rest) block) (more_refused h.version h.counts p b rest one)
+pieces_refuses bytes n (First_block m h after head b) = rw (header_again First bytes h after head, (block_law 4 h.counts).refuses after m b) refl
+pieces_refuses bytes n (More_bytes h after p b rest head one block) = rw (header_again First bytes h after head, (block_law 4 h.counts).again after p (b ∷ rest) block) (more_refused h.version h.counts p b rest one)
 pieces_refuses bytes n (Second_header m h after p rest head later block fault) =
-    rw (header_again First bytes h after head, block_again 4 h.counts after p rest block) (tail_refused h.version h.counts p rest m later (second_header_refused rest m fault))
+    rw (header_again First bytes h after head, (block_law 4 h.counts).again after p rest block) (tail_refused h.version h.counts p rest m later (second_header_refused rest m fault))
 pieces_refuses bytes n (Second_block m h after p rest k behind head later block second fault) =
-    rw (header_again First bytes h after head, block_again 4 h.counts after p rest block) (tail_refused h.version h.counts p rest m later (second_block_refused rest m k behind second fault))
+    rw (header_again First bytes h after head, (block_law 4 h.counts).again after p rest block) (tail_refused h.version h.counts p rest m later (second_block_refused rest m k behind second fault))
 
 -- ---- lengths
 of_block : (w : ℕ) (x : Bool) (c : Counts) (bytes : List ℕ) (b : Parts) (rest : List ℕ) (o : Option (List ℕ)) → (w ≡ 4) ⊎ (w ≡ 8) → IsBlock w c bytes b rest → HasLengths (record { extended = x; time_size = w; counts = c; parts = b; footer = o })

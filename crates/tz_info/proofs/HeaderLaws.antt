@@ -4,8 +4,8 @@ use Rattle.std.proofs.lemmas.Bool.Decides.{nat_tests}
 use Rattle.std.proofs.lemmas.List.{length-append}
 use Rattle.std.specs.Bool.{nat_eq}
 use Rattle.std.specs.Cmp.Lexicographic.{pointwise}
-use Rattle.tz_info.specs.Fronts.{exact_at, be_u32_at, ◌>>=◌}
-use Rattle.tz_info.specs.FileHeaders.{magic, IsNumber, StandsFor, MayStand, AreCounts, CountsAgree, IsHeader, HeaderFault, No_magic, Other_magic, No_version, First_version, Other_version, Too_short, Counts_disagree}
+use Rattle.tz_info.specs.Fronts.{exact_at, ◌>>=◌}
+use Rattle.tz_info.specs.FileHeaders.{magic, StandsFor, MayStand, AreCounts, CountsAgree, IsHeader, HeaderFault, No_magic, Other_magic, No_version, First_version, Other_version, Too_short, Counts_disagree}
 use Rattle.tz_info.specs.Steps.FileReading.{is_magic, magic_at, first_version_at, version_of, version_at, counts_at, is_none_or_all, counts_agree, header_at}
 use Rattle.tz_info.specs.declared.file.header.Place.{Place}
 use Rattle.tz_info.specs.declared.file.header.Place.TheVariants.{First, Second}
@@ -13,7 +13,8 @@ use Rattle.tz_info.specs.declared.file.header.Version.{Version}
 use Rattle.tz_info.specs.declared.file.header.Version.TheVariants.{One, Two, Three}
 use Rattle.tz_info.specs.declared.file.header.Counts.{Counts}
 use Rattle.tz_info.specs.declared.file.header.Header.{Header}
-use Rattle.tz_info.proofs.ReadLaws.{bind_ok, bind_err, ok_same, err_same, choose, guard_ok, guard_err, and_true, exact_takes, exact_again, exact_fails, no_err, number_takes, number_again, number_step, exact_short, false_unless}
+use Rattle.tz_info.proofs.ReadLaws.{bind_ok, bind_err, ok_same, err_same, choose, guard_ok, guard_err, and_true, exact_takes, exact_again, exact_fails, exact_short, false_unless}
+use Rattle.tz_info.proofs.SizedLaws.{SizedLaw, short_within, then_sized, made_sized, like_sized, exact_law, number_law}
 
 -- ---- the magic bytes
 same_bytes : (xs ys : List ℕ) → pointwise nat_eq xs ys ≡ true → xs ≡ ys
@@ -148,48 +149,57 @@ version_fails place bytes after e w h = elim (bind_err (exact_at 1 after) _ e h)
   none_is (x ∷ xs) l = absurd (omega arith)
 
 -- ---- the counts
-counts_takes : (bytes : List ℕ) (x : Counts × List ℕ) → counts_at bytes ≡ Ok x → AreCounts bytes x.0 x.1
+counts_sized : SizedLaw Counts 24 counts_at AreCounts
 unfolding counts_at
-counts_takes bytes x h =
-    let a = bind_ok (be_u32_at bytes) _ x h in
-    let b = bind_ok (be_u32_at a.0.1) _ x a.2 in
-    let c = bind_ok (be_u32_at b.0.1) _ x b.2 in
-    let d = bind_ok (be_u32_at c.0.1) _ x c.2 in
-    let e = bind_ok (be_u32_at d.0.1) _ x d.2 in
-    let f = bind_ok (be_u32_at e.0.1) _ x e.2 in
-    let read : Counts × List ℕ = (record { ut_local = a.0.0; standard_wall = b.0.0; leap_seconds = c.0.0; transitions = d.0.0; types = e.0.0; designations = f.0.0 }, f.0.1) in
-    let same : read ≡ x = ok_same (Ok read) read x refl f.2 in
-    subst (λ (y : Counts × List ℕ). AreCounts bytes y.0 y.1) same (record {
-      after_ut_local = a.0.1;
-      after_standard_wall = b.0.1;
-      after_leap_seconds = c.0.1;
-      after_transitions = d.0.1;
-      after_types = e.0.1;
-      ut_local = number_takes bytes a.0 a.1;
-      standard_wall = number_takes a.0.1 b.0 b.1;
-      leap_seconds = number_takes b.0.1 c.0 c.1;
-      transitions = number_takes c.0.1 d.0 d.1;
-      types = number_takes d.0.1 e.0 e.1;
-      designations = number_takes e.0.1 f.0 f.1;
-    })
-
-counts_again : (bytes : List ℕ) (c : Counts) (rest : List ℕ) → AreCounts bytes c rest → counts_at bytes ≡ Ok (c, rest)
-unfolding counts_at
-counts_again bytes c rest h =
-    rw (
-      number_again bytes c.ut_local h.after_ut_local h.ut_local,
-      number_again _ _ _ h.standard_wall,
-      number_again _ _ _ h.leap_seconds,
-      number_again _ _ _ h.transitions,
-      number_again _ _ _ h.types,
-      number_again _ _ _ h.designations,
-    ) refl
-
-counts_fails : (bytes : List ℕ) (e : ℕ) → counts_at bytes ≡ Err e → (e ≡ 7) × (length bytes < 24)
-unfolding counts_at
-counts_fails bytes e h =
-    number_step bytes _ e _ (λ a. number_step a.1 _ e _ (λ b. number_step b.1 _ e _ (λ c. number_step c.1 _ e _ (λ d.
-    number_step d.1 _ e _ (λ x. number_step x.1 _ e 0 (λ z. no_err _ e 0 z.1 _ refl)))))) h
+counts_sized = like_sized
+    (then_sized number_law (λ ut_local.
+    then_sized number_law (λ standard_wall.
+    then_sized number_law (λ leap_seconds.
+    then_sized number_law (λ transitions.
+    then_sized number_law (λ types.
+    made_sized (λ designations. record { ut_local = ut_local; standard_wall = standard_wall; leap_seconds = leap_seconds; transitions = transitions; types = types; designations = designations }) number_law))))))
+    refl
+    (λ bytes x rest h.
+    let b = h.3 in let c = b.3 in let d = c.3 in let e = d.3 in let f = e.3 in
+    subst (λ (y : Counts). AreCounts bytes y rest) f.2 (record {
+      after_ut_local = h.1;
+      after_standard_wall = b.1;
+      after_leap_seconds = c.1;
+      after_transitions = d.1;
+      after_types = e.1;
+      ut_local = h.2;
+      standard_wall = b.2;
+      leap_seconds = c.2;
+      transitions = d.2;
+      types = e.2;
+      designations = f.1;
+    }))
+    (λ bytes x rest h. (
+      x.ut_local,
+      h.after_ut_local,
+      h.ut_local,
+      (
+        x.standard_wall,
+        h.after_standard_wall,
+        h.standard_wall,
+        (
+          x.leap_seconds,
+          h.after_leap_seconds,
+          h.leap_seconds,
+          (
+            x.transitions,
+            h.after_transitions,
+            h.transitions,
+            (
+              x.types,
+              h.after_types,
+              h.types,
+              (x.designations, h.designations, refl),
+            ),
+          ),
+        ),
+      ),
+    ))
 
 not_is : (n : ℕ) → not (n == 0) ≡ true → n ≢ 0
 not_is n h = λ e. grind (arith, nat_tests)
@@ -231,7 +241,7 @@ header_takes place bytes x h =
       stands = tv.2;
       allowed = tv.3;
       size = tu.1;
-      counts = counts_takes u.0.1 k.0 k.1;
+      counts = counts_sized.law.takes u.0.1 k.0.0 k.0.1 k.1;
       agree = agree_is k.0.0 g.0;
     })
 
@@ -243,7 +253,7 @@ header_again place bytes h rest p =
       magic_again (p.version ∷ (p.unused ++ p.numbers)),
       version_again place p.version (p.unused ++ p.numbers) h.version p.stands p.allowed,
       exact_again 15 p.unused p.numbers p.size,
-      counts_again p.numbers h.counts rest p.counts,
+      counts_sized.law.again p.numbers h.counts rest p.counts,
       agree_again h.counts p.agree,
     ) refl
 
@@ -262,13 +272,13 @@ header_fails place bytes e h = elim (bind_err (magic_at bytes) _ e h) [
               subst (λ n. HeaderFault place bytes n) (sym p.0) (Too_short tv.0 v.0.0 v.0.1 w' tv.2 tv.3 (omega (arith, p.1)))
           | inr u ↦ let tu = exact_takes 15 v.0.1 u.0 u.1 in elim (bind_err (counts_at u.0.1) _ e u.2) [
             | inl k ↦
-                let p = counts_fails u.0.1 e k in
+                let p = counts_sized.law.fails u.0.1 e k in
                 let l : length v.0.1 ≡ length u.0.0 + length u.0.1 = ap length tu.0 ∙ length-append u.0.0 u.0.1 in
                 subst (λ n. HeaderFault place bytes n) (sym p.0) (Too_short tv.0 v.0.0 v.0.1 w' tv.2 tv.3 (omega (arith, p.1, l, tu.1)))
             | inr k ↦
                 let g = guard_err (counts_agree k.0.0) (record { version = v.0.0; counts = k.0.0 }, k.0.1) 5 e k.2 in
                 subst (λ n. HeaderFault place bytes n) (sym g.1)
-                (Counts_disagree tv.0 v.0.0 u.0.0 u.0.1 k.0.1 k.0.0 (w' ∙ ap (λ r. magic ++ (tv.0 ∷ r)) tu.0) tv.2 tv.3 tu.1 (counts_takes u.0.1 k.0 k.1)
+                (Counts_disagree tv.0 v.0.0 u.0.0 u.0.1 k.0.1 k.0.0 (w' ∙ ap (λ r. magic ++ (tv.0 ∷ r)) tu.0) tv.2 tv.3 tu.1 (counts_sized.law.takes u.0.1 k.0.0 k.0.1 k.1)
                 (λ s. let q = agree_again k.0.0 s in let b = g.0 in cc))
           ]
         ]
@@ -304,32 +314,12 @@ version_other : (place : Place) (byte : ℕ) (rest : List ℕ) → ((v : Version
 unfolding version_at
 version_other place byte rest none = let e = other_version place byte none in rw (exact_again 1 (byte ∷ []) rest refl) (rw e refl)
 
-number_length : (bytes : List ℕ) (n : ℕ) (rest : List ℕ) → IsNumber bytes n rest → length bytes ≡ 4 + length rest
-number_length bytes n rest h = let l : length bytes ≡ length h.four + length rest = ap length h.whole ∙ length-append h.four rest in omega (arith, h.size, l)
-
-counts_length : (bytes : List ℕ) (c : Counts) (rest : List ℕ) → AreCounts bytes c rest → 24 ≤ length bytes
-counts_length bytes c rest h =
-    let a = number_length bytes c.ut_local h.after_ut_local h.ut_local in
-    let b = number_length h.after_ut_local c.standard_wall h.after_standard_wall h.standard_wall in
-    let d = number_length h.after_standard_wall c.leap_seconds h.after_leap_seconds h.leap_seconds in
-    let e = number_length h.after_leap_seconds c.transitions h.after_transitions h.transitions in
-    let f = number_length h.after_transitions c.types h.after_types h.types in
-    let g = number_length h.after_types c.designations rest h.designations in
-    omega (arith, a, b, d, e, f, g)
-
-counts_answer : (bytes : List ℕ) (r : Result (Counts × List ℕ) ℕ) → length bytes < 24 → counts_at bytes ≡ r → counts_at bytes ≡ Err 7
-counts_answer bytes (Ok x) l h = let k = counts_length bytes x.0 x.1 (counts_takes bytes x h) in absurd (omega arith)
-counts_answer bytes (Err e) l h = let k = counts_fails bytes e h in h ∙ ap (λ (n : ℕ). Err n) k.0
-
-rest_answer : {B : Type 0} (rest : List ℕ) (f : Counts × List ℕ → Result B ℕ) (r : Result (List ℕ × List ℕ) ℕ) → length rest < 39 → exact_at 15 rest ≡ r → (r >>= λ u. counts_at u.1 >>= f) ≡ Err 7
-rest_answer rest f (Ok x) l h =
-    let t = exact_takes 15 rest x h in
-    let k : length rest ≡ length x.0 + length x.1 = ap length t.0 ∙ length-append x.0 x.1 in
-    rw (counts_answer x.1 (counts_at x.1) (omega (arith, t.1, k)) refl) refl
-rest_answer rest f (Err e) l h = let k = exact_fails 15 rest e h in rw k.0 refl
-
+-- behind the version stand 15 bytes and the counts
 rest_short : {B : Type 0} (rest : List ℕ) (f : Counts × List ℕ → Result B ℕ) → length rest < 39 → (exact_at 15 rest >>= λ u. counts_at u.1 >>= f) ≡ Err 7
-rest_short rest f l = rest_answer rest f (exact_at 15 rest) l refl
+rest_short rest f l = elim (short_within (exact_law 15) 24 rest 7 (exact_at 15 rest) refl (refl, l)) [
+  | inl s ↦ rw (exact_short 15 rest s.1) refl
+  | inr k ↦ rw ((exact_law 15).law.again rest k.0 k.1 k.2, counts_sized.law.refuses k.1 7 k.3) refl
+]
 
 pub header_refuses : (place : Place) (bytes : List ℕ) (n : ℕ) → HeaderFault place bytes n → header_at place bytes ≡ Err n
 unfolding header_at
@@ -345,6 +335,6 @@ header_refuses place bytes n (Counts_disagree version v unused numbers rest c w 
       magic_again (version ∷ (unused ++ numbers)),
       version_again place version (unused ++ numbers) v stands may,
       exact_again 15 unused numbers size,
-      counts_again numbers c rest counts,
+      counts_sized.law.again numbers c rest counts,
       false_unless (counts_agree c) (λ t. disagree (agree_is c t)),
     ) refl

@@ -39,6 +39,7 @@ pub mod WindowLaws
 pub mod GapLaws
 pub mod PosixZoneLaws
 pub mod ReadLaws
+pub mod SizedLaws
 pub mod HeaderLaws
 pub mod BlockLaws
 pub mod FilePieceLaws

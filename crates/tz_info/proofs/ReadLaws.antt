@@ -3,9 +3,7 @@ use Rattle.std.proofs.Common.{◌≡◌, ℕ, ◌+◌, ◌<◌, ◌≤◌, arith
 use Rattle.std.proofs.lemmas.Bool.Decides.{nat_tests}
 use Rattle.std.proofs.lemmas.List.{take-append-drop, length-take, length-append}
 use Rattle.std.proofs.Math.Seq.{take-append_seam}
-use Rattle.std.specs.Int.{w32, from_be_bytes}
-use Rattle.tz_info.specs.Fronts.{◌>>=◌, exact_at, be_u32_at}
-use Rattle.tz_info.specs.FileHeaders.{IsNumber}
+use Rattle.tz_info.specs.Fronts.{exact_at}
 pub use Rattle.tz_info.proofs.PieceLaws.{bind_ok, bind_err}
 
 pub ok_same : {A : Type 0} (r : Result A ℕ) (x y : A) → r ≡ Ok x → r ≡ Ok y → x ≡ y
@@ -83,43 +81,3 @@ exact_short n bytes h = let t : nat_lt (length bytes) n ≡ true = grind (arith,
 pub false_unless : (b : Bool) → (b ≡ true → ⊥) → b ≡ false
 false_unless true h = absurd (h refl)
 false_unless false h = refl
-
--- refused for want of bytes, at this part or at one behind it
-pub short_step : {B : Type 0} (n : ℕ) (bytes : List ℕ) (f : List ℕ × List ℕ → Result B ℕ) (e m : ℕ)
-    → ((x : List ℕ × List ℕ) → f x ≡ Err e → (e ≡ 7) × (length x.1 < m))
-    → (exact_at n bytes >>= f) ≡ Err e → (e ≡ 7) × (length bytes < n + m)
-short_step n bytes f e m next h = elim (bind_err (exact_at n bytes) f e h) [
-  | inl k ↦ let p = exact_fails n bytes e k in (p.0, omega arith)
-  | inr k ↦
-      let p = next k.0 k.2 in let t = exact_takes n bytes k.0 k.1 in
-      let l : length bytes ≡ length k.0.0 + length k.0.1 = ap length t.0 ∙ length-append k.0.0 k.0.1 in
-      (p.0, omega (arith, t.1, l))
-]
-
-pub no_err : {A : Type 0} (x : A) (e m : ℕ) (l : List ℕ) (r : Result A ℕ) → r ≡ Ok x → r ≡ Err e → (e ≡ 7) × (length l < m)
-no_err x e m l r h k = cc
-
--- ---- numbers
-pub number_takes : (bytes : List ℕ) (x : ℕ × List ℕ) → be_u32_at bytes ≡ Ok x → IsNumber bytes x.0 x.1
-unfolding be_u32_at
-number_takes bytes x h =
-    let b = bind_ok (exact_at 4 bytes) (λ p. Ok (from_be_bytes w32 p.0, p.1)) x h in
-    let t = exact_takes 4 bytes b.0 b.1 in
-    let e : (from_be_bytes w32 b.0.0, b.0.1) ≡ x = ok_same _ _ _ refl b.2 in
-    subst (λ (y : ℕ × List ℕ). IsNumber bytes y.0 y.1) e (record { four = b.0.0; whole = t.0; size = t.1; value = refl })
-
-pub number_again : (bytes : List ℕ) (n : ℕ) (rest : List ℕ) → IsNumber bytes n rest → be_u32_at bytes ≡ Ok (n, rest)
-unfolding be_u32_at
-number_again bytes n rest h = rw (h.whole, exact_again 4 h.four rest h.size) (ap (λ m. Ok (m, rest)) h.value)
-
-pub number_step : {B : Type 0} (bytes : List ℕ) (f : ℕ × List ℕ → Result B ℕ) (e m : ℕ)
-    → ((x : ℕ × List ℕ) → f x ≡ Err e → (e ≡ 7) × (length x.1 < m))
-    → (be_u32_at bytes >>= f) ≡ Err e → (e ≡ 7) × (length bytes < 4 + m)
-unfolding be_u32_at
-number_step bytes f e m next h = elim (bind_err (be_u32_at bytes) f e h) [
-  | inl k ↦ let p = short_step 4 bytes _ e 0 (λ z. no_err _ e 0 z.1 _ refl) k in (p.0, omega (arith, p.1))
-  | inr k ↦
-      let p = next k.0 k.2 in let t = number_takes bytes k.0 k.1 in
-      let l : length bytes ≡ length t.four + length k.0.1 = ap length t.whole ∙ length-append t.four k.0.1 in
-      (p.0, omega (arith, t.size, l, p.1))
-]

@@ -1,0 +1,65 @@
+-- Pieces of a known length, which are refused only for want of bytes: their law, and how such laws go together.
+use Rattle.std.proofs.Common.{◌≡◌, ℕ, ◌+◌, ◌<◌, arith, refl, ap, ◌∙◌, subst, sym, List, ◌++◌, length, Ok, Err, Result, inl, inr, ◌⊎◌}
+use Rattle.std.proofs.lemmas.List.{length-append}
+use Rattle.std.specs.Int.{w32, from_be_bytes}
+use Rattle.tz_info.specs.Fronts.{◌>>=◌, exact_at, be_u32_at}
+use Rattle.tz_info.specs.FileHeaders.{IsNumber}
+use Rattle.tz_info.proofs.PieceLaws.{Law, Then, Made, then_law, made_law, like_law}
+use Rattle.tz_info.proofs.ReadLaws.{exact_takes, exact_again, exact_fails, exact_short}
+
+-- there are fewer bytes, and the number of that refusal
+abbrev pub Short : ℕ → List ℕ → ℕ → Type 0
+Short size bytes n = (n ≡ 7) × (length bytes < size)
+
+pub record SizedLaw (X : Type 0) (size : ℕ) (at : List ℕ → Result (X × List ℕ) ℕ) (P : List ℕ → X → List ℕ → Type 0) : Type 0 where
+  pub law : Law X at P (Short size)
+  pub sized : (bytes : List ℕ) (x : X) (rest : List ℕ) → P bytes x rest → length bytes ≡ size + length rest
+
+-- what wants bytes wants them in the first piece or in the next one behind it
+pub short_within : {X : Type 0} {n : ℕ} {a : List ℕ → Result (X × List ℕ) ℕ} {P : List ℕ → X → List ℕ → Type 0} (la : SizedLaw X n a P) (m : ℕ) (bytes : List ℕ) (e : ℕ) (r : Result (X × List ℕ) ℕ) → a bytes ≡ r → Short (n + m) bytes e → Short n bytes e ⊎ ((x : X) × (behind : List ℕ) × P bytes x behind × Short m behind e)
+short_within la m bytes e (Ok p) h s =
+    let there = la.law.takes bytes p.0 p.1 h in
+    inr (p.0, p.1, there, (s.0, omega (arith, s.1, la.sized bytes p.0 p.1 there)))
+short_within la m bytes e (Err k) h s = inl (s.0, (la.law.fails bytes k h).1)
+
+pub then_sized : {X Y : Type 0} {n m : ℕ} {a : List ℕ → Result (X × List ℕ) ℕ} {P : List ℕ → X → List ℕ → Type 0} {b : X → List ℕ → Result (Y × List ℕ) ℕ} {Q : X → List ℕ → Y → List ℕ → Type 0} → SizedLaw X n a P → ((x : X) → SizedLaw Y m (b x) (Q x)) → SizedLaw Y (n + m) (λ bytes. a bytes >>= λ p. b p.0 p.1) (Then P Q)
+then_sized {n = n} {m = m} {a = a} la lb = record {
+  law = like_law (then_law la.law (λ x. (lb x).law)) (λ bytes y rest h. h) (λ bytes y rest h. h)
+      (λ bytes e h. elim h [
+        | inl s ↦ (s.0, omega (arith, s.1))
+        | inr k ↦ (k.3.0, omega (arith, la.sized bytes k.0 k.1 k.2, k.3.1))
+      ])
+      (λ bytes e h. short_within la m bytes e (a bytes) refl h);
+  sized = λ bytes y rest h. omega (arith, la.sized bytes h.0 h.1 h.2, (lb h.0).sized h.1 y rest h.3);
+}
+
+pub made_sized : {X Y : Type 0} {n : ℕ} {a : List ℕ → Result (X × List ℕ) ℕ} {P : List ℕ → X → List ℕ → Type 0} (f : X → Y) → SizedLaw X n a P → SizedLaw Y n (λ bytes. a bytes >>= λ p. Ok (f p.0, p.1)) (Made P f)
+made_sized f la = record { law = made_law f la.law; sized = λ bytes y rest h. la.sized bytes h.0 rest h.1 }
+
+-- the same reading under other names
+pub like_sized : {X : Type 0} {n m : ℕ} {at : List ℕ → Result (X × List ℕ) ℕ} {P Q : List ℕ → X → List ℕ → Type 0} → SizedLaw X n at P → n ≡ m → ((bytes : List ℕ) (x : X) (rest : List ℕ) → P bytes x rest → Q bytes x rest) → ((bytes : List ℕ) (x : X) (rest : List ℕ) → Q bytes x rest → P bytes x rest) → SizedLaw X m at Q
+like_sized la same to from = record {
+  law = like_law la.law to from (λ bytes e h. (h.0, omega (arith, same, h.1))) (λ bytes e h. (h.0, omega (arith, same, h.1)));
+  sized = λ bytes x rest h. omega (arith, same, la.sized bytes x rest (from bytes x rest h));
+}
+
+-- so many bytes
+abbrev pub Exact : ℕ → List ℕ → List ℕ → List ℕ → Type 0
+Exact n bytes x rest = (bytes ≡ x ++ rest) × (length x ≡ n)
+
+pub exact_law : (n : ℕ) → SizedLaw (List ℕ) n (exact_at n) (Exact n)
+exact_law n = record {
+  law = record {
+    takes = λ bytes x rest h. exact_takes n bytes (x, rest) h;
+    again = λ bytes x rest h. rw h.0 (exact_again n x rest h.1);
+    fails = exact_fails n;
+    refuses = λ bytes e h. rw h.0 (exact_short n bytes h.1);
+  };
+  sized = λ bytes x rest h. omega (arith, h.1, ap length h.0 ∙ length-append x rest);
+}
+
+pub number_law : SizedLaw ℕ 4 be_u32_at IsNumber
+unfolding be_u32_at
+number_law = like_sized (made_sized (from_be_bytes w32) (exact_law 4)) refl
+    (λ bytes n rest h. record { four = h.0; whole = h.1.0; size = h.1.1; value = h.2 })
+    (λ bytes n rest h. (h.four, (h.whole, h.size), h.value))
