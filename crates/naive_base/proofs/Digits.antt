@@ -1,13 +1,13 @@
 -- Printed numbers: they are told apart by their digits, and hold no byte that could end a date.
-use Rattle.std.proofs.Common.{◌≡◌, ℕ, zero, suc, ◌+◌, ◌/◌, ◌%◌, ◌^◌, ◌<◌, ◌≤◌, List, [], ◌∷◌, ◌++◌, length, arith, refl, sym, ap, ◌∙◌, inl, inr, ◌⊎◌, length-append}
+use Rattle.std.proofs.Common.{◌≡◌, ℕ, zero, suc, ◌+◌, ◌/◌, ◌%◌, ◌^◌, ◌<◌, ◌≤◌, List, [], ◌∷◌, ◌++◌, length, arith, refl, sym, ap, ◌∙◌, inl, inr, ◌⊎◌, length-append, append_assoc}
 use Rattle.std.specs.Fmt.{decimal}
 use Rattle.std.proofs.lemmas.Fmt.{decimal_digit, decimal_step, decimal_nonempty, decimal_injective}
 use Rattle.std.proofs.lemmas.Bool.{cases_lt}
 use Rattle.std.proofs.lemmas.Bool.Decides.{nat_tests}
 use Rattle.std.proofs.Math.Nat.{pow-suc}
 use Rattle.offset_core.specs.Digits.{in_digits}
-use Rattle.offset_core.proofs.ForCallers.{length-in_digits, in_digits_once}
-use Rattle.naive_base.specs.Text.{four_digits}
+use Rattle.offset_core.proofs.ForCallers.{length-in_digits, in_digits_once, two_digits, in_digits-two_more, in_digits-three_more}
+use Rattle.naive_base.specs.Text.{four_digits, fraction_text}
 
 pub heads_alike : (x y : ℕ) (a b : List ℕ) → x ∷ a ≡ y ∷ b → x ≡ y
 heads_alike x y a b e = cc
@@ -32,6 +32,48 @@ four_digits-short n h = grind (arith, nat_tests)
 
 pub four_digits-long : (n : ℕ) → 10_000 ≤ n → four_digits n ≡ decimal n
 four_digits-long n h = grind (arith, nat_tests)
+
+-- How they are written, a few digits at a time.
+
+pub decimal_pair : (n : ℕ) → 10 ≤ n → n < 100 → decimal n ≡ in_digits 2 n
+decimal_pair n more low =
+    rw (decimal_step n more (omega arith), decimal_digit (n / 10) (omega arith), two_digits n low) refl
+
+decimal-two_more : (n : ℕ) → 100 ≤ n → n < 2 ^ 64 → decimal n ≡ decimal (n / 100) ++ in_digits 2 (n % 100)
+decimal-two_more n more fits =
+    let front : n / 10 / 10 ≡ n / 100 = omega arith in
+    let tens : n % 100 / 10 ≡ n / 10 % 10 = omega arith in
+    let ones : n % 100 % 10 ≡ n % 10 = omega arith in
+    rw (decimal_step n (omega arith) fits, decimal_step (n / 10) (omega arith) (omega arith), two_digits (n % 100) (omega arith), front, tens, ones)
+    (append_assoc (decimal (n / 100)) ((48 + n / 10 % 10) ∷ []) ((48 + n % 10) ∷ []))
+
+decimal-four_more : (n : ℕ) → 10_000 ≤ n → n < 2 ^ 64 → decimal n ≡ decimal (n / 10_000) ++ in_digits 4 (n % 10_000)
+decimal-four_more n more fits =
+    let front : n / 100 / 100 ≡ n / 10_000 = omega arith in
+    let first : n % 10_000 / 100 ≡ n / 100 % 100 = omega arith in
+    let last : n % 10_000 % 100 ≡ n % 100 = omega arith in
+    rw (decimal-two_more n (omega arith) fits, decimal-two_more (n / 100) (omega arith) (omega arith), in_digits-two_more 2 (n % 10_000), front, first, last)
+    (append_assoc (decimal (n / 10_000)) (in_digits 2 (n / 100 % 100)) (in_digits 2 (n % 100)))
+
+pub four_digits-parts : (n : ℕ) → 10_000 ≤ n → n < 2 ^ 64 → four_digits n ≡ decimal (n / 10_000) ++ in_digits 4 (n % 10_000)
+four_digits-parts n more fits = four_digits-long n more ∙ decimal-four_more n more fits
+
+pub fraction_text-six : (f : ℕ) → 0 < f % 1_000_000 → f % 1_000 ≡ 0
+    → fraction_text f ≡ 46 ∷ (in_digits 3 (f / 1_000_000) ++ in_digits 3 (f / 1_000 % 1_000))
+fraction_text-six f some none =
+    let front : f / 1_000 / 1_000 ≡ f / 1_000_000 = omega arith in
+    let six : fraction_text f ≡ 46 ∷ in_digits 6 (f / 1_000) = grind (arith, nat_tests) in
+    rw (six, in_digits-three_more 3 (f / 1_000), front) refl
+
+pub fraction_text-nine : (f : ℕ) → 0 < f % 1_000
+    → fraction_text f ≡ 46 ∷ (in_digits 3 (f / 1_000_000) ++ (in_digits 3 (f / 1_000 % 1_000) ++ in_digits 3 (f % 1_000)))
+fraction_text-nine f some =
+    let front : f / 1_000 / 1_000 ≡ f / 1_000_000 = omega arith in
+    let nine : fraction_text f ≡ 46 ∷ in_digits 9 f = grind (arith, nat_tests) in
+    rw (nine, in_digits-three_more 6 f, in_digits-three_more 3 (f / 1_000), front)
+    (ap (λ l. 46 ∷ l) (append_assoc (in_digits 3 (f / 1_000_000)) (in_digits 3 (f / 1_000 % 1_000)) (in_digits 3 (f % 1_000))))
+
+-- They are told apart.
 
 apart : {P : Type 0} (m n : ℕ) → m < 10_000 → 10_000 ≤ n → n < 2 ^ 64 → in_digits 4 m ≡ decimal n → P
 apart m n less more fits e = absurd (omega (arith, length-in_digits 4 m, decimal-long n more fits, ap length e))

@@ -1,20 +1,23 @@
 //! How dates, times and readings print.
-ghost use Rattle.std.specs.Prelude.{◌≡◌, ◌<◌, ◌^◌, ◌++◌, ◌∷◌, Some};
-ghost use Rattle.std.specs.Fmt.{DisplaysOnOk};
-ghost use Rattle.naive_base.specs.Text.{four_digits, year_text, month_day_text, date_text, clock_text, fraction_text};
+ghost use Rattle.std.specs.Prelude.{◌≡◌, ◌+◌, ◌<◌, ◌≤◌, ◌++◌, length, Some};
+ghost use Rattle.std.specs.Fmt.{decimal};
+ghost use Rattle.naive_base.specs.Range.{IsWideYear};
+ghost use Rattle.naive_base.specs.Text.{four_digits, year_text, clock_text, fraction_text, reading_text};
 ghost use Rattle.naive_base.specs.NaiveDate.{printed_date};
 ghost use Rattle.naive_base.specs.NaiveTime.{printed_time};
-ghost use Rattle.naive_base.specs.NaiveDateTime.{printed_reading, debug_reading};
+ghost use Rattle.naive_base.specs.NaiveDateTime.{reading, printed_reading, debug_reading};
 
 use crate::{NaiveDate, NaiveDateTime, NaiveTime, Timelike};
+use offset_core::ShortText;
 use std::fmt;
 
 impl fmt::Display for NaiveDate {
     ghost output = { λ date. Some (printed_date date) };
 
     fn fmt<W: fmt::Write>(&self, f: &mut fmt::Formatter<W>) -> fmt::Result {
-        let date = self.year_month_day();
-        write_date(date.year, date.month, date.day, f)
+        let mut text = ShortText::new();
+        push_date(*self, &mut text);
+        f.write_str(text.as_str())
     }
 }
 
@@ -30,7 +33,9 @@ impl fmt::Display for NaiveTime {
     ghost output = { λ time. Some (printed_time time) };
 
     fn fmt<W: fmt::Write>(&self, f: &mut fmt::Formatter<W>) -> fmt::Result {
-        write_time(*self, f)
+        let mut text = ShortText::new();
+        push_time(*self, &mut text);
+        f.write_str(text.as_str())
     }
 }
 
@@ -46,8 +51,8 @@ impl fmt::Display for NaiveDateTime {
     ghost output = { λ datetime. Some (printed_reading datetime) };
 
     fn fmt<W: fmt::Write>(&self, f: &mut fmt::Formatter<W>) -> fmt::Result {
-        let (date, time) = (self.date(), self.time());
-        write!(f, "{date} {time}")
+        let text = text_of(*self, b' ');
+        f.write_str(text.as_str())
     }
 }
 
@@ -55,109 +60,128 @@ impl fmt::Debug for NaiveDateTime {
     ghost debug_output = { λ datetime. Some (debug_reading datetime) };
 
     fn fmt<W: fmt::Write>(&self, f: &mut fmt::Formatter<W>) -> fmt::Result {
-        let (date, time) = (self.date(), self.time());
-        write!(f, "{date}T{time}")
+        let text = text_of(*self, b'T');
+        f.write_str(text.as_str())
     }
 }
 
-fn write_date<W: fmt::Write>(
-    year: i32,
-    month: u32,
-    day: u32,
-    f: &mut fmt::Formatter<W>,
-) -> fmt::Result
-    requires month { month < 100 }
-    requires day { day < 100 }
-    ensures { DisplaysOnOk W.write_str_gives f.old result (Some (date_text year month day)) f.new }
+// A reading, with that byte between its date and its time.
+fn text_of(datetime: NaiveDateTime, between: u8) -> ShortText
+    requires { between < 128 }
+    ensures { result ≡ reading_text between (reading datetime) }
 {
-    write_year(year, f)?;
-    write_month_day(month, day, f)
+    let mut text = ShortText::new();
+    push_date(datetime.date(), &mut text);
+    text.push(between);
+    push_time(datetime.time(), &mut text);
+    text
+}
+
+fn push_date(date: NaiveDate, text: &mut ShortText)
+    requires room { length text.old + 13 ≤ 32 }
+    ensures text { text.new ≡ text.old ++ printed_date date }
+    ensures len { length text.new ≤ length text.old + 13 }
+{
+    let date = date.year_month_day();
+    push_year(date.year, text);
+    text.push(b'-');
+    text.push_two_digits(date.month);
+    text.push(b'-');
+    text.push_two_digits(date.day);
 }
 
 // A year in at least four digits, with its sign unless it has just four.
 #[tactic(auto, unfolding(crate::specs::Text::year_text))]
-fn write_year<W: fmt::Write>(year: i32, f: &mut fmt::Formatter<W>) -> fmt::Result
-    ensures { DisplaysOnOk W.write_str_gives f.old result (Some (year_text year)) f.new }
+fn push_year(year: i32, text: &mut ShortText)
+    requires year { IsWideYear year }
+    requires room { length text.old + 7 ≤ 32 }
+    ensures text { text.new ≡ text.old ++ year_text year }
+    ensures len { length text.new ≤ length text.old + 7 }
 {
     let number = year.unsigned_abs();
     if year < 0 {
-        f.write_str("-")?;
-        return write_four(number, f);
+        text.push(b'-');
+    } else if year > 9999 {
+        text.push(b'+');
     }
-    if year > 9999 {
-        f.write_str("+")?;
-        return write_four(number, f);
-    }
-    write_four(number, f)
+    push_four(number, text);
 }
 
 // A number in at least four digits.
-#[tactic(auto, using(offset_core::proofs::Digits::pad))]
-fn write_four<W: fmt::Write>(number: u32, f: &mut fmt::Formatter<W>) -> fmt::Result
-    ensures { DisplaysOnOk W.write_str_gives f.old result (Some (four_digits number)) f.new }
+fn push_four(number: u32, text: &mut ShortText)
+    requires number { number < 1_000_000 }
+    requires room { length text.old + 6 ≤ 32 }
+    ensures text { text.new ≡ text.old ++ four_digits number }
+    ensures len { length text.new ≤ length text.old + 6 }
 {
     if number < 10_000 {
-        return write!(f, "{number:04}");
+        return text.push_four_digits(number);
     }
-    write!(f, "{number}")
+    push_short(number / 10_000, text);
+    text.push_four_digits(number % 10_000);
 }
 
-#[tactic(auto, using(offset_core::proofs::Digits::pad))]
-fn write_month_day<W: fmt::Write>(month: u32, day: u32, f: &mut fmt::Formatter<W>) -> fmt::Result
-    requires month { month < 100 }
-    requires day { day < 100 }
-    ensures { DisplaysOnOk W.write_str_gives f.old result (Some (month_day_text month day)) f.new }
+// A number in one digit or two.
+fn push_short(number: u32, text: &mut ShortText)
+    requires number { number < 100 }
+    requires room { length text.old + 2 ≤ 32 }
+    ensures text { text.new ≡ text.old ++ decimal number }
+    ensures len { length text.new ≤ length text.old + 2 }
 {
-    write!(f, "-{month:02}-{day:02}")
+    if number < 10 {
+        return text.push(b'0' + number as u8);
+    }
+    text.push_two_digits(number);
 }
 
 // A leap second prints as the second behind the one that it follows.
-fn write_time<W: fmt::Write>(time: NaiveTime, f: &mut fmt::Formatter<W>) -> fmt::Result
-    ensures { DisplaysOnOk W.write_str_gives f.old result (Some (printed_time time)) f.new }
+fn push_time(time: NaiveTime, text: &mut ShortText)
+    requires { length text.old + 18 ≤ 32 }
+    ensures { text.new ≡ text.old ++ printed_time time }
 {
     let second = time.num_seconds_from_midnight();
     let (hour, minute, second) = (second / 3600, second / 60 % 60, second % 60);
     let fraction = time.nanosecond();
     if fraction < 1_000_000_000 {
-        write_clock(hour, minute, second, f)?;
-        return write_fraction(fraction, f);
+        push_clock(hour, minute, second, text);
+        return push_fraction(fraction, text);
     }
-    write_clock(hour, minute, second + 1, f)?;
-    write_fraction(fraction - 1_000_000_000, f)
+    push_clock(hour, minute, second + 1, text);
+    push_fraction(fraction - 1_000_000_000, text);
 }
 
-#[tactic(auto, using(offset_core::proofs::Digits::pad))]
-fn write_clock<W: fmt::Write>(
-    hour: u32,
-    minute: u32,
-    second: u32,
-    f: &mut fmt::Formatter<W>,
-) -> fmt::Result
+fn push_clock(hour: u32, minute: u32, second: u32, text: &mut ShortText)
     requires hour { hour < 100 }
     requires minute { minute < 100 }
     requires second { second < 100 }
-    ensures { DisplaysOnOk W.write_str_gives f.old result (Some (clock_text hour minute second))
-        f.new }
+    requires room { length text.old + 8 ≤ 32 }
+    ensures text { text.new ≡ text.old ++ clock_text hour minute second }
+    ensures len { length text.new ≡ length text.old + 8 }
 {
-    write!(f, "{hour:02}:{minute:02}:{second:02}")
+    text.push_two_digits(hour);
+    text.push(b':');
+    text.push_two_digits(minute);
+    text.push(b':');
+    text.push_two_digits(second);
 }
 
 // Nothing for 0, else 3, 6 or 9 digits.
-#[tactic(auto, using(offset_core::proofs::Digits::pad))]
-fn write_fraction<W: fmt::Write>(nanos: u32, f: &mut fmt::Formatter<W>) -> fmt::Result
-    requires { nanos < 1_000_000_000 }
-    ensures { DisplaysOnOk W.write_str_gives f.old result (Some (fraction_text nanos)) f.new }
+fn push_fraction(nanos: u32, text: &mut ShortText)
+    requires fraction { nanos < 1_000_000_000 }
+    requires room { length text.old + 10 ≤ 32 }
+    ensures { text.new ≡ text.old ++ fraction_text nanos }
 {
     if nanos == 0 {
-        return f.write_str("");
+        return;
     }
+    text.push(b'.');
+    text.push_three_digits(nanos / 1_000_000);
     if nanos % 1_000_000 == 0 {
-        let millis = nanos / 1_000_000;
-        return write!(f, ".{millis:03}");
+        return;
     }
+    text.push_three_digits(nanos / 1_000 % 1_000);
     if nanos % 1_000 == 0 {
-        let micros = nanos / 1_000;
-        return write!(f, ".{micros:06}");
+        return;
     }
-    write!(f, ".{nanos:09}")
+    text.push_three_digits(nanos % 1_000);
 }

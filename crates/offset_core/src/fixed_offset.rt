@@ -1,8 +1,8 @@
 //! How far a clock stands from UTC.
-ghost use Rattle.std.specs.Prelude.{◌≡◌, neg_ℤ, ◌<◌, Some};
-ghost use Rattle.std.specs.Fmt.{DisplaysOnOk};
+ghost use Rattle.std.specs.Prelude.{◌≡◌, neg_ℤ, ◌+◌, ◌<◌, ◌≤◌, ◌++◌, length, Some};
 ghost use Rattle.offset_core.specs.Offset.{IsWithinDay, clock_text};
 
+use crate::ShortText;
 use std::fmt;
 
 /// How many seconds a clock is ahead of UTC: a whole number, strictly between a day behind and a
@@ -90,8 +90,10 @@ impl fmt::Display for FixedOffset {
     ghost output = { λ offset. Some (printed_offset offset) };
 
     fn fmt<W: fmt::Write>(&self, f: &mut fmt::Formatter<W>) -> fmt::Result {
-        f.write_str(if self.local_minus_utc < 0 { "-" } else { "+" })?;
-        write_clock(self.local_minus_utc.unsigned_abs(), f)
+        let mut text = ShortText::new();
+        text.push(if self.local_minus_utc < 0 { b'-' } else { b'+' });
+        push_clock(self.local_minus_utc.unsigned_abs(), &mut text);
+        f.write_str(text.as_str())
     }
 }
 
@@ -106,19 +108,20 @@ impl fmt::Debug for FixedOffset {
 }
 
 // Hours and minutes, and the seconds where there are any.
-#[tactic(auto, using(crate::proofs::Digits::pad))]
-fn write_clock<W: fmt::Write>(seconds: u32, f: &mut fmt::Formatter<W>) -> fmt::Result
-    requires { seconds < 86_400 }
-    ensures { DisplaysOnOk W.write_str_gives f.old result (Some (clock_text seconds)) f.new }
+fn push_clock(seconds: u32, text: &mut ShortText)
+    requires seconds { seconds < 86_400 }
+    requires room { length text.old + 8 ≤ 32 }
+    ensures { text.new ≡ text.old ++ clock_text seconds }
 {
-    let hour = seconds / 3600;
-    let minute = seconds / 60 % 60;
+    text.push_two_digits(seconds / 3600);
+    text.push(b':');
+    text.push_two_digits(seconds / 60 % 60);
     let second = seconds % 60;
     if second == 0 {
-        write!(f, "{hour:02}:{minute:02}")
-    } else {
-        write!(f, "{hour:02}:{minute:02}:{second:02}")
+        return;
     }
+    text.push(b':');
+    text.push_two_digits(second);
 }
 
 #[cfg(test)]

@@ -6,9 +6,11 @@ mod choice;
 mod fixed_offset;
 pub mod laws;
 mod local_result;
+mod short_text;
 mod time_delta;
 
 pub use choice::{Choice, FoldChoice, GapChoice};
 pub use fixed_offset::FixedOffset;
 pub use local_result::{LocalResult, MappedLocalTime};
+pub use short_text::ShortText;
 pub use time_delta::TimeDelta;
