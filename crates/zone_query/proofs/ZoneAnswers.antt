@@ -1,4 +1,4 @@
--- The answer to a line that sets the zone, by what was read.
+-- The answer to what sets the zone, by what was read.
 use Rattle.std.proofs.Common.{◌≡◌, ◌≢◌, ℕ, ◌⊎◌, inl, inr, List, Option, Some, Result, Ok, Err, IfOk, IfErr, MatchResult}
 use Rattle.std.proofs.lemmas.Bool.{cases_eq}
 use Rattle.tz_info.proofs.ForCallers.{text_fault_or_zone, file_fault_or_zone}
@@ -8,9 +8,7 @@ use Rattle.tz_info.specs.TzFiles.{IsTzFile, IsZoneFault}
 use Rattle.tz_info.specs.Zones.{Zone, IsValid}
 use Rattle.tz_info.specs.declared.error.Error.{Error}
 use Rattle.tz_info.specs.declared.zone.time_zone.TimeZone.{TimeZone}
-use Rattle.zone_query.specs.Answers.{AnswersRead, AnswersLine, zone_text, refusal_text}
-use Rattle.zone_query.specs.Steps.HexBytes.{bytes_of}
-use Rattle.zone_query.specs.Questions.{Text, Data, Asks}
+use Rattle.zone_query.specs.Answers.{AnswersRead, AnswersText, AnswersData, zone_text, refusal_text}
 
 -- what is written and kept of what was read
 abbrev Sets : Option Zone → Result TimeZone Error → List ℕ → Option Zone → Type 0
@@ -32,16 +30,12 @@ read_answered is_zone is_fault apart before (Ok found) answer after ok err sets 
 read_answered is_zone is_fault apart before (Err fault) answer after ok err sets =
     inr (number_of fault, told is_zone is_fault apart (number_of fault) err, sets.0, sets.1)
 
-pub text_answered : (zone : Option Zone) (line text : List ℕ) (read : Result TimeZone Error) (answer : List ℕ) (after : Option Zone) → Asks line (Text text)
-    → IfOk read (λ z. IsPosixZone text z) → IfErr read (λ e. (number_of e ≡ 17) ⊎ IsPosixFault text (number_of e)) → Sets zone read answer after → AnswersLine zone line answer after
-text_answered zone line text read answer after asks ok err sets = inl (Text text, asks, read_answered (IsPosixZone text) (IsPosixFault text) (λ n fault _ z. text_fault_or_zone text n z fault) zone read answer after ok err sets)
+pub text_answered : (zone : Option Zone) (text : List ℕ) (read : Result TimeZone Error) (answer : List ℕ) (after : Option Zone)
+    → IfOk read (λ z. IsPosixZone text z) → IfErr read (λ e. (number_of e ≡ 17) ⊎ IsPosixFault text (number_of e)) → Sets zone read answer after → AnswersText zone text answer after
+text_answered zone text read answer after ok err sets = read_answered (IsPosixZone text) (IsPosixFault text) (λ n fault _ z. text_fault_or_zone text n z fault) zone read answer after ok err sets
 
-pub data_answered : (zone : Option Zone) (line digits : List ℕ) (read : Result TimeZone Error) (answer : List ℕ) (after : Option Zone) → Asks line (Data (bytes_of digits))
-    → IfOk read (λ z. IsTzFile (bytes_of digits) z × IsValid z) → IfErr read (λ e. (number_of e ≡ 17) ⊎ IsZoneFault (bytes_of digits) (number_of e)) → Sets zone read answer after → AnswersLine zone line answer after
-data_answered zone line digits read answer after asks ok err sets =
-    inl (
-      Data (bytes_of digits),
-      asks,
-      read_answered (λ found. IsTzFile (bytes_of digits) found × IsValid found) (IsZoneFault (bytes_of digits))
-          (λ n fault other z is. file_fault_or_zone (bytes_of digits) n z fault other is.0 is.1) zone read answer after ok err sets,
-    )
+pub data_answered : (zone : Option Zone) (bytes : List ℕ) (read : Result TimeZone Error) (answer : List ℕ) (after : Option Zone)
+    → IfOk read (λ z. IsTzFile bytes z × IsValid z) → IfErr read (λ e. (number_of e ≡ 17) ⊎ IsZoneFault bytes (number_of e)) → Sets zone read answer after → AnswersData zone bytes answer after
+data_answered zone bytes read answer after ok err sets =
+    read_answered (λ found. IsTzFile bytes found × IsValid found) (IsZoneFault bytes)
+    (λ n fault other z is. file_fault_or_zone bytes n z fault other is.0 is.1) zone read answer after ok err sets

@@ -9,7 +9,7 @@ ghost use Rattle.tz_info.specs.Errors.{number_of};
 ghost use Rattle.tz_info.specs.TzFiles.{IsTzFile, IsZoneFault};
 ghost use Rattle.tz_info.specs.Zones.{IsValid};
 ghost use Rattle.zone_query.specs.Steps.HexBytes.{bytes_of};
-ghost use Rattle.zone_query.specs.Answers.{AnswersLine, AnswersAt, AnswersWall, AnswersResolve, AnswersShow, type_text, wall_text, zone_text, rule_text, refusal_text};
+ghost use Rattle.zone_query.specs.Answers.{AnswersLine, AnswersText, AnswersData, AnswersAt, AnswersWall, AnswersResolve, AnswersShow, type_text, wall_text, zone_text, rule_text, refusal_text};
 
 use crate::question::Question;
 use naive_base::NaiveDateTime;
@@ -34,8 +34,8 @@ pub fn answer(
 {
     out.clear();
     match Question::parse(line) {
-        Some(Question::Text(text)) => set_zone(zone, TimeZone::from_posix_tz(alloc, text), out),
-        Some(Question::Data(digits)) => set_zone(zone, read_file(alloc, digits), out),
+        Some(Question::Text(text)) => take_text(alloc, zone, text, out),
+        Some(Question::Data(digits)) => take_file(alloc, zone, digits, out),
         Some(Question::At(seconds)) => tell_type(zone, seconds, out),
         Some(Question::Wall(local)) => tell_types(zone, local, out),
         Some(Question::Resolve(local, choice)) => tell_resolved(zone, local, choice, out),
@@ -44,6 +44,36 @@ pub fn answer(
         }
         None => writeln!(out, "bad line"),
     }
+}
+
+// Reads a TZ text. A call of its own, so that no other line pays for the room of a zone that is read.
+#[inline(never)]
+fn take_text(
+    alloc: Global,
+    zone: &mut Option<TimeZone>,
+    text: &str,
+    out: &mut String,
+) -> Result<(), AllocError>
+    ensures { OnOk result ((answer : List ℕ)
+        × (string_bytes out.new ≡ string_bytes out.old ++ (answer ++ 10 ∷ []))
+        × AnswersText zone.old text.now answer zone.new) }
+{
+    set_zone(zone, TimeZone::from_posix_tz(alloc, text), out)
+}
+
+// Reads the file whose bytes hex digits spell.
+#[inline(never)]
+fn take_file(
+    alloc: Global,
+    zone: &mut Option<TimeZone>,
+    digits: &[u8],
+    out: &mut String,
+) -> Result<(), AllocError>
+    ensures { OnOk result ((answer : List ℕ)
+        × (string_bytes out.new ≡ string_bytes out.old ++ (answer ++ 10 ∷ []))
+        × AnswersData zone.old (bytes_of digits.now) answer zone.new) }
+{
+    set_zone(zone, read_file(alloc, digits), out)
 }
 
 // The zone of the file whose bytes hex digits spell.
@@ -203,9 +233,9 @@ impl fmt::Display for Shown<'_> {
 
     fn fmt<W: fmt::Write>(&self, f: &mut fmt::Formatter<W>) -> fmt::Result {
         let offset = self.0.offset();
-        let mark = if self.0.is_dst() { "dst" } else { "std" };
+        let mark = if self.0.is_dst() { " dst " } else { " std " };
         let name = self.0.name().map_or("-", |name| name.as_str());
-        write!(f, "{offset} {mark} {name}")
+        write!(f, "{offset}{mark}{name}")
     }
 }
 
