@@ -1,20 +1,69 @@
 -- What each step of the search in a zone's transitions keeps.
-use Rattle.std.proofs.Common.{◌≡◌, ℕ, zero, suc, ℤ, ◌+◌, ◌-◌, ◌/◌, ◌^◌, ◌<◌, ◌≤◌, arith, refl, ap, ◌∙◌, sym, List, length, get_or, take, ◌≤ℤ◌, ◌<ℤ◌, inl, inr}
+use Rattle.std.proofs.Common.{◌≡◌, ℕ, zero, suc, ℤ, ◌+◌, ◌-◌, ◌/◌, ◌^◌, ◌<◌, ◌≤◌, arith, refl, ap, ◌∙◌, sym, pos, List, length, get_or, take, ◌≤ℤ◌, ◌<ℤ◌, inl, inr}
 use Rattle.std.proofs.lemmas.List.{get_or_default}
 use Rattle.std.proofs.lemmas.Bool.{cases_lt}
 use Rattle.std.proofs.lemmas.Int.{ints}
 use Rattle.tz_info.specs.Counts.{Counts, RoseWithin}
 use Rattle.tz_info.specs.Digits.{digits}
-use Rattle.tz_info.specs.Steps.Search.{AreLeft, IsNarrowed}
+use Rattle.tz_info.specs.Steps.Search.{AreEnds, AreLeft, IsNarrowed}
 use Rattle.tz_info.specs.Transitions.{AreRising, passed}
+use Rattle.tz_info.specs.declared.zone.table.Ends.{Ends}
 use Rattle.tz_info.specs.declared.zone.table.Places.{Places}
 use Rattle.tz_info.specs.declared.zone.transition.Transition.{Transition}
-use Rattle.tz_info.proofs.DigitLaws.{digits-half}
+use Rattle.tz_info.proofs.DigitLaws.{digits-half, digits-more}
 use Rattle.tz_info.proofs.TableSearch.{search_found}
 
--- before the first step all are left
-pub all_left : (xs : List Transition) (v : ℤ) (n : ℕ) → AreRising xs → n ≡ length xs → n < 2 ^ 64 → AreLeft xs v (record { low = 0; size = n })
-all_left xs v n rising e f = record { rising = rising; within = omega arith; fits = omega arith; before = λ k d h. absurd (omega arith); behind = λ k d h l. absurd (omega arith) }
+-- before the first step all are left but the last, which comes after v
+pub all_left : (xs : List Transition) (v : ℤ) (n : ℕ) (ends : Ends) → AreRising xs → n ≡ length xs → n < 2 ^ 64 → 0 < n → AreEnds xs ends → v <ℤ ends.last → AreLeft xs v (record { low = 0; size = n - 1 })
+all_left xs v n ends rising e f some are lt = record {
+  rising = rising;
+  within = omega arith;
+  fits = omega arith;
+  before = λ k d h. absurd (omega arith);
+  behind = λ k d h l. let last = are.last d (omega arith) in let i : k ≡ length xs - 1 = omega arith in rw i (omega (arith, ints));
+}
+
+-- all have come where the last has
+pub all_passed : (xs : List Transition) (v : ℤ) (n : ℕ) (ends : Ends) → AreRising xs → n ≡ length xs → 0 < n → AreEnds xs ends → ends.last ≤ℤ v → passed xs v ≡ take n xs
+all_passed xs v n ends rising e some are le = search_found xs v n n (omega arith) (record {
+  ordered = omega arith;
+  within = omega arith;
+  below = λ k d h.
+      let last = are.last d (omega arith) in
+      elim (cases_lt k (length xs - 1)) [
+        | inl m ↦ let r = rising k (length xs - 1) d m (omega arith) in omega (arith, ints)
+        | inr g ↦ let i : k ≡ length xs - 1 = omega arith in rw i (omega (arith, ints))
+      ];
+  above = λ k d h l. absurd (omega arith);
+})
+
+-- between the first and the last there are two at least
+none : Transition
+none = record { unix_leap_time = pos 0; type_index = 0 }
+
+pub two_at_least : (xs : List Transition) (v : ℤ) (ends : Ends) → 0 < length xs → AreEnds xs ends → ends.first ≤ℤ v → v <ℤ ends.last → 1 < length xs
+two_at_least xs v ends some are from lt = elim (cases_lt 1 (length xs)) [
+  | inl h ↦ h
+  | inr g ↦
+      let one : length xs - 1 ≡ 0 = omega arith in
+      let first = are.first none some in
+      let last = rw one at (are.last none some) in
+      absurd (omega (arith, ints))
+]
+
+-- none has come where the first has not
+pub none_passed : (xs : List Transition) (v : ℤ) (ends : Ends) → AreRising xs → 0 < length xs → AreEnds xs ends → v <ℤ ends.first → passed xs v ≡ take 0 xs
+none_passed xs v ends rising some are lt = search_found xs v 0 0 (omega arith) (record {
+  ordered = omega arith;
+  within = omega arith;
+  below = λ k d h. absurd (omega arith);
+  above = λ k d h l.
+      let first = are.first d some in
+      elim (cases_lt 0 k) [
+        | inl m ↦ let r = rising 0 k d m l in omega (arith, ints)
+        | inr g ↦ let i : k ≡ 0 = omega arith in rw i (omega (arith, ints))
+      ];
+})
 
 -- a look at a transition at or before v
 pub left_later : (xs : List Transition) (v : ℤ) (old new : Places) (x : Transition) → AreLeft xs v old → old.low < new.low → new.low + new.size ≡ old.low + old.size → x ≡ get_or xs (new.low - 1) x → x.unix_leap_time ≤ℤ v → AreLeft xs v new
@@ -70,10 +119,13 @@ pub room_on : {a b : Counts} {x y m : ℕ} → IsNarrowed a b x y → a.reads + 
 room_on h room = omega (arith, h.reads)
 
 -- and how the counts rose by them
-pub narrowed_to_none : {a b : Counts} {n z : ℕ} → IsNarrowed a b n z → RoseWithin a b (digits n) 0
-narrowed_to_none h = let q = h.questions in record { reads_kept = h.kept; reads_most = omega (arith, h.reads); questions_kept = omega arith; questions_most = omega arith; pieces_same = h.pieces }
+pub narrowed_to_none : {a b : Counts} {z : ℕ} (n : ℕ) → IsNarrowed a b (n - 1) z → RoseWithin a b (digits n) 0
+narrowed_to_none n h = let q = h.questions in record { reads_kept = h.kept; reads_most = omega (arith, h.reads, digits-more (n - 1) n (omega arith)); questions_kept = omega arith; questions_most = omega arith; pieces_same = h.pieces }
 
-digits-none : (z : ℕ) → z ≡ 0 → digits z ≡ 0
+pub room_of_all : (a n m : ℕ) → a + digits n < m → a + digits (n - 1) < m
+room_of_all a n m room = omega (arith, digits-more (n - 1) n (omega arith))
+
+pub digits-none : (z : ℕ) → z ≡ 0 → digits z ≡ 0
 unfolding digits
 digits-none z e = ap digits e
 

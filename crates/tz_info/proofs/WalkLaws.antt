@@ -1,8 +1,8 @@
 -- A walk from segment to segment: which seconds it adds, why none lies outside it, and how many transitions it reads.
-use Rattle.std.proofs.Common.{◌≡◌, ℕ, zero, suc, ◌+◌, ◌<◌, ◌≤◌, arith, refl, ap, ◌∙◌, sym, subst, Bool, true, false, cond, ◌&&◌, List, [], ◌∷◌, length, get_or, ℤ, ◌-ℤ◌, ◌≤ℤ◌, ◌<ℤ◌, int_le, int_lt, inl, inr, ◌⊎◌, Option, Some, None, slice_get, FitsSigned}
+use Rattle.std.proofs.Common.{◌≡◌, ℕ, zero, suc, ◌+◌, ◌<◌, ◌≤◌, arith, refl, ap, ◌∙◌, sym, subst, Bool, true, false, cond, ◌&&◌, List, [], ◌∷◌, length, get_or, ℤ, ◌-ℤ◌, ◌≤ℤ◌, ◌<ℤ◌, int_le, int_lt, inl, inr, ◌⊎◌, ⊎_elim, Option, Some, None, slice_get, FitsSigned}
 use Rattle.std.specs.List.{filter}
 use Rattle.std.specs.Int.{w64}
-use Rattle.std.proofs.lemmas.Int.{ints}
+use Rattle.std.proofs.lemmas.Int.{ints, by_lt_z}
 use Rattle.std.proofs.lemmas.Bool.{cases_lt}
 use Rattle.std.proofs.lemmas.List.{get_or_default}
 use Rattle.offset_core.specs.WallAnswer.{IsWallAnswer}
@@ -185,6 +185,14 @@ pub asked_both : (z : Zone) (l o p : ℤ) (before one two : LocalResult LocalTyp
 asked_both z l o p before one two valid less both f g s =
     gained (TypeIn z (length z.transitions)) (IsHalfShown z l (l -ℤ o)) (IsShownIn z l (length z.transitions + 1)) l p one two (whole_gains z l o p valid less both)
     (gained (TypeIn z (length z.transitions)) (IsShownIn z l (length z.transitions)) (IsHalfShown z l (l -ℤ o)) l o before one (half_gains z l (l -ℤ o) valid) s f) g
+
+-- neither of two offsets' seconds is asked
+pub asked_neither : (z : Zone) (l o p : ℤ) (answer : LocalResult LocalType) → IsValid z → ((u : ℤ) (t : LocalType) → Shows (TypeIn z (length z.transitions)) l u t → (u ≡ l -ℤ o) ⊎ (u ≡ l -ℤ p)) → IsAskedLast (TypeIn z (length z.transitions)) l o answer answer → IsAskedLast (TypeIn z (length z.transitions)) l p answer answer → IsWallAnswer (IsShownIn z l (length z.transitions)) answer → IsWallAnswer (IsShownIn z l (length z.transitions + 1)) answer
+asked_neither z l o p answer valid both f g s =
+    by_lt_z p o (λ less. asked_both z l o p answer answer answer valid less both f g s)
+    (λ from. by_lt_z o p
+    (λ less. asked_both z l p o answer answer answer valid less (λ u t k. ⊎_elim (λ e. inr e) (λ e. inl e) (both u t k)) g f s)
+    (λ same. asked_one z l o answer answer valid (λ u t k. ⊎_elim (λ e. e) (λ e. omega (arith, ints)) (both u t k)) f s))
 
 -- what the rule was asked, and what it answered; `start` is the second from which on it is asked
 pub asked_early : (z : Zone) (l o start : ℤ) (answer : LocalResult LocalType) → IsValid z → IsNear (l -ℤ o) → IsStart z.transitions z.leaps (length z.transitions) start → (l -ℤ o) <ℤ start → IsAskedLast (TypeIn z (length z.transitions)) l o answer answer

@@ -87,6 +87,7 @@ impl LocalTimeType {
     }
 
     /// Seconds east of UTC.
+    #[inline(always)]
     pub fn offset(&self) -> i32
         ensures value { result ≡ self.now.offset }
         ensures bound { IsUtOffset self.now.offset }

@@ -73,23 +73,24 @@ fn shown(
     assert_eq!(rt; walked.rule_questions(), 0);
 }
 
-/// A search by halves takes 11 looks in the 2,047 pieces after the first, and 11 in 1,024 transitions. The walk takes one
-/// more at the transition before the window, one at that in the window if there is one, and one at the next.
+/// A search by halves takes 11 looks in the 2,047 pieces before the last, and 10 in the 1,023 transitions before the last.
+/// The walk takes one more at the transition before the window, one at that in the window if there is one, and one at the
+/// next.
 #[test]
 fn a_thousand_changes(rt: HostRuntime) -> Result<(), Fail> {
     let zone = turning(&rt, rt.alloc(), 1024)?;
     assert_eq!(rt; zone.piece_count(), 2048);
-    shown(&rt, &zone, 512_000_000, LocalResult::None, 11, 14);
-    shown(&rt, &zone, 512_003_599, LocalResult::None, 11, 14);
-    shown(&rt, &zone, 512_003_600, LocalResult::Single(3600), 11, 13);
-    shown(&rt, &zone, 512_999_999, LocalResult::Single(3600), 11, 13);
+    shown(&rt, &zone, 512_000_000, LocalResult::None, 11, 13);
+    shown(&rt, &zone, 512_003_599, LocalResult::None, 11, 13);
+    shown(&rt, &zone, 512_003_600, LocalResult::Single(3600), 11, 12);
+    shown(&rt, &zone, 512_999_999, LocalResult::Single(3600), 11, 12);
     shown(
         &rt,
         &zone,
         513_000_000,
         LocalResult::Ambiguous(3600, 0),
         11,
-        14,
+        13,
     );
     shown(
         &rt,
@@ -97,9 +98,9 @@ fn a_thousand_changes(rt: HostRuntime) -> Result<(), Fail> {
         513_003_599,
         LocalResult::Ambiguous(3600, 0),
         11,
-        14,
+        13,
     );
-    shown(&rt, &zone, 513_003_600, LocalResult::Single(0), 11, 13);
+    shown(&rt, &zone, 513_003_600, LocalResult::Single(0), 11, 12);
     Ok(())
 }
 

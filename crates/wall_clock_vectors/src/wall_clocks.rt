@@ -361,7 +361,7 @@ fn counts_of_a_wall_clock(rt: HostRuntime) -> Result<(), Fail> {
     assert_eq!(rt; counts(&probes), (0, 2, 0));
     let mut walked = Probes::new();
     let _answer = zone.find_local_time_type_from_local_by_walk(local, &mut walked);
-    assert_eq!(rt; counts(&walked), (4, 0, 0));
+    assert_eq!(rt; counts(&walked), (3, 0, 0));
     Ok(())
 }
 

@@ -219,7 +219,7 @@ fn counted_lookups(rt: HostRuntime) -> Result<(), Fail> {
         ruled.find_local_time_type_counted(9, &mut probes)?.offset(),
         0
     );
-    assert_eq!(rt; probes.reads(), 8);
+    assert_eq!(rt; probes.reads(), 6);
     assert_eq!(rt; probes.rule_questions(), 1);
     Ok(())
 }

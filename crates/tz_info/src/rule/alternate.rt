@@ -1,6 +1,6 @@
 //! Two types that take turns each year.
 
-ghost use Rattle.std.specs.Prelude.{◌≡◌, ℤ, pos, neg_ℤ, ◌≤ℤ◌, ◌<ℤ◌, int_le, MatchResult, IsTrue, ◌↔◌, ◌||◌, not, if◌then◌else◌};
+ghost use Rattle.std.specs.Prelude.{◌≡◌, ◌<◌, ℤ, pos, neg_ℤ, ◌+ℤ◌, ◌≤ℤ◌, ◌<ℤ◌, int_le, MatchResult, IsTrue, ◌↔◌, ◌||◌, not, if◌then◌else◌};
 ghost use Rattle.naive_base.specs.Year.{floor_div, year_start, LiesIn, IsDay};
 ghost use Rattle.offset_core.specs.Offset.{IsWithinDay};
 ghost use Rattle.tz_info.specs.Errors.{number_of};
@@ -20,6 +20,11 @@ use std::marker::Model;
 const FIRST_RULE_TIME: i64 = -67_768_100_504_812_800;
 
 const LAST_RULE_TIME: i64 = 67_767_976_170_460_799;
+
+// How long before 1970 the first of them comes, in seconds and in days.
+const SECONDS_BEFORE_1970: i64 = 67_768_100_504_812_800;
+
+const DAYS_BEFORE_1970: i64 = 784_353_015_102;
 
 /// Standard time and daylight saving time, and when in each year the one gives way to the other.
 #[derive(Clone, Copy)]
@@ -372,13 +377,32 @@ fn is_rule_time(unix_time: i64) -> bool
     FIRST_RULE_TIME <= unix_time && unix_time <= LAST_RULE_TIME
 }
 
-/// The day number of the second.
+/// The seconds from the first of those years on.
+fn since_first(unix_time: i64) -> u64
+    requires { IsRuleTime unix_time }
+    ensures value { unix_time +ℤ pos 67_768_100_504_812_800 ≡ pos result }
+    ensures bound { result < 135_536_076_675_273_600 }
+{
+    (unix_time + SECONDS_BEFORE_1970) as u64
+}
+
+/// The day number of the day so many days after the first of those years.
+fn day_from_first(days: u64) -> i64
+    requires { days < 1_568_704_591_149 }
+    ensures { result +ℤ pos 784_353_015_102 ≡ pos days }
+{
+    days as i64 - DAYS_BEFORE_1970
+}
+
+/// The day number of the second: no second is negative when the first of those years is where they count from, and so
+/// one division of whole numbers is enough.
+#[inline(always)]
 fn day_of(unix_time: i64) -> i64
     requires { IsRuleTime unix_time }
     ensures value { result ≡ floor_div unix_time 86_400 }
     ensures bound { IsDay result }
 {
-    unix_time.div_euclid(86_400)
+    day_from_first(since_first(unix_time) / 86_400)
 }
 
 impl DayTime {

@@ -6,6 +6,7 @@ ghost use Rattle.tz_info.specs.Steps.Answers.{joined};
 use offset_core::MappedLocalTime;
 
 /// Of two answers, the first of which is that of earlier seconds, the answer of all the seconds.
+#[inline(always)]
 pub(super) fn joined<T: Copy>(
     first: MappedLocalTime<T>,
     last: MappedLocalTime<T>,

@@ -1,6 +1,6 @@
 //! Pieces of the wall-clock axis: on each of them local times have one answer.
 
-ghost use Rattle.std.specs.Prelude.{◌≡◌, ◌+◌, ◌<◌, ◌≤◌, length, take, int_le, if◌then◌else◌, IsTrue, IsFalse, MatchResult};
+ghost use Rattle.std.specs.Prelude.{◌≡◌, ◌+◌, ◌<◌, ◌≤◌, length, take, IsTrue, IsFalse, MatchResult};
 ghost use Rattle.tz_info.specs.Steps.Merging.{IsMerged, IsNext, IsStep};
 ghost use Rattle.tz_info.specs.WallPieces.{answer_before, AreInOrder};
 ghost use Rattle.tz_info.specs.declared.error.Error.TheVariants.{OutOfMemory};
@@ -16,21 +16,6 @@ use std::alloc::Global;
 pub(super) struct Piece {
     pub(super) start: i64,
     pub(super) answer: MappedLocalTime<usize>,
-}
-
-/// The piece's answer, if it has started.
-pub(super) fn latest(
-    kept: &MappedLocalTime<usize>,
-    piece: &Piece,
-    local: i64,
-) -> MappedLocalTime<usize>
-    ensures { result ≡ (if int_le piece.now.start local then piece.now.answer else kept.now) }
-{
-    if piece.start <= local {
-        piece.answer
-    } else {
-        *kept
-    }
 }
 
 /// The pieces of earlier seconds and those of later ones, merged: where one of either starts, so

@@ -82,6 +82,7 @@ impl Probes {
     }
 
     /// Counts a look at a piece of an index.
+    #[inline(always)]
     pub(super) fn count_piece_read(&mut self)
         requires { HasRoomFor 1 self.old.piece_reads }
         ensures { self.new ≡ record self.old { piece_reads = self.old.piece_reads + 1 } }

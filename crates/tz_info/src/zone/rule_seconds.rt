@@ -1,9 +1,11 @@
 //! What a zone's rule adds to a wall clock: the seconds from the last transition on.
 
-ghost use Rattle.std.specs.Prelude.{◌≡◌, ◌+◌, length, Some};
+ghost use Rattle.std.specs.Prelude.{◌≡◌, ◌+◌, length, IsTrue, Some};
 ghost use Rattle.naive_base.specs.Range.{IsWide};
 ghost use Rattle.offset_core.specs.WallAnswer.{IsWallAnswer};
+ghost use Rattle.offset_core.specs.declared.local_result.LocalResult.{LocalResult};
 ghost use Rattle.tz_info.specs.Counts.{HasRoomFor, RoseWithin};
+ghost use Rattle.tz_info.specs.LocalTypes.{LocalType};
 ghost use Rattle.tz_info.specs.Steps.Seasons.{IsSeason};
 ghost use Rattle.tz_info.specs.Steps.Walk.{TypeIn, IsShownIn, IsAskedLast};
 ghost use Rattle.tz_info.specs.declared.rule.transition_rule.TransitionRule.TheVariants.{Fixed, Alternate};
@@ -18,6 +20,7 @@ use offset_core::MappedLocalTime;
 impl TimeZone {
     /// The answer with the seconds at which the rule's types show the local time, from the last
     /// transition on.
+    #[inline(always)]
     pub(super) fn try_rule(
         &self,
         rule: &TransitionRule,
@@ -40,6 +43,7 @@ impl TimeZone {
     }
 
     /// Asks the rule of one type for the one second that could show the local time.
+    #[inline(always)]
     fn ask_fixed(
         &self,
         only: &LocalTimeType,
@@ -65,6 +69,7 @@ impl TimeZone {
     }
 
     /// Asks the rule of two types for the two seconds that could show the local time.
+    #[inline(always)]
     fn ask_turns(
         &self,
         turns: &AlternateTime,
@@ -81,9 +86,12 @@ impl TimeZone {
         ensures cost { RoseWithin probes.old probes.new 0 2 }
     {
         let _types = self.local_time_types();
-        let season = turns.season(local);
         let standard = turns.std().offset();
         let daylight = turns.dst().offset();
+        if self.is_before_rule(local, standard) && self.is_before_rule(local, daylight) {
+            return answer;
+        }
+        let season = turns.season(local);
         if standard == daylight {
             return self.ask_turn(turns, season, local, standard, answer, probes);
         }
@@ -96,7 +104,19 @@ impl TimeZone {
         self.ask_turn(turns, season, local, daylight, one, probes)
     }
 
+    /// Whether the rule isn't asked at the second at which a clock at that offset shows the local time.
+    #[inline(always)]
+    fn is_before_rule(&self, local: i64, offset: i32) -> bool
+        requires { IsWide local }
+        ensures { IsTrue result → (answer : LocalResult LocalType) → IsAskedLast (TypeIn self.now
+            (length self.now.transitions)) local offset answer answer }
+    {
+        let _types = self.local_time_types();
+        local - (offset as i64) < self.index.rule_from()
+    }
+
     /// Asks the rule of two types for the one second that could show the local time at the offset.
+    #[inline(always)]
     fn ask_turn(
         &self,
         turns: &AlternateTime,

@@ -1,19 +1,31 @@
 //! The transitions of a zone. A lookup can look at one of them only where the look is counted.
+//!
+//! The times of the first and the last are kept beside them. A search compares with these two first, and where one of them
+//! decides, that counts as a look at its transition.
 
 ghost use Rattle.std.specs.Prelude.{◌≡◌, ◌+◌, ◌/◌, ◌<◌, ◌≤◌, ◌↔◌, List, length, take, slice_index_or, IsTrue, pos};
 ghost use Rattle.tz_info.specs.Counts.{HasRoomFor, RoseWithin};
 ghost use Rattle.tz_info.specs.Digits.{digits};
-ghost use Rattle.tz_info.specs.Steps.Search.{AreLeft, IsNarrowed};
+ghost use Rattle.tz_info.specs.Steps.Search.{AreEnds, AreLeft, IsNarrowed};
 ghost use Rattle.tz_info.specs.Transitions.{AreRising, AreTransitions, Stands, passed};
 
 use crate::zone::probes::Probes;
 use crate::zone::transition::Transition;
+use std::fmt;
 use std::marker::Model;
 
 /// Transitions whose times rise.
-#[derive(Debug, Drop)]
+#[derive(Drop)]
 pub(super) struct Table {
     entries: Vec<Transition>,
+    ends: Ends,
+}
+
+/// The times of the first and the last transition, or 0 where there is none.
+#[derive(Clone, Copy)]
+struct Ends {
+    first: i64,
+    last: i64,
 }
 
 /// What a search has left: how many transitions have come is `low`, or up to `size` more.
@@ -26,13 +38,23 @@ struct Places {
 impl Model for Table {
     ghost use Rattle.std.specs.Prelude.{List};
     ghost use Rattle.tz_info.specs.declared.zone.transition.Transition.{Transition};
+    ghost use Rattle.tz_info.specs.Steps.Search.{AreEnds};
     ghost use Rattle.tz_info.specs.Transitions.{AreRising};
 
     ghost Value = { List Transition };
 
     ghost view = { λ t. t.entries.items };
 
-    ghost invariant = { λ t. AreRising t.entries.items };
+    ghost invariant = { λ t. AreRising t.entries.items × AreEnds t.entries.items t.ends };
+}
+
+// Of the transitions alone: the ends follow from them.
+impl fmt::Debug for Table {
+    fn fmt<W: fmt::Write>(&self, f: &mut fmt::Formatter<W>) -> fmt::Result {
+        f.debug_struct("Table")
+            .field("entries", &self.entries)
+            .finish()
+    }
 }
 
 impl PartialEq for Table {
@@ -56,7 +78,8 @@ impl Table {
         requires { AreRising entries.items }
         ensures { result ≡ entries.items }
     {
-        Table { entries }
+        let ends = ends_of(&entries);
+        Table { entries, ends }
     }
 
     /// How many transitions there are.
@@ -80,7 +103,7 @@ impl Table {
         self.entries[place]
     }
 
-    /// How many transitions come at or before the leap time, by a binary search.
+    /// How many transitions come at or before the leap time, by a binary search in those before the last where no end decides.
     ///
     /// The last sixteen halvings are written out: there the compiler makes each of them a choice of two values, and in a
     /// loop a branch, which the processor would guess wrong every other time.
@@ -93,9 +116,20 @@ impl Table {
         ensures looked { 0 < length self.now → probes.old.reads < probes.new.reads }
     {
         let count = self.len();
+        if count == 0 {
+            return 0;
+        }
+        if self.ends.last <= leap_time {
+            probes.count_read();
+            return count;
+        }
+        if leap_time < self.ends.first {
+            probes.count_read();
+            return 0;
+        }
         let mut left = Places {
             low: 0,
-            size: count,
+            size: count - 1,
         };
         while left.size > 65_535 {
             left = self.halved(leap_time, left, probes);
@@ -157,6 +191,19 @@ impl Table {
             low: left.low,
             size: half,
         }
+    }
+}
+
+/// The times of the first and the last of the transitions.
+fn ends_of(transitions: &[Transition]) -> Ends
+    ensures { AreEnds transitions.now result }
+{
+    match (transitions.first(), transitions.last()) {
+        (Some(first), Some(last)) => Ends {
+            first: first.unix_leap_time,
+            last: last.unix_leap_time,
+        },
+        _ => Ends { first: 0, last: 0 },
     }
 }
 

@@ -30,6 +30,7 @@ impl TimeZone {
     /// # Errors
     ///
     /// None; the answer is always `Ok`.
+    #[inline(always)]
     pub fn find_local_time_type_from_local(
         &self,
         local: NaiveDateTime,
@@ -50,6 +51,7 @@ impl TimeZone {
     /// # Errors
     ///
     /// None; the answer is always `Ok`.
+    #[inline(always)]
     pub fn find_local_time_type_from_local_counted(
         &self,
         local: NaiveDateTime,
@@ -66,6 +68,7 @@ impl TimeZone {
 
     /// One search in the pieces tells the table's part of the answer; the rule's seconds come
     /// behind.
+    #[inline(always)]
     pub(super) fn wall_answer(
         &self,
         local: i64,
@@ -87,6 +90,7 @@ impl TimeZone {
 }
 
 /// The types of those indexes.
+#[inline(always)]
 fn types_of(
     types: &[LocalTimeType],
     indexes: MappedLocalTime<usize>,

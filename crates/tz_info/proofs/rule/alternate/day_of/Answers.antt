@@ -1,0 +1,6 @@
+use Rattle.std.proofs.Common.{arith}
+use Rattle.naive_base.proofs.ForCallers.{floors}
+use Rattle.tz_info.proofs.rule.alternate.day_of.Goals as goal
+
+pub returns-clause-value : goal.returns-clause-value
+returns-clause-value c = let fu = c.ranges.unix_time in omega (arith, floors)
