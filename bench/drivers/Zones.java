@@ -1,0 +1,127 @@
+import java.io.IOException;
+import java.nio.ByteBuffer;
+import java.nio.ByteOrder;
+import java.nio.file.Files;
+import java.nio.file.Path;
+import java.time.DayOfWeek;
+import java.time.Instant;
+import java.time.LocalDateTime;
+import java.time.LocalTime;
+import java.time.Month;
+import java.time.ZoneId;
+import java.time.ZoneOffset;
+import java.time.zone.ZoneOffsetTransition;
+import java.time.zone.ZoneOffsetTransitionRule;
+import java.time.zone.ZoneOffsetTransitionRule.TimeDefinition;
+import java.time.zone.ZoneRules;
+import java.util.ArrayList;
+import java.util.Arrays;
+import java.util.LinkedHashMap;
+import java.util.List;
+import java.util.Map;
+
+/**
+ * java.time: ZoneRules.getOffset(Instant) and getValidOffsets(LocalDateTime), by the tz database of the JDK. What a driver
+ * prints and writes is said in common.h.
+ */
+public class Zones {
+    static final int CHECKED = 100_000;
+    static final int PASSES = 8;
+    static long sink;
+
+    interface Call {
+        long at(int i);
+    }
+
+    static long[] seconds(Path path) throws IOException {
+        ByteBuffer bytes = ByteBuffer.wrap(Files.readAllBytes(path)).order(ByteOrder.LITTLE_ENDIAN);
+        long[] read = new long[bytes.remaining() / 8];
+        bytes.asLongBuffer().get(read);
+        return read;
+    }
+
+    static ZoneRules ofText() {
+        ZoneOffset standard = ZoneOffset.ofHours(-5), daylight = ZoneOffset.ofHours(-4);
+        LocalTime two = LocalTime.of(2, 0);
+        var start = ZoneOffsetTransitionRule.of(Month.MARCH, 8, DayOfWeek.SUNDAY, two, false, TimeDefinition.WALL, standard,
+                standard, daylight);
+        var end = ZoneOffsetTransitionRule.of(Month.NOVEMBER, 1, DayOfWeek.SUNDAY, two, false, TimeDefinition.WALL, standard,
+                daylight, standard);
+        // Without a transition the rules are not asked, so the list has those of 1899.
+        return ZoneRules.of(standard, standard, List.of(), List.of(start.createTransition(1899), end.createTransition(1899)),
+                List.of(start, end));
+    }
+
+    static ZoneRules large() {
+        ZoneOffset winter = ZoneOffset.UTC, summer = ZoneOffset.ofHours(1);
+        long start = LocalDateTime.of(1900, 1, 1, 0, 0).toEpochSecond(ZoneOffset.UTC);
+        List<ZoneOffsetTransition> list = new ArrayList<>();
+        for (int i = 0; i < (1 << 20); i++) {
+            ZoneOffset before = i % 2 == 0 ? winter : summer, after = i % 2 == 0 ? summer : winter;
+            list.add(ZoneOffsetTransition.of(LocalDateTime.ofEpochSecond(start + 6000L * i, 0, before), before, after));
+        }
+        return ZoneRules.of(winter, winter, List.of(), list, List.of());
+    }
+
+    static void time(String zone, String question, String years, int count, Call call) {
+        long probe = System.nanoTime();
+        for (int i = 0; i < 20_000; i++) sink += call.at(i);
+        double each = (System.nanoTime() - probe) / 20_000.0;
+        int used = (int) Math.max(2000, Math.min(count, 0.6e9 / each));
+        int slice = (int) (1e6 / each) + 1, slices = (used + slice - 1) / slice;
+        double[] least = new double[slices];
+        Arrays.fill(least, 1e300);
+        for (int pass = 0; pass < PASSES; pass++)
+            for (int k = 0; k < slices; k++) {
+                int end = Math.min(used, (k + 1) * slice);
+                long start = System.nanoTime();
+                for (int i = k * slice; i < end; i++) sink += call.at(i);
+                least[k] = Math.min(least[k], System.nanoTime() - start);
+            }
+        double took = Arrays.stream(least).sum() / used;
+        System.out.printf("java\t%s\t%s\t%s\t%.2f\t%d%n", zone, question, years, took, used);
+    }
+
+    static void write(Path folder, String zone, String question, String years, int[] told) throws IOException {
+        ByteBuffer bytes = ByteBuffer.allocate(4 * told.length).order(ByteOrder.LITTLE_ENDIAN);
+        bytes.asIntBuffer().put(told);
+        Files.write(folder.resolve("java." + zone + "." + question + "." + years), bytes.array());
+    }
+
+    static void lookups(Path inputs, Path outputs, String zone, ZoneRules rules, String years) throws IOException {
+        long[] at = seconds(inputs.resolve("at_" + years + ".i64"));
+        Instant[] instants = new Instant[at.length];
+        Arrays.setAll(instants, i -> Instant.ofEpochSecond(at[i]));
+        int[] offsets = new int[CHECKED];
+        Arrays.setAll(offsets, i -> rules.getOffset(instants[i]).getTotalSeconds());
+        write(outputs, zone, "at", years, offsets);
+        time(zone, "at", years, at.length, i -> rules.getOffset(instants[i]).getTotalSeconds());
+
+        long[] wall = seconds(inputs.resolve("wall_" + years + ".i64"));
+        LocalDateTime[] locals = new LocalDateTime[wall.length];
+        Arrays.setAll(locals, i -> LocalDateTime.ofEpochSecond(wall[i], 0, ZoneOffset.UTC));
+        int[] triples = new int[3 * CHECKED];
+        for (int i = 0; i < CHECKED; i++) {
+            List<ZoneOffset> valid = rules.getValidOffsets(locals[i]);
+            triples[3 * i] = valid.size();
+            if (!valid.isEmpty()) {
+                triples[3 * i + 1] = valid.get(0).getTotalSeconds();
+                triples[3 * i + 2] = valid.get(valid.size() - 1).getTotalSeconds();
+            }
+        }
+        write(outputs, zone, "wall", years, triples);
+        time(zone, "wall", years, wall.length, i -> rules.getValidOffsets(locals[i]).size());
+    }
+
+    public static void main(String[] words) throws IOException {
+        Path inputs = Path.of(words[0]), outputs = Path.of(words[1]);
+        Map<String, ZoneRules> zones = new LinkedHashMap<>();
+        for (String name : List.of("America/New_York", "Europe/London", "Asia/Tehran", "Africa/Casablanca", "America/Sao_Paulo"))
+            zones.put(name.split("/")[1], ZoneId.of(name).getRules());
+        zones.put("Text", ofText());
+        zones.put("Large", large());
+        for (var zone : zones.entrySet())
+            for (String years : List.of("wide", "near")) lookups(inputs, outputs, zone.getKey(), zone.getValue(), years);
+        System.err.println("sum of what was answered: " + sink);
+    }
+}

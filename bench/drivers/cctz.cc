@@ -1,0 +1,64 @@
+// Abseil's cctz: absl::TimeZone::At of an absl::Time and of an absl::CivilSecond.
+#include "common.h"
+#include <absl/time/civil_time.h>
+#include <absl/time/time.h>
+
+// LoadTimeZone keeps each zone under its name, so each load takes another spelling of the path.
+static std::string spelling(const Run &run, const std::string &name, unsigned number) {
+    std::string path = "file:" + run.inputs + "/";
+    for (int bit = 0; bit < 12; bit++) path += (number >> bit) & 1 ? "./" : "/";
+    return path + "zones/" + name;
+}
+
+static double least_load(const Run &run, const std::string &name, unsigned loads) {
+    double least = 1e300;
+    for (unsigned number = 1; number <= loads; number++) {
+        std::string path = spelling(run, name, number);
+        double start = now();
+        absl::TimeZone again;
+        absl::LoadTimeZone(path, &again);
+        double took = now() - start;
+        if (took < least) least = took;
+    }
+    return least;
+}
+
+static void time_lookups(const Run &run, const std::string &name, const absl::TimeZone &zone, const char *years) {
+    size_t used;
+    std::vector<int32_t> told;
+    std::vector<int64_t> instants = run.seconds("at", years);
+    for (size_t i = 0; i < CHECKED; i++) told.push_back(zone.At(absl::FromUnixSeconds(instants[i])).offset);
+    run.answers(name, "at", years, told);
+    double took = least_time(instants.size(), &used,
+                             [&](size_t i) { sink = sink + zone.At(absl::FromUnixSeconds(instants[i])).offset; });
+    run.figure(name, "at", years, took, used);
+
+    std::vector<int64_t> locals = run.seconds("wall", years);
+    std::vector<absl::CivilSecond> readings(locals.size());
+    for (size_t i = 0; i < locals.size(); i++) readings[i] = absl::CivilSecond() + locals[i];
+    told.clear();
+    for (size_t i = 0; i < CHECKED; i++) {
+        auto info = zone.At(readings[i]);
+        bool unique = info.kind == absl::TimeZone::TimeInfo::UNIQUE, skipped = info.kind == absl::TimeZone::TimeInfo::SKIPPED;
+        tell_wall(told, unique ? 1 : skipped ? 0 : 2, locals[i] - absl::ToUnixSeconds(info.pre),
+                  locals[i] - absl::ToUnixSeconds(info.post));
+    }
+    run.answers(name, "wall", years, told);
+    took = least_time(locals.size(), &used, [&](size_t i) { sink = sink + absl::ToUnixSeconds(zone.At(readings[i]).pre); });
+    run.figure(name, "wall", years, took, used);
+}
+
+int main(int count, char **words) {
+    Run run("cctz", count, words);
+    for (const std::string &name : run.zones()) {
+        absl::TimeZone zone;
+        if (!absl::LoadTimeZone(spelling(run, name, 0), &zone)) {
+            run.figure(name, "read", "-", -1, 0);
+            continue;
+        }
+        unsigned loads = name == "Large" ? 3 : 300;
+        run.figure(name, "read", "-", least_load(run, name, loads), loads);
+        time_lookups(run, name, zone, "wide");
+        time_lookups(run, name, zone, "near");
+    }
+}

@@ -1,0 +1,113 @@
+// What the drivers in C++ share: the inputs, the clock, and the lines and files that a driver writes.
+//
+// usage of each driver: DRIVER INPUTS OUTPUTS, the folder of make_inputs.py and one for the answers.
+//
+// It prints a line for each figure, its fields parted by tabs:  PEER  ZONE  QUESTION  YEARS  NANOSECONDS  COUNT
+//   QUESTION     at (an instant), wall (a local time) or read (the zone)
+//   YEARS        wide (1900 to 2099) or near (2020 to 2029); - of read
+//   NANOSECONDS  for one call; -1 where the peer refuses the zone
+//   COUNT        how many calls were timed
+// And it writes its answers to the first CHECKED questions, as numbers of 32 bits, low byte first, into
+// OUTPUTS/PEER.ZONE.QUESTION.YEARS: of an instant the offset; of a local time how often it is shown (2: several times), and
+// the offsets at the first and the last second, 0 where there is none.
+#pragma once
+#include <chrono>
+#include <cstdint>
+#include <cstdio>
+#include <cstdlib>
+#include <fstream>
+#include <iterator>
+#include <string>
+#include <vector>
+
+static const size_t CHECKED = 100000;
+static const int PASSES = 5;
+static const double PASS_NANOSECONDS = 0.3e9, SLICE_NANOSECONDS = 1e6;
+
+// What is computed and not used otherwise, so that no compiler leaves it out.
+static volatile int64_t sink;
+
+inline double now() {
+    auto since = std::chrono::steady_clock::now().time_since_epoch();
+    return (double)std::chrono::duration_cast<std::chrono::nanoseconds>(since).count();
+}
+
+inline std::string read_file(const std::string &path) {
+    std::ifstream in(path, std::ios::binary);
+    if (!in) {
+        fprintf(stderr, "no file %s\n", path.c_str());
+        exit(2);
+    }
+    return std::string(std::istreambuf_iterator<char>(in), {});
+}
+
+struct Run {
+    const char *peer;
+    std::string inputs, outputs;
+
+    Run(const char *peer, int count, char **words) : peer(peer) {
+        if (count != 3) {
+            fprintf(stderr, "usage: %s INPUTS OUTPUTS\n", words[0]);
+            exit(2);
+        }
+        inputs = words[1];
+        outputs = words[2];
+    }
+
+    std::vector<std::string> zones() const {
+        std::ifstream in(inputs + "/names");
+        std::vector<std::string> names;
+        for (std::string name; std::getline(in, name);)
+            if (!name.empty()) names.push_back(name);
+        return names;
+    }
+
+    std::vector<int64_t> seconds(const std::string &question, const std::string &years) const {
+        std::string text = read_file(inputs + "/" + question + "_" + years + ".i64");
+        std::vector<int64_t> read(text.size() / 8);
+        __builtin_memcpy(read.data(), text.data(), read.size() * 8);
+        return read;
+    }
+
+    void figure(const std::string &zone, const char *question, const char *years, double nanoseconds, size_t count) const {
+        printf("%s\t%s\t%s\t%s\t%.2f\t%zu\n", peer, zone.c_str(), question, years, nanoseconds, count);
+        fflush(stdout);
+    }
+
+    void answers(const std::string &zone, const char *question, const char *years, const std::vector<int32_t> &told) const {
+        std::ofstream out(outputs + "/" + peer + "." + zone + "." + question + "." + years, std::ios::binary);
+        out.write((const char *)told.data(), (std::streamsize)(told.size() * 4));
+    }
+};
+
+// Three numbers for a local time.
+inline void tell_wall(std::vector<int32_t> &told, int shown, int64_t first, int64_t last) {
+    told.push_back(shown);
+    told.push_back(shown ? (int32_t)first : 0);
+    told.push_back(shown ? (int32_t)last : 0);
+}
+
+// The time of call(i), i from 0 on: slices of a millisecond, PASSES times over, and of each slice the least time, so that
+// what another process took in one pass does not show. Where a call is slow, fewer calls.
+template <class Call> double least_time(size_t count, size_t *used, Call call) {
+    size_t probe = count < 64 ? count : 64;
+    double start = now();
+    for (size_t i = 0; i < probe; i++) call(i);
+    double each = (now() - start) / (double)probe;
+    size_t fit = (size_t)(PASS_NANOSECONDS / (each < 0.1 ? 0.1 : each));
+    if (fit < probe) fit = probe;
+    *used = fit < count ? fit : count;
+    size_t slice = (size_t)(SLICE_NANOSECONDS / each) + 1, slices = (*used + slice - 1) / slice;
+    std::vector<double> least(slices, 1e300);
+    for (int pass = 0; pass < PASSES; pass++)
+        for (size_t k = 0; k < slices; k++) {
+            size_t end = (k + 1) * slice < *used ? (k + 1) * slice : *used;
+            start = now();
+            for (size_t i = k * slice; i < end; i++) call(i);
+            double took = now() - start;
+            if (took < least[k]) least[k] = took;
+        }
+    double sum = 0;
+    for (double time : least) sum += time;
+    return sum / (double)*used;
+}

@@ -1,0 +1,50 @@
+// Howard Hinnant's date as Debian builds it, which reads the system's zones by name alone, and its ptz.h for the TZ text.
+#include "common.h"
+#include <date/ptz.h>
+#include <date/tz.h>
+#include <utility>
+
+template <class Zone> void time_lookups(const Run &run, const std::string &name, const Zone &zone, const char *years) {
+    auto at = [](int64_t second) { return date::sys_seconds{std::chrono::seconds{second}}; };
+    auto local = [](int64_t second) { return date::local_seconds{std::chrono::seconds{second}}; };
+    size_t used;
+    std::vector<int32_t> told;
+    std::vector<int64_t> instants = run.seconds("at", years);
+    for (size_t i = 0; i < CHECKED; i++) told.push_back((int32_t)zone.get_info(at(instants[i])).offset.count());
+    run.answers(name, "at", years, told);
+    double took = least_time(instants.size(), &used,
+                             [&](size_t i) { sink = sink + zone.get_info(at(instants[i])).offset.count(); });
+    run.figure(name, "at", years, took, used);
+
+    std::vector<int64_t> locals = run.seconds("wall", years);
+    told.clear();
+    for (size_t i = 0; i < CHECKED; i++) {
+        auto info = zone.get_info(local(locals[i]));
+        bool unique = info.result == date::local_info::unique, none = info.result == date::local_info::nonexistent;
+        tell_wall(told, unique ? 1 : none ? 0 : 2, info.first.offset.count(),
+                  unique ? info.first.offset.count() : info.second.offset.count());
+    }
+    run.answers(name, "wall", years, told);
+    took = least_time(locals.size(), &used,
+                      [&](size_t i) { sink = sink + zone.get_info(local(locals[i])).first.offset.count(); });
+    run.figure(name, "wall", years, took, used);
+}
+
+int main(int count, char **words) {
+    Run run("hinnant", count, words);
+    const std::pair<const char *, const char *> zones[] = {{"New_York", "America/New_York"},
+                                                           {"London", "Europe/London"},
+                                                           {"Tehran", "Asia/Tehran"},
+                                                           {"Casablanca", "Africa/Casablanca"},
+                                                           {"Sao_Paulo", "America/Sao_Paulo"}};
+    for (auto &[name, full_name] : zones)
+        for (const char *years : {"wide", "near"}) time_lookups(run, name, *date::locate_zone(full_name), years);
+    std::string text = read_file(run.inputs + "/text");
+    size_t used;
+    double took = least_time(100000, &used, [&](size_t) {
+        Posix::time_zone zone{text};
+        sink = sink + (int64_t)zone.name().size();
+    });
+    run.figure("Text", "read", "-", took, used);
+    for (const char *years : {"wide", "near"}) time_lookups(run, "Text", Posix::time_zone{text}, years);
+}

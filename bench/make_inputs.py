@@ -1,0 +1,100 @@
+#!/usr/bin/env python3
+"""Writes the inputs of the benchmark into a folder.
+
+usage: bench/make_inputs.py FOLDER [ZONEINFO]
+
+- zones/NAME: five zones of ZONEINFO (/usr/share/zoneinfo) as they lie there, New York once more as `zic -b slim` writes it,
+  the text of zones/Text as the footer of a file without a transition, and a made zone of 1,048,576 transitions;
+- text: the TZ text itself;
+- names: the names of the zones, one a line;
+- at_SET.i64, wall_SET.i64: a million instants and a million local times, as seconds in 64 bits, low byte first. They are
+  spread evenly over the years 1900 to 2099 (SET is wide) and 2020 to 2029 (near), from fixed seeds.
+"""
+
+import calendar
+import os
+import shutil
+import struct
+import subprocess
+import sys
+from array import array
+from pathlib import Path
+
+ZONES = ["America/New_York", "Europe/London", "Asia/Tehran", "Africa/Casablanca", "America/Sao_Paulo"]
+TEXT = "EST5EDT,M3.2.0,M11.1.0"
+COUNT = 1_000_000
+YEARS = {"wide": (1900, 2100), "near": (2020, 2030)}
+SEEDS = {("at", "wide"): 1, ("at", "near"): 2, ("wall", "wide"): 3, ("wall", "near"): 4}
+WORD = (1 << 64) - 1
+
+
+def split_mix(seed):
+    """Numbers of 64 bits, as the generator SplitMix64 draws them."""
+    while True:
+        seed = (seed + 0x9E3779B97F4A7C15) & WORD
+        mixed = ((seed ^ (seed >> 30)) * 0xBF58476D1CE4E5B9) & WORD
+        mixed = ((mixed ^ (mixed >> 27)) * 0x94D049BB133111EB) & WORD
+        yield mixed ^ (mixed >> 31)
+
+
+def seconds(seed, first_year, end_year):
+    start = calendar.timegm((first_year, 1, 1, 0, 0, 0))
+    end = calendar.timegm((end_year, 1, 1, 0, 0, 0))
+    draw = split_mix(seed)
+    drawn = array("q", (start + next(draw) % (end - start) for _ in range(COUNT)))
+    if sys.byteorder == "big":
+        drawn.byteswap()
+    return drawn.tobytes()
+
+
+def block(time_format, times, indexes, types, names):
+    """A header of version 2 and its data block (RFC 8536 section 3), without leap seconds."""
+    header = b"TZif2" + bytes(15) + struct.pack(">6I", 0, 0, 0, len(times), len(types), len(names))
+    packed = b"".join(struct.pack(">" + time_format, time) for time in times) + bytes(indexes)
+    return header + packed + b"".join(struct.pack(">iBB", *each) for each in types) + names
+
+
+def file_of(times, indexes, types, names, footer):
+    first = block("i", [], [], [(0, 0, 0)], b"UTC\0")
+    return first + block("q", times, indexes, types, names) + f"\n{footer}\n".encode()
+
+
+def large_zone(count=1 << 20, step=6000):
+    """An hour forward and back by turns, every 100 minutes, from 1900 to 2099."""
+    start = calendar.timegm((1900, 1, 1, 0, 0, 0))
+    times = [start + step * i for i in range(count)]
+    indexes = bytes((i + 1) % 2 for i in range(count))
+    return file_of(times, indexes, [(0, 0, 0), (3600, 1, 4)], b"AAA\0BBB\0", "AAA0")
+
+
+def slim_new_york(zoneinfo, folder):
+    """New York as `zic -b slim` writes it, where zic and the database's text are there: a rule answers from 2007 on."""
+    search = os.environ["PATH"] + ":/usr/sbin"
+    zic = shutil.which("zic", path=search)
+    text = zoneinfo / "tzdata.zi"
+    if not zic or not text.exists():
+        return None
+    subprocess.run([zic, "-b", "slim", "-d", folder / "slim", text], check=True, stderr=subprocess.DEVNULL)
+    return (folder / "slim/America/New_York").read_bytes()
+
+
+def main():
+    folder = Path(sys.argv[1])
+    zoneinfo = Path(sys.argv[2] if len(sys.argv) > 2 else "/usr/share/zoneinfo")
+    (folder / "zones").mkdir(parents=True, exist_ok=True)
+    zones = {name.split("/")[1]: (zoneinfo / name).read_bytes() for name in ZONES}
+    slim = slim_new_york(zoneinfo, folder)
+    if slim:
+        zones["New_York_slim"] = slim
+    zones["Text"] = file_of([], [], [(-18000, 0, 0), (-14400, 1, 4)], b"EST\0EDT\0", TEXT)
+    zones["Large"] = large_zone()
+    for name, file in zones.items():
+        (folder / "zones" / name).write_bytes(file)
+    (folder / "text").write_text(TEXT)
+    for (question, years), seed in SEEDS.items():
+        (folder / f"{question}_{years}.i64").write_bytes(seconds(seed, *YEARS[years]))
+    # The last file to be written, so that it says that all are there.
+    (folder / "names").write_text("\n".join(zones) + "\n")
+
+
+main()

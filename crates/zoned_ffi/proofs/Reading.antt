@@ -1,0 +1,42 @@
+-- What comes of reading, as a call tells it.
+use Rattle.std.proofs.Common.{◌≡◌, ◌⊎◌, ℕ, List, IfErr, Result, Ok, Err, subst, sym, inl, inr, arith}
+use Rattle.tz_info.specs.Errors.{number_of}
+use Rattle.tz_info.specs.PosixZones.{IsPosixZone, IsPosixFault}
+use Rattle.tz_info.specs.Zones.{Zone}
+use Rattle.tz_info.specs.declared.error.Error.{Error}
+use Rattle.tz_info.specs.declared.error.Error.TheVariants as errors
+use Rattle.zoned_ffi.specs.Kinds.{number_of as kind_number}
+use Rattle.zoned_ffi.specs.Refusals.{IsFault, IsReaderNumber, IsRefusal, IsTextFault, refusal_number}
+use Rattle.zoned_ffi.specs.declared.kind.Kind.{Kind}
+use Rattle.zoned_ffi.specs.declared.refusal.Refusal.{Refusal}
+
+-- the number of a text that is refused tells its fault
+pub text_refused : (bytes : List ℕ) (n : ℕ) → (n ≡ 17) ⊎ IsPosixFault bytes n → (n ≡ 17 → (z : Zone) × IsPosixZone bytes z) → IsTextFault bytes n
+text_refused bytes n fault memory = elim fault [
+  | inl is ↦ let zone = memory is in subst (IsTextFault bytes) (sym is) (IsTextFault.No_memory zone.0 zone.1)
+  | inr there ↦ IsTextFault.In_text n there
+]
+
+pub reader_number : (e : Error) → IsReaderNumber (number_of e)
+reader_number (errors.DateTime _) = (omega arith, omega arith)
+reader_number (errors.FindLocalTimeType _) = (omega arith, omega arith)
+reader_number (errors.LocalTimeType _) = (omega arith, omega arith)
+reader_number (errors.InvalidSlice _) = (omega arith, omega arith)
+reader_number (errors.InvalidTzFile _) = (omega arith, omega arith)
+reader_number (errors.InvalidTzString _) = (omega arith, omega arith)
+reader_number (errors.UnexpectedEnd _) = (omega arith, omega arith)
+reader_number (errors.MissingTag _) = (omega arith, omega arith)
+reader_number (errors.OutOfRange _) = (omega arith, omega arith)
+reader_number (errors.ParseInt _) = (omega arith, omega arith)
+reader_number (errors.ProjectDateTime _) = (omega arith, omega arith)
+reader_number (errors.TimeZone _) = (omega arith, omega arith)
+reader_number (errors.TransitionRule _) = (omega arith, omega arith)
+reader_number (errors.UnsupportedTzFile _) = (omega arith, omega arith)
+reader_number (errors.UnsupportedTzString _) = (omega arith, omega arith)
+reader_number (errors.Utf8 _) = (omega arith, omega arith)
+reader_number errors.OutOfMemory = (omega arith, omega arith)
+
+-- bytes that are refused are why the call is
+pub not_read : (number : ℕ) (bytes : List ℕ) (wanted room : ℕ) (kind : Kind) (read : Result Zone Refusal) → number ≡ kind_number kind → wanted ≡ room → IfErr read (λ e. IsFault kind bytes (refusal_number e)) → IfErr read (λ e. IsReaderNumber (refusal_number e)) → IfErr read (λ e. IsRefusal number bytes wanted room (refusal_number e))
+not_read number bytes wanted room kind (Ok z) is fits fault reader = fault
+not_read number bytes wanted room kind (Err e) is fits fault reader = IsRefusal.Not_read kind (refusal_number e) is fits fault reader

@@ -1,0 +1,28 @@
+use Rattle.std.proofs.Common.{List, subst, sym, ℕ}
+use Rattle.tz_info.specs.Errors.{number_of}
+use Rattle.tz_info.specs.PosixZones.{IsPosixZone}
+use Rattle.zoned_ffi.proofs.Reading.{reader_number, text_refused}
+use Rattle.zoned_ffi.specs.Refusals.{IsTextFault}
+use Rattle.zoned_ffi.proofs.kind.read_text.Goals as goal
+
+pub returns-in_default-clause-fault : goal.returns-in_default-clause-fault
+returns-in_default-clause-fault c = IsTextFault.Not_utf8 c.in_default.ensures.cases.0
+
+pub returns-in-Ok-from_posix_tz-clause-only : goal.returns-in-Ok-from_posix_tz-clause-only
+returns-in-Ok-from_posix_tz-clause-only c = λ z spelled.
+    let zone = subst (λ (bytes : List ℕ). IsPosixZone bytes z) (sym c.in-Ok.ensures.cases.0) spelled.1 in
+    c.in-Ok-from_posix_tz.ensures.only z zone
+
+pub returns-in-Err-clause-only : goal.returns-in-Err-clause-only
+returns-in-Err-clause-only c = λ z spelled.
+    let zone = subst (λ (bytes : List ℕ). IsPosixZone bytes z) (sym c.in-Ok.ensures.cases.0) spelled.1 in
+    c.in-Err.ensures.only z zone
+
+pub returns-in-Err-clause-fault : goal.returns-in-Err-clause-fault
+returns-in-Err-clause-fault c =
+    let number = number_of c.in-Err.error in
+    let fault = text_refused c.in-Ok.text.now number c.in-Err.ensures.fault c.in-Err.ensures.memory in
+    subst (λ (bytes : List ℕ). IsTextFault bytes number) c.in-Ok.ensures.cases.0 fault
+
+pub returns-in-Err-clause-number : goal.returns-in-Err-clause-number
+returns-in-Err-clause-number c = reader_number c.in-Err.error

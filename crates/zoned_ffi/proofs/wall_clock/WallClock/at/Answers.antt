@@ -1,0 +1,16 @@
+use Rattle.std.proofs.Common.{FitsSigned, ap, inl, subst, to_z-of_z, w64}
+use Rattle.offset_core.specs.WallAnswer.{IsWallAnswer}
+use Rattle.tz_info.specs.WallClocks.{Shows}
+use Rattle.tz_info.specs.Zones.{TypeAt}
+use Rattle.zoned_ffi.proofs.Telling.{told_answer}
+use Rattle.zoned_ffi.specs.Steps.Told.{told_of}
+use Rattle.zoned_ffi.proofs.wall_clock.WallClock.at.Goals as goal
+
+pub returns : goal.returns
+returns c =
+    let fits : FitsSigned w64 c.args.local = c.ranges.local in
+    let stamp = simp to_z-of_z at c.in-Some.ensures in
+    let second = ap (λ r. r.s) stamp.1 in
+    let types = subst (λ l. IsWallAnswer (Shows (TypeAt c.args.zone.now) l) c.in-Ok.types) second c.in-Ok.ensures in
+    let told = simp to_z-of_z at c.of_types.ensures in
+    inl (stamp.0.0, (told_of c.args.local c.in-Ok.types, told_answer c.args.zone.now c.args.local c.in-Ok.types types, told))

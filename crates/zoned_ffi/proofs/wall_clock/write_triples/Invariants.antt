@@ -1,0 +1,8 @@
+use Rattle.std.proofs.Common.{◌≡◌, ℕ, ◌*◌, ◌<◌, length, pos, get_or}
+use Rattle.zoned_ffi.specs.WallClocks.{IsTripleAt}
+use Rattle.zoned_ffi.proofs.wall_clock.write_triples.Given as goal
+
+-- the numbers so far
+abbrev pub invariant-loop-i : goal.invariant-loop-i
+invariant-loop-i l = (length l.numbers ≡ 3 * length l.locals)
+    × ((k : ℕ) → k < l.i → IsTripleAt l.zone (get_or l.locals k (pos 0)) l.numbers (3 * k))

@@ -1,0 +1,7 @@
+use Rattle.std.proofs.Common.{◌≡◌, length, take}
+use Rattle.zoned_ffi.specs.WallClocks.{AreWallClocks}
+use Rattle.zoned_ffi.proofs.wall_clock.write_wall_clocks.Given as goal
+
+-- what is told so far
+abbrev pub invariant-loop-i : goal.invariant-loop-i
+invariant-loop-i l = (length l.clocks ≡ length l.locals) × AreWallClocks l.zone (take l.i l.locals) (take l.i l.clocks)

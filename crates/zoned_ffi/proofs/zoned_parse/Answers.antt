@@ -1,0 +1,9 @@
+use Rattle.std.proofs.Common.{◌∙◌, inl, inr, refl}
+use Rattle.zoned_ffi.proofs.zoned_parse.Goals.{in-Ok, in-Err}
+use Rattle.zoned_ffi.proofs.zoned_parse.Goals as goal
+
+pub returns-clause-only : goal.returns-clause-only
+returns-clause-only c = λ z spelled. elim c.match-read_zone.branch [
+  | in-Ok w ↦ inl w.result-is
+  | in-Err w ↦ inr (w.result-is ∙ w.number.ensures.value ∙ w.in-Err.ensures.only z spelled refl)
+]

@@ -1,0 +1,25 @@
+-- How bytes are read, by the number of a kind, and the zones that they spell then.
+use Rattle.std.specs.Prelude.{ℕ, ◌≡◌, List}
+use Rattle.std.specs.Str.{IsUtf8}
+use Rattle.tz_info.specs.PosixZones.{IsPosixZone}
+use Rattle.tz_info.specs.TzFiles.{IsTzFile}
+use Rattle.tz_info.specs.Zones.{Zone, IsValid}
+use Rattle.zoned_ffi.specs.declared.kind.Kind.{Kind}
+use Rattle.zoned_ffi.specs.declared.kind.Kind.TheVariants as kinds
+
+abbrev pub number_of : Kind → ℕ
+number_of kinds.File = 0
+number_of kinds.Text = 1
+
+-- there is a kind of that number
+abbrev pub IsKind : ℕ → Type 0
+IsKind number = (kind : Kind) × (number ≡ number_of kind)
+
+-- bytes of that kind spell the zone: a TZif file of valid lists, or a TZ text in UTF-8
+abbrev pub Spells : Kind → List ℕ → Zone → Type 0
+Spells kinds.File bytes z = IsTzFile bytes z × IsValid z
+Spells kinds.Text bytes z = IsUtf8 bytes × IsPosixZone bytes z
+
+-- the bytes, read by the kind of that number, spell the zone
+abbrev pub IsZoneOf : ℕ → List ℕ → Zone → Type 0
+IsZoneOf number bytes z = (kind : Kind) × (number ≡ number_of kind) × Spells kind bytes z

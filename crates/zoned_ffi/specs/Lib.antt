@@ -1,0 +1,5 @@
+pub mod Kinds
+pub mod Refusals
+pub mod Instants
+pub mod WallClocks
+pub mod Steps

@@ -1,0 +1,40 @@
+-- Why a call is refused, by the number that it returns.
+use Rattle.std.specs.Prelude.{ℕ, ◌≡◌, ◌≢◌, ◌≤◌, List}
+use Rattle.std.specs.Str.{IsUtf8}
+use Rattle.tz_info.specs.Errors.{number_of as error_number}
+use Rattle.tz_info.specs.PosixZones.{IsPosixZone, IsPosixFault}
+use Rattle.tz_info.specs.TzFiles.{IsZoneFault}
+use Rattle.tz_info.specs.Zones.{Zone}
+use Rattle.zoned_ffi.specs.Kinds.{IsKind, number_of}
+use Rattle.zoned_ffi.specs.declared.kind.Kind.{Kind}
+use Rattle.zoned_ffi.specs.declared.kind.Kind.TheVariants as kinds
+use Rattle.zoned_ffi.specs.declared.refusal.Refusal.{Refusal}
+use Rattle.zoned_ffi.specs.declared.refusal.Refusal.TheVariants as refusals
+
+abbrev pub refusal_number : Refusal → ℕ
+refusal_number (refusals.Reader e) = error_number e
+refusal_number refusals.TextNotUtf8 = 16
+refusal_number refusals.UnknownKind = 31
+refusal_number refusals.OtherSize = 32
+
+-- what is wrong with a TZ text: it is not UTF-8, or it has a fault, or there is no memory for its zone
+pub data IsTextFault (bytes : List ℕ) : ℕ → Type 0 where
+  Not_utf8 : ¬ (IsUtf8 bytes) → IsTextFault bytes 16
+  In_text : (n : ℕ) → IsPosixFault bytes n → IsTextFault bytes n
+  No_memory : (z : Zone) → IsPosixZone bytes z → IsTextFault bytes 17
+
+-- what is wrong with bytes of that kind
+abbrev pub IsFault : Kind → List ℕ → ℕ → Type 0
+IsFault kinds.File bytes n = IsZoneFault bytes n
+IsFault kinds.Text bytes n = IsTextFault bytes n
+
+-- the reader's numbers
+abbrev pub IsReaderNumber : ℕ → Type 0
+IsReaderNumber n = (1 ≤ n) × (n ≤ 17)
+
+-- why a call is refused: no kind has that number; or as many answers are wanted, and there is room for another count of them;
+-- or the bytes are refused, and that has a number from 1 to 17
+pub data IsRefusal (number : ℕ) (bytes : List ℕ) (wanted room : ℕ) : ℕ → Type 0 where
+  Unknown_kind : ¬ (IsKind number) → IsRefusal number bytes wanted room 31
+  Other_size : IsKind number → wanted ≢ room → IsRefusal number bytes wanted room 32
+  Not_read : (kind : Kind) (n : ℕ) → number ≡ number_of kind → wanted ≡ room → IsFault kind bytes n → IsReaderNumber n → IsRefusal number bytes wanted room n

@@ -1,0 +1,9 @@
+-- How an answer of types is told.
+use Rattle.std.specs.Prelude.{ℤ, ◌-ℤ◌}
+use Rattle.offset_core.specs.LocalResult.{map_of}
+use Rattle.offset_core.specs.declared.local_result.LocalResult.{LocalResult}
+use Rattle.tz_info.specs.LocalTypes.{LocalType}
+
+-- each type by the second at which a clock of it shows the local time, and its offset
+abbrev pub told_of : ℤ → LocalResult LocalType → LocalResult (ℤ × ℤ)
+told_of local types = map_of (λ t. (local -ℤ t.offset, t.offset)) types

@@ -1,0 +1,29 @@
+//! The offsets at instants.
+
+ghost use Rattle.std.specs.Prelude.{◌≡◌, length};
+ghost use Rattle.zoned_ffi.specs.Instants.{AreOffsetsAt, IsOffsetAt};
+
+use tz_info::TimeZone;
+
+/// What is written of an instant at which the zone has no offset. It is no offset of a zone.
+const NO_OFFSET: i32 = i32::MIN;
+
+/// Writes the offset at each instant.
+pub fn write_offsets(zone: &TimeZone, instants: &[i64], offsets: &mut [i32])
+    requires { length instants.now ≡ length offsets.old }
+    ensures { AreOffsetsAt zone.now instants.now offsets.new }
+{
+    for (i, instant) in instants.iter().enumerate() {
+        offsets[i] = offset_at(zone, *instant);
+    }
+}
+
+/// The offset in force at the instant, in seconds east of UTC.
+fn offset_at(zone: &TimeZone, instant: i64) -> i32
+    ensures { IsOffsetAt zone.now instant result }
+{
+    match zone.find_local_time_type(instant) {
+        Ok(found) => found.offset(),
+        Err(_) => NO_OFFSET,
+    }
+}

@@ -1,0 +1,101 @@
+//! How bytes are read: as a TZif file, or as a TZ text.
+
+ghost use Rattle.std.specs.Prelude.{◌≡◌, IfOk, IfErr, MatchOption, MatchResult};
+ghost use Rattle.tz_info.specs.Zones.{Zone};
+ghost use Rattle.zoned_ffi.specs.Kinds.{IsKind, IsZoneOf, Spells, number_of};
+ghost use Rattle.zoned_ffi.specs.Refusals.{IsFault, IsReaderNumber, IsRefusal, refusal_number};
+ghost use Rattle.zoned_ffi.specs.declared.kind.Kind.TheVariants.{File, Text};
+
+use crate::refusal::Refusal;
+use std::alloc::Global;
+use std::str;
+use tz_info::TimeZone;
+
+/// How bytes are read.
+#[derive(Clone, Copy)]
+pub enum Kind {
+    /// As a TZif file. Its number is 0.
+    File,
+    /// As a TZ text, as `EST5EDT,M3.2.0,M11.1.0`. Its number is 1.
+    Text,
+}
+
+impl Kind {
+    /// The kind of that number.
+    pub fn from_number(number: u32) -> Option<Kind>
+        ensures { MatchOption result (¬ (IsKind number)) (λ kind. number ≡ number_of kind) }
+    {
+        match number {
+            0 => Some(Kind::File),
+            1 => Some(Kind::Text),
+            _ => None,
+        }
+    }
+
+    /// The zone that bytes of this kind spell.
+    pub fn read(self, alloc: Global, bytes: &[u8]) -> Result<TimeZone, Refusal>
+        ensures found { IfOk result (λ z. Spells self bytes.now z) }
+        ensures only { (z : Zone) → Spells self bytes.now z
+            → MatchResult result (λ y. y ≡ z) (λ e. refusal_number e ≡ 17) }
+        ensures fault { IfErr result (λ e. IsFault self bytes.now (refusal_number e)) }
+        ensures number { IfErr result (λ e. IsReaderNumber (refusal_number e)) }
+    {
+        match self {
+            Kind::File => read_file(alloc, bytes),
+            Kind::Text => read_text(alloc, bytes),
+        }
+    }
+}
+
+/// The zone of a TZif file.
+fn read_file(alloc: Global, bytes: &[u8]) -> Result<TimeZone, Refusal>
+    ensures found { IfOk result (λ z. Spells File bytes.now z) }
+    ensures only { (z : Zone) → Spells File bytes.now z
+        → MatchResult result (λ y. y ≡ z) (λ e. refusal_number e ≡ 17) }
+    ensures fault { IfErr result (λ e. IsFault File bytes.now (refusal_number e)) }
+    ensures number { IfErr result (λ e. IsReaderNumber (refusal_number e)) }
+{
+    match TimeZone::from_tz_data(alloc, bytes) {
+        Ok(zone) => Ok(zone),
+        Err(error) => Err(Refusal::Reader(error)),
+    }
+}
+
+/// The zone of a TZ text.
+fn read_text(alloc: Global, bytes: &[u8]) -> Result<TimeZone, Refusal>
+    ensures found { IfOk result (λ z. Spells Text bytes.now z) }
+    ensures only { (z : Zone) → Spells Text bytes.now z
+        → MatchResult result (λ y. y ≡ z) (λ e. refusal_number e ≡ 17) }
+    ensures fault { IfErr result (λ e. IsFault Text bytes.now (refusal_number e)) }
+    ensures number { IfErr result (λ e. IsReaderNumber (refusal_number e)) }
+{
+    let Ok(text) = str::from_utf8(bytes) else {
+        return Err(Refusal::TextNotUtf8);
+    };
+    match TimeZone::from_posix_tz(alloc, text) {
+        Ok(zone) => Ok(zone),
+        Err(error) => Err(Refusal::Reader(error)),
+    }
+}
+
+/// The zone of the bytes, which are read by the kind of that number, where there is room for the answers and for no more.
+pub fn read_zone(
+    alloc: Global,
+    number: u32,
+    bytes: &[u8],
+    wanted: usize,
+    room: usize,
+) -> Result<TimeZone, Refusal>
+    ensures found { IfOk result (λ z. IsZoneOf number bytes.now z × (wanted ≡ room)) }
+    ensures only { (z : Zone) → IsZoneOf number bytes.now z → wanted ≡ room
+        → MatchResult result (λ y. y ≡ z) (λ e. refusal_number e ≡ 17) }
+    ensures fault { IfErr result (λ e. IsRefusal number bytes.now wanted room (refusal_number e)) }
+{
+    let Some(kind) = Kind::from_number(number) else {
+        return Err(Refusal::UnknownKind);
+    };
+    if wanted != room {
+        return Err(Refusal::OtherSize);
+    }
+    kind.read(alloc, bytes)
+}

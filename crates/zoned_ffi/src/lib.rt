@@ -1,0 +1,127 @@
+//! Zones for C. Each call reads a zone, and answers a slice of questions about it. `include/zoned_ffi.h` is the header.
+#![tactic(auto)]
+
+ghost use Rattle.std.specs.Prelude.{◌≡◌, ◌≢◌, ◌*◌, ◌⊎◌, length};
+ghost use Rattle.tz_info.specs.Zones.{Zone};
+ghost use Rattle.zoned_ffi.specs.Instants.{AreOffsetsAt};
+ghost use Rattle.zoned_ffi.specs.Kinds.{IsZoneOf};
+ghost use Rattle.zoned_ffi.specs.Refusals.{IsRefusal};
+ghost use Rattle.zoned_ffi.specs.WallClocks.{AreTriples, AreWallClocks};
+
+mod instants;
+mod kind;
+mod refusal;
+#[cfg(test)]
+mod tests;
+mod wall_clock;
+
+use instants::write_offsets;
+use kind::read_zone;
+use std::alloc::Global;
+pub use wall_clock::WallClock;
+use wall_clock::{write_triples, write_wall_clocks};
+
+/// Reads the zone, and answers nothing.
+#[unsafe(no_mangle)]
+pub extern "C" fn zoned_parse(alloc: Global, kind: u32, zone: &[u8]) -> u32
+    // 0: the bytes spell a zone.
+    ensures answered { result ≡ 0 → (z : Zone) × IsZoneOf kind zone.now z }
+    // Another number says what is wrong.
+    ensures refused { result ≢ 0 → IsRefusal kind zone.now 0 0 result }
+    // The zone that is spelled is read, unless memory runs out.
+    ensures only { (z : Zone) → IsZoneOf kind zone.now z → (result ≡ 0) ⊎ (result ≡ 17) }
+{
+    match read_zone(alloc, kind, zone, 0, 0) {
+        Ok(_) => 0,
+        Err(refusal) => refusal.number(),
+    }
+}
+
+/// Writes the offset in force at each instant, a Unix second, in seconds east of UTC. Where the zone has none it writes
+/// `i32::MIN`: its leap time leaves 64 bits, or its rule does not answer in that year.
+#[unsafe(no_mangle)]
+pub extern "C" fn zoned_at(
+    alloc: Global,
+    kind: u32,
+    zone: &[u8],
+    instants: &[i64],
+    offsets: &mut [i32],
+) -> u32
+    // 0: each offset is that of the zone.
+    ensures answered { result ≡ 0
+        → (z : Zone) × IsZoneOf kind zone.now z × AreOffsetsAt z instants.now offsets.new }
+    // Another number says what is wrong, and nothing is written.
+    ensures refused { result ≢ 0
+        → IsRefusal kind zone.now (length instants.now) (length offsets.old) result
+        × (offsets.new ≡ offsets.old) }
+    // The zone that is spelled is asked, unless memory runs out.
+    ensures only { (z : Zone) → IsZoneOf kind zone.now z
+        → length instants.now ≡ length offsets.old → (result ≡ 0) ⊎ (result ≡ 17) }
+{
+    match read_zone(alloc, kind, zone, instants.len(), offsets.len()) {
+        Ok(zone) => {
+            write_offsets(&zone, instants, offsets);
+            0
+        }
+        Err(refusal) => refusal.number(),
+    }
+}
+
+/// Writes three numbers of each local time: those of [`WallClock`] but for the instants. `answers` has room for three times
+/// as many numbers as there are local times.
+#[unsafe(no_mangle)]
+pub extern "C" fn zoned_wall(
+    alloc: Global,
+    kind: u32,
+    zone: &[u8],
+    locals: &[i64],
+    answers: &mut [i32],
+) -> u32
+    // 0: each three numbers are told of the zone's clocks.
+    ensures answered { result ≡ 0
+        → (z : Zone) × IsZoneOf kind zone.now z × AreTriples z locals.now answers.new }
+    // Another number says what is wrong, and nothing is written.
+    ensures refused { result ≢ 0
+        → IsRefusal kind zone.now (3 * length locals.now) (length answers.old) result
+        × (answers.new ≡ answers.old) }
+    // The zone that is spelled is asked, unless memory runs out.
+    ensures only { (z : Zone) → IsZoneOf kind zone.now z
+        → 3 * length locals.now ≡ length answers.old → (result ≡ 0) ⊎ (result ≡ 17) }
+{
+    match read_zone(alloc, kind, zone, 3 * locals.len(), answers.len()) {
+        Ok(zone) => {
+            write_triples(&zone, locals, answers);
+            0
+        }
+        Err(refusal) => refusal.number(),
+    }
+}
+
+/// Writes when the zone's clocks show each local time.
+#[unsafe(no_mangle)]
+pub extern "C" fn zoned_wall_instants(
+    alloc: Global,
+    kind: u32,
+    zone: &[u8],
+    locals: &[i64],
+    answers: &mut [WallClock],
+) -> u32
+    // 0: each answer is told of the zone's clocks.
+    ensures answered { result ≡ 0
+        → (z : Zone) × IsZoneOf kind zone.now z × AreWallClocks z locals.now answers.new }
+    // Another number says what is wrong, and nothing is written.
+    ensures refused { result ≢ 0
+        → IsRefusal kind zone.now (length locals.now) (length answers.old) result
+        × (answers.new ≡ answers.old) }
+    // The zone that is spelled is asked, unless memory runs out.
+    ensures only { (z : Zone) → IsZoneOf kind zone.now z
+        → length locals.now ≡ length answers.old → (result ≡ 0) ⊎ (result ≡ 17) }
+{
+    match read_zone(alloc, kind, zone, locals.len(), answers.len()) {
+        Ok(zone) => {
+            write_wall_clocks(&zone, locals, answers);
+            0
+        }
+        Err(refusal) => refusal.number(),
+    }
+}

@@ -1,0 +1,129 @@
+//! When wall clocks show local times.
+
+ghost use Rattle.std.specs.Prelude.{◌≡◌, ◌*◌, ◌-ℤ◌, pos, length};
+ghost use Rattle.naive_base.specs.Range.{IsInRange};
+ghost use Rattle.zoned_ffi.specs.Steps.Told.{told_of};
+ghost use Rattle.zoned_ffi.specs.WallClocks.{AreTriples, AreWallClocks, IsWallClockAt, written};
+
+use naive_base::NaiveDateTime;
+use offset_core::MappedLocalTime;
+use tz_info::{LocalTimeType, TimeZone};
+
+/// The numbers of `WallClock::shown`.
+const NEVER: i32 = 0;
+
+const ONCE: i32 = 1;
+
+const SEVERAL_TIMES: i32 = 2;
+
+const OUT_OF_RANGE: i32 = 3;
+
+/// When the clocks of a zone show a local time.
+#[repr(C)]
+#[derive(Clone, Copy)]
+pub struct WallClock {
+    /// How often: 0 never, 1 once, 2 several times. 3: the local time is outside the calendar's range.
+    pub shown: i32,
+    /// The offset in force at the first of these seconds, in seconds east of UTC; 0 where there is none.
+    pub first_offset: i32,
+    /// The offset in force at the last of them.
+    pub last_offset: i32,
+    /// The first of them, in Unix seconds; 0 where there is none.
+    pub first: i64,
+    /// The last of them.
+    pub last: i64,
+}
+
+impl WallClock {
+    /// What the zone's clocks show the local time at: so many seconds after 1970-01-01 00:00:00 on a clock, each day having
+    /// 86,400.
+    fn at(zone: &TimeZone, local: i64) -> WallClock
+        ensures { IsWallClockAt zone.now local result }
+    {
+        let Some(reading) = NaiveDateTime::from_timestamp_opt(local, 0) else {
+            return WallClock::nowhere(OUT_OF_RANGE);
+        };
+        match zone.find_local_time_type_from_local(reading) {
+            Ok(types) => WallClock::of_types(local, types),
+            Err(_) => unreachable!(),
+        }
+    }
+
+    /// That of the types in force at these seconds.
+    fn of_types(local: i64, types: MappedLocalTime<LocalTimeType>) -> WallClock
+        requires { IsInRange local }
+        ensures { result ≡ written (told_of local types) }
+    {
+        match types {
+            MappedLocalTime::None => WallClock::nowhere(NEVER),
+            MappedLocalTime::Single(only) => {
+                WallClock::between(ONCE, local, only.offset(), only.offset())
+            }
+            MappedLocalTime::Ambiguous(first, last) => {
+                WallClock::between(SEVERAL_TIMES, local, first.offset(), last.offset())
+            }
+        }
+    }
+
+    /// That of the offsets at the first and the last second.
+    fn between(shown: i32, local: i64, first_offset: i32, last_offset: i32) -> WallClock
+        requires { IsInRange local }
+        ensures { result ≡ record {
+          shown = shown;
+          first_offset = first_offset;
+          last_offset = last_offset;
+          first = local -ℤ first_offset;
+          last = local -ℤ last_offset;
+        } }
+    {
+        WallClock {
+            shown,
+            first_offset,
+            last_offset,
+            first: local - i64::from(first_offset),
+            last: local - i64::from(last_offset),
+        }
+    }
+
+    /// No second, and the number that says why.
+    fn nowhere(shown: i32) -> WallClock
+        ensures { result ≡ record {
+          shown = shown;
+          first_offset = pos 0;
+          last_offset = pos 0;
+          first = pos 0;
+          last = pos 0;
+        } }
+    {
+        WallClock {
+            shown,
+            first_offset: 0,
+            last_offset: 0,
+            first: 0,
+            last: 0,
+        }
+    }
+}
+
+/// Writes what is told of each local time.
+pub fn write_wall_clocks(zone: &TimeZone, locals: &[i64], clocks: &mut [WallClock])
+    requires { length locals.now ≡ length clocks.old }
+    ensures { AreWallClocks zone.now locals.now clocks.new }
+{
+    for (i, local) in locals.iter().enumerate() {
+        clocks[i] = WallClock::at(zone, *local);
+    }
+}
+
+/// Writes three numbers of each local time: how often it is shown, and the offsets at the first and the last second.
+pub fn write_triples(zone: &TimeZone, locals: &[i64], numbers: &mut [i32])
+    requires { 3 * length locals.now ≡ length numbers.old }
+    ensures { AreTriples zone.now locals.now numbers.new }
+{
+    for (i, local) in locals.iter().enumerate() {
+        let clock = WallClock::at(zone, *local);
+        numbers[3 * i] = clock.shown;
+        numbers[3 * i + 1] = clock.first_offset;
+        numbers[3 * i + 2] = clock.last_offset;
+    }
+}
