@@ -8,7 +8,8 @@ usage: bench/make_inputs.py FOLDER [ZONEINFO]
 - text: the TZ text itself;
 - names: the names of the zones, one a line;
 - at_SET.i64, wall_SET.i64: a million instants and a million local times, as seconds in 64 bits, low byte first. They are
-  spread evenly over the years 1900 to 2099 (SET is wide) and 2020 to 2029 (near), from fixed seeds.
+  spread evenly over the years 1900 to 2099 (SET is wide) and 2020 to 2029 (near), from fixed seeds;
+- lines: for zoneq, New York's file as a `data` line, and those of wall_wide as a million `wall` lines.
 """
 
 import calendar
@@ -18,6 +19,7 @@ import struct
 import subprocess
 import sys
 from array import array
+from datetime import datetime, timedelta
 from pathlib import Path
 
 ZONES = ["America/New_York", "Europe/London", "Asia/Tehran", "Africa/Casablanca", "America/Sao_Paulo"]
@@ -38,13 +40,28 @@ def split_mix(seed):
 
 
 def seconds(seed, first_year, end_year):
+    """A million seconds of these years."""
     start = calendar.timegm((first_year, 1, 1, 0, 0, 0))
     end = calendar.timegm((end_year, 1, 1, 0, 0, 0))
     draw = split_mix(seed)
     drawn = array("q", (start + next(draw) % (end - start) for _ in range(COUNT)))
+    return drawn
+
+
+def spelled(numbers):
+    """Numbers as bytes, the low byte of each first."""
+    copy = array("q", numbers)
     if sys.byteorder == "big":
-        drawn.byteswap()
-    return drawn.tobytes()
+        copy.byteswap()
+    return copy.tobytes()
+
+
+def zoneq_lines(file, locals_):
+    """The lines that ask zoneq for each of the local times in the zone of the file."""
+    yield f"data {file.hex()}\n"
+    for second in locals_:
+        local = datetime(1970, 1, 1) + timedelta(seconds=second)
+        yield f"wall {local.year} {local.month} {local.day} {local.hour} {local.minute} {local.second}\n"
 
 
 def block(time_format, times, indexes, types, names):
@@ -91,8 +108,11 @@ def main():
     for name, file in zones.items():
         (folder / "zones" / name).write_bytes(file)
     (folder / "text").write_text(TEXT)
-    for (question, years), seed in SEEDS.items():
-        (folder / f"{question}_{years}.i64").write_bytes(seconds(seed, *YEARS[years]))
+    drawn = {(question, years): seconds(seed, *YEARS[years]) for (question, years), seed in SEEDS.items()}
+    for (question, years), numbers in drawn.items():
+        (folder / f"{question}_{years}.i64").write_bytes(spelled(numbers))
+    with (folder / "lines").open("w") as lines:
+        lines.writelines(zoneq_lines(zones["New_York"], drawn["wall", "wide"]))
     # The last file to be written, so that it says that all are there.
     (folder / "names").write_text("\n".join(zones) + "\n")
 

@@ -32,6 +32,8 @@ TABLES = {
 }
 # The peers whose answers are of another kind than the question's: mktime answers one instant, whatever the wall clock shows.
 NO_ANSWER = {("glibc", "wall")}
+# What a driver prints in place of a time where the peer refuses the zone.
+REFUSED = -1
 SHOWN = ["never", "once", "several times"]
 EPOCH = datetime(1970, 1, 1, tzinfo=timezone.utc)
 
@@ -78,7 +80,7 @@ class Answers:
 
 
 def spelled(nanoseconds):
-    if nanoseconds < 0:
+    if nanoseconds == REFUSED:
         return "refused"
     if nanoseconds < 1e4:
         return f"{nanoseconds:.1f} ns"
@@ -136,7 +138,7 @@ def main():
     answers = Answers(inputs, outputs)
     wrong = {}
     for question, years, zone, peer in figures:
-        if question == "read" or peer == OURS or (peer, question) in NO_ANSWER:
+        if question in ("read", "lines") or peer == OURS or (peer, question) in NO_ANSWER:
             continue
         found = answers.difference(peer, zone, question, years)
         if found:
@@ -148,8 +150,18 @@ def main():
         print("| zone | " + " | ".join(PEERS[peer] for peer in peers) + " | ratio |")
         print("|---|" + "--:|" * (len(peers) + 1))
         for zone in zones:
+            if not any((question, years, zone, peer) in figures for peer in peers):
+                continue
             cells = [cell(figures, wrong, (question, years, zone, peer)) for peer in peers]
             print(f"| {zone} | " + " | ".join(cells) + f" | {ratio(figures, wrong, question, years, zone)} |")
+    lines = [figures.get(("lines", "-", "New_York", program)) for program in ("zoneq", "mawk")]
+    if all(lines):
+        print("\n### A line of `zoneq`\n")
+        print("| program | processor's time for a line |")
+        print("|---|--:|")
+        print(f"| `zoneq`, a `wall` line answered | {lines[0]:.0f} ns |")
+        print(f"| `mawk '{{print NF}}'`, the same lines | {lines[1]:.0f} ns |")
+        print(f"| ratio | {lines[0] / lines[1]:.2f} |")
     print("\n### Answers that differ\n")
     print("| peer | zone | question | differ | the first of them | the peer | Sahvumbi |")
     print("|---|---|---|--:|---|---|---|")

@@ -1,10 +1,10 @@
 #!/bin/sh
 # Times lookups of this library beside those of other libraries, and prints the tables of docs/SPEED.md.
 #
-# usage: bench/run.sh [PEER ..]     of sahvumbi cctz hinnant java glibc cpython; all of them where none is named
+# usage: bench/run.sh [PEER ..]     of sahvumbi cctz hinnant java glibc cpython zoneq; all of them where none is named
 #
-# First `rt lib` in crates/zoned_ffi builds the archive. Debian has the peers:
-#   apt-get install g++ pkg-config libabsl-dev libhowardhinnant-date-dev openjdk-17-jdk-headless python3 tzdata
+# First `rt lib` in crates/zoned_ffi builds the archive, and `rt run` in crates/zoneq the program. Debian has the peers:
+#   apt-get install g++ pkg-config libabsl-dev libhowardhinnant-date-dev openjdk-17-jdk-headless mawk python3 tzdata
 # A peer that is not there is left out. It takes about four minutes.
 #
 #   BENCH_DIR   where inputs, programs and figures are kept (else sahvumbi-bench in the folder for temporary files)
@@ -15,7 +15,7 @@ here=$(cd "$(dirname "$0")" && pwd)
 folder=${BENCH_DIR:-${TMPDIR:-/tmp}/sahvumbi-bench}
 kit=$(dirname "$(rt doc)")
 archive=$here/../crates/zoned_ffi/out/libzoned_ffi.a
-peers=${*:-sahvumbi cctz hinnant java glibc cpython}
+peers=${*:-sahvumbi cctz hinnant java glibc cpython zoneq}
 python=${PYTHON:-python3}
 compile="${CXX:-g++} -std=c++17 -O2"
 inputs=$folder/inputs outputs=$folder/outputs
@@ -46,6 +46,7 @@ for peer in $peers; do
         java) javac -d "$folder" "$here/drivers/Zones.java" && run java -Xmx4g -cp "$folder" Zones ;;
         glibc) build glibc && run "$folder/glibc" ;;
         cpython) run "$python" "$here/drivers/cpython.py" ;;
+        zoneq) run python3 "$here/time_lines.py" ;;
         *) false ;;
     esac || echo "$peer is left out" >&2
 done

@@ -1,7 +1,7 @@
 /* What the clocks of a zone show, and when: an example of zoned_ffi.h. From the top of the repository, after `rt lib` in
    crates/zoned_ffi:
 
-     gcc -O2 -o zones_c examples/zones.c crates/zoned_ffi/out/libzoned_ffi.a "$(dirname "$(rt doc)")/c/liblibc_c.a"
+     gcc -O2 -o ./zones_c examples/zones.c crates/zoned_ffi/out/libzoned_ffi.a "$(dirname "$(rt doc)")/c/liblibc_c.a"
      ./zones_c /usr/share/zoneinfo/America/New_York 1615705200 1615689000 1636248600
 
    Of each number it says the offset at that Unix second, and when a clock shows as many seconds since 1970-01-01 00:00:00. */

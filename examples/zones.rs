@@ -1,7 +1,7 @@
 //! What the clocks of a zone show, and when: `zones.c` in Rust. From the top of the repository, after `rt lib` in
 //! crates/zoned_ffi:
 //!
-//!     rustc -O -o zones_rs examples/zones.rs -C link-args="crates/zoned_ffi/out/libzoned_ffi.a $(dirname "$(rt doc)")/c/liblibc_c.a"
+//!     rustc -O -o ./zones_rs examples/zones.rs -C link-args="crates/zoned_ffi/out/libzoned_ffi.a $(dirname "$(rt doc)")/c/liblibc_c.a"
 //!     ./zones_rs /usr/share/zoneinfo/America/New_York 1615705200 1615689000 1636248600
 
 use std::process::ExitCode;

@@ -8,7 +8,6 @@ crates/zoned_ffi, and gcc, rustc and python3. A program is built and run by the 
 and is no part of the gate. Ends with status 1 where a program prints anything else.
 """
 
-import re
 import subprocess
 import sys
 import tempfile
@@ -17,21 +16,23 @@ from pathlib import Path
 from zoneinfo import ZoneInfo
 
 TOP = Path(__file__).resolve().parent.parent
-PROGRAMS = {"zones.c": "zones_c", "zones.rs": "zones_rs", "zones.py": "libzoned_ffi.so"}
+# Each program, and what the line in its head makes.
+BUILT = {"zones.c": "./zones_c", "zones.rs": "./zones_rs", "zones.py": "./libzoned_ffi.so"}
 ZONES = ["America/New_York", "Europe/London", "Asia/Tehran", "America/Sao_Paulo", "Pacific/Apia", "Antarctica/Troll"]
 EPOCH = datetime(1970, 1, 1)
 DAY = 86_400
-# Where the tz database has transitions of these zones, and every 97 days over a century and a half.
-SECONDS = [second + around for second in (1_615_705_200, 1_636_264_800, 1_325_239_200, 1_616_893_200) for around in range(-5400, 5401, 1800)]
-SECONDS += [97 * DAY * step + 7 * step for step in range(-250, 250)]
+# Transitions of New York, London, Apia and Troll; half hours near them, and every 97 days over a century.
+TRANSITIONS = [1_615_705_200, 1_636_264_800, 1_616_893_200, 1_325_239_200]
+SECONDS = [second + 1800 * half_hours for second in TRANSITIONS for half_hours in range(-30, 31)]
+SECONDS += [97 * DAY * step + 7 * step for step in range(-200, 200)]
 REFUSED = [(b"TZif", 7), (b"not a file", 5)]
 
 
 def recipe(name):
     """The line that builds a program, and the one that runs it."""
-    lines = [line.strip("/! ") for line in (TOP / "examples" / name).read_text().splitlines()[:9]]
-    build, run = [line for line in lines if re.match(r"(gcc|rustc|\./|python3) ?", line)]
-    return build, run
+    head = (TOP / "examples" / name).read_text().splitlines()[:9]
+    lines = [line.removeprefix("//!").strip() for line in head]
+    return [line for line in lines if line.startswith(("gcc ", "rustc ", "python3 ", "./"))]
 
 
 def shown(zone, local):
@@ -60,26 +61,25 @@ def expected(zone):
         yield f"wall clock {second}: {words.format(*told)}"
 
 
-def run(command, folder):
-    return subprocess.run(command, cwd=folder, capture_output=True, text=True)
+def run(command):
+    return subprocess.run(command, cwd=TOP, capture_output=True, text=True)
 
 
 def complaints(name, database, folder):
-    build, line = recipe(name)
-    rest = f"{build} -o {folder}/{PROGRAMS[name]}" if "-o" not in build else re.sub(r"-o (\S+)", rf"-o {folder}/\1", build)
-    built = run(["sh", "-c", rest], TOP)
+    build, line = (each.replace(BUILT[name], str(folder / name)) for each in recipe(name))
+    built = run(["sh", "-c", build])
     if built.returncode:
         yield f"{name} is not built: {built.stderr}"
         return
-    start = [word.replace("./", f"{folder}/") for word in line.split() if not word.startswith("/") and not word.isdigit()]
-    ran = run(["sh", "-c", re.sub(r"\./", f"{folder}/", line)], TOP)
+    start = [word for word in line.split() if "zoneinfo" not in word and not word.isdigit()]
+    ran = run(["sh", "-c", line])
     if ran.returncode:
         yield f"{name}: the line in its head ends with status {ran.returncode}: {ran.stderr}"
     for zone in ZONES:
         path = database / zone
         with path.open("rb") as file:
             lines = list(expected(ZoneInfo.from_file(file)))
-        printed = run([*start, str(path), *map(str, SECONDS)], TOP).stdout.splitlines()
+        printed = run([*start, str(path), *map(str, SECONDS)]).stdout.splitlines()
         for ours, theirs in zip(printed, lines):
             if ours != theirs:
                 yield f"{name}, {zone}: {ours}, and zoneinfo: {theirs}"
@@ -87,7 +87,7 @@ def complaints(name, database, folder):
             yield f"{name}, {zone}: {len(printed)} lines of {len(lines)}"
     for bytes_, number in REFUSED:
         (folder / "refused").write_bytes(bytes_)
-        ended = run([*start, str(folder / "refused"), "0"], TOP)
+        ended = run([*start, str(folder / "refused"), "0"])
         if ended.returncode != 1 or f"is refused: {number}" not in ended.stderr:
             yield f"{name}: {bytes_} ends with {ended.returncode}: {ended.stderr}"
 
@@ -96,7 +96,7 @@ def main():
     database = Path(sys.argv[1] if len(sys.argv) > 1 else "/usr/share/zoneinfo")
     failed = False
     with tempfile.TemporaryDirectory() as folder:
-        for name in PROGRAMS:
+        for name in BUILT:
             found = list(complaints(name, database, Path(folder)))
             failed = failed or bool(found)
             print(f"{name}: {len(ZONES) * len(SECONDS)} questions of each kind, {len(found)} differences")

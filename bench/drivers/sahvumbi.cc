@@ -3,6 +3,8 @@
 #include "common.h"
 #include "../../crates/zoned_ffi/include/zoned_ffi.h"
 
+static const size_t MOST_COPIES = 10;
+
 struct Zone {
     uint32_t kind;
     std::string bytes;
@@ -29,40 +31,47 @@ template <class Ask> double least_call(size_t from, size_t count, Ask ask) {
     return least;
 }
 
-// The time of one question: slices that take a millisecond, or four times what reading takes.
-template <class Ask> double least_question(size_t count, size_t *used, Ask ask) {
+// The time of one question, where ask(from, count) asks those from `from` on. They are asked in slices of a millisecond, or
+// of ten times what reading takes.
+template <class Ask> double least_question(size_t count, double reading, double each, Ask ask) {
+    size_t slice = (size_t)((SLICE_NANOSECONDS + 10 * reading) / each) + 1;
+    double sum = 0;
+    for (size_t from = 0; from < count; from += slice)
+        sum += least_call(from, from + slice < count ? slice : count - from, ask) - reading;
+    return sum / (double)count;
+}
+
+// Times a call that writes `size` numbers for each question, and keeps the answers to the first ones. Where reading takes
+// longer than a slice, the questions are taken several times over, so that they take longer than reading does.
+template <class Call>
+static void time_call(const Run &run, const std::string &name, const char *question, const char *years, size_t size, Call call) {
+    std::vector<int64_t> asked = run.seconds(question, years);
+    const size_t count = asked.size();
+    std::vector<int32_t> answers(size * count);
+    auto ask = [&](size_t from, size_t some) { return call(&asked[from], some, &answers[size * from]); };
     double reading = least_call(0, 0, ask);
     double each = (least_call(0, CHECKED, ask) - reading) / (double)CHECKED;
-    if (each < 0.1) each = 0.1;
-    size_t fit = (size_t)(PASS_NANOSECONDS / each);
-    if (fit < CHECKED) fit = CHECKED;
-    *used = fit < count ? fit : count;
-    size_t slice = (size_t)((SLICE_NANOSECONDS + 4 * reading) / each) + 1;
-    double sum = 0;
-    for (size_t from = 0; from < *used; from += slice)
-        sum += least_call(from, from + slice < *used ? slice : *used - from, ask) - reading;
-    return sum / (double)*used;
+    if (each < 1) each = 1;
+    if (reading > SLICE_NANOSECONDS) {
+        size_t copies = (size_t)(10 * reading / (each * (double)count)) + 1;
+        if (copies > MOST_COPIES) copies = MOST_COPIES;
+        for (size_t copy = 1; copy < copies; copy++) asked.insert(asked.end(), asked.begin(), asked.begin() + (long)count);
+        answers.resize(size * asked.size());
+    }
+    double took = least_question(asked.size(), reading, each, ask);
+    run.figure(name, question, years, took, asked.size());
+    answers.resize(size * CHECKED);
+    run.answers(name, question, years, answers);
 }
 
 static void time_lookups(const Run &run, const std::string &name, const Zone &zone, const char *years) {
-    size_t used;
-    std::vector<int64_t> instants = run.seconds("at", years);
-    std::vector<int32_t> offsets(instants.size());
-    double took = least_question(instants.size(), &used, [&](size_t from, size_t count) {
-        return zoned_at(zone.kind, zone.data(), zone.bytes.size(), &instants[from], count, &offsets[from], count);
+    size_t len = zone.bytes.size();
+    time_call(run, name, "at", years, 1, [&](const int64_t *instants, size_t count, int32_t *offsets) {
+        return zoned_at(zone.kind, zone.data(), len, instants, count, offsets, count);
     });
-    run.figure(name, "at", years, took, used);
-    offsets.resize(CHECKED);
-    run.answers(name, "at", years, offsets);
-
-    std::vector<int64_t> locals = run.seconds("wall", years);
-    std::vector<int32_t> triples(3 * locals.size());
-    took = least_question(locals.size(), &used, [&](size_t from, size_t count) {
-        return zoned_wall(zone.kind, zone.data(), zone.bytes.size(), &locals[from], count, &triples[3 * from], 3 * count);
+    time_call(run, name, "wall", years, 3, [&](const int64_t *locals, size_t count, int32_t *triples) {
+        return zoned_wall(zone.kind, zone.data(), len, locals, count, triples, 3 * count);
     });
-    run.figure(name, "wall", years, took, used);
-    triples.resize(3 * CHECKED);
-    run.answers(name, "wall", years, triples);
 }
 
 int main(int count, char **words) {
