@@ -1,6 +1,6 @@
 -- Data blocks: what is read is spelled, what is spelled is read, and where it is refused bytes are wanting.
-use Rattle.std.proofs.Common.{◌≡◌, ℕ, ◌+◌, ◌*◌, arith, refl, ap, ◌∙◌, subst, List, [], ◌∷◌, ◌++◌}
-use Rattle.tz_info.specs.FileBlocks.{Parts, in_order, IsBlock, block_size, BlockFault}
+use Rattle.std.proofs.Common.{◌≡◌, ℕ, ◌+◌, ◌*◌, arith, refl, ap, ◌∙◌, subst, List, ◌++◌}
+use Rattle.tz_info.specs.FileBlocks.{Parts, IsBlock, block_size, BlockFault}
 use Rattle.tz_info.specs.Steps.FileReading.{block_at}
 use Rattle.tz_info.specs.declared.file.header.Counts.{Counts}
 use Rattle.tz_info.proofs.PieceLaws.{Law}

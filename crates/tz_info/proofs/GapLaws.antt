@@ -1,5 +1,5 @@
 -- Gaps: where the first second lies at which clocks show more than a local time that they never show.
-use Rattle.std.proofs.Common.{◌≡◌, ℕ, zero, suc, ◌+◌, ◌<◌, ◌≤◌, ◌↔◌, arith, refl, sym, ap, ◌∙◌, subst, List, length, get_or, ℤ, pos, neg_ℤ, ◌+ℤ◌, ◌-ℤ◌, ◌≤ℤ◌, ◌<ℤ◌, unsigned_abs, inl, inr, ◌⊎◌, Option, Some, None, slice_get}
+use Rattle.std.proofs.Common.{◌≡◌, ℕ, zero, suc, ◌+◌, ◌<◌, ◌≤◌, arith, refl, sym, ap, ◌∙◌, subst, length, get_or, ℤ, pos, ◌+ℤ◌, ◌-ℤ◌, ◌≤ℤ◌, ◌<ℤ◌, unsigned_abs, inl, inr, ◌⊎◌, Option, Some, None, slice_get}
 use Rattle.std.proofs.lemmas.Int.{ints, by_lt_z}
 use Rattle.std.proofs.lemmas.Bool.{cases_lt}
 use Rattle.naive_base.specs.Year.{floor_div}
@@ -13,9 +13,8 @@ use Rattle.tz_info.specs.Rules.{Alternate as AlternateRule}
 use Rattle.tz_info.specs.Segments.{index_of, segment_of}
 use Rattle.tz_info.specs.Steps.Gaps.{AreLess, AreLessInto, IsReach, Starts, IsLesserOf}
 use Rattle.tz_info.specs.Steps.Starts.{IsReachedFrom}
-use Rattle.tz_info.specs.Steps.Walk.{TypeIn}
 use Rattle.tz_info.specs.WallClocks.{Shows}
-use Rattle.tz_info.specs.Zones.{Zone, IsValid, IsTypeRefused, by_leap_time, by_rule, IsRefusedBy, IsRuleOrNone, RuleOrElse, TypeAt, HasType}
+use Rattle.tz_info.specs.Zones.{Zone, IsValid, IsTypeRefused, by_leap_time, by_rule, IsRefusedBy, IsRuleOrNone, RuleOrElse, TypeAt}
 use Rattle.tz_info.specs.declared.rule.transition_rule.TransitionRule.{TransitionRule}
 use Rattle.tz_info.specs.declared.rule.transition_rule.TransitionRule.TheVariants.{Fixed, Alternate}
 use Rattle.tz_info.specs.declared.zone.transition.Transition.{Transition}

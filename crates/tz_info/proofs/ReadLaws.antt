@@ -1,5 +1,5 @@
 -- Steps of a reading, and what is read of bytes and numbers at the front.
-use Rattle.std.proofs.Common.{◌≡◌, ℕ, ◌+◌, ◌<◌, ◌≤◌, arith, refl, ap, ◌∙◌, sym, subst, List, [], ◌∷◌, ◌++◌, length, take, drop, Bool, true, false, cond, nat_lt, ◌&&◌, Ok, Err, Result, inl, inr, ◌⊎◌}
+use Rattle.std.proofs.Common.{◌≡◌, ℕ, ◌<◌, ◌≤◌, arith, refl, sym, subst, List, [], ◌∷◌, ◌++◌, length, take, drop, Bool, true, false, cond, nat_lt, ◌&&◌, Ok, Err, Result, inl, inr, ◌⊎◌}
 use Rattle.std.proofs.lemmas.Bool.Decides.{nat_tests}
 use Rattle.std.proofs.lemmas.List.{take-append-drop, length-take, length-append}
 use Rattle.std.proofs.Math.Seq.{take-append_seam}

@@ -1,12 +1,12 @@
 -- Each year has one day that is the rule's, and the closed form finds it.
-use Rattle.std.proofs.Common.{◌≡◌, ℕ, ◌+◌, ◌-◌, ◌*◌, ◌%◌, ◌<◌, ◌≤◌, inl, inr, Bool, false, nat_le, ◌&&◌, arith, refl, sym, ap, ◌∙◌, ℤ, pos, ◌+ℤ◌, ◌≤ℤ◌, ◌<ℤ◌}
+use Rattle.std.proofs.Common.{◌≡◌, ℕ, ◌+◌, ◌-◌, ◌*◌, ◌%◌, ◌<◌, ◌≤◌, inl, inr, Bool, nat_le, ◌&&◌, arith, sym, ap, ◌∙◌, ℤ, pos, ◌+ℤ◌, ◌≤ℤ◌, ◌<ℤ◌}
 use Rattle.std.proofs.lemmas.Bool.{cases_lt}
 use Rattle.std.proofs.lemmas.Bool.Decides.{nat_tests}
 use Rattle.naive_base.specs.Year.{is_leap, days_in_year, year_start, LiesIn}
-use Rattle.naive_base.specs.Month.{days_in_month, days_of_months}
+use Rattle.naive_base.specs.Month.{days_in_month}
 use Rattle.naive_base.specs.Date.{day_number}
 use Rattle.naive_base.specs.Weekday.{weekday_of}
-use Rattle.naive_base.proofs.ForCallers.{floors, year_step, starts_rise, days_at_least, days_at_most, leap_day, leap_at_most, months_early, months_late, month_bounds, months_step, months_rise, months_all, place_is, date_lies, number_at, weekday_later, weekday_below}
+use Rattle.naive_base.proofs.ForCallers.{floors, year_step, starts_rise, days_at_least, days_at_most, leap_at_most, months_step, months_all, date_lies, weekday_below}
 use Rattle.tz_info.specs.RuleDays.{IsRuleDay, IsWeekdayOfMonth, IsDayOf}
 use Rattle.tz_info.specs.RuleDayOf.{rule_day_with, rule_day}
 use Rattle.tz_info.specs.Steps.RuleDays.{julian_place, weekday_place, closed_day, closed_day_is, julian_is, weekday_is, weekday_at, number_after}

@@ -1,5 +1,5 @@
 -- Pieces of a known length, which are refused only for want of bytes: their law, and how such laws go together.
-use Rattle.std.proofs.Common.{◌≡◌, ℕ, ◌+◌, ◌<◌, arith, refl, ap, ◌∙◌, subst, sym, List, ◌++◌, length, Ok, Err, Result, inl, inr, ◌⊎◌}
+use Rattle.std.proofs.Common.{◌≡◌, ℕ, ◌+◌, ◌<◌, arith, refl, ap, ◌∙◌, List, ◌++◌, length, Ok, Err, Result, inl, inr, ◌⊎◌}
 use Rattle.std.proofs.lemmas.List.{length-append}
 use Rattle.std.specs.Int.{w32, from_be_bytes}
 use Rattle.tz_info.specs.Fronts.{◌>>=◌, exact_at, be_u32_at}

@@ -1,9 +1,9 @@
-use Rattle.std.proofs.Common.{arith, ap, length, ◌≡◌, ◌+◌, ◌+ℤ◌, ◌≤ℤ◌, w64, to_z-of_z, rules}
+use Rattle.std.proofs.Common.{arith, ap, length, ◌+ℤ◌, ◌≤ℤ◌, w64, to_z-of_z, rules}
 use mir.Val.{SFits}
 use Rattle.std.proofs.lemmas.Int.{ints}
 use Rattle.tz_info.specs.Counts.{Counts}
 use Rattle.tz_info.specs.Leaps.{IsLeapTime}
-use Rattle.tz_info.specs.Steps.Gaps.{AreLessInto, IsReach, Starts}
+use Rattle.tz_info.specs.Steps.Gaps.{AreLessInto, IsReach}
 use Rattle.tz_info.proofs.DigitLaws.{digits-le}
 use Rattle.tz_info.proofs.GapLaws.{IsNext, less_into, next_start, first_found, less_more}
 use Rattle.tz_info.proofs.SegmentLaws.{between_passed, segment_is}

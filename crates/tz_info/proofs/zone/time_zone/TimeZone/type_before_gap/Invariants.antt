@@ -1,4 +1,4 @@
-use Rattle.std.proofs.Common.{ℕ, ◌+◌, ◌≤◌, length}
+use Rattle.std.proofs.Common.{◌+◌, ◌≤◌, length}
 use Rattle.tz_info.specs.Digits.{digits}
 use Rattle.tz_info.specs.Segments.{segment_of}
 use Rattle.tz_info.specs.Steps.Gaps.{AreLessInto}

@@ -1,5 +1,4 @@
-use Rattle.std.proofs.Common.{◌≡◌, ap, sym, ◌∙◌, Some}
-use Rattle.tz_info.specs.declared.rule.transition_rule.TransitionRule.TheVariants.{Fixed, Alternate}
+use Rattle.std.proofs.Common.{ap, ◌∙◌, Some}
 use Rattle.tz_info.proofs.GapLaws.{fixed_ends, rule_turn}
 use Rattle.tz_info.proofs.zone.time_zone.TimeZone.type_before_rule_turn.Goals as goal
 
