@@ -14,6 +14,8 @@ use std::fmt;
 impl fmt::Display for NaiveDate {
     ghost output = { λ date. Some (printed_date date) };
 
+    ghost styled_output = { λ date _. Some (printed_date date) };
+
     fn fmt<W: fmt::Write>(&self, f: &mut fmt::Formatter<W>) -> fmt::Result {
         let mut text = ShortText::new();
         push_date(*self, &mut text);
@@ -32,6 +34,8 @@ impl fmt::Debug for NaiveDate {
 impl fmt::Display for NaiveTime {
     ghost output = { λ time. Some (printed_time time) };
 
+    ghost styled_output = { λ time _. Some (printed_time time) };
+
     fn fmt<W: fmt::Write>(&self, f: &mut fmt::Formatter<W>) -> fmt::Result {
         let mut text = ShortText::new();
         push_time(*self, &mut text);
@@ -49,6 +53,8 @@ impl fmt::Debug for NaiveTime {
 
 impl fmt::Display for NaiveDateTime {
     ghost output = { λ datetime. Some (printed_reading datetime) };
+
+    ghost styled_output = { λ datetime _. Some (printed_reading datetime) };
 
     fn fmt<W: fmt::Write>(&self, f: &mut fmt::Formatter<W>) -> fmt::Result {
         let text = text_of(*self, b' ');

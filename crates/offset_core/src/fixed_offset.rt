@@ -89,6 +89,8 @@ impl fmt::Display for FixedOffset {
 
     ghost output = { λ offset. Some (printed_offset offset) };
 
+    ghost styled_output = { λ offset _. Some (printed_offset offset) };
+
     fn fmt<W: fmt::Write>(&self, f: &mut fmt::Formatter<W>) -> fmt::Result {
         let mut text = ShortText::new();
         text.push(if self.local_minus_utc < 0 { b'-' } else { b'+' });

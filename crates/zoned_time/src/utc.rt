@@ -60,6 +60,8 @@ impl TimeZone for Utc {
 impl fmt::Display for Utc {
     ghost output = { λ _. Some (codes "UTC") };
 
+    ghost styled_output = { λ _ _. Some (codes "UTC") };
+
     fn fmt<W: fmt::Write>(&self, f: &mut fmt::Formatter<W>) -> fmt::Result {
         f.write_str("UTC")
     }
