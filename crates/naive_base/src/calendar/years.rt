@@ -66,7 +66,7 @@ pub fn is_leap_year(year: i32) -> bool
     ensures { result ≡ is_leap year }
 {
     let years = years_since_base(year);
-    years % 4 == 0 && (years % 100 != 0 || years % 400 == 0)
+    (years % 4 == 0) & ((years % 100 != 0) | (years % 400 == 0))
 }
 
 /// How many days the year has, 365 or 366.
