@@ -1,5 +1,5 @@
 -- What each step of the search in the pieces of an index keeps.
-use Rattle.std.proofs.Common.{◌≡◌, ℕ, ◌+◌, ◌-◌, ◌^◌, ◌<◌, ◌≤◌, arith, refl, ap, ◌∙◌}
+use Rattle.std.proofs.Common.{◌≡◌, ℕ, ◌+◌, ◌-◌, ◌<◌, arith, refl, ◌∙◌}
 use Rattle.tz_info.specs.Counts.{Counts, RoseByPieces}
 use Rattle.tz_info.specs.Digits.{digits}
 use Rattle.tz_info.specs.Steps.Pieces.{IsNarrowed}
