@@ -95,8 +95,8 @@ def cell(figures, wrong, key):
     return spelled(figures[key]) + mark
 
 
-def ratio(figures, wrong, question, years, zone):
-    """Our time by that of the best peer whose answers are ours."""
+def best_peer(figures, wrong, question, years, zone):
+    """The least time of a peer whose answers are ours, and the peer; None where there is none."""
     times = [
         (figures[key], peer)
         for peer in PEERS
@@ -106,10 +106,22 @@ def ratio(figures, wrong, question, years, zone):
         and key not in wrong
         and (peer, question) not in NO_ANSWER
     ]
-    if not times or (question, years, zone, OURS) not in figures:
-        return "-"
-    best, peer = min(times)
-    return f"{figures[question, years, zone, OURS] / best:.2f} ({PEERS[peer]})"
+    return min(times) if times else None
+
+
+def ratio(figures, wrong, question, years, zone):
+    """Our time by that of the best peer, and its name."""
+    ours, best = figures.get((question, years, zone, OURS)), best_peer(figures, wrong, question, years, zone)
+    return (ours / best[0], PEERS[best[1]]) if ours and best else None
+
+
+def slower(figures, wrong, zones):
+    """The rows in which the best peer is faster."""
+    for (question, years), title in TABLES.items():
+        found = [(zone, ratio(figures, wrong, question, years, zone)) for zone in zones]
+        rows = [f"{zone} {by[0]:.2f} ({by[1]})" for zone, by in found if by and by[0] > 1]
+        if rows:
+            yield f"- {title}: {', '.join(rows)}"
 
 
 def command(*words):
@@ -153,7 +165,11 @@ def main():
             if not any((question, years, zone, peer) in figures for peer in peers):
                 continue
             cells = [cell(figures, wrong, (question, years, zone, peer)) for peer in peers]
-            print(f"| {zone} | " + " | ".join(cells) + f" | {ratio(figures, wrong, question, years, zone)} |")
+            by = ratio(figures, wrong, question, years, zone)
+            cells.append(f"{by[0]:.2f} ({by[1]})" if by else "-")
+            print(f"| {zone} | " + " | ".join(cells) + " |")
+    print("\n### Where Sahvumbi is slower than the best peer\n")
+    print("\n".join(slower(figures, wrong, zones)) or "Nowhere in these tables.")
     lines = [figures.get(("lines", "-", "New_York", program)) for program in ("zoneq", "mawk")]
     if all(lines):
         print("\n### A line of `zoneq`\n")

@@ -9,13 +9,16 @@ use naive_base::NaiveDateTime;
 use offset_core::MappedLocalTime;
 use tz_info::{LocalTimeType, TimeZone};
 
-/// The numbers of `WallClock::shown`.
+/// The number of seconds that show a local time, as [`WallClock::shown`] has it: none.
 const NEVER: i32 = 0;
 
+/// One.
 const ONCE: i32 = 1;
 
+/// Two or more.
 const SEVERAL_TIMES: i32 = 2;
 
+/// Not known: the local time is outside the calendar's range.
 const OUT_OF_RANGE: i32 = 3;
 
 /// When the clocks of a zone show a local time.
@@ -35,8 +38,8 @@ pub struct WallClock {
 }
 
 impl WallClock {
-    /// What the zone's clocks show the local time at: so many seconds after 1970-01-01 00:00:00 on a clock, each day having
-    /// 86,400.
+    /// When the zone's clocks show the local time: so many seconds after 1970-01-01 00:00:00 on a clock, every day counted
+    /// as 86,400.
     fn at(zone: &TimeZone, local: i64) -> WallClock
         ensures { IsWallClockAt zone.now local result }
     {
@@ -49,7 +52,7 @@ impl WallClock {
         }
     }
 
-    /// That of the types in force at these seconds.
+    /// That of the types in force at the first and the last second that show it.
     fn of_types(local: i64, types: MappedLocalTime<LocalTimeType>) -> WallClock
         requires { IsInRange local }
         ensures { result ≡ written (told_of local types) }
@@ -65,7 +68,7 @@ impl WallClock {
         }
     }
 
-    /// That of the offsets at the first and the last second.
+    /// That of the offsets at these seconds: each second is the local time less its offset.
     fn between(shown: i32, local: i64, first_offset: i32, last_offset: i32) -> WallClock
         requires { IsInRange local }
         ensures { result ≡ record {
@@ -85,7 +88,7 @@ impl WallClock {
         }
     }
 
-    /// No second, and the number that says why.
+    /// That of no second, and the number that says why.
     fn nowhere(shown: i32) -> WallClock
         ensures { result ≡ record {
           shown = shown;
