@@ -10,13 +10,11 @@
 
      ZONED_UNKNOWN_KIND   `kind` is neither ZONED_FILE nor ZONED_TEXT
      ZONED_OTHER_SIZE     the count of answers is not the one that is asked for below
-     1 .. 17              the bytes are refused; the table of numbers is in docs/ZONEQ.md. Among them:
-        5                 a fault in the form of a TZif file
-        6, 8, 10, 13, 15  a fault in a TZ text, or in the one at the end of a file
-        7                 fewer bytes than must come
-       12                 a file whose lists make no valid zone
-       14                 a version of TZif other than 1, 2 and 3
-       16                 a text that is not UTF-8
+     1 .. 17              the bytes are refused; docs/ZONEQ.md has the table of these numbers:
+        3, 5, 12, 14      a fault of a TZif file: in a type, in its form, in its lists, its version
+        6, 8, 10, 13, 15  a fault of a TZ text, or of the one at the end of a file
+        7                 fewer bytes than must come, in either
+       16                 a text, or the end of a file, that is not UTF-8
        17                 no memory for the zone
 
    Arrays

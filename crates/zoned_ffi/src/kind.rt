@@ -78,7 +78,8 @@ fn read_text(alloc: Global, bytes: &[u8]) -> Result<TimeZone, Refusal>
     }
 }
 
-/// The zone of the bytes, which are read by the kind of that number, where there is room for the answers and for no more.
+/// The zone of the bytes, which are read by the kind of that number, where there is room for the
+/// answers and for no more.
 pub fn read_zone(
     alloc: Global,
     number: u32,

@@ -1,4 +1,5 @@
-//! Zones for C. Each call reads a zone, and answers a slice of questions about it. `include/zoned_ffi.h` is the header.
+//! Zones for C. Each call reads a zone, and answers a slice of questions about it.
+//! `include/zoned_ffi.h` is the header.
 #![tactic(auto)]
 
 ghost use Rattle.std.specs.Prelude.{◌≡◌, ◌≢◌, ◌*◌, ◌⊎◌, length};
@@ -37,8 +38,9 @@ pub extern "C" fn zoned_parse(alloc: Global, kind: u32, zone: &[u8]) -> u32
     }
 }
 
-/// Writes the offset in force at each instant, a Unix second, in seconds east of UTC. Where the zone has none it writes
-/// `i32::MIN`: its leap time leaves 64 bits, or its rule does not answer in that year.
+/// Writes the offset in force at each instant, a Unix second, in seconds east of UTC. Where the
+/// zone has none it writes `i32::MIN`: its leap time leaves 64 bits, or its rule does not answer in
+/// that year.
 #[unsafe(no_mangle)]
 pub extern "C" fn zoned_at(
     alloc: Global,
@@ -67,8 +69,8 @@ pub extern "C" fn zoned_at(
     }
 }
 
-/// Writes three numbers of each local time: those of [`WallClock`] but for the instants. `answers` has room for three times
-/// as many numbers as there are local times.
+/// Writes three numbers of each local time: those of [`WallClock`] but for the instants. `answers`
+/// has room for three times as many numbers as there are local times.
 #[unsafe(no_mangle)]
 pub extern "C" fn zoned_wall(
     alloc: Global,

@@ -19,7 +19,8 @@ pub enum Refusal {
 }
 
 impl Refusal {
-    /// The number that a call returns: from 1 to 17 for bytes that are refused, 31 for a kind, 32 for a size.
+    /// The number that a call returns: from 1 to 17 for bytes that are refused, 31 for a kind, 32
+    /// for a size.
     pub fn number(self) -> u32
         ensures value { result ≡ refusal_number self }
         ensures some { result ≢ 0 }

@@ -1,5 +1,5 @@
-//! Calls as a C program makes them. Expected offsets and instants are those of the tz database; numbers of refusals are those
-//! of its header.
+//! Calls as a C program makes them. Expected offsets and instants are those of the tz database;
+//! numbers of refusals are those of its header.
 
 use crate::{WallClock, zoned_at, zoned_parse, zoned_wall, zoned_wall_instants};
 use std::alloc::Global;
@@ -30,8 +30,8 @@ const UNTOUCHED_CLOCK: WallClock = WallClock {
     last: 77,
 };
 
-/// 2021-03-14 02:30:00, in a gap of New York; 2021-11-07 01:30:00, in a fold; noon of that day; and the first second
-/// behind the range of the calendar.
+/// 2021-03-14 02:30:00, in a gap of New York; 2021-11-07 01:30:00, in a fold; noon of that day; and
+/// the first second behind the range of the calendar.
 const LOCALS: [i64; 4] = [
     1_615_689_000,
     1_636_248_600,

@@ -25,9 +25,11 @@ const OUT_OF_RANGE: i32 = 3;
 #[repr(C)]
 #[derive(Clone, Copy)]
 pub struct WallClock {
-    /// How often: 0 never, 1 once, 2 several times. 3: the local time is outside the calendar's range.
+    /// How often: 0 never, 1 once, 2 several times. 3: the local time is outside the calendar's
+    /// range.
     pub shown: i32,
-    /// The offset in force at the first of these seconds, in seconds east of UTC; 0 where there is none.
+    /// The offset in force at the first of these seconds, in seconds east of UTC; 0 where there is
+    /// none.
     pub first_offset: i32,
     /// The offset in force at the last of them.
     pub last_offset: i32,
@@ -38,8 +40,8 @@ pub struct WallClock {
 }
 
 impl WallClock {
-    /// When the zone's clocks show the local time: so many seconds after 1970-01-01 00:00:00 on a clock, every day counted
-    /// as 86,400.
+    /// When the zone's clocks show the local time: so many seconds after 1970-01-01 00:00:00 on a
+    /// clock, every day counted as 86,400.
     fn at(zone: &TimeZone, local: i64) -> WallClock
         ensures { IsWallClockAt zone.now local result }
     {
@@ -118,7 +120,8 @@ pub fn write_wall_clocks(zone: &TimeZone, locals: &[i64], clocks: &mut [WallCloc
     }
 }
 
-/// Writes three numbers of each local time: how often it is shown, and the offsets at the first and the last second.
+/// Writes three numbers of each local time: how often it is shown, and the offsets at the first and
+/// the last second.
 pub fn write_triples(zone: &TimeZone, locals: &[i64], numbers: &mut [i32])
     requires { 3 * length locals.now ≡ length numbers.old }
     ensures { AreTriples zone.now locals.now numbers.new }
