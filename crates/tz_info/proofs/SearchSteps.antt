@@ -122,6 +122,7 @@ room_on h room = omega (arith, h.reads)
 pub narrowed_to_none : {a b : Counts} {z : ℕ} (n : ℕ) → IsNarrowed a b (n - 1) z → RoseWithin a b (digits n) 0
 narrowed_to_none n h = let q = h.questions in record { reads_kept = h.kept; reads_most = omega (arith, h.reads, digits-more (n - 1) n (omega arith)); questions_kept = omega arith; questions_most = omega arith; pieces_same = h.pieces }
 
+-- room for a search among all is room for one among all but the last
 pub room_of_all : (a n m : ℕ) → a + digits n < m → a + digits (n - 1) < m
 room_of_all a n m room = omega (arith, digits-more (n - 1) n (omega arith))
 

@@ -21,7 +21,7 @@ const FIRST_RULE_TIME: i64 = -67_768_100_504_812_800;
 
 const LAST_RULE_TIME: i64 = 67_767_976_170_460_799;
 
-// How long before 1970 the first of them comes, in seconds and in days.
+// How long before 1970 they begin, in seconds and in days.
 const SECONDS_BEFORE_1970: i64 = 67_768_100_504_812_800;
 
 const DAYS_BEFORE_1970: i64 = 784_353_015_102;
@@ -377,7 +377,7 @@ fn is_rule_time(unix_time: i64) -> bool
     FIRST_RULE_TIME <= unix_time && unix_time <= LAST_RULE_TIME
 }
 
-/// The seconds from the first of those years on.
+/// The second, counted from the first of the years that a rule answers in.
 fn since_first(unix_time: i64) -> u64
     requires { IsRuleTime unix_time }
     ensures value { unix_time +ℤ pos 67_768_100_504_812_800 ≡ pos result }
@@ -394,8 +394,8 @@ fn day_from_first(days: u64) -> i64
     days as i64 - DAYS_BEFORE_1970
 }
 
-/// The day number of the second: no second is negative when the first of those years is where they count from, and so
-/// one division of whole numbers is enough.
+/// The day number of the second. Counted from the first of those years no second is negative, so
+/// that one division is enough.
 #[inline(always)]
 fn day_of(unix_time: i64) -> i64
     requires { IsRuleTime unix_time }

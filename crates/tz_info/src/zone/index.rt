@@ -1,7 +1,7 @@
 //! A zone's index of the wall-clock axis.
 //!
-//! The starts of the first and the last piece are kept beside the pieces. A search compares with these two first, and where
-//! one of them decides, that counts as a look at its piece.
+//! The starts of the first and the last piece are kept beside the pieces. A search compares with
+//! these two first, and where one of them decides, that counts as a look at its piece.
 
 ghost use Rattle.std.specs.Prelude.{◌≡◌, ◌+◌, ◌/◌, ◌<◌, length, slice_index_or, MatchResult};
 ghost use Rattle.tz_info.specs.Counts.{HasRoomFor, RoseByPieces};
@@ -43,8 +43,8 @@ struct Ends {
     last: i64,
 }
 
-/// What a search has left: the last piece that has started is the one before `low`, whose answer is kept, or one of the
-/// `size` pieces from there on.
+/// What a search has left: the last piece that has started is the one before `low`, whose answer
+/// is kept, or one of the `size` pieces from there on.
 #[derive(Clone, Copy)]
 struct Places<'a> {
     low: usize,
@@ -150,8 +150,9 @@ impl Index {
         &self.pieces[place]
     }
 
-    /// The answer of the last piece that starts at or before the local time, by a binary search, whose last sixteen halvings
-    /// are written out as those of the search in the transitions are.
+    /// The answer of the last piece that starts at or before the local time. Where no end decides,
+    /// a binary search finds it among those before the last, whose last sixteen halvings are
+    /// written out as those of the search in the transitions are.
     #[inline(always)]
     pub(super) fn answer(&self, local: i64, probes: &mut Probes) -> MappedLocalTime<usize>
         requires { HasRoomFor (digits (length self.now.pieces)) probes.old.piece_reads }

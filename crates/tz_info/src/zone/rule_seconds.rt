@@ -104,7 +104,8 @@ impl TimeZone {
         self.ask_turn(turns, season, local, daylight, one, probes)
     }
 
-    /// Whether the rule isn't asked at the second at which a clock at that offset shows the local time.
+    /// Whether the rule is not asked at the second at which a clock at that offset shows the local
+    /// time.
     #[inline(always)]
     fn is_before_rule(&self, local: i64, offset: i32) -> bool
         requires { IsWide local }

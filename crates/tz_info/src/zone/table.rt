@@ -1,7 +1,7 @@
 //! The transitions of a zone. A lookup can look at one of them only where the look is counted.
 //!
-//! The times of the first and the last are kept beside them. A search compares with these two first, and where one of them
-//! decides, that counts as a look at its transition.
+//! The times of the first and the last are kept beside them. A search compares with these two
+//! first, and where one of them decides, that counts as a look at its transition.
 
 ghost use Rattle.std.specs.Prelude.{◌≡◌, ◌+◌, ◌/◌, ◌<◌, ◌≤◌, ◌↔◌, List, length, take, slice_index_or, IsTrue, pos};
 ghost use Rattle.tz_info.specs.Counts.{HasRoomFor, RoseWithin};
@@ -103,7 +103,8 @@ impl Table {
         self.entries[place]
     }
 
-    /// How many transitions come at or before the leap time, by a binary search in those before the last where no end decides.
+    /// How many transitions come at or before the leap time. Where no end decides, a binary search
+    /// finds it among those before the last.
     ///
     /// The last sixteen halvings are written out: there the compiler makes each of them a choice of two values, and in a
     /// loop a branch, which the processor would guess wrong every other time.

@@ -30,7 +30,6 @@ impl TimeZone {
     /// # Errors
     ///
     /// None; the answer is always `Ok`.
-    #[inline(always)]
     pub fn find_local_time_type_from_local(
         &self,
         local: NaiveDateTime,
