@@ -20,7 +20,7 @@ struct WallClock {
 const FILE: u32 = 0;
 const NO_OFFSET: i32 = i32::MIN;
 
-unsafe extern "C" {
+extern "C" {
     fn zoned_at(
         kind: u32,
         zone: *const u8,
@@ -49,7 +49,11 @@ struct ZoneFile(Vec<u8>);
 struct Refused(u32);
 
 fn status(number: u32) -> Result<(), Refused> {
-    if number == 0 { Ok(()) } else { Err(Refused(number)) }
+    if number == 0 {
+        Ok(())
+    } else {
+        Err(Refused(number))
+    }
 }
 
 impl ZoneFile {
@@ -68,7 +72,10 @@ impl ZoneFile {
                 offsets.len(),
             )
         })?;
-        Ok(offsets.into_iter().map(|offset| (offset != NO_OFFSET).then_some(offset)).collect())
+        Ok(offsets
+            .into_iter()
+            .map(|offset| (offset != NO_OFFSET).then_some(offset))
+            .collect())
     }
 
     /// When clocks show each local time.
@@ -97,7 +104,13 @@ fn print_answers(zone: &ZoneFile, seconds: &[i64]) -> Result<(), Refused> {
             Some(offset) => println!("instant {second}: {offset}"),
             None => println!("instant {second}: no offset"),
         }
-        let WallClock { shown, first_offset, last_offset, first, last } = clock;
+        let WallClock {
+            shown,
+            first_offset,
+            last_offset,
+            first,
+            last,
+        } = clock;
         match shown {
             0 => println!("wall clock {second}: never"),
             1 => println!("wall clock {second}: once, at {first} ({first_offset})"),
@@ -112,23 +125,24 @@ fn print_answers(zone: &ZoneFile, seconds: &[i64]) -> Result<(), Refused> {
 
 fn main() -> ExitCode {
     let words: Vec<String> = std::env::args().skip(1).collect();
-    let [path, numbers @ ..] = words.as_slice() else {
-        eprintln!("usage: zones_rs FILE NUMBER ..");
-        return ExitCode::from(2);
-    };
-    let Ok(bytes) = std::fs::read(path) else {
-        eprintln!("no file {path}");
-        return ExitCode::FAILURE;
-    };
-    let Ok(seconds) = numbers.iter().map(|number| number.parse()).collect::<Result<Vec<i64>, _>>() else {
-        eprintln!("not a number of 64 bits");
-        return ExitCode::from(2);
-    };
-    match print_answers(&ZoneFile(bytes), &seconds) {
+    match answer(&words) {
         Ok(()) => ExitCode::SUCCESS,
-        Err(Refused(number)) => {
-            eprintln!("{path} is refused: {number}");
+        Err(message) => {
+            eprintln!("{message}");
             ExitCode::FAILURE
         }
     }
+}
+
+fn answer(words: &[String]) -> Result<(), String> {
+    let (path, numbers) = words
+        .split_first()
+        .ok_or("usage: zones_rs FILE NUMBER ..")?;
+    let bytes = std::fs::read(path).map_err(|error| format!("{path}: {error}"))?;
+    let seconds = numbers
+        .iter()
+        .map(|number| number.parse().map_err(|error| format!("{number}: {error}")))
+        .collect::<Result<Vec<i64>, String>>()?;
+    print_answers(&ZoneFile(bytes), &seconds)
+        .map_err(|Refused(number)| format!("{path} is refused: {number}"))
 }
