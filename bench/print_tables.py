@@ -58,7 +58,7 @@ class Answers:
         return array("i", (self.outputs / f"{peer}.{zone}.{question}.{years}").read_bytes())
 
     def difference(self, peer, zone, question, years):
-        """How many answers differ from this library's, of how many, and the first place; None where there are none."""
+        """How many answers differ from this library's, of how many, in which years, and one of them; None where none does."""
         theirs = self.numbers(peer, zone, question, years)
         ours = self.numbers(OURS, zone, question, years)
         size = 3 if question == "wall" else 1
@@ -66,10 +66,11 @@ class Answers:
         places = [i for i in range(count) if theirs[size * i : size * (i + 1)] != ours[size * i : size * (i + 1)]]
         if not places:
             return None
+        asked = array("q", (self.inputs / f"{question}_{years}.i64").read_bytes())
+        when = [EPOCH + timedelta(seconds=asked[i]) for i in places]
         i = places[0]
-        second = array("q", (self.inputs / f"{question}_{years}.i64").read_bytes())[i]
         told = [self.words(question, numbers[size * i : size * (i + 1)]) for numbers in (theirs, ours)]
-        return len(places), count, EPOCH + timedelta(seconds=second), *told
+        return len(places), count, (min(when).year, max(when).year), when[0], *told
 
     @staticmethod
     def words(question, numbers):
@@ -179,13 +180,14 @@ def main():
         print(f"| `mawk '{{print NF}}'`, the same lines | {lines[1]:.0f} ns |")
         print(f"| ratio | {lines[0] / lines[1]:.2f} |")
     print("\n### Answers that differ\n")
-    print("| peer | zone | question | differ | the first of them | the peer | Sahvumbi |")
-    print("|---|---|---|--:|---|---|---|")
-    for (question, years, zone, peer), (differ, count, when, theirs, ours) in wrong.items():
+    print("| peer | zone | question | differ | in the years | one of them | the peer | Sahvumbi |")
+    print("|---|---|---|--:|---|---|---|---|")
+    for (question, years, zone, peer), (differ, count, when_years, when, theirs, ours) in wrong.items():
         first, end = ("1900", "2099") if years == "wide" else ("2020", "2029")
         asked = f"{'an instant' if question == 'at' else 'a wall clock'}, {first} to {end}"
         shown = f"{when:%Y-%m-%d %H:%M:%S}" + (" UTC" if question == "at" else "")
-        print(f"| {PEERS[peer]} | {zone} | {asked} | {differ:,} of {count:,} | {shown} | {theirs} | {ours} |")
+        told = f"{when_years[0]} to {when_years[1]} | {shown} | {theirs} | {ours}"
+        print(f"| {PEERS[peer]} | {zone} | {asked} | {differ:,} of {count:,} | {told} |")
 
 
 main()

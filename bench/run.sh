@@ -5,7 +5,7 @@
 #
 # First `rt lib` in crates/zoned_ffi builds the archive, and `rt run` in crates/zoneq the program. Debian has the peers:
 #   apt-get install g++ pkg-config libabsl-dev libhowardhinnant-date-dev openjdk-17-jdk-headless mawk python3 tzdata
-# A peer that is not there is left out. It takes about four minutes.
+# A peer that is not there is left out. It takes some five minutes.
 #
 #   BENCH_DIR   where inputs, programs and figures are kept (else sahvumbi-bench in the folder for temporary files)
 #   KEEP=1      keep the figures of earlier runs too: of each figure the least of all runs counts
