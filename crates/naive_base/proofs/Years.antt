@@ -78,3 +78,7 @@ year_of_days day y lies within =
 
 pub start_in_range : (y : ℤ) → IsYear y → IsDay (year_start y)
 start_in_range y fits = day_of_years (year_start y) y (omega (arith, floors), year_start-less y) fits
+
+-- the first day of a day's year
+pub own_start_in_range : (day : ℤ) → IsDay day → IsDay (year_start (year_of day))
+own_start_in_range day within = start_in_range (year_of day) (year_of_days day (year_of day) (lies_in day) within)

@@ -1,6 +1,7 @@
 //! Two types that take turns each year.
 
 ghost use Rattle.std.specs.Prelude.{◌≡◌, ◌<◌, ℤ, pos, neg_ℤ, ◌+ℤ◌, ◌≤ℤ◌, ◌<ℤ◌, int_le, MatchResult, IsTrue, ◌↔◌, ◌||◌, not, if◌then◌else◌};
+ghost use Rattle.naive_base.specs.DateOf.{year_of};
 ghost use Rattle.naive_base.specs.Year.{floor_div, year_start, LiesIn, IsDay};
 ghost use Rattle.offset_core.specs.Offset.{IsWithinDay};
 ghost use Rattle.tz_info.specs.Errors.{number_of};
@@ -12,7 +13,7 @@ use crate::error::{Error, Expected};
 use crate::local_time_type::LocalTimeType;
 use crate::rule::day::RuleDay;
 use crate::rule::kinds::kind_of;
-use naive_base::calendar::{year_of, year_start};
+use naive_base::calendar::{day_of_year, year_of, year_start};
 use std::fmt;
 use std::marker::Model;
 
@@ -216,12 +217,13 @@ impl AlternateTime {
         requires { IsRuleTime unix_time }
         ensures { IsSeason self.now result }
     {
-        let year = year_of(day_of(unix_time));
-        let first = year_start(year);
+        let day = day_of(unix_time);
+        let year = year_of(day);
+        let first = first_of_year(day);
         Season {
             from: (first + 8) * 86_400,
             until: (first + 357) * 86_400,
-            turns: self.turns(year),
+            turns: self.turns_from(year, first),
         }
     }
 
@@ -276,11 +278,23 @@ impl AlternateTime {
         ensures end { result.end ≡ end_in self.now year }
         ensures rule { IsAlternateRule self.now }
     {
-        let first = 86_400 * year_start(year);
-        let kind = kind_of(year);
+        self.turns_from(year, year_start(year))
+    }
+
+    /// The moments of the year that begins on that day.
+    #[inline(always)]
+    fn turns_from(&self, year: i32, first: i64) -> Turns
+        requires first { first ≡ year_start year }
+        requires day { IsDay first }
+        ensures start { result.start ≡ start_in self.now year }
+        ensures end { result.end ≡ end_in self.now year }
+        ensures rule { IsAlternateRule self.now }
+    {
+        let midnight = 86_400 * first;
+        let kind = kind_of(year, first);
         Turns {
-            start: first + self.starts[kind],
-            end: first + self.ends[kind],
+            start: midnight + self.starts[kind],
+            end: midnight + self.ends[kind],
         }
     }
 }
@@ -403,6 +417,16 @@ fn day_of(unix_time: i64) -> i64
     ensures bound { IsDay result }
 {
     day_from_first(since_first(unix_time) / 86_400)
+}
+
+/// The day number of the first day of the year that the day lies in.
+#[inline(always)]
+fn first_of_year(day: i64) -> i64
+    requires { IsDay day }
+    ensures value { result ≡ year_start (year_of day) }
+    ensures bound { IsDay result }
+{
+    day - day_of_year(day) as i64
 }
 
 impl DayTime {

@@ -4,6 +4,7 @@
 //! in a year of each of the fourteen kinds, when the rule is made.
 
 ghost use Rattle.std.specs.Prelude.{◌≡◌, ◌<◌};
+ghost use Rattle.naive_base.specs.Year.{year_start, IsDay};
 ghost use Rattle.offset_core.specs.Offset.{IsWithinDay};
 ghost use Rattle.tz_info.specs.Rules.{IsWithinWeek};
 ghost use Rattle.tz_info.specs.Steps.Kinds.{kind_place, second_in, seconds_by_kind};
@@ -11,13 +12,15 @@ ghost use Rattle.tz_info.specs.Steps.Kinds.{kind_place, second_in, seconds_by_ki
 use crate::rule::alternate::DayTime;
 use naive_base::calendar::{is_leap_year, weekday_of, year_start};
 
-/// The place of the year's kind: the common years that begin with Sunday to Saturday, and then the leap years.
+/// The place of the kind of the year that begins on that day: the common years that begin with Sunday to Saturday, and then the leap years.
 #[inline(always)]
-pub(super) fn kind_of(year: i32) -> usize
+pub(super) fn kind_of(year: i32, first: i64) -> usize
+    requires first { first ≡ year_start year }
+    requires day { IsDay first }
     ensures place { result ≡ kind_place year }
     ensures bound { result < 14 }
 {
-    let weekday = weekday_of(year_start(year)) as usize;
+    let weekday = weekday_of(first) as usize;
     if is_leap_year(year) {
         7 + weekday
     } else {
