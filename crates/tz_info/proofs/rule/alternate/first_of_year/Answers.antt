@@ -1,7 +1,4 @@
-use Rattle.std.proofs.Common.{arith, ◌≡◌, to_z-of_z, w64, ℤ, pos, ◌-ℤ◌}
-use mir.Val.{SFits}
-use Rattle.naive_base.specs.DateOf.{year_of}
-use Rattle.naive_base.specs.Year.{year_start, IsDay}
+use Rattle.std.proofs.Common.{arith, to_z-of_z}
 use Rattle.naive_base.proofs.ForCallers.{floors, day_of_year_is, own_start_in_range}
 use Rattle.tz_info.proofs.rule.alternate.first_of_year.Goals as goal
 
