@@ -70,9 +70,9 @@ uint32_t zoned_parse(uint32_t kind, const uint8_t *zone, size_t zone_len);
 
 /* offsets[i] is the offset in force at instants[i], in seconds east of UTC.
 
-   An instant is a Unix second, any of 64 bits. The offset is ZONED_NO_OFFSET where the zone has none: the rule that goes on
-   behind its last transition does not answer some 2 * 10^9 years away from now, nor a list of leap seconds near the ends of
-   64 bits. The other instants are answered all the same.
+   An instant is a Unix second, any of 64 bits. The offset is ZONED_NO_OFFSET where the zone has none: before the year
+   -2147483646 and after 2147483645, where a rule is asked; and near the ends of 64 bits, where the zone has leap seconds.
+   The other instants are answered all the same.
 
    offsets_len is instants_len. */
 uint32_t zoned_at(uint32_t kind, const uint8_t *zone, size_t zone_len,

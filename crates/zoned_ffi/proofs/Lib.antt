@@ -1,3 +1,3 @@
-mod Slices
-mod Reading
-mod Telling
+pub mod Slices
+pub mod Reading
+pub mod Telling
