@@ -11,9 +11,9 @@
      ZONED_UNKNOWN_KIND   `kind` is neither ZONED_FILE nor ZONED_TEXT
      ZONED_OTHER_SIZE     the count of answers is not the one that is asked for below
      1 .. 17              the bytes are refused; docs/ZONEQ.md has the table of these numbers:
-        3, 5, 12, 14      a fault of a TZif file: in a type, in its form, in its lists, its version
+        5, 12, 14         a fault of a TZif file: in its form, in its lists, its version
         6, 8, 10, 13, 15  a fault of a TZ text, or of the one at the end of a file
-        7                 fewer bytes than must come, in either
+        3, 7              in either: an offset or a name that can't be; fewer bytes than must come
        16                 a text, or the end of a file, that is not UTF-8
        17                 no memory for the zone
 
