@@ -1,5 +1,5 @@
 -- What a choice takes for a wall clock.
-use Rattle.std.proofs.Common.{◌≡◌, ℤ, ◌-ℤ◌, refl, sym, subst, ap, Result, Ok, Err, MatchResult}
+use Rattle.std.proofs.Common.{◌≡◌, ℤ, ◌-ℤ◌, refl, sym, subst, Result, Ok, Err, MatchResult}
 use Rattle.offset_core.specs.declared.choice.Choice.{Choice}
 use Rattle.offset_core.specs.declared.choice.GapChoice.TheVariants.{ShiftForward}
 use Rattle.naive_base.specs.Range.{IsInRange}

@@ -1,4 +1,4 @@
-use Rattle.std.proofs.Common.{◌≡◌, ℤ, pos, ◌+ℤ◌, ◌*ℤ◌, arith, ap, sym, to_z-of_z}
+use Rattle.std.proofs.Common.{◌≡◌, pos, ◌+ℤ◌, ◌*ℤ◌, arith, ap, sym, to_z-of_z}
 use Rattle.std.proofs.lemmas.Int.{ints}
 use Rattle.naive_base.specs.Clock.{clock_second}
 use Rattle.naive_base.specs.Date.{day_number}

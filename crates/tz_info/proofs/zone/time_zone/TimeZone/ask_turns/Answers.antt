@@ -4,20 +4,6 @@ use Rattle.std.proofs.lemmas.Int.{ints}
 use Rattle.tz_info.specs.LocalTypes.{LocalType}
 use Rattle.tz_info.proofs.WalkLaws.{one_of_both, asked_neither, asked_one, asked_both}
 use Rattle.tz_info.proofs.zone.time_zone.TimeZone.ask_turns.Goals as goal
-use Rattle.tz_info.proofs.zone.time_zone.TimeZone.ask_turns.Goals.{After-offset-daylight}
-
--- the two offsets are those of the rule's types, and fit
-offsets : (c : goal.After-offset-daylight)
-    → (c.offset-standard.result ≡ c.args.turns.now.std.offset) × (c.offset-daylight.result ≡ c.args.turns.now.dst.offset)
-    × SFits w32 c.offset-standard.result × SFits w32 c.offset-daylight.result
-offsets c =
-    let standard = c.offset-standard.ensures.value in let daylight = c.offset-daylight.ensures.value in
-    let std_bound = c.offset-standard.ensures.bound in let dst_bound = c.offset-daylight.ensures.bound in (
-      standard ∙ ap (λ (t : LocalType). t.offset) c.std.ensures.value,
-      daylight ∙ ap (λ (t : LocalType). t.offset) c.dst.ensures.value,
-      omega (arith, ints),
-      omega (arith, ints),
-    )
 
 pub returns-then-is_before_rule-2-clause-found : goal.returns-then-is_before_rule-2-clause-found
 returns-then-is_before_rule-2-clause-found c =
@@ -36,11 +22,13 @@ returns-then-is_before_rule-2-clause-found c =
 pub returns-then-standard-daylight-clause-found : goal.returns-then-standard-daylight-clause-found
 returns-then-standard-daylight-clause-found c =
     let fl = c.ranges.local in
+    let fs : SFits w32 c.offset-standard.result = let b = c.offset-standard.ensures.bound in let v = c.offset-standard.ensures.value in omega (arith, ints) in
+    let fd : SFits w32 c.offset-daylight.result = let b = c.offset-daylight.ensures.bound in let v = c.offset-daylight.ensures.value in omega (arith, ints) in
     let valid = c.local_time_types-types.ensures.valid in
+    let vs = c.offset-standard.ensures.value ∙ ap (λ (t : LocalType). t.offset) c.std.ensures.value in
+    let vd = c.offset-daylight.ensures.value ∙ ap (λ (t : LocalType). t.offset) c.dst.ensures.value in
     let both = one_of_both c.args.self.now c.args.local c.args.turns.now valid c.requires.rule in
     let a = c.args.turns.now in
-    let at = offsets (goal.at.returns-then-standard-daylight-clause-found c).After-offset-daylight in
-    let vs = at.0 in let vd = at.1 in let fs = at.2 in let fd = at.3 in
     let same : a.std.offset ≡ a.dst.offset = omega (arith, ints) in
     asked_one c.args.self.now c.args.local a.std.offset c.args.answer c.ask_turn.result valid
     (λ u t k. ⊎_elim (λ e. e) (λ e. omega (arith, ints)) (both u t k))
@@ -49,11 +37,13 @@ returns-then-standard-daylight-clause-found c =
 pub returns-then-standard-daylight-2-clause-found : goal.returns-then-standard-daylight-2-clause-found
 returns-then-standard-daylight-2-clause-found c =
     let fl = c.ranges.local in
+    let fs : SFits w32 c.offset-standard.result = let b = c.offset-standard.ensures.bound in let v = c.offset-standard.ensures.value in omega (arith, ints) in
+    let fd : SFits w32 c.offset-daylight.result = let b = c.offset-daylight.ensures.bound in let v = c.offset-daylight.ensures.value in omega (arith, ints) in
     let valid = c.local_time_types-types.ensures.valid in
+    let vs = c.offset-standard.ensures.value ∙ ap (λ (t : LocalType). t.offset) c.std.ensures.value in
+    let vd = c.offset-daylight.ensures.value ∙ ap (λ (t : LocalType). t.offset) c.dst.ensures.value in
     let both = one_of_both c.args.self.now c.args.local c.args.turns.now valid c.requires.rule in
     let a = c.args.turns.now in
-    let at = offsets (goal.at.returns-then-standard-daylight-2-clause-found c).After-offset-daylight in
-    let vs = at.0 in let vd = at.1 in let fs = at.2 in let fd = at.3 in
     asked_both c.args.self.now c.args.local a.dst.offset a.std.offset c.args.answer c.ask_turn-one.result c.ask_turn-then-standard-daylight-2.result valid (omega (arith, ints))
     (λ u t k. ⊎_elim (λ e. inr e) (λ e. inl e) (both u t k))
     (rw vd at (simp to_z-of_z at c.ask_turn-one.ensures.asked)) (rw vs at (simp to_z-of_z at c.ask_turn-then-standard-daylight-2.ensures.asked)) c.requires.seen
@@ -61,10 +51,12 @@ returns-then-standard-daylight-2-clause-found c =
 pub returns-clause-found : goal.returns-clause-found
 returns-clause-found c =
     let fl = c.ranges.local in
+    let fs : SFits w32 c.offset-standard.result = let b = c.offset-standard.ensures.bound in let v = c.offset-standard.ensures.value in omega (arith, ints) in
+    let fd : SFits w32 c.offset-daylight.result = let b = c.offset-daylight.ensures.bound in let v = c.offset-daylight.ensures.value in omega (arith, ints) in
     let valid = c.local_time_types-types.ensures.valid in
+    let vs = c.offset-standard.ensures.value ∙ ap (λ (t : LocalType). t.offset) c.std.ensures.value in
+    let vd = c.offset-daylight.ensures.value ∙ ap (λ (t : LocalType). t.offset) c.dst.ensures.value in
     let both = one_of_both c.args.self.now c.args.local c.args.turns.now valid c.requires.rule in
     let a = c.args.turns.now in
-    let at = offsets (goal.at.returns-clause-found c).After-offset-daylight in
-    let vs = at.0 in let vd = at.1 in let fs = at.2 in let fd = at.3 in
     asked_both c.args.self.now c.args.local a.std.offset a.dst.offset c.args.answer c.ask_turn-one-2.result c.ask_turn-2.result valid (omega (arith, ints)) both
     (rw vs at (simp to_z-of_z at c.ask_turn-one-2.ensures.asked)) (rw vd at (simp to_z-of_z at c.ask_turn-2.ensures.asked)) c.requires.seen
