@@ -1,6 +1,6 @@
-//! What comes of a file in which one byte is another: for each place of the byte a letter, which is `.` for a zone, and else
-//! the number of the refusal, from 10 on as a letter (`a` for 10). The rows are those of `tools/crafted_files.py`, which
-//! reads files by itself.
+//! What comes of a file in which one byte is another: for each place of the byte a letter, which is
+//! `.` for a zone, and else the number of the refusal, from 10 on as a letter (`a` for 10). The
+//! rows are those of `tools/crafted_files.py`, which reads files by itself.
 
 pub const GUAYAQUIL_00: &str = "5555...................5...5.......5...5...5..................33\
     ..33.....";

@@ -101,7 +101,8 @@ fn transitions_at_the_ends_of_time(rt: HostRuntime) -> Result<(), Fail> {
     Ok(())
 }
 
-/// A leap second is taken away: 78796799 and 78796800 have one leap time, and the change comes a second later.
+/// A leap second is taken away: 78796799 and 78796800 have one leap time, and the change comes a
+/// second later.
 #[test]
 fn a_leap_second_taken_away(rt: HostRuntime) -> Result<(), Fail> {
     let change = Transition::new(78_796_800, 1);

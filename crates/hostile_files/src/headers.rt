@@ -1,5 +1,5 @@
-//! Headers whose counts say more than there is. That no memory is asked for before the refusal, `tools/refuse_memory.py`
-//! shows.
+//! Headers whose counts say more than there is. That no memory is asked for before the refusal,
+//! `tools/refuse_memory.py` shows.
 
 use crate::refusals::refusal;
 use std::alloc::{AllocError, Global};
@@ -8,8 +8,8 @@ use std::test::Fail;
 
 const MOST: u32 = u32::MAX;
 
-/// A header of version 1 with those counts: of UT and of standard time indicators, leap seconds, transitions, types and bytes
-/// of designations.
+/// A header of version 1 with those counts: of UT and of standard time indicators, leap seconds,
+/// transitions, types and bytes of designations.
 fn header(alloc: Global, counts: [u32; 6]) -> Result<Vec<u8>, AllocError> {
     let mut header = b"TZif\0\0\0\0\0\0\0\0\0\0\0\0\0\0\0\0".to_vec(alloc)?;
     for count in counts {

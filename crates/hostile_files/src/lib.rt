@@ -1,5 +1,5 @@
-//! Tests of what no zone should be made of: files that are cut short, whose counts lie, or in which a byte is another, and
-//! lists and texts at the limits of their numbers.
+//! Tests of what no zone should be made of: files that are cut short, whose counts lie, or in which
+//! a byte is another, and lists and texts at the limits of their numbers.
 #![tactic(auto)]
 
 #[cfg(test)]

@@ -1,4 +1,5 @@
-//! A choice for gaps and folds, and a time on each day. New York's instants are those of its rule, read off POSIX.1 section 8.3.
+//! A choice for gaps and folds, and a time on each day. New York's instants are those of its rule,
+//! read off POSIX.1 section 8.3.
 
 use crate::values::{new_york, told};
 use naive_base::{NaiveDate, NaiveDateTime, NaiveTime};
@@ -122,7 +123,8 @@ fn a_gap_at_a_leap_second(rt: HostRuntime) -> Result<(), Fail> {
     Ok(())
 }
 
-/// Set back by an hour twice within half an hour: three instants show the time, and the first and the last can be taken.
+/// Set back by an hour twice within half an hour: three instants show the time, and the first and
+/// the last can be taken.
 #[test]
 fn three_instants(rt: HostRuntime) -> Result<(), Fail> {
     let alloc = rt.alloc();
@@ -224,7 +226,8 @@ fn days_one_after_another(rt: HostRuntime) {
     assert_eq!(rt; item(back.next().expect(&rt, "a day")), Ok(0));
 }
 
-/// The odd zone shows no odd second of the day: an odd second shifted forward is that second of UTC, shown one later.
+/// The odd zone shows no odd second of the day: an odd second shifted forward is that second of
+/// UTC, shown one later.
 #[test]
 fn gaps_of_the_odd_zone(rt: HostRuntime) {
     let local = NaiveDateTime::from_timestamp_opt(1, 0).expect(&rt, "a reading");

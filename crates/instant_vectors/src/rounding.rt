@@ -1,4 +1,5 @@
-//! Instants rounded: in New York, in the odd zone, and before the range. Values are worked from the definitions.
+//! Instants rounded: in New York, in the odd zone, and before the range. Values are worked from the
+//! definitions.
 
 use crate::values::{at, new_york, told};
 use naive_base::Days;
@@ -26,7 +27,8 @@ where
     format!(in alloc; "{down}")
 }
 
-/// The reading is a multiple of a day, and the instant moved by as much lies before the clocks were set forward.
+/// The reading is a multiple of a day, and the instant moved by as much lies before the clocks were
+/// set forward.
 #[test]
 fn a_day_in_new_york(rt: HostRuntime) -> Result<(), Fail> {
     let parsed = new_york(&rt, rt.alloc());

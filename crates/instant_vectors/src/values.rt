@@ -5,7 +5,8 @@ use std::alloc::Global;
 use std::process::Abort;
 use zoned_time::{DateTime, Offset, TimeZone};
 
-/// New York since 2007, by its TZ text: in 2021 clocks were set forward at 1615705200 and back at 1636264800.
+/// New York since 2007, by its TZ text: in 2021 clocks were set forward at 1615705200 and back at
+/// 1636264800.
 pub fn new_york(rt: &impl Abort, alloc: Global) -> tz_info::TimeZone {
     match tz_info::TimeZone::from_posix_tz(alloc, "EST5EDT,M3.2.0,M11.1.0") {
         Ok(zone) => zone,

@@ -1,7 +1,8 @@
-//! A meeting, held at one wall-clock time by the clocks of its host: how a program uses the library.
+//! A meeting, held at one wall-clock time by the clocks of its host: how a program uses the
+//! library.
 //!
-//! Nothing here needs a lemma or a proof file, and no function has a contract: what the calls ask is met by literals, by `?` and
-//! by the answers of other calls.
+//! Nothing here needs a lemma or a proof file, and no function has a contract: what the calls ask
+//! is met by literals, by `?` and by the answers of other calls.
 #![tactic(auto)]
 
 mod error;

@@ -15,8 +15,8 @@ pub struct Meeting {
 }
 
 impl Meeting {
-    /// A meeting at that time of the host's clocks. A time that they skip is moved forward, and of one that they show twice the
-    /// first instant is taken.
+    /// A meeting at that time of the host's clocks. A time that they skip is moved forward, and of
+    /// one that they show twice the first instant is taken.
     pub fn at_host(
         alloc: Global,
         zone_file: &[u8],

@@ -7,7 +7,8 @@ use std::alloc::Global;
 use zoned_ref::TimeZoneRef;
 use zoned_time::{DateTime, TimeZone};
 
-/// New York's clocks since 2007: set forward at 02:00 on the second Sunday of March, and back at 02:00 on the first of November.
+/// New York's clocks since 2007: set forward at 02:00 on the second Sunday of March, and back at
+/// 02:00 on the first of November.
 const NEW_YORK: &str = "EST5EDT,M3.2.0,M11.1.0";
 
 /// A date, and an hour and a minute of it.
@@ -59,7 +60,8 @@ fn instants_in(
     Ok(fixed_instants(&zone, &local))
 }
 
-// A function for all zones: the borrow checker of today covers closures over instants of a borrowed zone only so.
+// A function for all zones: the borrow checker of today covers closures over instants of a borrowed
+// zone only so.
 fn fixed_instants<Tz: TimeZone>(
     zone: &Tz,
     local: &NaiveDateTime,

@@ -16,9 +16,10 @@ use crate::{NaiveDateTime, NaiveTime};
 
 /// A day of the proleptic Gregorian calendar, in the years -262143 to 262142.
 ///
-/// The date of a [`NaiveDateTime`] on a buffer day is the one day before those years, or the one behind them. Dates
-/// compare and hash by their days. A date prints as `2012-03-04`, and a year before 0 or after 9999 with its sign, as
-/// `-0001-12-31` or `+12345-01-01`, whatever width, fill or flags the formatter has.
+/// The date of a [`NaiveDateTime`] on a buffer day is the one day before those years, or the one
+/// behind them. Dates compare and hash by their days. A date prints as `2012-03-04`, and a year
+/// before 0 or after 9999 with its sign, as `-0001-12-31` or `+12345-01-01`, whatever width, fill
+/// or flags the formatter has.
 #[derive(Clone, Copy, PartialEq, Eq, PartialOrd, Ord, Hash)]
 pub struct NaiveDate {
     day: i32,
@@ -42,8 +43,8 @@ impl NaiveDate {
     ghost use Rattle.naive_base.specs.NaiveTime.{second_of, fraction_of};
     ghost use Rattle.naive_base.specs.NaiveDateTime.{reading, IsReadingOn};
 
-    /// The date of a year, a month from 1 and a day of the month from 1. `None` where the calendar has no such date, or
-    /// the year is not one from -262143 to 262142.
+    /// The date of a year, a month from 1 and a day of the month from 1. `None` where the calendar
+    /// has no such date, or the year is not one from -262143 to 262142.
     pub fn from_ymd_opt(year: i32, month: u32, day: u32) -> Option<NaiveDate>
         ensures value { IsDateOf year month day result }
         ensures in_range { IfSome result (λ d. IsDayInRange (day_of d)) }
@@ -69,8 +70,8 @@ impl NaiveDate {
         }
     }
 
-    /// The date by its number in the common era, where 0001-01-01 is day 1 and 1970-01-01 is day 719163. `None` where
-    /// the year is not one from -262143 to 262142.
+    /// The date by its number in the common era, where 0001-01-01 is day 1 and 1970-01-01 is day
+    /// 719163. `None` where the year is not one from -262143 to 262142.
     pub fn from_num_days_from_ce_opt(days: i32) -> Option<NaiveDate>
         ensures { IsDateOfDay (days -ℤ pos 719_163) result }
     {
@@ -98,7 +99,8 @@ impl NaiveDate {
         NaiveDateTime::of_date_and_time(*self, time)
     }
 
-    /// The reading at an hour from 0 to 23, a minute and a second from 0 to 59 of this day. `None` for any other.
+    /// The reading at an hour from 0 to 23, a minute and a second from 0 to 59 of this day. `None`
+    /// for any other.
     pub fn and_hms_opt(&self, hour: u32, min: u32, sec: u32) -> Option<NaiveDateTime>
         ensures value { IsReadingOn (day_of self.now) (IsClock hour min sec)
             (clock_second hour min sec) 0 result }
@@ -109,7 +111,8 @@ impl NaiveDate {
         Some(self.and_time(time))
     }
 
-    /// [`NaiveDate::and_hms_opt`] with milliseconds: below 1000, or, for a leap second after a second 59, below 2000.
+    /// [`NaiveDate::and_hms_opt`] with milliseconds: below 1000, or, for a leap second after a
+    /// second 59, below 2000.
     pub fn and_hms_milli_opt(
         &self,
         hour: u32,
@@ -126,7 +129,8 @@ impl NaiveDate {
         Some(self.and_time(time))
     }
 
-    /// [`NaiveDate::and_hms_opt`] with microseconds: below 10^6, or, for a leap second after a second 59, below 2*10^6.
+    /// [`NaiveDate::and_hms_opt`] with microseconds: below 10^6, or, for a leap second after a
+    /// second 59, below 2*10^6.
     pub fn and_hms_micro_opt(
         &self,
         hour: u32,
@@ -143,7 +147,8 @@ impl NaiveDate {
         Some(self.and_time(time))
     }
 
-    /// [`NaiveDate::and_hms_opt`] with nanoseconds: below 10^9, or, for a leap second after a second 59, below 2*10^9.
+    /// [`NaiveDate::and_hms_opt`] with nanoseconds: below 10^9, or, for a leap second after a
+    /// second 59, below 2*10^9.
     pub fn and_hms_nano_opt(
         &self,
         hour: u32,

@@ -9,8 +9,8 @@ use crate::{IsoWeek, Weekday};
 
 /// A value that shows a date.
 ///
-/// A field is changed where the calendar has the new date, and its year is one from -262143 to 262142 or it is the date
-/// that the value shows anyhow. All else that the value shows stays.
+/// A field is changed where the calendar has the new date, and its year is one from -262143 to
+/// 262142 or it is the date that the value shows anyhow. All else that the value shows stays.
 ///
 /// ```text
 /// let date = NaiveDate::from_ymd_opt(2020, 2, 29)?;
@@ -23,7 +23,8 @@ pub trait Datelike: Sized {
     // the day that it shows
     ghost day_shown: { Self → ℤ };
 
-    // the value that shows the day given, and all else as it was, where there is one; none where none is given
+    // the value that shows the day given, and all else as it was, where there is one; none where
+    // none is given
     ghost IsOnDay: { Self → Option ℤ → Option Self → Type 0 };
 
     /// The year, where the year 0 is the one before the year 1.

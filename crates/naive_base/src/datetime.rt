@@ -12,13 +12,13 @@ use crate::range::{FIRST_SECOND, LAST_SECOND};
 use crate::{NaiveDate, NaiveTime, Timelike};
 use offset_core::FixedOffset;
 
-/// What a clock shows, without a time zone: the seconds from 1970-01-01 00:00:00, every day counted as 86,400, and
-/// nanoseconds, which from 10^9 on are those of a leap second after that second.
+/// What a clock shows, without a time zone: the seconds from 1970-01-01 00:00:00, every day counted
+/// as 86,400, and nanoseconds, which from 10^9 on are those of a leap second after that second.
 ///
-/// A reading is in range in the years -262143 to 262142, or it is on a buffer day, the one before or the one behind
-/// them: that is where a clock's offset may bring it. Readings compare and hash by the seconds, then the nanoseconds. A
-/// reading prints as its date, a space and its time, and by `{:?}` with a `T` between them, whatever width, fill or
-/// flags the formatter has.
+/// A reading is in range in the years -262143 to 262142, or it is on a buffer day, the one before
+/// or the one behind them: that is where a clock's offset may bring it. Readings compare and hash
+/// by the seconds, then the nanoseconds. A reading prints as its date, a space and its time, and by
+/// `{:?}` with a `T` between them, whatever width, fill or flags the formatter has.
 #[derive(Clone, Copy, PartialEq, Eq, PartialOrd, Ord, Hash)]
 pub struct NaiveDateTime {
     secs: i64,
@@ -52,9 +52,9 @@ impl NaiveDateTime {
         }
     }
 
-    /// The reading so many seconds after 1970-01-01 00:00:00, or before it for a negative number, and so many nanoseconds.
-    /// `None` where that isn't in range, or the nanoseconds are 2*10^9 or more, or, being 10^9 or more, don't follow the
-    /// last second of a minute.
+    /// The reading so many seconds after 1970-01-01 00:00:00, or before it for a negative number,
+    /// and so many nanoseconds. `None` where that isn't in range, or the nanoseconds are 2*10^9 or
+    /// more, or, being 10^9 or more, don't follow the last second of a minute.
     pub fn from_timestamp_opt(secs: i64, nsecs: u32) -> Option<NaiveDateTime>
         ensures { let r = of_secs secs nsecs in SomeIff (option_map reading result) (IsStamp r) r }
     {
@@ -118,9 +118,11 @@ impl NaiveDateTime {
         NaiveDateTime::at_second(self.second_behind(offset), self.frac)
     }
 
-    /// What a clock shows that is ahead of this one by an offset, be it on a buffer day. This reading is in range.
+    /// What a clock shows that is ahead of this one by an offset, be it on a buffer day. This
+    /// reading is in range.
     ///
-    /// `NaiveDateTime::MAX` an hour ahead shows 00:59:59.999999999 on 262143-01-01, which is a buffer day.
+    /// `NaiveDateTime::MAX` an hour ahead shows 00:59:59.999999999 on 262143-01-01, which is a
+    /// buffer day.
     pub fn overflowing_add_offset(self, offset: FixedOffset) -> NaiveDateTime
         requires { IsInRange (reading self).s }
         ensures { reading result ≡ ahead (reading self) (seconds_of offset) }

@@ -4,11 +4,11 @@ ghost use Rattle.naive_base.specs.Range.{IsWideDay};
 
 use crate::calendar;
 
-/// A week by the rule of ISO 8601: it runs from Monday to Sunday, and belongs to the year that its Thursday lies in, whose
-/// weeks are counted from 1.
+/// A week by the rule of ISO 8601: it runs from Monday to Sunday, and belongs to the year that its
+/// Thursday lies in, whose weeks are counted from 1.
 ///
-/// 2021-01-03 was the Sunday of the last week of 2020, which had 53. Weeks compare and hash by their years, then by their
-/// numbers.
+/// 2021-01-03 was the Sunday of the last week of 2020, which had 53. Weeks compare and hash by
+/// their years, then by their numbers.
 #[derive(Clone, Copy, PartialEq, Eq, PartialOrd, Ord, Hash, Debug)]
 pub struct IsoWeek {
     year: i32,

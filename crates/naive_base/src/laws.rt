@@ -15,7 +15,8 @@ use crate::{NaiveDateTime, NaiveTime};
 
 pub mod comparisons;
 
-/// The range is that of the years -262143 to 262142, by days as by seconds, and the buffer days lie in the years beside it.
+/// The range is that of the years -262143 to 262142, by days as by seconds, and the buffer days lie
+/// in the years beside it.
 pub fn range_law()
     ensures days { (day : ℤ) → IsDayInRange day ↔ IsYearInRange (year_of day) }
     ensures seconds { (s : ℤ) → IsInRange s ↔ IsDayInRange (floor_div s 86_400) }
@@ -45,7 +46,8 @@ pub fn order_law()
     ensures { (a b : Reading) → IsEarlier a b ↔ IsEarlierByDay a b }
 {}
 
-/// Away from leap seconds a move is undone by its opposite, and the difference says how far it went.
+/// Away from leap seconds a move is undone by its opposite, and the difference says how far it
+/// went.
 pub fn moves_law()
     ensures back { (r : Reading) (d : ℤ) → r.f < 1_000_000_000
         → ((moved r d).f < 1_000_000_000) × (moved (moved r d) (neg_ℤ d) ≡ r) }
@@ -53,7 +55,8 @@ pub fn moves_law()
         ≡ d }
 {}
 
-/// What prints alike is equal, leap seconds aside: `23:59:60` follows any second 59 that prints as `23:59:59`.
+/// What prints alike is equal, leap seconds aside: `23:59:60` follows any second 59 that prints as
+/// `23:59:59`.
 pub fn print_law()
     ensures dates { (a b : AnyDate) → printed_date a ≡ printed_date b → a ≡ b }
     ensures times { (a b : AnyTime) → fraction_of a < 1_000_000_000 → fraction_of b < 1_000_000_000

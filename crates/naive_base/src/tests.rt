@@ -1,4 +1,5 @@
-//! What no contract says, and values from outside: of the C library's calendar, and of the text of the types' rules.
+//! What no contract says, and values from outside: of the C library's calendar, and of the text of
+//! the types' rules.
 use crate::calendar::{
     FIRST_DAY, LAST_DAY, YearMonthDay, date_of, day_number, day_of_year, days_before_month,
     days_in_month, days_in_year, is_date, is_day, is_leap_year, month_and_day, weekday_of, year_of,

@@ -6,11 +6,12 @@ ghost use Rattle.naive_base.specs.Clock.{IsClock, clock_second};
 
 mod fields;
 
-/// A second of the day and nanoseconds, which from 10^9 on are those of a leap second after that second.
+/// A second of the day and nanoseconds, which from 10^9 on are those of a leap second after that
+/// second.
 ///
-/// Times compare and hash by the second, then the nanoseconds. A time prints as `23:59:59`, with a point and 3, 6 or 9
-/// digits behind it where the nanoseconds take them, and a leap second as `23:59:60`, whatever width, fill or flags the
-/// formatter has.
+/// Times compare and hash by the second, then the nanoseconds. A time prints as `23:59:59`, with a
+/// point and 3, 6 or 9 digits behind it where the nanoseconds take them, and a leap second as
+/// `23:59:60`, whatever width, fill or flags the formatter has.
 #[derive(Clone, Copy, PartialEq, Eq, PartialOrd, Ord, Hash)]
 pub struct NaiveTime {
     secs: u32,
@@ -56,8 +57,8 @@ impl NaiveTime {
         NaiveTime::from_num_seconds_from_midnight_opt(hour * 3600 + min * 60 + sec, nano)
     }
 
-    /// The time at a second of the day below 86400, and so many nanoseconds: below 10^9, or, for a leap second after the
-    /// last second of a minute, below 2*10^9. `None` for any other.
+    /// The time at a second of the day below 86400, and so many nanoseconds: below 10^9, or, for a
+    /// leap second after the last second of a minute, below 2*10^9. `None` for any other.
     pub fn from_num_seconds_from_midnight_opt(secs: u32, nano: u32) -> Option<NaiveTime>
         ensures { IsTimeOf (secs < 86_400) secs nano result }
     {

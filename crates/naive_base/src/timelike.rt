@@ -17,7 +17,8 @@ pub trait Timelike: Sized {
     // the time that it shows
     ghost time_shown: { Self → TimeOfDay };
 
-    // the value that shows the time given, and all else as it was, where there is one; none where none is given
+    // the value that shows the time given, and all else as it was, where there is one; none where
+    // none is given
     ghost IsAtTime: { Self → Option TimeOfDay → Option Self → Type 0 };
 
     /// The hour, from 0 to 23.
@@ -32,7 +33,8 @@ pub trait Timelike: Sized {
     fn second(&self) -> u32
         ensures { result ≡ second_hand (time_shown self.now).second };
 
-    /// The nanoseconds from the start of that second, from 10^9 on those of the leap second after it.
+    /// The nanoseconds from the start of that second, from 10^9 on those of the leap second after
+    /// it.
     fn nanosecond(&self) -> u32
         ensures { result ≡ (time_shown self.now).fraction };
 
@@ -51,7 +53,8 @@ pub trait Timelike: Sized {
         ensures { IsGiven time_shown (IsAtTime self.now) (sec < 60)
             (with_second (time_shown self.now) sec) result };
 
-    /// The same with other nanoseconds, below 2*10^9: from 10^9 on those of a leap second, after whatever second.
+    /// The same with other nanoseconds, below 2*10^9: from 10^9 on those of a leap second, after
+    /// whatever second.
     fn with_nanosecond(&self, nano: u32) -> Option<Self>
         ensures { IsGiven time_shown (IsAtTime self.now) (nano < 2_000_000_000)
             (with_fraction (time_shown self.now) nano) result };

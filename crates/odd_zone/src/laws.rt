@@ -9,7 +9,8 @@ ghost use Rattle.odd_zone.specs.declared.offset.OddOffset.{OddOffset as AnyOffse
 
 use crate::OddOffset;
 
-/// The clocks of the odd zone show no odd second, and each even one twice: first with the offset 1, then with 0.
+/// The clocks of the odd zone show no odd second, and each even one twice: first with the offset 1,
+/// then with 0.
 pub fn odd_seconds_are_gaps_and_even_ones_folds()
     ensures odd { (l : ℤ) → floor_mod l 2 ≡ 1 → IsNeverShown (Shows odd_offset l) }
     ensures even { (l : ℤ) → IsWide l → floor_mod l 2 ≡ 0

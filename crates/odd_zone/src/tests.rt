@@ -84,7 +84,8 @@ fn the_ends_of_the_range(rt: HostRuntime) -> Result<(), Fail> {
     Ok(())
 }
 
-/// A change of what the clocks show is an instant only where they show it once, which they never do.
+/// A change of what the clocks show is an instant only where they show it once, which they never
+/// do.
 #[test]
 fn no_field_can_be_changed(rt: HostRuntime) {
     let four = Odd.timestamp(4, 0);
@@ -104,7 +105,8 @@ fn a_date_means_its_midnight(rt: HostRuntime) {
     );
 }
 
-/// An instant may have an offset that its zone doesn't give there. It leads back to the zone all the same.
+/// An instant may have an offset that its zone doesn't give there. It leads back to the zone all
+/// the same.
 #[test]
 fn an_offset_that_disagrees(rt: HostRuntime) -> Result<(), Fail> {
     let epoch = NaiveDateTime::default();

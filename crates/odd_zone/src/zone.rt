@@ -13,8 +13,8 @@ use zoned_time::TimeZone;
 
 /// The zone whose clocks are a second ahead of UTC at odd Unix seconds, and show UTC at even ones.
 ///
-/// So no clock shows an odd second of the day, and each even one is shown twice: first by a clock that is a second ahead,
-/// and a second later by one that isn't.
+/// So no clock shows an odd second of the day, and each even one is shown twice: first by a clock
+/// that is a second ahead, and a second later by one that isn't.
 ///
 /// ```text
 /// Odd.with_ymd_and_hms(1970, 1, 1, 0, 0, 1)  None

@@ -5,8 +5,9 @@
 pub enum GapChoice {
     /// Nothing.
     Refuse,
-    /// The instant by the offset before the gap, so that a clock which was not set forward shows the time. New York's
-    /// clocks skipped 02:30 on 2021-03-14: it is the instant at which they showed 03:30.
+    /// The instant by the offset before the gap, so that a clock which was not set forward shows
+    /// the time. New York's clocks skipped 02:30 on 2021-03-14: it is the instant at which they
+    /// showed 03:30.
     ShiftForward,
 }
 

@@ -8,8 +8,8 @@ use std::fmt;
 /// How many seconds a clock is ahead of UTC: a whole number, strictly between a day behind and a
 /// day ahead.
 ///
-/// It prints as `+HH:MM` or `-HH:MM`, with `:SS` behind it where it isn't a whole number of minutes,
-/// whatever width, fill or flags the formatter has:
+/// It prints as `+HH:MM` or `-HH:MM`, with `:SS` behind it where it isn't a whole number of
+/// minutes, whatever width, fill or flags the formatter has:
 ///
 /// ```text
 /// FixedOffset::east_opt(19_800)  Some(+05:30)

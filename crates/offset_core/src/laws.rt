@@ -33,8 +33,8 @@ pub fn parts_make_total()
         ≡ secs *ℤ nanos_per_second +ℤ pos nanos }
 {}
 
-/// Any relation between seconds and values, read as: at this second a wall clock shows the time that
-/// is asked for, and this is its value there.
+/// Any relation between seconds and values, read as: at this second a wall clock shows the time
+/// that is asked for, and this is its value there.
 pub trait WallClock<T> {
     ghost shows: { ℤ → T → Type 0 };
 

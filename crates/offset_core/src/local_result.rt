@@ -5,11 +5,11 @@ ghost use Rattle.offset_core.specs.LocalResult.{single_of, earliest_of, latest_o
 /// The answer of a lookup by wall clock: no value, one, or two.
 ///
 /// Where clocks are set forward there is a gap, whose times no clock shows: `None`. Where they are
-/// set back there is a fold, whose times are shown twice or more: `Ambiguous`, with the value at the
-/// first and the value at the last instant that shows the time.
+/// set back there is a fold, whose times are shown twice or more: `Ambiguous`, with the value at
+/// the first and the value at the last instant that shows the time.
 ///
-/// In New York clocks were set back from 02:00 to 01:00 on 2021-11-07, from four hours behind UTC to
-/// five. So the offset at 01:30 that day was
+/// In New York clocks were set back from 02:00 to 01:00 on 2021-11-07, from four hours behind UTC
+/// to five. So the offset at 01:30 that day was
 ///
 /// ```text
 /// let offsets = LocalResult::Ambiguous(FixedOffset::west(14_400), FixedOffset::west(18_000));

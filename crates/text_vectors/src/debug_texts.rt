@@ -1,4 +1,5 @@
-//! Debug texts of values: type, fields and values as a derived `Debug` of Rust writes them, a row for each type.
+//! Debug texts of values: type, fields and values as a derived `Debug` of Rust writes them, a row
+//! for each type.
 
 use crate::values::{julian_0, julian_1, month_weekday, named, nameless};
 use std::alloc::{AllocError, Global};

@@ -1,5 +1,5 @@
-//! Tests of TZ texts and of what they are made of, by values that come from outside: cursors, names, rules, texts, zones of
-//! texts, and the Debug texts of values.
+//! Tests of TZ texts and of what they are made of, by values that come from outside: cursors,
+//! names, rules, texts, zones of texts, and the Debug texts of values.
 #![tactic(auto)]
 
 #[cfg(test)]

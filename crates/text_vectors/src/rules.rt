@@ -122,7 +122,8 @@ fn an_order_that_turns_over_at_the_new_year(rt: HostRuntime) {
     assert_eq!(rt; type_at(&rule, 1_704_067_200), Ok((3600, true)));
 }
 
-/// The rule whose daylight saving time starts on the last day of a year and ends on the first, with one offset.
+/// The rule whose daylight saving time starts on the last day of a year and ends on the first, with
+/// one offset.
 fn new_year_rule(rt: &impl Abort, offset: i32) -> TransitionRule {
     rule_of(
         rt,

@@ -27,7 +27,8 @@ fn fixed(rt: &impl Abort, ut_offset: i32, name: &str) -> TransitionRule {
     TransitionRule::from(named(rt, ut_offset, false, name))
 }
 
-/// The rule of a standard and a daylight saving offset with their names, and the days and day times at which they end.
+/// The rule of a standard and a daylight saving offset with their names, and the days and day times
+/// at which they end.
 fn turning(
     rt: &impl Abort,
     std: (i32, &str),

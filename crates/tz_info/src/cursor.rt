@@ -8,8 +8,8 @@ ghost use Rattle.tz_info.specs.Pieces.{AllDigits};
 use crate::error::{Error, Expected};
 use std::marker::Model;
 
-/// What is left of some bytes. Each call reads from the front, and what it gives is lent from those bytes. A call that
-/// refuses leaves the cursor where it was.
+/// What is left of some bytes. Each call reads from the front, and what it gives is lent from those
+/// bytes. A call that refuses leaves the cursor where it was.
 #[derive(Drop)]
 pub struct Cursor<'a> {
     rest: &'a [u8],
@@ -89,8 +89,8 @@ impl<'a> Cursor<'a> {
     ///
     /// # Errors
     ///
-    /// [`Error::UnexpectedEnd`] if fewer bytes are left than the tag has, which is looked at first; [`Error::MissingTag`] if
-    /// others stand there.
+    /// [`Error::UnexpectedEnd`] if fewer bytes are left than the tag has, which is looked at first;
+    /// [`Error::MissingTag`] if others stand there.
     #[tactic(auto, unfolding(crate::specs::Fronts::tag_at))]
     pub fn read_tag(&mut self, tag: &[u8]) -> Result<(), Error>
         ensures value { Gives (λ unit. (unit, self.new)) result (tag_at tag.now self.old) }

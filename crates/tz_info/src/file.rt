@@ -21,21 +21,24 @@ use reader::read_lists;
 use std::alloc::Global;
 
 impl TimeZone {
-    /// The zone of a TZif file of version 1, 2 or 3 (RFC 8536 section 3). Of version 1 the one data block says all; from
-    /// version 2 on the second block does, with the TZ text of the footer, and of the first one only the header and the
-    /// length count. In version 3 that text may have the extensions of RFC 8536 section 3.3.1.
+    /// The zone of a TZif file of version 1, 2 or 3 (RFC 8536 section 3). Of version 1 the one data
+    /// block says all; from version 2 on the second block does, with the TZ text of the footer, and
+    /// of the first one only the header and the length count. In version 3 that text may have the
+    /// extensions of RFC 8536 section 3.3.1.
     ///
     /// Want of memory is answered only where every block is there.
     ///
     /// # Errors
     ///
-    /// The first of these that is met from the front on: [`Error::UnexpectedEnd`] where bytes are wanting;
-    /// [`Error::UnsupportedTzFile`] for another version; [`Error::InvalidTzFile`] for any other fault of the file's form,
-    /// as bytes behind a file of version 1. Then, once both blocks are there: [`Error::InvalidTzFile`] and
-    /// [`Error::LocalTimeType`] for a type, one after the other; [`Error::InvalidTzFile`] for indicators that say UT
-    /// where they do not say standard time; [`Error::Utf8`] and [`Error::InvalidTzFile`] for a footer, and the errors of
-    /// [`TransitionRule::from_tz_string`](crate::TransitionRule::from_tz_string) for its text; last [`Error::TimeZone`]
-    /// for lists that [`TimeZone::new`] does not take. [`Error::OutOfMemory`] if there is no memory for the lists.
+    /// The first of these that is met from the front on: [`Error::UnexpectedEnd`] where bytes are
+    /// wanting; [`Error::UnsupportedTzFile`] for another version; [`Error::InvalidTzFile`] for any
+    /// other fault of the file's form, as bytes behind a file of version 1. Then, once both blocks
+    /// are there: [`Error::InvalidTzFile`] and [`Error::LocalTimeType`] for a type, one after the
+    /// other; [`Error::InvalidTzFile`] for indicators that say UT where they do not say standard
+    /// time; [`Error::Utf8`] and [`Error::InvalidTzFile`] for a footer, and the errors of
+    /// [`TransitionRule::from_tz_string`](crate::TransitionRule::from_tz_string) for its text; last
+    /// [`Error::TimeZone`] for lists that [`TimeZone::new`] does not take. [`Error::OutOfMemory`]
+    /// if there is no memory for the lists.
     pub fn from_tz_data(alloc: Global, bytes: &[u8]) -> Result<TimeZone, Error>
         // The zone is the file's, and valid.
         ensures found { IfOk result (λ z. IsTzFile bytes.now z × IsValid z) }

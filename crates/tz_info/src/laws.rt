@@ -1,5 +1,5 @@
-//! Theorems: each function is empty, its contract is proved; never called. Here those of rules and zones at every year and
-//! every second.
+//! Theorems: each function is empty, its contract is proved; never called. Here those of rules and
+//! zones at every year and every second.
 
 pub mod equality;
 pub mod files;
@@ -18,7 +18,8 @@ ghost use Rattle.tz_info.specs.declared.rule.day.DayForm.{DayForm};
 ghost use Rattle.tz_info.specs.declared.rule.transition_rule.TransitionRule.{TransitionRule};
 ghost use Rattle.tz_info.specs.declared.zone.leap_second.LeapSecond.{LeapSecond};
 
-/// A rule has one day in each year, and its moments at a fixed time of day come later in a later year.
+/// A rule has one day in each year, and its moments at a fixed time of day come later in a later
+/// year.
 pub fn rule_days_law()
     ensures found { (form : DayForm) (year : ℤ) → IsRuleDay form
         → IsDayOf form year (rule_day form year) }
@@ -39,8 +40,9 @@ pub fn rule_types_law()
     ensures times { (u year : ℤ) → IsYearOf u year → IsRuleYear year ↔ IsRuleTime u }
 {}
 
-/// Leap times rise weakly with Unix times, and within 10^13 seconds of 1970 none is refused. Where the corrections are 1, 2,
-/// 3 and so on, the Unix time of a Unix time's leap time is that Unix time.
+/// Leap times rise weakly with Unix times, and within 10^13 seconds of 1970 none is refused. Where
+/// the corrections are 1, 2, 3 and so on, the Unix time of a Unix time's leap time is that Unix
+/// time.
 pub fn leap_times_law()
     ensures rise { (leaps : List LeapSecond) (u v x y : ℤ) → AreLeapSeconds leaps → u ≤ℤ v
         → IsLeapTime leaps u x → IsLeapTime leaps v y → x ≤ℤ y }

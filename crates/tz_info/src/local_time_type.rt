@@ -9,7 +9,8 @@ use crate::error::{Error, Expected};
 use crate::name::TimeZoneName;
 use std::marker::Model;
 
-/// A type of local time: how far its clock is from UTC, whether it is daylight saving time, and its name.
+/// A type of local time: how far its clock is from UTC, whether it is daylight saving time, and its
+/// name.
 #[derive(Clone, Copy, Debug, PartialEq, Eq)]
 pub struct LocalTimeType {
     ut_offset: i32,
@@ -30,11 +31,13 @@ impl Model for LocalTimeType {
 }
 
 impl LocalTimeType {
-    /// The type of that offset, in seconds east of UTC, with that mark and that name, if one is given.
+    /// The type of that offset, in seconds east of UTC, with that mark and that name, if one is
+    /// given.
     ///
     /// # Errors
     ///
-    /// [`Error::LocalTimeType`] if the offset is `i32::MIN`, or if the name is none that [`TimeZoneName::new`] takes.
+    /// [`Error::LocalTimeType`] if the offset is `i32::MIN`, or if the name is none that
+    /// [`TimeZoneName::new`] takes.
     pub fn new(ut_offset: i32, is_dst: bool, name: Option<&[u8]>) -> Result<LocalTimeType, Error>
         ensures { let bytes = option_map (λ n. n.now) name.entry in
             MatchResult result
@@ -56,7 +59,8 @@ impl LocalTimeType {
         })
     }
 
-    /// The type of that offset, in seconds east of UTC, which is not daylight saving time and has no name.
+    /// The type of that offset, in seconds east of UTC, which is not daylight saving time and has
+    /// no name.
     ///
     /// # Errors
     ///

@@ -11,8 +11,8 @@ use crate::error::{Error, Expected};
 use std::fmt;
 use std::marker::Model;
 
-/// The name of a local time type, such as `CET` or `-03`: three to seven letters, digits, `+` or `-` (RFC 8536 section 3.2
-/// says that a name should have three to six).
+/// The name of a local time type, such as `CET` or `-03`: three to seven letters, digits, `+` or
+/// `-` (RFC 8536 section 3.2 says that a name should have three to six).
 #[derive(Clone, Copy)]
 pub struct TimeZoneName {
     buffer: [u8; 7],
@@ -45,8 +45,8 @@ impl TimeZoneName {
     ///
     /// # Errors
     ///
-    /// [`Error::LocalTimeType`] if they are fewer than three or more than seven, or if one of them is none of
-    /// `A` to `Z`, `a` to `z`, `0` to `9`, `+` and `-`.
+    /// [`Error::LocalTimeType`] if they are fewer than three or more than seven, or if one of them
+    /// is none of `A` to `Z`, `a` to `z`, `0` to `9`, `+` and `-`.
     pub fn new(name: &[u8]) -> Result<TimeZoneName, Error>
         ensures { MatchResult result (λ n. IsName name.now × (n ≡ name.now))
             (λ e. (number_of e ≡ 3) × ¬ (IsName name.now)) }

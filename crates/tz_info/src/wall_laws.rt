@@ -24,7 +24,9 @@ pub fn wall_clock_law()
 /// A local time has one answer: that of the index and that of the walk are equal.
 pub fn one_wall_clock_law()
     ensures { (z : Zone) (local : ℤ) (a b : LocalResult LocalType)
-        → IsWallAnswer (Shows (TypeAt z) local) a → IsWallAnswer (Shows (TypeAt z) local) b → a ≡ b }
+        → IsWallAnswer (Shows (TypeAt z) local) a
+        → IsWallAnswer (Shows (TypeAt z) local) b
+        → a ≡ b }
 {}
 
 /// A local time has one count of the transitions that come near it.

@@ -1,5 +1,5 @@
-//! Tests of wall clocks, by values that come from outside: the types that are in force when the clocks of a zone show a local
-//! time, and how many looks that takes.
+//! Tests of wall clocks, by values that come from outside: the types that are in force when the
+//! clocks of a zone show a local time, and how many looks that takes.
 #![tactic(auto)]
 
 #[cfg(test)]

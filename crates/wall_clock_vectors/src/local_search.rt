@@ -1,4 +1,5 @@
-//! Wall clocks of large tables: the answers by the index and by the walk, and how many looks they take.
+//! Wall clocks of large tables: the answers by the index and by the walk, and how many looks they
+//! take.
 
 use crate::values::clock;
 use naive_base::NaiveDateTime;
@@ -40,8 +41,8 @@ fn second(rt: &impl Abort, seconds: i64) -> NaiveDateTime {
     }
 }
 
-/// The clocks show it at these offsets, by so many looks at pieces of the index, and by so many looks at transitions where
-/// those are walked through.
+/// The clocks show it at these offsets, by so many looks at pieces of the index, and by so many
+/// looks at transitions where those are walked through.
 fn shown(
     rt: &impl Abort,
     zone: &TimeZone,
@@ -73,9 +74,9 @@ fn shown(
     assert_eq!(rt; walked.rule_questions(), 0);
 }
 
-/// A search by halves takes 11 looks in the 2,047 pieces before the last, and 10 in the 1,023 transitions before the last.
-/// The walk takes one more at the transition before the window, one at that in the window if there is one, and one at the
-/// next.
+/// A search by halves takes 11 looks in the 2,047 pieces before the last, and 10 in the 1,023
+/// transitions before the last. The walk takes one more at the transition before the window, one at
+/// that in the window if there is one, and one at the next.
 #[test]
 fn a_thousand_changes(rt: HostRuntime) -> Result<(), Fail> {
     let zone = turning(&rt, rt.alloc(), 1024)?;
@@ -104,7 +105,8 @@ fn a_thousand_changes(rt: HostRuntime) -> Result<(), Fail> {
     Ok(())
 }
 
-/// Lookups that read the table, or the pieces, from end to end would take some 5 * 10^11 looks here.
+/// Lookups that read the table, or the pieces, from end to end would take some 5 * 10^11 looks
+/// here.
 #[test]
 fn a_million_changes(rt: HostRuntime) -> Result<(), Fail> {
     let zone = turning(&rt, rt.alloc(), 1_048_576)?;

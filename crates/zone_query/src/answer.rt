@@ -21,8 +21,8 @@ use tz_info::{Error, LocalTimeType, TimeZone, TransitionRule};
 use zoned_ref::TimeZoneRef;
 use zoned_time::{DateTime, TimeZone as Zone};
 
-/// Puts the answer to a line in place of what `out` holds, with a newline behind it. A text or a file that is accepted sets
-/// the zone.
+/// Puts the answer to a line in place of what `out` holds, with a newline behind it. A text or a
+/// file that is accepted sets the zone.
 pub fn answer(
     alloc: Global,
     zone: &mut Option<TimeZone>,
@@ -46,7 +46,8 @@ pub fn answer(
     }
 }
 
-// Reads a TZ text. A call of its own, so that no other line pays for the room of a zone that is read.
+// Reads a TZ text. A call of its own, so that no other line pays for the room of a zone that is
+// read.
 #[inline(never)]
 fn take_text(
     alloc: Global,
@@ -191,8 +192,8 @@ fn tell_instant(
     }
 }
 
-// Writes an instant as its zone's clocks show it. Every zone will do: the borrow checker does not cover yet that an instant
-// of a borrowed zone is formatted where that borrow is in sight.
+// Writes an instant as its zone's clocks show it. Every zone will do: the borrow checker does not
+// cover yet that an instant of a borrowed zone is formatted where that borrow is in sight.
 fn write_instant<Tz: Zone>(instant: &DateTime<Tz>, out: &mut String) -> Result<(), AllocError>
 where
     Tz::Offset: fmt::Display,

@@ -23,7 +23,8 @@ pub struct Dialogue {
     alloc: Global,
     // The latest zone that a line gave.
     zone: Option<TimeZone>,
-    // The beginning of a line, from earlier blocks, or one byte for it if the line can't ask anything.
+    // The beginning of a line, from earlier blocks, or one byte for it if the line can't ask
+    // anything.
     begun: Vec<u8>,
     // The answer to one line at a time, kept for its memory.
     answer: String,
@@ -42,7 +43,8 @@ impl Dialogue {
         }
     }
 
-    /// Answers the lines that end in a block, keeps what is behind them, and sends the answers on their way.
+    /// Answers the lines that end in a block, keeps what is behind them, and sends the answers on
+    /// their way.
     pub fn take_block<W: Write>(
         &mut self,
         writer: &mut Watched<W>,
@@ -117,7 +119,8 @@ impl Dialogue {
         }
     }
 
-    // Keeps more of a line that has not ended, or one byte for it if the line can't ask anything any more.
+    // Keeps more of a line that has not ended, or one byte for it if the line can't ask anything
+    // any more.
     fn begin_line(&mut self, bytes: &[u8]) -> Result<(), AllocError>
         ensures zone { self.new.zone ≡ self.old.zone }
         ensures ok { OnOk result
@@ -139,7 +142,8 @@ impl Dialogue {
         self.begun.extend_from_slice(b"?")
     }
 
-    /// Answers the last line, if the input does not end with a newline, and sends the answer on its way.
+    /// Answers the last line, if the input does not end with a newline, and sends the answer on its
+    /// way.
     pub fn finish<W: Write>(&mut self, writer: &mut Watched<W>) -> Result<(), RunError>
         requires { writer.old.failed ≡ false }
         ensures ok { OnOk result (AnswersAtEnd writer.new.failed

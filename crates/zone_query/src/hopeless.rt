@@ -6,10 +6,12 @@ ghost use Rattle.zone_query.specs.Steps.Hopeless.{IsHopeless, IsForeign};
 // How many bytes the longest word of a question has, with the space behind it.
 const LONGEST_WORD: usize = 5;
 
-// How many bytes a choice for gaps and folds may add to a line: the space before it, its longest word, and a carriage return.
+// How many bytes a choice for gaps and folds may add to a line: the space before it, its longest
+// word, and a carriage return.
 const LONGEST_CHOICE: usize = 17;
 
-/// Whether a line that begins so may still ask something. Its first `judged` bytes were judged before.
+/// Whether a line that begins so may still ask something. Its first `judged` bytes were judged
+/// before.
 ///
 /// A beginning that is refused is behind hope; of one that isn't, nothing is said.
 pub fn may_ask(front: &[u8], judged: usize) -> bool
@@ -54,7 +56,8 @@ fn begins_with(line: &[u8], word: &[u8]) -> bool
     line.starts_with(word)
 }
 
-// Whether these bytes are such as numbers are made of, and what is between them and before a newline.
+// Whether these bytes are such as numbers are made of, and what is between them and before a
+// newline.
 fn may_be_numbers(bytes: &[u8]) -> bool
     ensures { result ≡ false
         → (i : ℕ) × (i < length bytes.now) × IsForeign (get_or bytes.now i 0) }

@@ -49,10 +49,12 @@ pub fn small_natural(text: &[u8]) -> Option<u32>
     }
 }
 
-// The number that decimal digits spell, if there is one and nothing else, and it is at most `limit`.
+// The number that decimal digits spell, if there is one and nothing else, and it is at most
+// `limit`.
 fn natural(digits: &[u8], limit: u64) -> Option<u64>
     ensures { SomeIff result
-        (IsNumeral 10 digits.now × (digits_value 10 digits.now ≤ limit)) (digits_value 10 digits.now) }
+        (IsNumeral 10 digits.now × (digits_value 10 digits.now ≤ limit))
+        (digits_value 10 digits.now) }
 {
     if digits.is_empty() {
         return None;

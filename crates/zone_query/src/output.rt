@@ -29,7 +29,8 @@ pub fn write_all<W: Write>(writer: &mut Watched<W>, bytes: &[u8]) -> Result<(), 
     Ok(())
 }
 
-/// Sends what was written on its way, unless the writer has failed, and gives what became of the writing.
+/// Sends what was written on its way, unless the writer has failed, and gives what became of the
+/// writing.
 pub fn send<W: Write>(
     writer: &mut Watched<W>,
     written: Result<(), RunError>,

@@ -9,10 +9,11 @@ use crate::run_error::RunError;
 use crate::watched::Watched;
 use std::io::Write;
 
-/// The exit status of a program that ends after a run: 0 where every line was answered, and 1 where the run stopped before.
-/// Why it stopped is told in one line to `errors`, which is standard error.
+/// The exit status of a program that ends after a run: 0 where every line was answered, and 1 where
+/// the run stopped before. Why it stopped is told in one line to `errors`, which is standard error.
 ///
-/// An end that fails takes a beginning of that line, and the status is the same: there is nowhere left to say so.
+/// An end that fails takes a beginning of that line, and the status is the same: there is nowhere
+/// left to say so.
 ///
 /// ```
 /// let mut errors = Watched::new(Vec::new(alloc));

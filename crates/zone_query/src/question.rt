@@ -17,7 +17,8 @@ use std::str;
 pub enum Question<'a> {
     /// `text T`: to read this TZ text, and to take its zone from here on.
     Text(&'a str),
-    /// `data HEX`: to read a TZif file, whose bytes these hex digits spell, and to take its zone from here on.
+    /// `data HEX`: to read a TZif file, whose bytes these hex digits spell, and to take its zone
+    /// from here on.
     Data(&'a [u8]),
     /// `at SECS`: for the local time type in force at this Unix time.
     At(i64),
@@ -25,7 +26,8 @@ pub enum Question<'a> {
     Wall(NaiveDateTime),
     /// `wall Y M D h m s GAP/FOLD`: for the instant that this choice takes for this date and time.
     Resolve(NaiveDateTime, Choice),
-    /// `show SECS NANOS`: for what the zone's clocks show at this Unix time, so many nanoseconds behind it.
+    /// `show SECS NANOS`: for what the zone's clocks show at this Unix time, so many nanoseconds
+    /// behind it.
     Show(i64, u32),
 }
 
@@ -35,8 +37,9 @@ impl<'a> Question<'a> {
 
     /// The question that a line asks, or `None` for a bad line.
     ///
-    /// A text that isn't UTF-8 makes a bad line, and so do digits that are no hex digits or odd in number, a number that
-    /// doesn't fit its type, a date or a time that doesn't exist, and a word behind it that is no choice.
+    /// A text that isn't UTF-8 makes a bad line, and so do digits that are no hex digits or odd in
+    /// number, a number that doesn't fit its type, a date or a time that doesn't exist, and a word
+    /// behind it that is no choice.
     pub fn parse(line: &'a [u8]) -> Option<Question<'a>>
         ensures { MatchOption result
             (IsBadLine line.now) (λ question. Asks line.now (query_of question)) }

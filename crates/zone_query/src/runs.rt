@@ -15,13 +15,14 @@ const BLOCK: usize = 16384;
 
 /// Answers each line that the reader gives, before it takes the next one.
 ///
-/// Each answer is written at once, and all that was written is flushed before the reader is asked for more. A line ends
-/// with a newline, and one carriage return before it is no part of the line. What follows the last newline is a line if
-/// it is not empty.
+/// Each answer is written at once, and all that was written is flushed before the reader is asked
+/// for more. A line ends with a newline, and one carriage return before it is no part of the line.
+/// What follows the last newline is a line if it is not empty.
 ///
-/// What was read and written is told by the ends: the contract speaks of the bytes that a reader has left and a writer holds,
-/// where their types tell them, as `&[u8]` and `Vec<u8>` do. Standard input and output tell none, so of a run over them the
-/// contract says only which end failed, that the input ended, and that what was written was sent.
+/// What was read and written is told by the ends: the contract speaks of the bytes that a reader
+/// has left and a writer holds, where their types tell them, as `&[u8]` and `Vec<u8>` do. Standard
+/// input and output tell none, so of a run over them the contract says only which end failed, that
+/// the input ended, and that what was written was sent.
 ///
 /// ```
 /// let mut reader = Watched::new(b"text UTC0\nat 0\n".as_slice());
@@ -44,7 +45,8 @@ pub fn run<R: Read, W: Write>(
         (λ _. (reader.new.ended ≡ true) × IsAtEnd (R.remaining reader.new.inner)
         × (reader.new.failed ≡ false) × (writer.new.failed ≡ false) × Answers input output)
         (λ e. StopsWith reader.new.failed writer.new.failed reader.new.reads e input output) }
-    // Nothing that was written is left unsent at the end, nor where the run stops, unless the writer failed.
+    // Nothing that was written is left unsent at the end, nor where the run stops, unless the
+    // writer failed.
     ensures sent { OnOk result (writer.new.unsent ≡ false) }
     ensures none_left { writer.old.unsent ≡ false → writer.new.failed ≡ false
         → writer.new.unsent ≡ false }

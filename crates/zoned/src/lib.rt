@@ -1,6 +1,7 @@
 //! Zoned time, proved: the zoned-time layer of chrono 0.4.45, under chrono's names.
 //!
-//! This is the only library that a client names. It has no code of its own: it passes on what the libraries below it make.
+//! This is the only library that a client names. It has no code of its own: it passes on what the
+//! libraries below it make.
 //!
 //! # The types
 //!
@@ -22,9 +23,10 @@
 //!
 //! # A gap and a fold
 //!
-//! A wall clock needn't show each time once. On 2021-03-14 at 02:00 New York's clocks were set forward to 03:00: none showed
-//! 02:30, which lies in a gap. On 2021-11-07 at 02:00 they were set back to 01:00: they showed 01:30 twice, which lies in a
-//! fold, first at -04:00 and an hour later at -05:00.
+//! A wall clock needn't show each time once. On 2021-03-14 at 02:00 New York's clocks were set
+//! forward to 03:00: none showed 02:30, which lies in a gap. On 2021-11-07 at 02:00 they were set
+//! back to 01:00: they showed 01:30 twice, which lies in a fold, first at -04:00 and an hour later
+//! at -05:00.
 //!
 //! ```
 //! let parsed = tz_info::TimeZone::from_tz_data(alloc, bytes)?;
@@ -34,7 +36,8 @@
 //! new_york.with_ymd_and_hms(2021, 7, 1, 12, 0, 0) // Single(12:00 -04:00)
 //! ```
 //!
-//! [`TimeZone::resolve`] gives one instant, by a choice, or says why there is none. There are six outcomes:
+//! [`TimeZone::resolve`] gives one instant, by a choice, or says why there is none. There are six
+//! outcomes:
 //!
 //! | reading | shown | choice | answer |
 //! |---|---|---|---|
@@ -54,7 +57,8 @@
 //!
 //! # A meeting on each day
 //!
-//! Each day of a [`DailySeries`] stands for itself, so the meeting goes back to its time on the day behind a change.
+//! Each day of a [`DailySeries`] stands for itself, so the meeting goes back to its time on the day
+//! behind a change.
 //!
 //! ```
 //! let half_past_two = NaiveTime::from_hms_opt(2, 30, 0).ok_or(MyError::NoSuchTime)?;
@@ -103,9 +107,9 @@
 //!
 //! # Borrowed instants
 //!
-//! A `DateTime<TimeZoneRef>` borrows the parsed zone. Keep and sort `DateTime<FixedOffset>`, which [`DateTime::fixed_offset`]
-//! gives: it prints alike. Print an instant of a parsed zone, or map a closure over such instants, in a function that is generic
-//! over the zone:
+//! A `DateTime<TimeZoneRef>` borrows the parsed zone. Keep and sort `DateTime<FixedOffset>`, which
+//! [`DateTime::fixed_offset`] gives: it prints alike. Print an instant of a parsed zone, or map a
+//! closure over such instants, in a function that is generic over the zone:
 //!
 //! ```
 //! fn line<Tz: TimeZone>(alloc: Global, instant: &DateTime<Tz>) -> Result<String, AllocError>

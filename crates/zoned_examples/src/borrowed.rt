@@ -25,7 +25,8 @@ pub fn earliest_first(
     Ok(instants)
 }
 
-/// The instants at which the clocks of a zone show a reading, to keep: closures go over instants in a function for all zones.
+/// The instants at which the clocks of a zone show a reading, to keep: closures go over instants in
+/// a function for all zones.
 pub fn by_clock<Tz: TimeZone>(
     zone: &Tz,
     local: &NaiveDateTime,

@@ -1,7 +1,8 @@
 //! The examples of the documents, compiled, proved and tested. It names one library, `zoned`.
 //!
-//! `readme` and `front_page` have the examples of README.md and of the library's front page, `borrowed` what to do with the
-//! instants of a borrowed zone, and `own_zone` the zone of docs/OWN_ZONE.md.
+//! `readme` and `front_page` have the examples of README.md and of the library's front page,
+//! `borrowed` what to do with the instants of a borrowed zone, and `own_zone` the zone of
+//! docs/OWN_ZONE.md.
 #![tactic(auto)]
 
 mod borrowed;

@@ -1,4 +1,5 @@
-//! What the documents say that the examples answer. Unix times are those of New York's clocks by Python's `zoneinfo`.
+//! What the documents say that the examples answer. Unix times are those of New York's clocks by
+//! Python's `zoneinfo`.
 
 use crate::{
     FirstLines, MyError, Nepal, by_clock, daily, earliest_first, first_lines, keep, line, outcome,
@@ -159,7 +160,8 @@ fn a_meeting_on_each_day(rt: HostRuntime) {
     }
 }
 
-/// 2021 has 365 days. On one of them the clocks show 03:30 and not 02:30; on 238 of them they are 4 hours behind UTC.
+/// 2021 has 365 days. On one of them the clocks show 03:30 and not 02:30; on 238 of them they are 4
+/// hours behind UTC.
 #[test]
 fn a_meeting_on_each_day_of_a_year(rt: HostRuntime) {
     let first = NaiveDate::from_ymd_opt(2021, 1, 1).expect(&rt, "a date");

@@ -1,4 +1,5 @@
-//! The first and the last instant, shown beyond the range by clocks that are behind or ahead of UTC.
+//! The first and the last instant, shown beyond the range by clocks that are behind or ahead of
+//! UTC.
 
 use offset_core::FixedOffset;
 use std::test::Fail;

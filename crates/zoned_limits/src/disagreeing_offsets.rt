@@ -1,4 +1,5 @@
-//! Instants whose offset isn't the one that their zone gives there: in New York, the offset of summer at an instant in winter.
+//! Instants whose offset isn't the one that their zone gives there: in New York, the offset of
+//! summer at an instant in winter.
 
 use std::alloc::{AllocError, Global};
 use std::fmt;

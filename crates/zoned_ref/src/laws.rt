@@ -7,7 +7,8 @@ ghost use Rattle.zoned_ref.specs.declared.zone_offset.ZoneOffset.{ZoneOffset as 
 use crate::ZoneOffset;
 use std::hash::Hash;
 
-/// Offsets are equal exactly where their types of local time are, a hash looks at the seconds, and a clone is the offset.
+/// Offsets are equal exactly where their types of local time are, a hash looks at the seconds, and
+/// a clone is the offset.
 pub fn zone_offsets<'a>()
     ensures equal { (a b : AnyOffset) → IsTrue (⟦<ZoneOffset<'a> as PartialEq>⟧.eq a b)
         ↔ (type_of a ≡ type_of b) }

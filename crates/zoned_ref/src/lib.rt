@@ -1,8 +1,9 @@
 //! Parsed time zones as zones of zoned time.
 //!
-//! [`TimeZoneRef`] borrows a zone that `tz_info` read from a file or a text, and is a [`TimeZone`](zoned_time::TimeZone): what
-//! `zoned_time` proves of every lawful zone holds of it, with the offsets of the types of local time in force.
-//! [`WallClock`] goes the whole way, from bytes to the instants at which a clock shows a reading.
+//! [`TimeZoneRef`] borrows a zone that `tz_info` read from a file or a text, and is a
+//! [`TimeZone`](zoned_time::TimeZone): what `zoned_time` proves of every lawful zone holds of it,
+//! with the offsets of the types of local time in force. [`WallClock`] goes the whole way, from
+//! bytes to the instants at which a clock shows a reading.
 #![tactic(auto)]
 
 pub mod laws;

@@ -8,13 +8,15 @@ ghost use Rattle.zoned_ref.specs.Offsets.{IsNarrow, HasOffsets, AreOffsetsOf, ru
 use offset_core::FixedOffset;
 use tz_info::{LocalTimeType, TransitionRule};
 
-/// A parsed time zone as a zone of [`DateTime`](zoned_time::DateTime)s: at each instant it has the offset of the type of
-/// local time that is in force then.
+/// A parsed time zone as a zone of [`DateTime`](zoned_time::DateTime)s: at each instant it has the
+/// offset of the type of local time that is in force then.
 ///
-/// It borrows the parsed zone, and so does each instant that it gives: none of them can be used once that zone is gone.
-/// [`DateTime::fixed_offset`](zoned_time::DateTime::fixed_offset) gives an instant that prints alike and borrows nothing: that is
-/// the one to keep and to sort. Print an instant of a borrowed zone, or map a closure over such instants, in a function that is
-/// generic over the zone: in other code the checker doesn't cover `{instant}`, `==`, a copy or a closure of it yet.
+/// It borrows the parsed zone, and so does each instant that it gives: none of them can be used
+/// once that zone is gone. [`DateTime::fixed_offset`](zoned_time::DateTime::fixed_offset) gives an
+/// instant that prints alike and borrows nothing: that is the one to keep and to sort. Print an
+/// instant of a borrowed zone, or map a closure over such instants, in a function that is generic
+/// over the zone: in other code the checker doesn't cover `{instant}`, `==`, a copy or a closure of
+/// it yet.
 ///
 /// ```
 /// let parsed = tz_info::TimeZone::from_tz_data(alloc, bytes)?; // New York's file
@@ -28,8 +30,8 @@ use tz_info::{LocalTimeType, TransitionRule};
 #[derive(Clone, Copy)]
 pub struct TimeZoneRef<'a> {
     zone: &'a tz_info::TimeZone,
-    // Every zone has the second of these facts. It stands here so that the third one, and all that is said of a zone of
-    // `DateTime`s, can speak of its offset at a second.
+    // Every zone has the second of these facts. It stands here so that the third one, and all that
+    // is said of a zone of `DateTime`s, can speak of its offset at a second.
     pub ghost narrow: { IsNarrow zone.now },
     pub ghost offsets: { ∥ HasOffsets zone.now ∥₁ },
     pub ghost within_day: { (u : ℤ) → IsZoneSecond u → IsWithinDay (offset_at zone.now offsets u) },
@@ -38,8 +40,8 @@ pub struct TimeZoneRef<'a> {
 impl<'a> TimeZoneRef<'a> {
     ghost use Rattle.zoned_ref.specs.TimeZoneRef.{zone_of, off_of};
 
-    /// That zone, or `None` where a type that it lists, or a type of its rule, is a day (86,400 seconds) or more away from
-    /// UTC. A rule of one type may have one that the zone doesn't list.
+    /// That zone, or `None` where a type that it lists, or a type of its rule, is a day (86,400
+    /// seconds) or more away from UTC. A rule of one type may have one that the zone doesn't list.
     pub fn new(zone: &'a tz_info::TimeZone) -> Option<TimeZoneRef<'a>>
         ensures some { IsSome result ↔ IsNarrow zone.now }
         ensures zone { IfSome result (λ r. zone_of r ≡ zone.now) }
@@ -66,8 +68,8 @@ impl<'a> TimeZoneRef<'a> {
     }
 }
 
-// Leap times that leave 64 bits, and years that no rule answers in, are far away from the seconds that a zone of `DateTime`s
-// is asked for. This does nothing: its contract is a law.
+// Leap times that leave 64 bits, and years that no rule answers in, are far away from the seconds
+// that a zone of `DateTime`s is asked for. This does nothing: its contract is a law.
 fn has_offsets(zone: &tz_info::TimeZone)
     ensures { HasOffsets zone.now }
 {

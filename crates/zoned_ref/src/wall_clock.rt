@@ -1,4 +1,5 @@
-//! When the clocks of a zone show a reading: from the bytes of a file, or a TZ text, to the instants.
+//! When the clocks of a zone show a reading: from the bytes of a file, or a TZ text, to the
+//! instants.
 ghost use Rattle.std.specs.Prelude.{◌≡◌, ◌⊎◌, IfOk, IfErr, MatchResult, SomeIff, option_map};
 ghost use Rattle.offset_core.specs.FixedOffset.{seconds_of};
 ghost use Rattle.offset_core.specs.LocalResult.{map_of};
@@ -27,23 +28,24 @@ use zoned_time::{DateTime, TimeZone};
 
 /// When the clocks of a zone show a reading.
 ///
-/// In New York clocks were set back from 02:00 to 01:00 on 7 November 2021. Of 01:30 that day it tells EDT and EST, and the
-/// instants `2021-11-07 01:30:00 -04:00` and `2021-11-07 01:30:00 -05:00`; of 02:30 on 14 March, which lies in a gap, that
-/// there are none.
+/// In New York clocks were set back from 02:00 to 01:00 on 7 November 2021. Of 01:30 that day it
+/// tells EDT and EST, and the instants `2021-11-07 01:30:00 -04:00` and
+/// `2021-11-07 01:30:00 -05:00`; of 02:30 on 14 March, which lies in a gap, that there are none.
 #[derive(Clone, Copy, Debug)]
 pub struct WallClock {
     /// The types in force when they show it.
     pub types: LocalResult<LocalTimeType>,
-    /// The instants when they show it, at the offsets of those types; none at all where one of them is out of the range of
-    /// [`DateTime`]. `None` where the zone is one that [`TimeZoneRef::new`] doesn't take.
+    /// The instants when they show it, at the offsets of those types; none at all where one of them
+    /// is out of the range of [`DateTime`]. `None` where the zone is one that [`TimeZoneRef::new`]
+    /// doesn't take.
     pub instants: Option<LocalResult<DateTime<FixedOffset>>>,
 }
 
 impl WallClock {
     ghost use Rattle.zoned_ref.specs.WallClock.{Tells};
 
-    /// When the clocks of a TZif file's zone show a reading. Of the looks at the zone those that find the types are counted,
-    /// as [`WallClock::in_zone`] says.
+    /// When the clocks of a TZif file's zone show a reading. Of the looks at the zone those that
+    /// find the types are counted, as [`WallClock::in_zone`] says.
     ///
     /// # Errors
     ///
@@ -74,8 +76,8 @@ impl WallClock {
         }
     }
 
-    /// When the clocks of a TZ text's zone show a reading. Of the looks at the zone those that find the types are counted, as
-    /// [`WallClock::in_zone`] says.
+    /// When the clocks of a TZ text's zone show a reading. Of the looks at the zone those that find
+    /// the types are counted, as [`WallClock::in_zone`] says.
     ///
     /// # Errors
     ///
@@ -92,11 +94,15 @@ impl WallClock {
             × Tells z (reading local.now) told × RoseByWallClock z probes.old probes.new) }
         // Of a text that has a zone it is told, unless memory runs out.
         ensures only { (z : Zone) → IsPosixZone text.now z
-            → MatchResult result (λ told. Tells z (reading local.now) told) (λ e. number_of e ≡ 17) }
+            → MatchResult result
+            (λ told. Tells z (reading local.now) told)
+            (λ e. number_of e ≡ 17) }
         // Where the text is refused, what the number says stands in it, or there is no memory.
-        ensures fault { IfErr result (λ e. (number_of e ≡ 17) ⊎ IsPosixFault text.now (number_of e)) }
+        ensures fault { IfErr result
+            (λ e. (number_of e ≡ 17) ⊎ IsPosixFault text.now (number_of e)) }
         // Want of memory is answered only of a text that has a zone.
-        ensures memory { IfErr result (λ e. number_of e ≡ 17 → (z : Zone) × IsPosixZone text.now z) }
+        ensures memory { IfErr result
+            (λ e. number_of e ≡ 17 → (z : Zone) × IsPosixZone text.now z) }
         ensures kept { IfErr result (λ _. probes.new ≡ probes.old) }
     {
         match tz_info::TimeZone::from_posix_tz(alloc, text) {
@@ -105,8 +111,9 @@ impl WallClock {
         }
     }
 
-    /// When the clocks of the zone show a reading. It takes at most 2 questions to the rule and, with `digits` for the
-    /// number of binary digits, `digits(2 * transitions + 1)` looks at pieces of the zone's index, which `probes` counts.
+    /// When the clocks of the zone show a reading. It takes at most 2 questions to the rule and,
+    /// with `digits` for the number of binary digits, `digits(2 * transitions + 1)` looks at pieces
+    /// of the zone's index, which `probes` counts.
     pub fn in_zone(
         zone: &tz_info::TimeZone,
         local: &NaiveDateTime,

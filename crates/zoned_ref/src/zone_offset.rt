@@ -16,12 +16,12 @@ use zoned_time::Offset;
 
 /// How far the clocks of a borrowed zone are from UTC at some instant.
 ///
-/// It knows its zone, so that what is moved from that instant to another one gets the offset that the zone has there:
-/// [`TimeZone::from_offset`](zoned_time::TimeZone::from_offset) leads back to the zone, and not to one that is fixed at this
-/// offset. It lives no longer than the parsed zone.
+/// It knows its zone, so that what is moved from that instant to another one gets the offset that
+/// the zone has there: [`TimeZone::from_offset`](zoned_time::TimeZone::from_offset) leads back to
+/// the zone, and not to one that is fixed at this offset. It lives no longer than the parsed zone.
 ///
-/// It prints as its [`FixedOffset`]. Two are equal where their types of local time are: seconds, daylight saving mark and
-/// abbreviation. Their zones are not compared.
+/// It prints as its [`FixedOffset`]. Two are equal where their types of local time are: seconds,
+/// daylight saving mark and abbreviation. Their zones are not compared.
 ///
 /// ```
 /// let fold = new_york.with_ymd_and_hms(2021, 11, 7, 1, 30, 0).earliest()?;
@@ -61,7 +61,8 @@ impl<'a> ZoneOffset<'a> {
         self.zone
     }
 
-    /// The abbreviation of the type of local time, as `EST` or `-03`. `None` where the zone gives it none.
+    /// The abbreviation of the type of local time, as `EST` or `-03`. `None` where the zone gives
+    /// it none.
     pub fn name(&self) -> Option<&TimeZoneName>
         ensures { option_map (λ n. n.now) result ≡ (type_of self.now).name }
     {

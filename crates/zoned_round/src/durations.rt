@@ -20,10 +20,11 @@ use zoned_time::{DateTime, Offset, TimeZone};
 
 /// Values that a length of time rounds.
 ///
-/// What a value's clock shows counts from 1970-01-01 00:00:00, whatever its offset: its stamp is all of that in nanoseconds,
-/// a leap second's included. The value moves by the time from its stamp to a multiple of the length, or stays as it is where
-/// the stamp is a multiple. A length that isn't positive, or leaves an `i64` of nanoseconds, is refused first, and then a
-/// stamp that leaves one.
+/// What a value's clock shows counts from 1970-01-01 00:00:00, whatever its offset: its stamp is
+/// all of that in nanoseconds, a leap second's included. The value moves by the time from its stamp
+/// to a multiple of the length, or stays as it is where the stamp is a multiple. A length that
+/// isn't positive, or leaves an `i64` of nanoseconds, is refused first, and then a stamp that
+/// leaves one.
 ///
 /// ```text
 /// // 2012-12-12 18:22:29.999

@@ -10,9 +10,10 @@ ghost use Rattle.zoned_round.specs.Multiples.{multiple_below, multiple_above, ne
 
 use crate::{DurationRound, RoundingError};
 
-/// Outside leap seconds, `duration_trunc` gives an instant that isn't later than the value, `duration_round_up` one that
-/// isn't earlier, and each is less than the length away. `duration_round` gives one of the two instants, at most half the
-/// length away. (All in nanoseconds of UTC, or of the reading where the value has no offset.)
+/// Outside leap seconds, `duration_trunc` gives an instant that isn't later than the value,
+/// `duration_round_up` one that isn't earlier, and each is less than the length away.
+/// `duration_round` gives one of the two instants, at most half the length away. (All in
+/// nanoseconds of UTC, or of the reading where the value has no offset.)
 pub fn rounded_instants<T: DurationRound>()
     ensures trunc { (value answer : T) (span : ℤ) → (T.instant value).f < 1_000_000_000
         → IsRoundedTo multiple_below T.fault (T.IsMoved value) (total (T.clock value)) span value
@@ -34,12 +35,13 @@ pub fn rounded_instants<T: DurationRound>()
         × IsWithinHalf (total (T.instant near)) (total (T.instant value)) span }
 {}
 
-/// A reading whose nanoseconds fit a signed 64-bit number is in range: a stamp that fits has no other fault.
+/// A reading whose nanoseconds fit a signed 64-bit number is in range: a stamp that fits has no
+/// other fault.
 pub fn stamps_are_in_range()
     ensures { (r : Reading) → r.f < 2_000_000_000 → FitsSigned w64 (total r) → IsInRange r.s }
 {}
-/// The multiples of a span about a number: the greatest that isn't above it, the least that isn't below, and the nearest, of two
-/// as near the greater.
+/// The multiples of a span about a number: the greatest that isn't above it, the least that isn't
+/// below, and the nearest, of two as near the greater.
 pub fn multiples()
     ensures below { (n : ℤ) (span : ℕ) → 0 < span
         → IsGreatest (λ m. IsMultiple span m × (m ≤ℤ n)) (multiple_below n span) }

@@ -1,4 +1,5 @@
-//! Instants, readings and times of day rounded: to digits of a second, and to multiples of a length of time.
+//! Instants, readings and times of day rounded: to digits of a second, and to multiples of a length
+//! of time.
 #![tactic(auto)]
 
 mod durations;

@@ -17,9 +17,9 @@ use zoned_time::{DateTime, TimeZone};
 
 /// Values that digits of a second round.
 ///
-/// A last digit counts 10^9 nanoseconds with no digits, a tenth of that with one, and so on; with nine digits and more it
-/// counts one, and the value stays as it is. It also stays where nothing is behind its last digit. A leap second's
-/// nanoseconds go from 10^9 on, below 2*10^9.
+/// A last digit counts 10^9 nanoseconds with no digits, a tenth of that with one, and so on; with
+/// nine digits and more it counts one, and the value stays as it is. It also stays where nothing is
+/// behind its last digit. A leap second's nanoseconds go from 10^9 on, below 2*10^9.
 ///
 /// ```text
 /// // 10:05:13.084660684
@@ -36,8 +36,9 @@ pub trait SubsecRound: Sized {
     // where there is one
     ghost MayShow: { Self → Reading → Type 0 };
 
-    /// Moved to the nearest value with so many digits of a second, and of two as near to the later one, which may be in the
-    /// next second. It is in range, where the value has a date; a time goes on at midnight.
+    /// Moved to the nearest value with so many digits of a second, and of two as near to the later
+    /// one, which may be in the next second. It is in range, where the value has a date; a time
+    /// goes on at midnight.
     fn round_subsecs(self, digits: u16) -> Self
         requires { MayRound (MayShow self) (shown self) digits }
         ensures { IsRounded (IsShowing self) (shown self) digits self result };

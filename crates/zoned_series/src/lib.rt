@@ -1,4 +1,5 @@
-//! A wall-clock time on each day: "every day at 02:30 in New York", with each gap and fold decided by a choice.
+//! A wall-clock time on each day: "every day at 02:30 in New York", with each gap and fold decided
+//! by a choice.
 #![tactic(auto)]
 
 mod items;

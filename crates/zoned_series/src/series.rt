@@ -14,8 +14,9 @@ use zoned_time::{DateTime, TimeZone};
 
 /// A wall-clock time on each day from a first one on.
 ///
-/// Each day stands for itself: its instant is the one that the choice takes for that time on that day's clocks, and rests on no
-/// other day. So "every day at 02:30 in New York" is at 02:30 again on the day behind a gap or a fold.
+/// Each day stands for itself: its instant is the one that the choice takes for that time on that
+/// day's clocks, and rests on no other day. So "every day at 02:30 in New York" is at 02:30 again
+/// on the day behind a gap or a fold.
 ///
 /// ```text
 /// let choice = Choice { gap: GapChoice::ShiftForward, fold: FoldChoice::Earliest };
@@ -54,8 +55,8 @@ impl<Tz: TimeZone> DailySeries<Tz> {
     ///
     /// # Errors
     ///
-    /// [`SeriesError::Date`] if that day lies outside the years -262143 to 262142, the first one on a buffer day too;
-    /// [`SeriesError::Resolve`] if the choice takes no instant there.
+    /// [`SeriesError::Date`] if that day lies outside the years -262143 to 262142, the first one on
+    /// a buffer day too; [`SeriesError::Resolve`] if the choice takes no instant there.
     pub fn at(&self, n: u32) -> Result<DateTime<Tz>, SeriesError>
         ensures { MatchResult result
             (λ d. IsItem (Tz.law self.now.zone) (series_of self.now) n (zoned d))

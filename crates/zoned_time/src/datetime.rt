@@ -22,21 +22,21 @@ use std::marker::PhantomData;
 
 /// An instant, and how far the clocks of its zone are from UTC then.
 ///
-/// It is a reading of UTC in range, and an offset, which may be any: that it is the offset of the zone at that instant
-/// holds where a zone's call made the value. Two instants of one zone type are equal where their UTC readings are, whatever
-/// their offsets.
+/// It is a reading of UTC in range, and an offset, which may be any: that it is the offset of the
+/// zone at that instant holds where a zone's call made the value. Two instants of one zone type are
+/// equal where their UTC readings are, whatever their offsets.
 ///
-/// It prints as what a clock with its offset shows, and the offset: `2021-11-07 01:00:00 -05:00`, and by `{:?}`
-/// `2021-11-07T01:00:00-05:00`, whatever width, fill or flags the formatter has.
+/// It prints as what a clock with its offset shows, and the offset: `2021-11-07 01:00:00 -05:00`,
+/// and by `{:?}` `2021-11-07T01:00:00-05:00`, whatever width, fill or flags the formatter has.
 ///
 /// ```
 /// let there = Utc.timestamp(1_636_264_800, 0); // 2021-11-07 06:00:00 UTC
 /// let here = there.with_timezone(&FixedOffset::west(5 * 3600)); // 2021-11-07 01:00:00 -05:00
 /// ```
 ///
-/// An instant of a borrowed zone, as `TimeZoneRef` of `zoned_ref`, can be used no longer than that zone. Keep and sort
-/// [`DateTime::fixed_offset`] of it, which prints alike. Print it, or map a closure over such instants, in a function for all
-/// zones:
+/// An instant of a borrowed zone, as `TimeZoneRef` of `zoned_ref`, can be used no longer than that
+/// zone. Keep and sort [`DateTime::fixed_offset`] of it, which prints alike. Print it, or map a
+/// closure over such instants, in a function for all zones:
 ///
 /// ```
 /// fn line<Tz: TimeZone>(alloc: Global, instant: &DateTime<Tz>) -> Result<String, AllocError>
@@ -51,7 +51,8 @@ use std::marker::PhantomData;
 /// }
 /// ```
 ///
-/// `O` is always the zone's [`TimeZone::Offset`]; it has a name of its own so that an instant can be `Copy`.
+/// `O` is always the zone's [`TimeZone::Offset`]; it has a name of its own so that an instant can
+/// be `Copy`.
 pub struct DateTime<Tz: TimeZone, O = <Tz as TimeZone>::Offset> {
     datetime: NaiveDateTime,
     offset: O,

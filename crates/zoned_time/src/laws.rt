@@ -32,7 +32,8 @@ pub fn zone_changes_keep_the_instant<Tz: TimeZone, Tz2: TimeZone>()
         → after ≡ in_utc before.utc → after.utc ≡ before.utc }
 {}
 
-/// Instants compare and hash by their readings of UTC alone, whatever their offsets, and a clone is the instant.
+/// Instants compare and hash by their readings of UTC alone, whatever their offsets, and a clone is
+/// the instant.
 pub fn instants_compare_by_utc<Tz: TimeZone>(a: &DateTime<Tz>, b: &DateTime<Tz>)
     ensures equal { IsTrue (⟦<DateTime<Tz> as PartialEq>⟧.eq a.now b.now)
         ↔ ((zoned a.now).utc ≡ (zoned b.now).utc) }
@@ -80,19 +81,20 @@ pub fn stamps_come_back()
         → micros_of instant.utc ≡ micros }
     ensures nanos { (nanos : ℤ) (instant : Zoned TheUtc) (stamp : Option ℤ)
         → FitsSigned w64 nanos → instant ≡ in_utc (of_total nanos)
-        → SomeIff stamp (FitsSigned w64 (total instant.utc)) (total instant.utc) → stamp ≡ Some nanos }
+        → SomeIff stamp (FitsSigned w64 (total instant.utc)) (total instant.utc)
+        → stamp ≡ Some nanos }
 {}
 
-/// Each instant that a zone gives for a wall clock is one at which its clocks show that wall clock, and has the offset that the
-/// zone gives there.
+/// Each instant that a zone gives for a wall clock is one at which its clocks show that wall clock,
+/// and has the offset that the zone gives there.
 pub fn local_times_come_back<Tz: TimeZone>()
     ensures { (zone : Tz) (l : Reading) (answer : LocalResult (Zoned Tz.Offset))
         → IsRelocal (Tz.law zone) l answer
         → Each (λ d. (local_of Tz.Offset.seconds d ≡ l) × IsAt (Tz.law zone) d.utc d) answer }
 {}
 
-/// The clocks of UTC and of a fixed offset show each reading once: `from_local_datetime` gives its only instant, or none
-/// where that is out of range.
+/// The clocks of UTC and of a fixed offset show each reading once: `from_local_datetime` gives its
+/// only instant, or none where that is out of range.
 pub fn one_instant_where_the_offset_is_fixed()
     ensures utc { (zone : TheUtc) (l : Reading) (answer : LocalResult (Zoned TheUtc))
         → IsRelocal (⟦<Utc as TimeZone>⟧.law zone) l answer

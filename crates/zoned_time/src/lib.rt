@@ -1,5 +1,5 @@
-//! Time zones, and readings of a clock that stand in one: the traits that every zone implements, UTC and fixed
-//! offsets, and `DateTime`.
+//! Time zones, and readings of a clock that stand in one: the traits that every zone implements,
+//! UTC and fixed offsets, and `DateTime`.
 #![tactic(auto)]
 
 mod datetime;

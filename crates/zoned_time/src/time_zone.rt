@@ -21,12 +21,14 @@ use offset_core::{Choice, FoldChoice, GapChoice, LocalResult};
 
 /// A time zone: an offset for each second.
 ///
-/// An implementation writes [`TimeZone::from_offset`], the four `offset_from_*` and [`TimeZone::offset_before_gap`]. It can't
-/// replace the other calls, which mean the same in every zone.
+/// An implementation writes [`TimeZone::from_offset`], the four `offset_from_*` and
+/// [`TimeZone::offset_before_gap`]. It can't replace the other calls, which mean the same in every
+/// zone.
 ///
-/// A wall clock needn't show each reading once. In New York clocks were set forward on 2021-03-14 at 02:00:00, to 03:00:00:
-/// no clock showed 02:30:00, which lies in a gap. On 2021-11-07 they were set back at 02:00:00, to 01:00:00: they showed
-/// 01:30:00 twice, which lies in a fold, first at -04:00 and an hour later at -05:00.
+/// A wall clock needn't show each reading once. In New York clocks were set forward on 2021-03-14
+/// at 02:00:00, to 03:00:00: no clock showed 02:30:00, which lies in a gap. On 2021-11-07 they were
+/// set back at 02:00:00, to 01:00:00: they showed 01:30:00 twice, which lies in a fold, first at
+/// -04:00 and an hour later at -05:00.
 pub trait TimeZone: Sized + Copy {
     /// What the zone's lookups give.
     type Offset: Offset;
@@ -49,8 +51,8 @@ pub trait TimeZone: Sized + Copy {
     fn offset_from_utc_date(&self, utc: &NaiveDate) -> Self::Offset
         ensures { IsOffsetAt (law self.now) (midnight_of utc.now) result };
 
-    /// The offset at the instant when the zone's clocks show a reading: none in a gap, and in a fold those at the first and
-    /// at the last such instant.
+    /// The offset at the instant when the zone's clocks show a reading: none in a gap, and in a
+    /// fold those at the first and at the last such instant.
     fn offset_from_local_datetime(&self, local: &NaiveDateTime) -> LocalResult<Self::Offset>
         ensures { AreOffsetsFor (law self.now) (reading local.now).s result };
 
@@ -58,8 +60,8 @@ pub trait TimeZone: Sized + Copy {
     fn offset_from_local_date(&self, local: &NaiveDate) -> LocalResult<Self::Offset>
         ensures { AreOffsetsFor (law self.now) (midnight_of local.now) result };
 
-    /// In a gap the offset before it: that at the second before the first one at which a clock of the zone shows a later
-    /// reading. `None` exactly where a clock shows the reading.
+    /// In a gap the offset before it: that at the second before the first one at which a clock of
+    /// the zone shows a later reading. `None` exactly where a clock shows the reading.
     fn offset_before_gap(&self, local: &NaiveDateTime) -> Option<Self::Offset>
         ensures { IsOffsetBeforeGap (law self.now) (reading local.now).s result };
 
@@ -77,8 +79,9 @@ pub trait TimeZone: Sized + Copy {
         DateTime::from_naive_utc_and_offset(*utc, self.offset_from_utc_datetime(utc))
     }
 
-    /// The instant when the zone's clocks show a reading: none in a gap, and in a fold the first and the last such instant.
-    /// Where the UTC reading of one of them is out of range, there is none.
+    /// The instant when the zone's clocks show a reading: none in a gap, and in a fold the first
+    /// and the last such instant. Where the UTC reading of one of them is out of range, there is
+    /// none.
     final fn from_local_datetime(&self, local: &NaiveDateTime) -> LocalResult<DateTime<Self>>
         ensures instants { IsRelocal (law self.now) (reading local.now)
             (map_of (λ d. shown d.datetime d.offset) result) }
@@ -93,8 +96,8 @@ pub trait TimeZone: Sized + Copy {
             .and_then(|offset| DateTime::<Self>::from_local_opt(local, offset))
     }
 
-    /// The instant that a choice takes for a reading. There are six outcomes. New York's clocks were set forward on 2021-03-14
-    /// at 02:00, and back on 2021-11-07 at 02:00:
+    /// The instant that a choice takes for a reading. There are six outcomes. New York's clocks
+    /// were set forward on 2021-03-14 at 02:00, and back on 2021-11-07 at 02:00:
     ///
     /// | reading | shown | choice | answer |
     /// |---|---|---|---|
@@ -109,8 +112,8 @@ pub trait TimeZone: Sized + Copy {
     ///
     /// # Errors
     ///
-    /// As in the table; [`ResolveError::OutOfRange`], whose number is 23, if the UTC reading of the instant that is taken is out
-    /// of range.
+    /// As in the table; [`ResolveError::OutOfRange`], whose number is 23, if the UTC reading of the
+    /// instant that is taken is out of range.
     final fn resolve(
         &self,
         local: &NaiveDateTime,
@@ -134,9 +137,10 @@ pub trait TimeZone: Sized + Copy {
         }
     }
 
-    /// [`TimeZone::from_local_datetime`] of a date and a time, as `zone.with_ymd_and_hms(2021, 11, 7, 1, 30, 0).earliest()`.
-    /// `None` also where the date isn't one of the calendar in the years -262143 to 262142, or a day has no such hour, minute
-    /// or second.
+    /// [`TimeZone::from_local_datetime`] of a date and a time, as
+    /// `zone.with_ymd_and_hms(2021, 11, 7, 1, 30, 0).earliest()`. `None` also where the date isn't
+    /// one of the calendar in the years -262143 to 262142, or a day has no such hour, minute or
+    /// second.
     final fn with_ymd_and_hms(
         &self,
         year: i32,
@@ -169,7 +173,8 @@ pub trait TimeZone: Sized + Copy {
     /// The instant of [`DateTime::from_timestamp`], where it answers.
     final fn timestamp_opt(&self, secs: i64, nsecs: u32) -> LocalResult<DateTime<Self>>
         ensures { let r = of_secs secs nsecs in
-            IsAtWhere (law self.now) (IsStamp r) r (map_of (λ d. shown d.datetime d.offset) result) }
+            IsAtWhere (law self.now) (IsStamp r) r
+            (map_of (λ d. shown d.datetime d.offset) result) }
     {
         match DateTime::<Utc>::from_timestamp(secs, nsecs) {
             Some(instant) => LocalResult::Single(instant.with_timezone(self)),

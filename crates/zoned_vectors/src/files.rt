@@ -137,7 +137,8 @@ fn leap_seconds(rt: HostRuntime) -> Result<(), Fail> {
     Ok(())
 }
 
-/// Only the beginnings that end behind the first newline of a footer are files, and they have no rule.
+/// Only the beginnings that end behind the first newline of a footer are files, and they have no
+/// rule.
 #[test]
 fn beginnings(rt: HostRuntime) -> Result<(), Fail> {
     let alloc = rt.alloc();
@@ -186,7 +187,8 @@ fn change(
 fn changes_of_version_1(rt: HostRuntime) -> Result<(), Fail> {
     let alloc = rt.alloc();
     let file = hex::decode(alloc, GUAYAQUIL)?;
-    // The header: the magic bytes, the version, and the counts of indicators, types and designations.
+    // The header: the magic bytes, the version, and the counts of indicators, types and
+    // designations.
     change(&rt, alloc, &file, 0, b"X", Some(5))?;
     change(&rt, alloc, &file, 3, b"F", Some(5))?;
     change(&rt, alloc, &file, 4, b"1", Some(14))?;

@@ -5,7 +5,8 @@ use std::alloc::Global;
 use std::test::Fail;
 use tz_info::{Error, LeapSecond, LocalTimeType, Probes, TimeZone, Transition, TransitionRule};
 
-/// The zone of those transitions, types of those offsets, leap seconds, and a fixed rule of that offset.
+/// The zone of those transitions, types of those offsets, leap seconds, and a fixed rule of that
+/// offset.
 fn zone(
     alloc: Global,
     transitions: &[Transition],

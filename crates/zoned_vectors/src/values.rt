@@ -19,8 +19,8 @@ pub fn named(rt: &impl Abort, ut_offset: i32, is_dst: bool, name: &str) -> Local
     }
 }
 
-/// The rule of a type of standard time and one of daylight saving time, with the day and the day time at which each of
-/// them ends.
+/// The rule of a type of standard time and one of daylight saving time, with the day and the day
+/// time at which each of them ends.
 pub fn alternate(
     rt: &impl Abort,
     std: LocalTimeType,

@@ -1,4 +1,5 @@
-//! Answers questions on a time zone: lines from standard input, a line of answer to each on standard output.
+//! Answers questions on a time zone: lines from standard input, a line of answer to each on
+//! standard output.
 #![tactic(auto)]
 
 use std::io::BufWriter;

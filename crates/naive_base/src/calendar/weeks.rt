@@ -16,7 +16,8 @@ pub fn thursday_of_week(day: i64) -> i64
     day - from_monday as i64 + 3
 }
 
-/// Each day lies in one week: there is one Thursday from three days before it to three days behind it.
+/// Each day lies in one week: there is one Thursday from three days before it to three days behind
+/// it.
 pub fn weeks_law()
     ensures found { (day : ℤ) → (thursday : ℤ) × IsThursdayOf day thursday }
     ensures once { (day a b : ℤ) → IsThursdayOf day a → IsThursdayOf day b → a ≡ b }

@@ -112,8 +112,8 @@ pub fn day_of_year(day: i64) -> u32
     passed as u32
 }
 
-/// The year 1970 begins with day 0, the years are laid end to end, each of 365 or 366 days, and each day lies in exactly one
-/// of them.
+/// The year 1970 begins with day 0, the years are laid end to end, each of 365 or 366 days, and
+/// each day lies in exactly one of them.
 pub fn years_law()
     ensures first { year_start (pos 1970) ≡ pos 0 }
     ensures step { (y : ℤ) → year_start (y +ℤ pos 1) ≡ year_start y +ℤ pos (days_in_year y) }

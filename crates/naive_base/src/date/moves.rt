@@ -12,8 +12,9 @@ use crate::range::{FIRST_DAY, LAST_DAY};
 use crate::{Days, Months, NaiveDate, calendar};
 
 impl NaiveDate {
-    /// The date so many months later: on the same day of the month, or on the month's last where it has fewer days. `None`
-    /// where the year is not one from -262143 to 262142, unless it is the date itself.
+    /// The date so many months later: on the same day of the month, or on the month's last where it
+    /// has fewer days. `None` where the year is not one from -262143 to 262142, unless it is the
+    /// date itself.
     ///
     /// A month after 2021-01-31 comes 2021-02-28.
     pub fn checked_add_months(self, months: Months) -> Option<NaiveDate>
@@ -30,15 +31,16 @@ impl NaiveDate {
         self.months_later(opposite(months.as_u32()))
     }
 
-    /// The date so many days later. `None` where the year is not one from -262143 to 262142, unless it is the date itself.
+    /// The date so many days later. `None` where the year is not one from -262143 to 262142, unless
+    /// it is the date itself.
     pub fn checked_add_days(self, days: Days) -> Option<NaiveDate>
         ensures { IsDaysLater day_of IsDateOn (day_of self) (pos (days_of days)) result }
     {
         self.on_day(self.day as i128 + days.count() as i128)
     }
 
-    /// The date so many days earlier. `None` where the year is not one from -262143 to 262142, unless it is the date
-    /// itself.
+    /// The date so many days earlier. `None` where the year is not one from -262143 to 262142,
+    /// unless it is the date itself.
     pub fn checked_sub_days(self, days: Days) -> Option<NaiveDate>
         ensures { IsDaysLater day_of IsDateOn (day_of self) (neg_ℤ (pos (days_of days))) result }
     {

@@ -1,4 +1,5 @@
-//! The fields of a reading's date and time, and readings with a field changed or moved by months and days.
+//! The fields of a reading's date and time, and readings with a field changed or moved by months
+//! and days.
 ghost use Rattle.std.specs.Prelude.{◌≡◌, pos, neg_ℤ, option_map};
 ghost use Rattle.naive_base.specs.Months.{months_of, days_of};
 ghost use Rattle.naive_base.specs.Reading.{reading_at, day_at, second_at};
@@ -149,8 +150,9 @@ impl Timelike for NaiveDateTime {
 }
 
 impl NaiveDateTime {
-    /// The reading so many months later, at the same time of day: on the same day of the month, or on the month's last where
-    /// it has fewer days. `None` where the year is not one from -262143 to 262142, unless it is the reading itself.
+    /// The reading so many months later, at the same time of day: on the same day of the month, or
+    /// on the month's last where it has fewer days. `None` where the year is not one from -262143
+    /// to 262142, unless it is the reading itself.
     pub fn checked_add_months(self, months: Months) -> Option<NaiveDateTime>
         ensures { IsMonthsLater day_shown_by (IsReadingOnDay (reading self)) (day_shown_by self)
             (pos (months_of months)) result }
@@ -172,8 +174,8 @@ impl NaiveDateTime {
         }
     }
 
-    /// The reading so many days later, at the same time of day. `None` where the year is not one from -262143 to 262142,
-    /// unless it is the reading itself.
+    /// The reading so many days later, at the same time of day. `None` where the year is not one
+    /// from -262143 to 262142, unless it is the reading itself.
     pub fn checked_add_days(self, days: Days) -> Option<NaiveDateTime>
         ensures { IsDaysLater day_shown_by (IsReadingOnDay (reading self)) (day_shown_by self)
             (pos (days_of days)) result }

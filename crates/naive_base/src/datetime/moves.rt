@@ -43,17 +43,20 @@ fn sum_of(secs: i64, nanos: i64) -> TimeDelta
 }
 
 impl NaiveDateTime {
-    /// The reading so much later, or earlier for a negative length. `None` where that isn't in range.
+    /// The reading so much later, or earlier for a negative length. `None` where that isn't in
+    /// range.
     ///
-    /// From a leap second on, that leap second is counted; no other ever is. From 23:59:59 with 1,750,500,000 nanoseconds
-    /// on 2016-12-31, a move by 249,500,000 nanoseconds gives midnight, and one by -750,500,000 the leap second's start.
+    /// From a leap second on, that leap second is counted; no other ever is. From 23:59:59 with
+    /// 1,750,500,000 nanoseconds on 2016-12-31, a move by 249,500,000 nanoseconds gives midnight,
+    /// and one by -750,500,000 the leap second's start.
     pub fn checked_add_signed(self, rhs: TimeDelta) -> Option<NaiveDateTime>
         ensures { IsReadingOf (moved (reading self) (nanos_of rhs)) result }
     {
         self.moved(rhs.whole_nanoseconds())
     }
 
-    /// The reading so much earlier, or later for a negative length. `None` where that isn't in range.
+    /// The reading so much earlier, or later for a negative length. `None` where that isn't in
+    /// range.
     ///
     /// It is [`NaiveDateTime::checked_add_signed`] of the opposite length.
     pub fn checked_sub_signed(self, rhs: TimeDelta) -> Option<NaiveDateTime>
@@ -73,7 +76,8 @@ impl NaiveDateTime {
         self.moved_leap(self.within_after(nanos))
     }
 
-    // The reading at so many nanoseconds from the start of this second, which a leap second follows.
+    // The reading at so many nanoseconds from the start of this second, which a leap second
+    // follows.
     #[tactic(auto, using(crate::proofs::Moves::moves))]
     fn moved_leap(self, within: i128) -> Option<NaiveDateTime>
         requires { IsShort within }
@@ -135,8 +139,9 @@ impl NaiveDateTime {
 
     /// The time from another reading to this one, negative where this one is earlier.
     ///
-    /// A reading's own leap second counts where its second of the day is less than the other's, whatever the days: from
-    /// 00:00:59 with 1,500,000,000 nanoseconds to 00:01:00 it is half a second.
+    /// A reading's own leap second counts where its second of the day is less than the other's,
+    /// whatever the days: from 00:00:59 with 1,500,000,000 nanoseconds to 00:01:00 it is half a
+    /// second.
     pub fn signed_duration_since(self, rhs: NaiveDateTime) -> TimeDelta
         ensures { nanos_of result ≡ difference (reading self) (reading rhs) }
     {

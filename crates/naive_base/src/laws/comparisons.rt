@@ -20,7 +20,8 @@ ghost use Rattle.naive_base.specs.IsoWeek.{iso_year, iso_number};
 use crate::{Days, IsoWeek, Months, NaiveDate, NaiveDateTime, NaiveTime, Weekday};
 use std::hash::Hash;
 
-/// Dates are equal exactly where their days are, and compare by these; a hash looks at the day, and a clone is the date.
+/// Dates are equal exactly where their days are, and compare by these; a hash looks at the day, and
+/// a clone is the date.
 pub fn dates()
     ensures equal { (a b : AnyDate) → IsTrue (⟦<NaiveDate as PartialEq>⟧.eq a b)
         ↔ (day_of a ≡ day_of b) }
@@ -30,8 +31,8 @@ pub fn dates()
     ensures cloned { (a b : AnyDate) → ⟦<NaiveDate as Clone>⟧.is_clone a b ↔ (a ≡ b) }
 {}
 
-/// Times are equal exactly where their seconds of the day and their nanoseconds are, and compare by these in turn; a hash
-/// looks at both, and a clone is the time.
+/// Times are equal exactly where their seconds of the day and their nanoseconds are, and compare by
+/// these in turn; a hash looks at both, and a clone is the time.
 pub fn times()
     ensures equal { (a b : AnyTime) → IsTrue (⟦<NaiveTime as PartialEq>⟧.eq a b)
         ↔ ((second_of a ≡ second_of b) × (fraction_of a ≡ fraction_of b)) }
@@ -46,8 +47,8 @@ pub fn times()
     ensures cloned { (a b : AnyTime) → ⟦<NaiveTime as Clone>⟧.is_clone a b ↔ (a ≡ b) }
 {}
 
-/// Readings are equal exactly where their seconds and their nanoseconds are, and compare by these in turn; a hash looks at
-/// both, and a clone is the reading.
+/// Readings are equal exactly where their seconds and their nanoseconds are, and compare by these
+/// in turn; a hash looks at both, and a clone is the reading.
 pub fn readings()
     ensures equal { (a b : AnyReading) → IsTrue (⟦<NaiveDateTime as PartialEq>⟧.eq a b)
         ↔ (((reading a).s ≡ (reading b).s) × ((reading a).f ≡ (reading b).f)) }
@@ -62,8 +63,8 @@ pub fn readings()
     ensures cloned { (a b : AnyReading) → ⟦<NaiveDateTime as Clone>⟧.is_clone a b ↔ (a ≡ b) }
 {}
 
-/// Months are equal exactly where their numbers are, and compare by these; a hash looks at the number, and a clone is the
-/// same months.
+/// Months are equal exactly where their numbers are, and compare by these; a hash looks at the
+/// number, and a clone is the same months.
 pub fn months()
     ensures equal { (a b : AnyMonths) → IsTrue (⟦<Months as PartialEq>⟧.eq a b)
         ↔ (months_of a ≡ months_of b) }
@@ -73,8 +74,8 @@ pub fn months()
     ensures cloned { (a b : AnyMonths) → ⟦<Months as Clone>⟧.is_clone a b ↔ (a ≡ b) }
 {}
 
-/// Days are equal exactly where their numbers are, and compare by these; a hash looks at the number, and a clone is the same
-/// days.
+/// Days are equal exactly where their numbers are, and compare by these; a hash looks at the
+/// number, and a clone is the same days.
 pub fn days()
     ensures equal { (a b : AnyDays) → IsTrue (⟦<Days as PartialEq>⟧.eq a b)
         ↔ (days_of a ≡ days_of b) }
@@ -90,8 +91,8 @@ pub fn weekdays()
     ensures cloned { (a b : AnyWeekday) → ⟦<Weekday as Clone>⟧.is_clone a b ↔ (a ≡ b) }
 {}
 
-/// ISO weeks are equal exactly where their years and their numbers are, and compare by these in turn; a hash looks at both,
-/// and a clone is the week.
+/// ISO weeks are equal exactly where their years and their numbers are, and compare by these in
+/// turn; a hash looks at both, and a clone is the week.
 pub fn iso_weeks()
     ensures equal { (a b : AnyWeek) → IsTrue (⟦<IsoWeek as PartialEq>⟧.eq a b)
         ↔ ((iso_year a ≡ iso_year b) × (iso_number a ≡ iso_number b)) }

@@ -1,5 +1,5 @@
-//! Fields, and values with a field changed. What the calendar says of a date is by Python's `datetime`; the rest follows from
-//! the calls' rules in chrono's documentation.
+//! Fields, and values with a field changed. What the calendar says of a date is by Python's
+//! `datetime`; the rest follows from the calls' rules in chrono's documentation.
 use super::reading;
 use crate::{Datelike, NaiveDate, NaiveDateTime, NaiveTime, Timelike, Weekday};
 use offset_core::FixedOffset;

@@ -1,5 +1,5 @@
-//! Dates and readings moved by months and days, by the examples of chrono's documentation and by the calendar; readings of
-//! timestamps, by Python's `datetime`.
+//! Dates and readings moved by months and days, by the examples of chrono's documentation and by
+//! the calendar; readings of timestamps, by Python's `datetime`.
 use super::reading;
 use crate::{Days, Months, NaiveDate, NaiveDateTime};
 use offset_core::FixedOffset;

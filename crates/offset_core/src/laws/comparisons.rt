@@ -15,7 +15,8 @@ ghost use Rattle.offset_core.specs.TimeDelta.{nanos_of};
 use crate::{Choice, FixedOffset, FoldChoice, GapChoice, LocalResult, TimeDelta};
 use std::hash::Hash;
 
-/// Offsets are equal exactly where their seconds are; a hash looks at the seconds, and a clone is the offset.
+/// Offsets are equal exactly where their seconds are; a hash looks at the seconds, and a clone is
+/// the offset.
 pub fn fixed_offsets()
     ensures equal { (a b : AnyOffset) → IsTrue (⟦<FixedOffset as PartialEq>⟧.eq a b)
         ↔ (seconds_of a ≡ seconds_of b) }
@@ -25,8 +26,8 @@ pub fn fixed_offsets()
     ensures cloned { (a b : AnyOffset) → ⟦<FixedOffset as Clone>⟧.is_clone a b ↔ (a ≡ b) }
 {}
 
-/// Lengths of time are equal exactly where their nanoseconds are, and compare by these; a hash looks at the
-/// nanoseconds, and a clone is the length.
+/// Lengths of time are equal exactly where their nanoseconds are, and compare by these; a hash
+/// looks at the nanoseconds, and a clone is the length.
 pub fn time_deltas()
     ensures equal { (a b : AnyDelta) → IsTrue (⟦<TimeDelta as PartialEq>⟧.eq a b)
         ↔ (nanos_of a ≡ nanos_of b) }
@@ -44,8 +45,8 @@ pub fn longest_time_delta() -> TimeDelta
     TimeDelta::MAX
 }
 
-/// Answers of a lookup are equal exactly where they are of one kind and their values are equal, and a clone is of one kind
-/// with clones of the values.
+/// Answers of a lookup are equal exactly where they are of one kind and their values are equal, and
+/// a clone is of one kind with clones of the values.
 pub fn local_results<T: PartialEq + Clone>()
     ensures equal { (x y : AnyResult T)
         → IsTrue (⟦<LocalResult<T> as PartialEq>⟧.eq x y) ↔ AreAlike

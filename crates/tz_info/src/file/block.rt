@@ -21,7 +21,8 @@ pub struct Block<'a> {
     pub ut_local: &'a [u8],
 }
 
-/// The block that the counts announce, whose times have that many bytes each. No product wraps: each is below 2^36.
+/// The block that the counts announce, whose times have that many bytes each. No product wraps:
+/// each is below 2^36.
 #[tactic(auto, unfolding(crate::specs::Steps::FileReading::block_at))]
 pub fn read_block<'a>(
     cursor: &mut Cursor<'a>,

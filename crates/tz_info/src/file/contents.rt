@@ -19,7 +19,8 @@ pub fn read_transitions(
     requires size { (time_size ≡ 4) ⊎ (time_size ≡ 8) }
     requires room { length times.now ≡ length type_indexes.now * time_size }
     ensures { GivesInMemory (λ v. v.items) result
-        (values_below (length type_indexes.now) (transition_in time_size times.now type_indexes.now)) }
+        (values_below (length type_indexes.now)
+        (transition_in time_size times.now type_indexes.now)) }
 {
     let mut transitions = Vec::with_capacity(alloc, type_indexes.len())?;
     for k in 0..type_indexes.len() {
@@ -74,7 +75,8 @@ pub fn check_indicators(standard_wall: &[u8], ut_local: &[u8]) -> Result<(), Err
 }
 
 fn indicators_agree(standard_wall: &[u8], ut_local: &[u8]) -> bool
-    ensures { result ≡ all_below (length ut_local.now) (pair_agrees standard_wall.now ut_local.now) }
+    ensures { result
+        ≡ all_below (length ut_local.now) (pair_agrees standard_wall.now ut_local.now) }
 {
     for k in 0..ut_local.len() {
         if !pair_agrees(standard_wall, ut_local, k) {

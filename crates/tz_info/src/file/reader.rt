@@ -76,8 +76,8 @@ fn read_file(alloc: Global, bytes: &[u8]) -> Result<Lists, Error>
     lists_of(alloc, &pieces)
 }
 
-/// The pieces of a file that say what its zone is: the last block, with its header's counts and the size of its times,
-/// the footer, and whether the footer's text may have extensions.
+/// The pieces of a file that say what its zone is: the last block, with its header's counts and the
+/// size of its times, the footer, and whether the footer's text may have extensions.
 #[derive(Clone, Copy)]
 struct Pieces<'a> {
     extended: bool,
@@ -154,7 +154,8 @@ fn is_extended(version: Version) -> bool
     matches!(version, Version::Three)
 }
 
-/// What the pieces say: first the types are read, one after the other, then the indicators, then the footer.
+/// What the pieces say: first the types are read, one after the other, then the indicators, then
+/// the footer.
 #[tactic(auto, unfolding(crate::specs::Steps::FileLists::lists_in))]
 fn lists_of(alloc: Global, pieces: &Pieces<'_>) -> Result<Lists, Error>
     requires { HasLengths (pieces_of pieces.now) }

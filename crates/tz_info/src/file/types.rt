@@ -11,8 +11,8 @@ use crate::file::numbers::{record_at, signed_32};
 use crate::local_time_type::LocalTimeType;
 use std::alloc::Global;
 
-/// The types of a block: each an offset of four bytes, a mark of daylight saving time, and where in the designations
-/// its name begins.
+/// The types of a block: each an offset of four bytes, a mark of daylight saving time, and where in
+/// the designations its name begins.
 pub fn read_types(
     alloc: Global,
     count: usize,
@@ -87,7 +87,8 @@ fn first_zero(bytes: &[u8]) -> Option<usize>
     bytes.iter().position(|byte| *byte == 0)
 }
 
-/// The type of an offset, a mark and a text: a function of its own, so that its clause says what reading one gives.
+/// The type of an offset, a mark and a text: a function of its own, so that its clause says what
+/// reading one gives.
 fn local_type(ut_offset: i32, is_dst: bool, text: &[u8]) -> Result<LocalTimeType, Error>
     ensures { Gives (λ t. t) result (type_of ut_offset is_dst text.now) }
 {

@@ -23,7 +23,8 @@ pub fn transitions()
     ensures clone { (a b : Change) → ⟦<Transition as Clone>⟧.is_clone a b ↔ (b ≡ a) }
 {}
 
-/// Leap seconds are equal exactly where their times and their corrections are, and a clone is the value.
+/// Leap seconds are equal exactly where their times and their corrections are, and a clone is the
+/// value.
 pub fn leap_seconds()
     ensures equal { (a b : Leap) → IsTrue (⟦<LeapSecond as PartialEq>⟧.eq a b) ↔ (a ≡ b) }
     ensures clone { (a b : Leap) → ⟦<LeapSecond as Clone>⟧.is_clone a b ↔ (b ≡ a) }
@@ -47,7 +48,8 @@ pub fn rule_days()
     ensures clone { (a b : DayForm) → ⟦<RuleDay as Clone>⟧.is_clone a b ↔ (b ≡ a) }
 {}
 
-/// Rules of two types are equal exactly where their types, days and times are, and a clone is the value.
+/// Rules of two types are equal exactly where their types, days and times are, and a clone is the
+/// value.
 pub fn alternate_times()
     ensures equal { (a b : AlternateRule)
         → IsTrue (⟦<AlternateTime as PartialEq>⟧.eq a b) ↔ (a ≡ b) }

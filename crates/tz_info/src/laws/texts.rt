@@ -1,4 +1,5 @@
-//! Theorems of TZ texts and of the zones that they give: each function is empty, its contract is proved; never called.
+//! Theorems of TZ texts and of the zones that they give: each function is empty, its contract is
+//! proved; never called.
 
 ghost use Rattle.std.specs.Prelude.{◌≡◌, ◌≤◌, List, ℕ, Bool};
 ghost use Rattle.tz_info.specs.TzTexts.{IsTzText};
@@ -24,7 +25,8 @@ pub fn zone_is_valid()
         → IsValid zone × IsRuleOrNone zone.rule }
 {}
 
-/// A text with a fault spells no rule. Its fault has one number, which is not that of want of memory.
+/// A text with a fault spells no rule. Its fault has one number, which is not that of want of
+/// memory.
 pub fn fault_or_rule()
     ensures apart { (extended : Bool) (bytes : List ℕ) (n : ℕ) (rule : Rule)
         → IsTextFault extended bytes n → ¬ (IsTzText extended bytes rule) }
@@ -34,7 +36,8 @@ pub fn fault_or_rule()
         → n ≤ 16 }
 {}
 
-/// A text with a fault gives no zone. Its fault has one number, which is not that of want of memory.
+/// A text with a fault gives no zone. Its fault has one number, which is not that of want of
+/// memory.
 pub fn fault_or_zone()
     ensures apart { (text : List ℕ) (n : ℕ) (zone : Zone) → IsPosixFault text n
         → ¬ (IsPosixZone text zone) }

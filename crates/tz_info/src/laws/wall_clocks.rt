@@ -1,4 +1,5 @@
-//! Theorems of wall clocks over all seconds: each function is empty, its contract is proved; never called.
+//! Theorems of wall clocks over all seconds: each function is empty, its contract is proved; never
+//! called.
 
 ghost use Rattle.std.specs.Prelude.{ℤ};
 ghost use Rattle.offset_core.specs.WallAnswer.{IsWallAnswer};

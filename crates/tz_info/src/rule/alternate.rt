@@ -144,13 +144,14 @@ impl fmt::Debug for AlternateTime {
 }
 
 impl AlternateTime {
-    /// The rule by which daylight saving time starts on one day and ends on another, each so many seconds after the
-    /// day's midnight: the start on the clock of standard time, the end on that of daylight saving time.
+    /// The rule by which daylight saving time starts on one day and ends on another, each so many
+    /// seconds after the day's midnight: the start on the clock of standard time, the end on that
+    /// of daylight saving time.
     ///
     /// # Errors
     ///
-    /// [`Error::TransitionRule`] if an offset is not strictly within a day (86,400 seconds), or a time is not strictly
-    /// within a week (604,800 seconds).
+    /// [`Error::TransitionRule`] if an offset is not strictly within a day (86,400 seconds), or a
+    /// time is not strictly within a week (604,800 seconds).
     pub fn new(
         std: LocalTimeType,
         dst: LocalTimeType,
@@ -194,11 +195,13 @@ impl AlternateTime {
     ghost use Rattle.tz_info.specs.Moments.{AlternateAt, IsAlternateRefused, IsRuleYear, IsDstAt, start_in, end_in, type_when};
     ghost use Rattle.tz_info.specs.Steps.Seasons.{IsSeason};
 
-    /// The type in force at the second of Unix time, as `TransitionRule::find_local_time_type` has it.
+    /// The type in force at the second of Unix time, as `TransitionRule::find_local_time_type` has
+    /// it.
     ///
     /// # Errors
     ///
-    /// [`Error::OutOfRange`] if the second's UTC year is below `i32::MIN + 2` or above `i32::MAX - 2`.
+    /// [`Error::OutOfRange`] if the second's UTC year is below `i32::MIN + 2` or above
+    /// `i32::MAX - 2`.
     #[inline(always)]
     pub fn find_local_time_type(&self, unix_time: i64) -> Result<&LocalTimeType, Error>
         ensures { MatchResult result
@@ -241,7 +244,8 @@ impl AlternateTime {
         }
     }
 
-    /// Whether it is daylight saving time at the second, by the season's moments where these decide.
+    /// Whether it is daylight saving time at the second, by the season's moments where these
+    /// decide.
     #[inline(always)]
     fn is_dst_in(&self, season: Season, unix_time: i64) -> bool
         requires season { IsSeason self.now season }
@@ -258,8 +262,8 @@ impl AlternateTime {
 
     /// Whether it is daylight saving time at the second, which lies on that day of that year.
     ///
-    /// A rule's moments lie less than eight days outside their year, so that near the year's ends those of its
-    /// neighbours decide as well.
+    /// A rule's moments lie less than eight days outside their year, so that near the year's ends
+    /// those of its neighbours decide as well.
     #[inline(never)]
     fn is_dst(&self, year: i32, day: i64, unix_time: i64) -> bool
         requires day { day ≡ floor_div unix_time 86_400 }
@@ -353,7 +357,8 @@ impl Turns {
     }
 }
 
-/// Whether it is daylight saving time at the second by the moments of its year and of the years before and after it.
+/// Whether it is daylight saving time at the second by the moments of its year and of the years
+/// before and after it.
 fn is_dst_by_three(before: Turns, here: Turns, after: Turns, unix_time: i64) -> bool
     ensures { result ≡ (if int_le here.start here.end
         then is_between before.start before.end unix_time

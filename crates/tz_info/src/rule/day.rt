@@ -24,7 +24,8 @@ enum DayForm {
     Julian1(u16),
     /// `n`: n days after 1 January; 29 February is counted.
     Julian0(u16),
-    /// `Mm.w.d`: month, week and weekday, 0 for Sunday; week 5 has the last such weekday of the month.
+    /// `Mm.w.d`: month, week and weekday, 0 for Sunday; week 5 has the last such weekday of the
+    /// month.
     MonthWeekday(u8, u8, u8),
 }
 
@@ -86,8 +87,8 @@ impl RuleDay {
         })
     }
 
-    /// `Mm.w.d`: the weekday (0 for Sunday to 6) in the week (1 to 5) of the month (1 to 12), where week w has the days
-    /// 7(w - 1) + 1 to 7w and week 5 the last such weekday of the month.
+    /// `Mm.w.d`: the weekday (0 for Sunday to 6) in the week (1 to 5) of the month (1 to 12), where
+    /// week w has the days 7(w - 1) + 1 to 7w and week 5 the last such weekday of the month.
     ///
     /// # Errors
     ///
@@ -120,7 +121,8 @@ impl RuleDay {
 
     /// The month, from 1, and the day of the month of the rule's day in the year.
     ///
-    /// A plain day number of 365 is the day behind 31 December in a common year; its date is `(12, 32)`.
+    /// A plain day number of 365 is the day behind 31 December in a common year; its date is
+    /// `(12, 32)`.
     pub fn transition_date(&self, year: i32) -> (usize, i64)
         ensures date { IsWrittenDate (rule_day self.now year) year result.0 result.1 }
         ensures rule { IsRuleDay self.now }
@@ -135,8 +137,8 @@ impl RuleDay {
         }
     }
 
-    /// The second so many seconds after the midnight with which the rule's day begins in the year, both on one clock:
-    /// 86,400 times the day number plus the day time.
+    /// The second so many seconds after the midnight with which the rule's day begins in the year,
+    /// both on one clock: 86,400 times the day number plus the day time.
     #[inline(always)]
     pub fn unix_time(&self, year: i32, day_time: i64) -> i64
         requires { (neg_ℤ (pos 4_611_686_018_427_387_904) ≤ℤ day_time)
@@ -184,7 +186,8 @@ impl RuleDay {
     }
 }
 
-/// The month and the day of the month that come so many days after the year's 1 January, up to the next 1 January.
+/// The month and the day of the month that come so many days after the year's 1 January, up to the
+/// next 1 January.
 fn date_in_year(year: i32, place: u32) -> (usize, i64)
     requires { place ≤ 365 }
     ensures { IsWrittenDate (year_start year +ℤ pos place) year result.0 result.1 }
@@ -223,7 +226,8 @@ fn place_in_month(year: i32, month: u32, week: u32, weekday: u32) -> u32
     weekday_place(days_in_month(year, month), first, week, weekday)
 }
 
-/// How many days come before the weekday of that week, in a month of so many days that begins with the first weekday.
+/// How many days come before the weekday of that week, in a month of so many days that begins with
+/// the first weekday.
 fn weekday_place(days: u32, first: u32, week: u32, weekday: u32) -> u32
     requires days_in { IsInRange 28 31 days }
     requires first_in { first < 7 }

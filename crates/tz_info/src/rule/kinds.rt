@@ -1,7 +1,7 @@
 //! Kinds of years: a year is a leap year or not, and begins with one of the seven weekdays.
 //!
-//! A rule's moments, counted from the first second of their year, are the same in all years of a kind. They are found once
-//! in a year of each of the fourteen kinds, when the rule is made.
+//! A rule's moments, counted from the first second of their year, are the same in all years of a
+//! kind. They are found once in a year of each of the fourteen kinds, when the rule is made.
 
 ghost use Rattle.std.specs.Prelude.{◌≡◌, ◌<◌};
 ghost use Rattle.naive_base.specs.Year.{year_start, IsDay};
@@ -12,7 +12,8 @@ ghost use Rattle.tz_info.specs.Steps.Kinds.{kind_place, second_in, seconds_by_ki
 use crate::rule::alternate::DayTime;
 use naive_base::calendar::{is_leap_year, weekday_of, year_start};
 
-/// The place of the kind of the year that begins on that day: the common years that begin with Sunday to Saturday, and then the leap years.
+/// The place of the kind of the year that begins on that day: the common years that begin with
+/// Sunday to Saturday, and then the leap years.
 #[inline(always)]
 pub(super) fn kind_of(year: i32, first: i64) -> usize
     requires first { first ≡ year_start year }
@@ -29,8 +30,8 @@ pub(super) fn kind_of(year: i32, first: i64) -> usize
 }
 
 impl DayTime {
-    /// The second, counted from the year's first, at which a clock at that offset shows the time on the day, in a year of
-    /// each kind.
+    /// The second, counted from the year's first, at which a clock at that offset shows the time on
+    /// the day, in a year of each kind.
     pub(super) fn seconds_by_kind(&self, offset: i32) -> [i64; 14]
         requires time { IsWithinWeek self.now.time }
         requires offset { IsWithinDay offset }

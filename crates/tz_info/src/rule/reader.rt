@@ -20,17 +20,19 @@ use crate::rule::transition_rule::TransitionRule;
 use text::read_text;
 
 impl TransitionRule {
-    /// The rule that a TZ text spells, as `EST5EDT,M3.2.0,M11.1.0` (POSIX.1 section 8.3). With extensions a time of day
-    /// may have a sign and hours up to 167, as in the footer of a TZif file of version 3 (RFC 8536 section 3.3.1).
+    /// The rule that a TZ text spells, as `EST5EDT,M3.2.0,M11.1.0` (POSIX.1 section 8.3). With
+    /// extensions a time of day may have a sign and hours up to 167, as in the footer of a TZif
+    /// file of version 3 (RFC 8536 section 3.3.1).
     ///
     /// # Errors
     ///
-    /// The first of what follows that stands in the text: [`Error::UnexpectedEnd`] or [`Error::MissingTag`] where a `>`,
-    /// a `.` or a comma must come; [`Error::ParseInt`] where a number must come; [`Error::InvalidTzString`] for hours,
-    /// minutes, seconds or an offset of daylight saving time out of their limits, and for bytes left over;
-    /// [`Error::TransitionRule`] for a date out of its limits; [`Error::UnsupportedTzString`] where the text ends behind
-    /// the name of daylight saving time or its offset; and, looked at last, [`Error::LocalTimeType`] for a name that is
-    /// none of three to seven letters, digits, `+` or `-`.
+    /// The first of what follows that stands in the text: [`Error::UnexpectedEnd`] or
+    /// [`Error::MissingTag`] where a `>`, a `.` or a comma must come; [`Error::ParseInt`] where a
+    /// number must come; [`Error::InvalidTzString`] for hours, minutes, seconds or an offset of
+    /// daylight saving time out of their limits, and for bytes left over; [`Error::TransitionRule`]
+    /// for a date out of its limits; [`Error::UnsupportedTzString`] where the text ends behind the
+    /// name of daylight saving time or its offset; and, looked at last, [`Error::LocalTimeType`]
+    /// for a name that is none of three to seven letters, digits, `+` or `-`.
     pub fn from_tz_string(bytes: &[u8], extended: bool) -> Result<TransitionRule, Error>
         // What is read is spelled so.
         ensures found { IfOk result (λ rule. IsTzText extended bytes.now rule) }

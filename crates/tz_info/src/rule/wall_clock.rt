@@ -18,9 +18,10 @@ use offset_core::MappedLocalTime;
 impl TransitionRule {
     /// The types in force at the instants at which a clock by this rule shows the reading.
     ///
-    /// `EST5EDT,M3.2.0,M11.1.0` sets clocks forward at 02:00 on 14 March 2021: that day 02:30 is in a gap, which no clock
-    /// shows, and the answer is `None`. It sets them back at 02:00 on 7 November 2021: that day 01:30 is in a fold, shown
-    /// twice, and the answer is `Ambiguous`, with EDT at the first instant and EST at the last.
+    /// `EST5EDT,M3.2.0,M11.1.0` sets clocks forward at 02:00 on 14 March 2021: that day 02:30 is in
+    /// a gap, which no clock shows, and the answer is `None`. It sets them back at 02:00 on 7
+    /// November 2021: that day 01:30 is in a fold, shown twice, and the answer is `Ambiguous`, with
+    /// EDT at the first instant and EST at the last.
     ///
     /// # Errors
     ///

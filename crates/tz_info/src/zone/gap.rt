@@ -19,7 +19,8 @@ use crate::zone::time_zone::TimeZone;
 use naive_base::NaiveDateTime;
 use offset_core::MappedLocalTime;
 
-/// The seconds between which clocks may come to show a local time: by the greatest offset, and by the least.
+/// The seconds between which clocks may come to show a local time: by the greatest offset, and by
+/// the least.
 #[derive(Clone, Copy)]
 struct Reach {
     low: i64,
@@ -27,10 +28,12 @@ struct Reach {
 }
 
 impl TimeZone {
-    /// In a gap the type in force before it: of all seconds take the first at which clocks show more than the reading; it is
-    /// the type at the second before that one. `None` exactly where some second shows the reading.
+    /// In a gap the type in force before it: of all seconds take the first at which clocks show
+    /// more than the reading; it is the type at the second before that one. `None` exactly where
+    /// some second shows the reading.
     ///
-    /// In New York clocks were set forward from 02:00 to 03:00 on 14 March 2021. Of 02:30 that day it tells EST.
+    /// In New York clocks were set forward from 02:00 to 03:00 on 14 March 2021. Of 02:30 that day
+    /// it tells EST.
     pub fn find_local_time_type_before_gap(&self, local: NaiveDateTime) -> Option<LocalTimeType>
         ensures { MatchOption result
             (IsShown (TypeAt self.now) (reading local).s)
@@ -44,7 +47,8 @@ impl TimeZone {
         }
     }
 
-    /// Looks at the second at which each segment begins, from the one of the earliest second that may show the local time on.
+    /// Looks at the second at which each segment begins, from the one of the earliest second that
+    /// may show the local time on.
     fn type_before_gap(&self, local: i64) -> LocalTimeType
         requires local { IsWide local }
         requires never { IsNeverShown (Shows (TypeAt self.now) local) }
@@ -108,7 +112,8 @@ impl TimeZone {
         self.type_near(second - 1)
     }
 
-    /// Behind the last transition clocks come to show more only where a rule turns from its lesser offset to the greater.
+    /// Behind the last transition clocks come to show more only where a rule turns from its lesser
+    /// offset to the greater.
     fn type_before_turn(&self, local: i64, reach: Reach) -> LocalTimeType
         requires never { IsNeverShown (Shows (TypeAt self.now) local) }
         requires reach { IsReach self.now local reach.low reach.high }

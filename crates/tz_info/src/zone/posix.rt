@@ -12,14 +12,15 @@ use crate::zone::time_zone::TimeZone;
 use std::alloc::Global;
 
 impl TimeZone {
-    /// The zone of a TZ text, as `EST5EDT,M3.2.0,M11.1.0` (POSIX.1 section 8.3): its rule, and the one type or the two
-    /// types of the rule, that of standard time first. An empty text gives the zone of [`TimeZone::utc`]. Otherwise spaces,
-    /// tabs, line feeds, form feeds and carriage returns at both ends do not count, and the text is read without
-    /// extensions.
+    /// The zone of a TZ text, as `EST5EDT,M3.2.0,M11.1.0` (POSIX.1 section 8.3): its rule, and the
+    /// one type or the two types of the rule, that of standard time first. An empty text gives the
+    /// zone of [`TimeZone::utc`]. Otherwise spaces, tabs, line feeds, form feeds and carriage
+    /// returns at both ends do not count, and the text is read without extensions.
     ///
     /// # Errors
     ///
-    /// Those of [`TransitionRule::from_tz_string`]; [`Error::OutOfMemory`] if there is no memory for the zone.
+    /// Those of [`TransitionRule::from_tz_string`]; [`Error::OutOfMemory`] if there is no memory
+    /// for the zone.
     pub fn from_posix_tz(alloc: Global, text: &str) -> Result<TimeZone, Error>
         // The zone is the text's.
         ensures found { IfOk result (λ z. IsPosixZone text.now z) }
@@ -27,9 +28,11 @@ impl TimeZone {
         ensures only { (z : Zone) → IsPosixZone text.now z
             → MatchResult result (λ y. y ≡ z) (λ e. number_of e ≡ 17) }
         // Where it is refused, what the number says stands in the text, or there is no memory.
-        ensures fault { IfErr result (λ e. (number_of e ≡ 17) ⊎ IsPosixFault text.now (number_of e)) }
+        ensures fault { IfErr result
+            (λ e. (number_of e ≡ 17) ⊎ IsPosixFault text.now (number_of e)) }
         // Want of memory is answered for a text that has a zone alone.
-        ensures memory { IfErr result (λ e. number_of e ≡ 17 → (z : Zone) × IsPosixZone text.now z) }
+        ensures memory { IfErr result
+            (λ e. number_of e ≡ 17 → (z : Zone) × IsPosixZone text.now z) }
     {
         if text.is_empty() {
             return TimeZone::utc(alloc);
@@ -49,7 +52,9 @@ impl TimeZone {
 
 /// The types of the rule, that of standard time first.
 fn types_of(alloc: Global, rule: &TransitionRule) -> Result<Vec<LocalTimeType>, Error>
-    ensures { MatchResult result (λ types. types.items ≡ types_of rule.now) (λ e. number_of e ≡ 17) }
+    ensures { MatchResult result
+        (λ types. types.items ≡ types_of rule.now)
+        (λ e. number_of e ≡ 17) }
 {
     match rule {
         TransitionRule::Fixed(local) => Ok(vec![in alloc; *local]?),

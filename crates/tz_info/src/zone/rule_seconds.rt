@@ -31,7 +31,8 @@ impl TimeZone {
         requires local { IsWide local }
         requires room { HasRoomFor 2 probes.old.rule_questions }
         requires rule { self.now.rule ≡ Some rule.now }
-        requires seen { IsWallAnswer (IsShownIn self.now local (length self.now.transitions)) answer }
+        requires seen { IsWallAnswer
+            (IsShownIn self.now local (length self.now.transitions)) answer }
         ensures found { IsWallAnswer (IsShownIn self.now local
             (length self.now.transitions + 1)) result }
         ensures cost { RoseWithin probes.old probes.new 0 2 }
@@ -54,7 +55,8 @@ impl TimeZone {
         requires local { IsWide local }
         requires room { HasRoomFor 2 probes.old.rule_questions }
         requires rule { self.now.rule ≡ Some (Fixed only.now) }
-        requires seen { IsWallAnswer (IsShownIn self.now local (length self.now.transitions)) answer }
+        requires seen { IsWallAnswer
+            (IsShownIn self.now local (length self.now.transitions)) answer }
         ensures found { IsWallAnswer (IsShownIn self.now local
             (length self.now.transitions + 1)) result }
         ensures cost { RoseWithin probes.old probes.new 0 2 }
@@ -80,7 +82,8 @@ impl TimeZone {
         requires local { IsWide local }
         requires room { HasRoomFor 2 probes.old.rule_questions }
         requires rule { self.now.rule ≡ Some (Alternate turns.now) }
-        requires seen { IsWallAnswer (IsShownIn self.now local (length self.now.transitions)) answer }
+        requires seen { IsWallAnswer
+            (IsShownIn self.now local (length self.now.transitions)) answer }
         ensures found { IsWallAnswer (IsShownIn self.now local
             (length self.now.transitions + 1)) result }
         ensures cost { RoseWithin probes.old probes.new 0 2 }

@@ -106,8 +106,8 @@ impl Table {
     /// How many transitions come at or before the leap time. Where no end decides, a binary search
     /// finds it among those before the last.
     ///
-    /// The last sixteen halvings are written out: there the compiler makes each of them a choice of two values, and in a
-    /// loop a branch, which the processor would guess wrong every other time.
+    /// The last sixteen halvings are written out: there the compiler makes each of them a choice of
+    /// two values, and in a loop a branch, which the processor would guess wrong every other time.
     #[inline(always)]
     pub(super) fn passed_count(&self, leap_time: i64, probes: &mut Probes) -> usize
         requires { HasRoomFor (digits (length self.now)) probes.old.reads }

@@ -1,4 +1,5 @@
-//! A time zone: transitions, the types of its local time, leap seconds, and the rule that goes on after them.
+//! A time zone: transitions, the types of its local time, leap seconds, and the rule that goes on
+//! after them.
 
 ghost use Rattle.std.specs.Prelude.{◌≡◌, pos, ◌+◌, ◌*◌, ◌<◌, ◌≤◌, length, IsTrue, ◌↔◌, MatchResult, ◌⊎◌, option_map};
 ghost use Rattle.tz_info.specs.Errors.{number_of};
@@ -110,14 +111,16 @@ impl Eq for TimeZone {
 impl TimeZone {
     /// The zone of those transitions, types, leap seconds and rule.
     ///
-    /// There is a type; each transition names one, and their times rise. The first leap second comes in 1970 or later and
-    /// has the correction 1 or -1; each other one comes at least 28 days, less a second, after the one before, and its
-    /// correction is one more or one less. Where there are a rule and a transition, the rule's type at the last
-    /// transition's Unix time is that transition's type.
+    /// There is a type; each transition names one, and their times rise. The first leap second
+    /// comes in 1970 or later and has the correction 1 or -1; each other one comes at least 28
+    /// days, less a second, after the one before, and its correction is one more or one less. Where
+    /// there are a rule and a transition, the rule's type at the last transition's Unix time is
+    /// that transition's type.
     ///
     /// # Errors
     ///
-    /// [`Error::TimeZone`] if the lists are otherwise; [`Error::OutOfMemory`] if there is no memory for the zone's index.
+    /// [`Error::TimeZone`] if the lists are otherwise; [`Error::OutOfMemory`] if there is no memory
+    /// for the zone's index.
     pub fn new(
         alloc: Global,
         transitions: Vec<Transition>,
@@ -171,7 +174,8 @@ impl TimeZone {
     ///
     /// # Errors
     ///
-    /// [`Error::LocalTimeType`] if the offset is `i32::MIN`; [`Error::OutOfMemory`] if there is no memory for the zone.
+    /// [`Error::LocalTimeType`] if the offset is `i32::MIN`; [`Error::OutOfMemory`] if there is no
+    /// memory for the zone.
     pub fn fixed(alloc: Global, ut_offset: i32) -> Result<TimeZone, Error>
         ensures { MatchResult result
             (λ z. IsUtOffset ut_offset × (z ≡ plain_zone ut_offset))
@@ -271,7 +275,8 @@ impl TimeZone {
     ///
     /// # Errors
     ///
-    /// [`Error::OutOfRange`] if the Unix time and the correction of a leap second that it has passed leave 64 bits.
+    /// [`Error::OutOfRange`] if the Unix time and the correction of a leap second that it has
+    /// passed leave 64 bits.
     pub fn unix_time_to_unix_leap_time(&self, unix_time: i64) -> Result<i64, Error>
         ensures { MatchResult result
             (λ x. IsLeapTime self.now.leaps unix_time x)
@@ -280,12 +285,13 @@ impl TimeZone {
         leap_time(&self.leap_seconds, unix_time)
     }
 
-    /// The Unix time of a leap time: the second without the leap seconds before it. An inserted leap second has the Unix
-    /// time of the second after it.
+    /// The Unix time of a leap time: the second without the leap seconds before it. An inserted
+    /// leap second has the Unix time of the second after it.
     ///
     /// # Errors
     ///
-    /// [`Error::OutOfRange`] if the leap time is `i64::MIN`, or if less its correction it leaves 64 bits.
+    /// [`Error::OutOfRange`] if the leap time is `i64::MIN`, or if less its correction it leaves 64
+    /// bits.
     pub fn unix_leap_time_to_unix_time(&self, unix_leap_time: i64) -> Result<i64, Error>
         ensures { MatchResult result
             (λ u. IsUnixTime self.now.leaps unix_leap_time u)

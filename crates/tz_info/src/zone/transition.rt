@@ -2,8 +2,8 @@
 
 ghost use Rattle.std.specs.Prelude.{◌≡◌};
 
-/// A transition: from this leap time on the type of this index is in force, until the next transition (RFC 8536
-/// section 3.2, "transition times" and "transition types").
+/// A transition: from this leap time on the type of this index is in force, until the next
+/// transition (RFC 8536 section 3.2, "transition times" and "transition types").
 #[derive(Clone, Copy, Debug, PartialEq, Eq)]
 pub struct Transition {
     /// Seconds from 1970-01-01 00:00:00 UTC, leap seconds counted.

@@ -206,7 +206,8 @@ impl TimeZone {
         requires index { current.type_index
             ≡ index_of self.now.transitions (length self.now.transitions) }
         requires listed { current.type_index < length self.now.types }
-        requires seen { IsWallAnswer (IsShownIn self.now local (length self.now.transitions)) answer }
+        requires seen { IsWallAnswer
+            (IsShownIn self.now local (length self.now.transitions)) answer }
         ensures found { IsWallAnswer (IsShownIn self.now local
             (length self.now.transitions + 1)) result }
         ensures cost { RoseWithin probes.old probes.new 0 2 }

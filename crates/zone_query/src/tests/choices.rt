@@ -29,7 +29,8 @@ fn takes_an_instant_by_a_choice(rt: HostRuntime) {
             b"text AAA0BBB,M1.1.0/0,J4/0\nwall 2024 1 1 0 30 0 shift/refuse\n",
             "ok 0 2 0 alternate\n2024-01-01 01:30:00 +01:00\n",
         ),
-        // Clocks are set back an hour at 0 and once more half an hour later: three instants show 23:10:00.
+        // Clocks are set back an hour at 0 and once more half an hour later: three instants show
+        // 23:10:00.
         (
             b"data 545a69660000000000000000000000000000000000000000000000000000000000000002000\
                 000030000000400000000000007080102000000000000fffff1f00000ffffe3e0000041424300\n\

@@ -38,7 +38,8 @@ impl Read for Feeder<'_> {
     }
 }
 
-/// Takes bytes in pieces, up to a number of them, and then takes none. Its flushes succeed a number of times.
+/// Takes bytes in pieces, up to a number of them, and then takes none. Its flushes succeed a number
+/// of times.
 #[derive(Drop)]
 pub struct Taker {
     pub taken: Vec<u8>,

@@ -107,7 +107,8 @@ fn december(rt: &impl Abort, at: (u32, u32, u32)) -> NaiveDateTime {
     reading_of(rt, (2012, 12, at.0), (at.1, at.2, 0), 0)
 }
 
-// What a clock shows decides, whatever its offset: chrono's documentation, and for a week worked from the definition.
+// What a clock shows decides, whatever its offset: chrono's documentation, and for a week worked
+// from the definition.
 #[test]
 fn days_and_weeks_of_a_clock(rt: HostRuntime) {
     for offset in [FixedOffset::east(3600), FixedOffset::west(3600)] {

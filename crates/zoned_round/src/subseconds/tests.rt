@@ -149,7 +149,8 @@ fn halves_go_up(rt: HostRuntime) {
     }
 }
 
-// Worked from the definition: a leap second's nanoseconds stay from 10^9 on, and behind them comes the next second.
+// Worked from the definition: a leap second's nanoseconds stay from 10^9 on, and behind them comes
+// the next second.
 #[test]
 fn a_leap_second(rt: HostRuntime) {
     let value = leap_second(&rt);

@@ -30,8 +30,8 @@ impl<Tz: TimeZone> DateTime<Tz> {
         self.timezone().from_local_datetime(local)
     }
 
-    /// The instant so much later, or earlier for a negative length, with the offset that its zone has then. `None` where that
-    /// is out of range.
+    /// The instant so much later, or earlier for a negative length, with the offset that its zone
+    /// has then. `None` where that is out of range.
     ///
     /// From a leap second on, that leap second is counted; no other ever is.
     ///
@@ -57,9 +57,11 @@ impl<Tz: TimeZone> DateTime<Tz> {
         Some(self.at(&utc))
     }
 
-    /// The time from another instant to this one, negative where this one is earlier, whatever zones the two stand in.
+    /// The time from another instant to this one, negative where this one is earlier, whatever
+    /// zones the two stand in.
     ///
-    /// An instant's own leap second counts where its second of the day, in UTC, is less than the other's.
+    /// An instant's own leap second counts where its second of the day, in UTC, is less than the
+    /// other's.
     pub fn signed_duration_since<Tz2: TimeZone>(&self, rhs: &DateTime<Tz2>) -> TimeDelta
         ensures { nanos_of result ≡ difference (zoned self.now).utc (zoned rhs.now).utc }
     {

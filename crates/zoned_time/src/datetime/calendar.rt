@@ -16,13 +16,16 @@ use naive_base::{Datelike, Days, Months, NaiveDateTime, NaiveTime};
 use offset_core::LocalResult;
 
 impl<Tz: TimeZone> DateTime<Tz> {
-    /// The only instant when the clocks of the zone show this time so many months later, on the same day of the month, or on
-    /// its last where it has fewer days. `None` where they show it never or more than once, and where the year is not one
-    /// from -262143 to 262142, unless it is the date that the clock shows now.
+    /// The only instant when the clocks of the zone show this time so many months later, on the
+    /// same day of the month, or on its last where it has fewer days. `None` where they show it
+    /// never or more than once, and where the year is not one from -262143 to 262142, unless it is
+    /// the date that the clock shows now.
     ///
     /// ```text
-    /// new_york.with_ymd_and_hms(2021, 1, 31, 12, 0, 0).unwrap().checked_add_months(Months::new(1)) // 2021-02-28 12:00:00 -05:00
-    /// new_york.with_ymd_and_hms(2021, 2, 14, 2, 30, 0).unwrap().checked_add_months(Months::new(1)) // None: a gap
+    /// let noon = new_york.with_ymd_and_hms(2021, 1, 31, 12, 0, 0).unwrap();
+    /// noon.checked_add_months(Months::new(1))  // 2021-02-28 12:00:00 -05:00
+    /// let night = new_york.with_ymd_and_hms(2021, 2, 14, 2, 30, 0).unwrap();
+    /// night.checked_add_months(Months::new(1)) // None: a gap
     /// ```
     pub fn checked_add_months(&self, months: Months) -> Option<DateTime<Tz>>
         ensures { IsOnlyMonthsLater self.now (pos (months_of months)) result }
@@ -37,8 +40,9 @@ impl<Tz: TimeZone> DateTime<Tz> {
         self.only_at(&self.local().checked_sub_months(months)?)
     }
 
-    /// The only instant when the clocks of the zone show this time so many days later, and this instant itself for no days.
-    /// `None` where they show it never or more than once, and where it is not in the years -262143 to 262142.
+    /// The only instant when the clocks of the zone show this time so many days later, and this
+    /// instant itself for no days. `None` where they show it never or more than once, and where it
+    /// is not in the years -262143 to 262142.
     pub fn checked_add_days(&self, days: Days) -> Option<DateTime<Tz>>
         ensures { IsDaysAdded self.now (days_of days) result }
     {
@@ -48,17 +52,17 @@ impl<Tz: TimeZone> DateTime<Tz> {
         self.only_at(&self.local().checked_add_days(days)?)
     }
 
-    /// The only instant when the clocks of the zone show this time so many days earlier. `None` where they show it never or
-    /// more than once, for no days too, and where it is not in the years -262143 to 262142, unless that is the date that the
-    /// clock shows now.
+    /// The only instant when the clocks of the zone show this time so many days earlier. `None`
+    /// where they show it never or more than once, for no days too, and where it is not in the
+    /// years -262143 to 262142, unless that is the date that the clock shows now.
     pub fn checked_sub_days(&self, days: Days) -> Option<DateTime<Tz>>
         ensures { IsOnlyDaysLater self.now (neg_ℤ (pos (days_of days))) result }
     {
         self.only_at(&self.local().checked_sub_days(days)?)
     }
 
-    /// The instants when the clocks of the zone show that time on the date that this one's clock shows:
-    /// [`TimeZone::from_local_datetime`] of the two.
+    /// The instants when the clocks of the zone show that time on the date that this one's clock
+    /// shows: [`TimeZone::from_local_datetime`] of the two.
     pub fn with_time(&self, time: NaiveTime) -> LocalResult<DateTime<Tz>>
         ensures { IsRelocal (home_of self.now) (reading_at (day_at (wall_of self.now))
             (second_of time) (fraction_of time))
@@ -67,8 +71,8 @@ impl<Tz: TimeZone> DateTime<Tz> {
         self.relocal(&self.local().date().and_time(time))
     }
 
-    /// The whole years from another instant to this one, by what their clocks show. `None` where this one's year is less, or is
-    /// the same and its month, day and time are earlier.
+    /// The whole years from another instant to this one, by what their clocks show. `None` where
+    /// this one's year is less, or is the same and its month, day and time are earlier.
     pub fn years_since(&self, base: DateTime<Tz>) -> Option<u32>
         ensures { IsYearsSince (wall_of self.now) (wall_of base) result }
     {

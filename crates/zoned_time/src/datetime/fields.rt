@@ -19,8 +19,9 @@ impl<Tz: TimeZone> DateTime<Tz> {
     }
 }
 
-/// The date that the instant's clock shows, be it a buffer day, and the only instant when the clocks of its zone show another
-/// date at that time: `None` where they show it never, or more than once.
+/// The date that the instant's clock shows, be it a buffer day, and the only instant when the
+/// clocks of its zone show another date at that time: `None` where they show it never, or more than
+/// once.
 impl<Tz: TimeZone> Datelike for DateTime<Tz> {
     ghost day_shown = { day_shown_by };
 
@@ -91,8 +92,8 @@ impl<Tz: TimeZone> Datelike for DateTime<Tz> {
     }
 }
 
-/// The time that the instant's clock shows, and the only instant when the clocks of its zone show another time on that day:
-/// `None` where they show it never, or more than once.
+/// The time that the instant's clock shows, and the only instant when the clocks of its zone show
+/// another time on that day: `None` where they show it never, or more than once.
 impl<Tz: TimeZone> Timelike for DateTime<Tz> {
     ghost time_shown = { λ d. time_at (wall_of d) };
 

@@ -1,4 +1,5 @@
-//! The operators of instants, which ask that the result exists. Where it may not, call the checked form.
+//! The operators of instants, which ask that the result exists. Where it may not, call the checked
+//! form.
 ghost use Rattle.std.specs.Prelude.{◌≡◌, pos, neg_ℤ, Some};
 ghost use Rattle.std.specs.Duration.{as_nanos};
 ghost use Rattle.offset_core.specs.FixedOffset.{seconds_of};
@@ -62,7 +63,8 @@ impl<Tz: TimeZone> SubAssign<TimeDelta> for DateTime<Tz> {
     }
 }
 
-/// The instant so much later, where [`TimeDelta::from_std`] and [`DateTime::checked_add_signed`] answer.
+/// The instant so much later, where [`TimeDelta::from_std`] and [`DateTime::checked_add_signed`]
+/// answer.
 impl<Tz: TimeZone> Add<Duration> for DateTime<Tz> {
     type Output = DateTime<Tz>;
 
@@ -75,11 +77,13 @@ impl<Tz: TimeZone> Add<Duration> for DateTime<Tz> {
     }
 }
 
-/// The instant so much earlier, where [`TimeDelta::from_std`] and [`DateTime::checked_sub_signed`] answer.
+/// The instant so much earlier, where [`TimeDelta::from_std`] and [`DateTime::checked_sub_signed`]
+/// answer.
 impl<Tz: TimeZone> Sub<Duration> for DateTime<Tz> {
     type Output = DateTime<Tz>;
 
-    ghost can_sub = { λ d t. FitsTimeDelta (pos (as_nanos t)) × CanMove d (neg_ℤ (pos (as_nanos t))) };
+    ghost can_sub = { λ d t.
+        FitsTimeDelta (pos (as_nanos t)) × CanMove d (neg_ℤ (pos (as_nanos t))) };
 
     ghost sub_gives = { λ d t r. IsMoved d (neg_ℤ (pos (as_nanos t))) r };
 
@@ -89,7 +93,8 @@ impl<Tz: TimeZone> Sub<Duration> for DateTime<Tz> {
 }
 
 impl<Tz: TimeZone> AddAssign<Duration> for DateTime<Tz> {
-    ghost can_add_assign = { λ d t. FitsTimeDelta (pos (as_nanos t)) × CanMove d (pos (as_nanos t)) };
+    ghost can_add_assign = { λ d t.
+        FitsTimeDelta (pos (as_nanos t)) × CanMove d (pos (as_nanos t)) };
 
     ghost add_assign_gives = { λ d t r. IsMoved d (pos (as_nanos t)) r };
 
@@ -109,7 +114,8 @@ impl<Tz: TimeZone> SubAssign<Duration> for DateTime<Tz> {
     }
 }
 
-/// The instant whose UTC reading is that many seconds later, with this one's offset. It is in range.
+/// The instant whose UTC reading is that many seconds later, with this one's offset. It is in
+/// range.
 impl<Tz: TimeZone> Add<FixedOffset> for DateTime<Tz> {
     type Output = DateTime<Tz>;
 
@@ -123,7 +129,8 @@ impl<Tz: TimeZone> Add<FixedOffset> for DateTime<Tz> {
     }
 }
 
-/// The instant whose UTC reading is that many seconds earlier, with this one's offset. It is in range.
+/// The instant whose UTC reading is that many seconds earlier, with this one's offset. It is in
+/// range.
 impl<Tz: TimeZone> Sub<FixedOffset> for DateTime<Tz> {
     type Output = DateTime<Tz>;
 

@@ -40,7 +40,9 @@ impl<Tz: TimeZone> PartialOrd for DateTime<Tz> {
 }
 
 impl<Tz: TimeZone> Ord for DateTime<Tz> {
-    ghost cmp = { then_cmp (on (λ d. (zoned d).utc.s) int_cmp) (on (λ d. (zoned d).utc.f) nat_cmp) };
+    ghost cmp = { then_cmp
+        (on (λ d. (zoned d).utc.s) int_cmp)
+        (on (λ d. (zoned d).utc.f) nat_cmp) };
 
     ghost total = { Prim.search (comparing, rules) };
 

@@ -19,22 +19,25 @@ impl<Tz: TimeZone> DateTime<Tz> {
         self.datetime.secs_since_epoch()
     }
 
-    /// The whole milliseconds since 1970-01-01 00:00:00 UTC, and those of a leap second on top of its second's.
+    /// The whole milliseconds since 1970-01-01 00:00:00 UTC, and those of a leap second on top of
+    /// its second's.
     pub fn timestamp_millis(&self) -> i64
         ensures { result ≡ millis_of (zoned self.now).utc }
     {
         self.timestamp() * 1_000 + self.timestamp_subsec_millis() as i64
     }
 
-    /// The whole microseconds since 1970-01-01 00:00:00 UTC, and those of a leap second on top of its second's.
+    /// The whole microseconds since 1970-01-01 00:00:00 UTC, and those of a leap second on top of
+    /// its second's.
     pub fn timestamp_micros(&self) -> i64
         ensures { result ≡ micros_of (zoned self.now).utc }
     {
         self.timestamp() * 1_000_000 + self.timestamp_subsec_micros() as i64
     }
 
-    /// The nanoseconds since 1970-01-01 00:00:00 UTC, and those of a leap second on top of its second's. `None` where an
-    /// `i64` doesn't hold them, which are the instants before 1677-09-21 and after 2262-04-11.
+    /// The nanoseconds since 1970-01-01 00:00:00 UTC, and those of a leap second on top of its
+    /// second's. `None` where an `i64` doesn't hold them, which are the instants before 1677-09-21
+    /// and after 2262-04-11.
     pub fn timestamp_nanos_opt(&self) -> Option<i64>
         ensures { let nanos = total (zoned self.now).utc in SomeIff result
             (FitsSigned w64 nanos) nanos }
@@ -56,14 +59,16 @@ impl<Tz: TimeZone> DateTime<Tz> {
         self.timestamp() as i128 * 1_000_000_000 + self.timestamp_subsec_nanos() as i128
     }
 
-    /// The whole milliseconds since the second began: from 1000 on, those of a leap second behind it.
+    /// The whole milliseconds since the second began: from 1000 on, those of a leap second behind
+    /// it.
     pub fn timestamp_subsec_millis(&self) -> u32
         ensures { result ≡ (zoned self.now).utc.f / 1_000_000 }
     {
         self.timestamp_subsec_nanos() / 1_000_000
     }
 
-    /// The whole microseconds since the second began: from 10^6 on, those of a leap second behind it.
+    /// The whole microseconds since the second began: from 10^6 on, those of a leap second behind
+    /// it.
     pub fn timestamp_subsec_micros(&self) -> u32
         ensures { result ≡ (zoned self.now).utc.f / 1_000 }
     {
@@ -79,8 +84,9 @@ impl<Tz: TimeZone> DateTime<Tz> {
 }
 
 impl DateTime<Utc> {
-    /// The instant so many seconds, and then nanoseconds, after 1970-01-01 00:00:00 UTC. `None` where it is out of range, or
-    /// the nanoseconds are 10^9 or more, unless these are a leap second's: below 2*10^9, behind the last second of a minute.
+    /// The instant so many seconds, and then nanoseconds, after 1970-01-01 00:00:00 UTC. `None`
+    /// where it is out of range, or the nanoseconds are 10^9 or more, unless these are a leap
+    /// second's: below 2*10^9, behind the last second of a minute.
     pub fn from_timestamp(secs: i64, nsecs: u32) -> Option<DateTime<Utc>>
         ensures { let r = of_secs secs nsecs in SomeIff (option_map zoned result) (IsStamp r)
             (in_utc r) }
@@ -97,7 +103,8 @@ impl DateTime<Utc> {
         DateTime::<Utc>::from_timestamp(secs, 0)
     }
 
-    /// The instant so many milliseconds after 1970-01-01 00:00:00 UTC. `None` where it is out of range.
+    /// The instant so many milliseconds after 1970-01-01 00:00:00 UTC. `None` where it is out of
+    /// range.
     pub fn from_timestamp_millis(millis: i64) -> Option<DateTime<Utc>>
         ensures { let r = of_millis millis in SomeIff (option_map zoned result) (IsInRange r.s)
             (in_utc r) }
@@ -106,7 +113,8 @@ impl DateTime<Utc> {
         DateTime::<Utc>::from_timestamp(millis.div_euclid(1_000), nanos)
     }
 
-    /// The instant so many microseconds after 1970-01-01 00:00:00 UTC. `None` where it is out of range.
+    /// The instant so many microseconds after 1970-01-01 00:00:00 UTC. `None` where it is out of
+    /// range.
     pub fn from_timestamp_micros(micros: i64) -> Option<DateTime<Utc>>
         ensures { let r = of_micros micros in SomeIff (option_map zoned result) (IsInRange r.s)
             (in_utc r) }

@@ -88,7 +88,8 @@ fn read_days(
     Ok((start, end))
 }
 
-/// The offset of daylight saving time, an hour more than that of standard time if none is given, and the comma behind it.
+/// The offset of daylight saving time, an hour more than that of standard time if none is given,
+/// and the comma behind it.
 #[tactic(auto, unfolding(crate::specs::Steps::Readings::dst_offset_at))]
 fn read_dst_offset(std: i32, cursor: &mut Cursor<'_>) -> Result<i32, Error>
     requires { IsWithinDay std }
