@@ -7,7 +7,7 @@ use Rattle.tz_info.specs.Moments.{AlternateAt, type_when}
 use Rattle.tz_info.specs.Rules.{Alternate as AlternateRule}
 use Rattle.tz_info.specs.RuleTypes.{RuleAt}
 use Rattle.tz_info.specs.WallClocks.{Shows}
-use Rattle.tz_info.specs.Spans.{IsAsked, answer_of}
+use Rattle.tz_info.specs.Steps.Spans.{IsAsked, answer_of}
 use Rattle.tz_info.specs.declared.rule.transition_rule.TransitionRule.TheVariants.{Fixed}
 use Rattle.tz_info.specs.declared.span.Span.{Span}
 use Rattle.tz_info.proofs.SpanLaws.{first_asked, last_asked, span_answer, AskedOf, shown_at}

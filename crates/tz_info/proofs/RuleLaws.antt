@@ -7,7 +7,7 @@ use Rattle.naive_base.proofs.ForCallers.{floors, lies_in, one_year, starts_rise}
 use Rattle.tz_info.specs.LocalTypes.{LocalType}
 use Rattle.tz_info.specs.Rules.{Alternate as AlternateRule, IsAlternateRule}
 use Rattle.tz_info.specs.Moments.{IsYearOf, IsDstAt, IsRuleYear, IsRuleTime, AlternateAt, IsAlternateRefused, start_in, end_in, type_when}
-use Rattle.tz_info.specs.Turns.{is_in_three}
+use Rattle.tz_info.specs.Steps.Turns.{is_in_three}
 use Rattle.tz_info.specs.RuleTypes.{RuleAt, IsRuleRefused, IsRule}
 use Rattle.tz_info.specs.declared.rule.transition_rule.TransitionRule.{TransitionRule}
 use Rattle.tz_info.specs.declared.rule.transition_rule.TransitionRule.TheVariants.{Fixed, Alternate}

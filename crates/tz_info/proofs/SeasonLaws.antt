@@ -5,7 +5,7 @@ use Rattle.naive_base.proofs.ForCallers.{floors, year_step, days_at_least}
 use Rattle.tz_info.specs.Moments.{AlternateAt, start_in, end_in, type_when}
 use Rattle.tz_info.specs.Rules.{Alternate, IsAlternateRule}
 use Rattle.tz_info.specs.Steps.Seasons.{IsSeason}
-use Rattle.tz_info.specs.Turns.{IsAmid, is_dst_by_one}
+use Rattle.tz_info.specs.Steps.Turns.{IsAmid, is_dst_by_one}
 use Rattle.tz_info.specs.declared.rule.alternate.Season.{Season}
 use Rattle.tz_info.proofs.Neighbours.{starts_near, ends_near, dst_by_one}
 use Rattle.tz_info.proofs.RuleLaws.{alternate_at}

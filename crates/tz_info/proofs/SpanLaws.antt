@@ -5,7 +5,7 @@ use Rattle.std.proofs.lemmas.Int.{ints, by_lt_z}
 use Rattle.offset_core.specs.WallAnswer.{IsWallAnswer}
 use Rattle.tz_info.specs.LocalTypes.{LocalType}
 use Rattle.tz_info.specs.WallClocks.{Shows}
-use Rattle.tz_info.specs.Spans.{IsSpan, widened, IsAsked, answer_of}
+use Rattle.tz_info.specs.Steps.Spans.{IsSpan, widened, IsAsked, answer_of}
 use Rattle.tz_info.specs.declared.span.Span.{Span}
 use Rattle.tz_info.proofs.Prefixes.{lt_true, lt_false}
 

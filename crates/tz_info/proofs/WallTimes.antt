@@ -6,7 +6,7 @@ use Rattle.std.proofs.lemmas.Int.{ints, by_lt_z}
 use Rattle.offset_core.specs.WallAnswer.{IsWallAnswer}
 use Rattle.offset_core.specs.declared.local_result.LocalResult.{LocalResult}
 use Rattle.tz_info.specs.LocalTypes.{LocalType}
-use Rattle.tz_info.specs.Spans.{IsSpan, widened, answer_of}
+use Rattle.tz_info.specs.Steps.Spans.{IsSpan, widened, answer_of}
 use Rattle.tz_info.specs.WallClocks.{Shows}
 use Rattle.tz_info.specs.Zones.{Zone, IsValid, IsRuleOrNone, TypeAt}
 use Rattle.tz_info.specs.declared.span.Span.{Span}

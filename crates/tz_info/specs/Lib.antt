@@ -5,7 +5,6 @@ pub mod RuleDays
 pub mod RuleDayOf
 pub mod Rules
 pub mod Moments
-pub mod Turns
 pub mod RuleTypes
 pub mod RuleEquality
 pub mod Lists
@@ -16,7 +15,6 @@ pub mod Transitions
 pub mod Zones
 pub mod WallClocks
 pub mod Gaps
-pub mod Spans
 pub mod Windows
 pub mod Looks
 pub mod Segments

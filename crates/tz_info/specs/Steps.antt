@@ -17,3 +17,5 @@ pub mod Gaps
 pub mod Search
 pub mod Kinds
 pub mod RuleDays
+pub mod Spans
+pub mod Turns

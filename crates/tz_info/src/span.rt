@@ -15,7 +15,7 @@ pub struct Span {
 }
 
 impl Span {
-    ghost use Rattle.tz_info.specs.Spans.{widened, answer_of};
+    ghost use Rattle.tz_info.specs.Steps.Spans.{widened, answer_of};
 
     /// The span with one second more.
     pub fn widen(span: Option<Span>, second: i64, local_type: LocalTimeType) -> Option<Span>

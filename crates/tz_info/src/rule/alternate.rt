@@ -7,7 +7,7 @@ ghost use Rattle.offset_core.specs.Offset.{IsWithinDay};
 ghost use Rattle.tz_info.specs.Errors.{number_of};
 ghost use Rattle.tz_info.specs.Rules.{Alternate, IsAlternate, IsAlternateRule, IsWithinWeek};
 ghost use Rattle.tz_info.specs.Moments.{moment, IsRuleTime};
-ghost use Rattle.tz_info.specs.Turns.{is_between, is_dst_by_one};
+ghost use Rattle.tz_info.specs.Steps.Turns.{is_between, is_dst_by_one};
 
 use crate::error::{Error, Expected};
 use crate::local_time_type::LocalTimeType;

@@ -5,7 +5,7 @@ ghost use Rattle.naive_base.specs.NaiveDateTime.{reading};
 ghost use Rattle.naive_base.specs.Range.{IsWide};
 ghost use Rattle.offset_core.specs.WallAnswer.{IsWallAnswer};
 ghost use Rattle.tz_info.specs.RuleTypes.{RuleAt};
-ghost use Rattle.tz_info.specs.Spans.{IsAsked};
+ghost use Rattle.tz_info.specs.Steps.Spans.{IsAsked};
 ghost use Rattle.tz_info.specs.WallClocks.{Shows};
 
 use crate::error::Error;
