@@ -7,7 +7,7 @@ use Rattle.tz_info.specs.Steps.Readings.{checked_at, is_rule_day, rule_day_of, m
 use Rattle.tz_info.specs.RuleDays.{IsRuleDay}
 use Rattle.tz_info.specs.declared.rule.day.DayForm.{DayForm}
 use Rattle.tz_info.specs.declared.rule.day.DayForm.TheVariants.{Julian1, Julian0, MonthWeekday}
-use Rattle.tz_info.specs.declared.rule.alternate.DayTime.{DayTime}
+use Rattle.tz_info.specs.declared.rule.day.DayTime.{DayTime}
 use Rattle.tz_info.proofs.PieceLaws.{Law, then_law, like_law, checked_law, marked_law, byte_law, int_law, made_law}
 use Rattle.tz_info.proofs.ClockLaws.{optional_time_law}
 

@@ -11,7 +11,7 @@ use Rattle.tz_info.specs.Rules.{Alternate, IsAlternateRule}
 use Rattle.tz_info.specs.Moments.{moment, start_in, end_in}
 use Rattle.tz_info.specs.Steps.Kinds.{kind_place, second_in, seconds_by_kind}
 use Rattle.tz_info.specs.Steps.RuleDays.{julian_place, weekday_place, closed_day}
-use Rattle.tz_info.specs.declared.rule.alternate.DayTime.{DayTime}
+use Rattle.tz_info.specs.declared.rule.day.DayTime.{DayTime}
 use Rattle.tz_info.specs.declared.rule.day.DayForm.{DayForm}
 use Rattle.tz_info.specs.declared.rule.day.DayForm.TheVariants.{Julian1, Julian0, MonthWeekday}
 use Rattle.tz_info.proofs.RuleDays.{rule_day_closed}

@@ -8,7 +8,7 @@ use Rattle.offset_core.specs.Offset.{IsWithinDay}
 use Rattle.tz_info.specs.Rules.{Alternate, IsAlternateRule, IsWithinWeek}
 use Rattle.tz_info.specs.Moments.{moment, IsYearOf, IsInSomeYear, IsDstAt, start_in, end_in}
 use Rattle.tz_info.specs.Steps.Turns.{IsAmid, is_between, is_dst_by_one, is_in_three}
-use Rattle.tz_info.specs.declared.rule.alternate.DayTime.{DayTime}
+use Rattle.tz_info.specs.declared.rule.day.DayTime.{DayTime}
 use Rattle.tz_info.proofs.RuleDays.{day_within}
 
 -- the moments of each year lie less than eight days outside of it

@@ -7,7 +7,7 @@ use Rattle.tz_info.specs.RuleDays.{IsRuleDay}
 use Rattle.tz_info.specs.Pieces.{seconds_of, time_limit, slash, Optional, Offset, Time, Date, Day, DstOffset}
 use Rattle.tz_info.specs.TzTexts.{IsAlternateText}
 use Rattle.tz_info.specs.declared.rule.day.DayForm.{DayForm}
-use Rattle.tz_info.specs.declared.rule.alternate.DayTime.{DayTime}
+use Rattle.tz_info.specs.declared.rule.day.DayTime.{DayTime}
 
 within_day : (negative : Bool) (h m s : ℕ) → h ≤ 23 → m ≤ 59 → s ≤ 59 → IsWithinDay (seconds_of negative h m s)
 within_day true h m s a b c = (omega (arith, ints), omega (arith, ints))

@@ -10,7 +10,7 @@ use Rattle.tz_info.specs.TzTexts.{IsNamed, IsTzText}
 use Rattle.tz_info.specs.TzFaults.{Days, IsBadName, TurnsFault, RuleFault, IsTextFault}
 use Rattle.tz_info.specs.Steps.Readings.{checked_at, name_at, letters_at, is_name, named_type_of, end_at, more_at, dst_offset_at, given_offset_at, fixed_at, named_types_of, alternate_at, rule_at, text_at}
 use Rattle.tz_info.specs.declared.error.Error.{Error}
-use Rattle.tz_info.specs.declared.rule.alternate.DayTime.{DayTime}
+use Rattle.tz_info.specs.declared.rule.day.DayTime.{DayTime}
 use Rattle.tz_info.specs.declared.rule.transition_rule.TransitionRule.{TransitionRule}
 use Rattle.tz_info.specs.declared.rule.transition_rule.TransitionRule.TheVariants as rules
 use Rattle.tz_info.proofs.NamedTypes.{name_from, name_to}

@@ -5,7 +5,7 @@ use Rattle.std.specs.Ordering.{on, eq_of_both}
 use Rattle.std.proofs.lemmas.Cmp.{on_equiv, and_equiv}
 use Rattle.tz_info.specs.LocalTypes.{LocalType}
 use Rattle.tz_info.specs.Rules.{Alternate}
-use Rattle.tz_info.specs.declared.rule.alternate.DayTime.{DayTime}
+use Rattle.tz_info.specs.declared.rule.day.DayTime.{DayTime}
 
 -- by tests of types and of days with their times
 abbrev pub alternate_eq : (LocalType → LocalType → Bool) → (DayTime → DayTime → Bool) → Alternate → Alternate → Bool

@@ -7,7 +7,7 @@ use Rattle.tz_info.specs.RuleDays.{IsRuleDay}
 use Rattle.tz_info.specs.Pieces.{comma, dot, slash, colon, less, letter_J, letter_M, is_not_greater, AllOf, NoneFirst, AllDigits, Without, Number, clock_max, date_max, day_max, HoursMinutesSeconds, Sign, TimeSign, time_limit, Offset, Date, Day, DstOffset, Name}
 use Rattle.tz_info.specs.declared.rule.day.DayForm.{DayForm}
 use Rattle.tz_info.specs.declared.rule.day.DayForm.TheVariants.{Julian1, Julian0, MonthWeekday}
-use Rattle.tz_info.specs.declared.rule.alternate.DayTime.{DayTime}
+use Rattle.tz_info.specs.declared.rule.day.DayTime.{DayTime}
 
 -- ---- faults of choices and of pieces one behind the other
 abbrev pub NoFault : List ℕ → ℕ → Type 0

@@ -17,6 +17,7 @@ mod starts;
 mod table;
 mod time_zone;
 mod transition;
+mod valid;
 mod walk;
 mod wall_clock;
 

@@ -3,7 +3,7 @@ use Rattle.std.specs.Prelude.{ℕ, ◌+◌, if◌then◌else◌, List, [], ◌�
 use Rattle.naive_base.specs.Year.{is_leap, year_start}
 use Rattle.naive_base.specs.Weekday.{weekday_of}
 use Rattle.tz_info.specs.Moments.{moment}
-use Rattle.tz_info.specs.declared.rule.alternate.DayTime.{DayTime}
+use Rattle.tz_info.specs.declared.rule.day.DayTime.{DayTime}
 
 -- the place of the year's kind: the common years that begin with Sunday to Saturday, and then the leap years
 abbrev pub kind_place : ℤ → ℕ

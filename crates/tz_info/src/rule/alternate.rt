@@ -6,12 +6,12 @@ ghost use Rattle.naive_base.specs.Year.{floor_div, year_start, LiesIn, IsDay};
 ghost use Rattle.offset_core.specs.Offset.{IsWithinDay};
 ghost use Rattle.tz_info.specs.Errors.{number_of};
 ghost use Rattle.tz_info.specs.Rules.{Alternate, IsAlternate, IsAlternateRule, IsWithinWeek};
-ghost use Rattle.tz_info.specs.Moments.{moment, IsRuleTime};
+ghost use Rattle.tz_info.specs.Moments.{IsRuleTime};
 ghost use Rattle.tz_info.specs.Steps.Turns.{is_between, is_dst_by_one};
 
 use crate::error::{Error, Expected};
 use crate::local_time_type::LocalTimeType;
-use crate::rule::day::RuleDay;
+use crate::rule::day::{DayTime, RuleDay};
 use crate::rule::kinds::kind_of;
 use naive_base::calendar::{day_of_year, year_of, year_start};
 use std::fmt;
@@ -38,13 +38,6 @@ pub struct AlternateTime {
     starts: [i64; 14],
     /// When it ends.
     ends: [i64; 14],
-}
-
-/// A day of every year, and a time of that day in seconds after its midnight.
-#[derive(Clone, Copy, Debug, PartialEq, Eq)]
-pub(super) struct DayTime {
-    pub(super) day: RuleDay,
-    pub(super) time: i32,
 }
 
 /// The seconds at which daylight saving time starts and ends in one year.
@@ -109,7 +102,7 @@ impl PartialEq for AlternateTime {
     ghost use Rattle.std.specs.Cmp.{partial_equiv_from_equiv};
     ghost use Rattle.tz_info.specs.RuleEquality.{alternate_eq, alternate_eq_equiv};
     ghost use Rattle.tz_info.specs.contracts.local_time_type.LocalTimeTypeEq.TheImpl.Laws.{laws-law as types};
-    ghost use Rattle.tz_info.specs.contracts.rule.alternate.DayTimeEq.TheImpl.Laws.{laws-law as days};
+    ghost use Rattle.tz_info.specs.contracts.rule.day.DayTimeEq.TheImpl.Laws.{laws-law as days};
 
     ghost eq = { alternate_eq ⟦<LocalTimeType as PartialEq>⟧.eq ⟦<DayTime as PartialEq>⟧.eq };
 
@@ -126,7 +119,7 @@ impl PartialEq for AlternateTime {
 impl Eq for AlternateTime {
     ghost use Rattle.tz_info.specs.RuleEquality.{alternate_eq_equiv};
     ghost use Rattle.tz_info.specs.contracts.local_time_type.LocalTimeTypeEq.TheImpl.Laws.{laws-law as types};
-    ghost use Rattle.tz_info.specs.contracts.rule.alternate.DayTimeEq.TheImpl.Laws.{laws-law as days};
+    ghost use Rattle.tz_info.specs.contracts.rule.day.DayTimeEq.TheImpl.Laws.{laws-law as days};
 
     ghost laws = { alternate_eq_equiv types days };
 }
@@ -432,21 +425,6 @@ fn first_of_year(day: i64) -> i64
     ensures bound { IsDay result }
 {
     day - day_of_year(day) as i64
-}
-
-impl DayTime {
-    /// The second at which a clock at that offset shows the time on the day of that year.
-    #[inline(always)]
-    #[tactic(auto, unfolding(crate::specs::Moments::moment))]
-    pub(super) fn moment(&self, offset: i32, year: i32) -> i64
-        requires time { IsWithinWeek self.now.time }
-        requires offset { IsWithinDay offset }
-        ensures value { result ≡ moment self.now offset year }
-        ensures bound { (neg_ℤ (pos 4_700_000_000_000_000_000) ≤ℤ result)
-            × (result ≤ℤ pos 4_700_000_000_000_000_000) }
-    {
-        self.day.unix_time(year, self.time as i64 - offset as i64)
-    }
 }
 
 /// Whether the type's offset is strictly within a day.

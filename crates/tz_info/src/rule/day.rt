@@ -6,12 +6,14 @@ ghost use Rattle.naive_base.specs.Year.{is_leap, year_start};
 ghost use Rattle.naive_base.specs.Month.{days_in_month};
 ghost use Rattle.naive_base.specs.Date.{day_number};
 ghost use Rattle.naive_base.specs.Weekday.{weekday_of};
+ghost use Rattle.offset_core.specs.Offset.{IsWithinDay};
+ghost use Rattle.tz_info.specs.Moments.{moment};
 ghost use Rattle.tz_info.specs.RuleDays.{IsWrittenDate};
+ghost use Rattle.tz_info.specs.Rules.{IsWithinWeek};
 ghost use Rattle.tz_info.specs.Steps.RuleDays.{julian_place, weekday_place};
 ghost use Rattle.tz_info.specs.Errors.{number_of};
 
 use crate::error::{Error, Expected};
-use crate::rule::alternate::DayTime;
 use naive_base::calendar::{
     day_number, days_in_month, days_in_year, is_leap_year, month_and_day, weekday_of, year_start,
 };
@@ -33,6 +35,13 @@ enum DayForm {
 #[derive(Clone, Copy, Debug, PartialEq, Eq)]
 pub struct RuleDay {
     form: DayForm,
+}
+
+/// A day of every year, and a time of that day in seconds after its midnight.
+#[derive(Clone, Copy, Debug, PartialEq, Eq)]
+pub(super) struct DayTime {
+    pub(super) day: RuleDay,
+    pub(super) time: i32,
 }
 
 impl Model for RuleDay {
@@ -117,8 +126,6 @@ impl RuleDay {
     ghost use Rattle.tz_info.specs.RuleDays.{IsRuleDay, IsWrittenDate};
     ghost use Rattle.tz_info.specs.RuleDayOf.{rule_day};
     ghost use Rattle.tz_info.specs.Steps.RuleDays.{closed_day};
-    ghost use Rattle.tz_info.specs.Rules.{IsWithinWeek};
-
     /// The month, from 1, and the day of the month of the rule's day in the year.
     ///
     /// A plain day number of 365 is the day behind 31 December in a common year; its date is
@@ -183,6 +190,21 @@ impl RuleDay {
                     + place_in_month(year, month, week as u32, weekday as u32) as i64
             }
         }
+    }
+}
+
+impl DayTime {
+    /// The second at which a clock at that offset shows the time on the day of that year.
+    #[inline(always)]
+    #[tactic(auto, unfolding(crate::specs::Moments::moment))]
+    pub(super) fn moment(&self, offset: i32, year: i32) -> i64
+        requires time { IsWithinWeek self.now.time }
+        requires offset { IsWithinDay offset }
+        ensures value { result ≡ moment self.now offset year }
+        ensures bound { (neg_ℤ (pos 4_700_000_000_000_000_000) ≤ℤ result)
+            × (result ≤ℤ pos 4_700_000_000_000_000_000) }
+    {
+        self.day.unix_time(year, self.time as i64 - offset as i64)
     }
 }
 

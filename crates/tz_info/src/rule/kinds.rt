@@ -9,7 +9,7 @@ ghost use Rattle.offset_core.specs.Offset.{IsWithinDay};
 ghost use Rattle.tz_info.specs.Rules.{IsWithinWeek};
 ghost use Rattle.tz_info.specs.Steps.Kinds.{kind_place, second_in, seconds_by_kind};
 
-use crate::rule::alternate::DayTime;
+use crate::rule::day::DayTime;
 use naive_base::calendar::{is_leap_year, weekday_of, year_start};
 
 /// The place of the kind of the year that begins on that day: the common years that begin with

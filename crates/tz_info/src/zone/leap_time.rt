@@ -1,54 +1,11 @@
 //! Leap times of Unix times, and Unix times of leap times.
 
-ghost use Rattle.std.specs.Prelude.{◌≡◌, pos, ◌+ℤ◌, ◌≤ℤ◌, MatchResult, IsTrue, ◌↔◌};
+ghost use Rattle.std.specs.Prelude.{◌≡◌, MatchResult};
 ghost use Rattle.tz_info.specs.Errors.{number_of};
-ghost use Rattle.tz_info.specs.Leaps.{IsOneStep, IsFirstLeap, IsNextLeap, AreLeapSeconds, IsLeapTime, IsLeapTimeRefused, IsUnixTime, IsUnixTimeRefused, correction_before};
+ghost use Rattle.tz_info.specs.Leaps.{AreLeapSeconds, IsLeapTime, IsLeapTimeRefused, IsUnixTime, IsUnixTimeRefused, correction_before};
 
 use crate::error::{Error, Expected};
 use crate::zone::leap_second::LeapSecond;
-
-/// Whether the entries may be those of a zone, in one pass over them.
-pub(super) fn are_leap_seconds(entries: &[LeapSecond]) -> bool
-    ensures { IsTrue result ↔ AreLeapSeconds entries.now }
-{
-    for i in 1..entries.len() {
-        if !is_next(entries[i - 1], entries[i]) {
-            return false;
-        }
-    }
-    match entries.first() {
-        Some(first) => is_first(*first),
-        None => true,
-    }
-}
-
-fn is_first(entry: LeapSecond) -> bool
-    ensures { IsTrue result ↔ IsFirstLeap entry }
-{
-    entry.unix_leap_time >= 0 && is_one_step(0, entry.correction)
-}
-
-fn is_next(before: LeapSecond, entry: LeapSecond) -> bool
-    ensures { IsTrue result ↔ IsNextLeap before entry }
-{
-    is_far_enough(before.unix_leap_time, entry.unix_leap_time)
-        && is_one_step(before.correction, entry.correction)
-}
-
-fn is_far_enough(before: i64, after: i64) -> bool
-    ensures { IsTrue result ↔ ((before +ℤ pos 2_419_199) ≤ℤ after) }
-{
-    match before.checked_add(2_419_199) {
-        Some(earliest) => earliest <= after,
-        None => false,
-    }
-}
-
-fn is_one_step(before: i32, after: i32) -> bool
-    ensures { IsTrue result ↔ IsOneStep before after }
-{
-    after as i64 == before as i64 + 1 || after as i64 == before as i64 - 1
-}
 
 /// The leap time of a Unix time.
 #[inline(always)]

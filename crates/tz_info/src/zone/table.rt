@@ -3,11 +3,11 @@
 //! The times of the first and the last are kept beside them. A search compares with these two
 //! first, and where one of them decides, that counts as a look at its transition.
 
-ghost use Rattle.std.specs.Prelude.{◌≡◌, ◌+◌, ◌/◌, ◌<◌, ◌≤◌, ◌↔◌, List, length, take, slice_index_or, IsTrue, pos};
+ghost use Rattle.std.specs.Prelude.{◌≡◌, ◌+◌, ◌/◌, ◌<◌, ◌≤◌, List, length, take, slice_index_or, pos};
 ghost use Rattle.tz_info.specs.Counts.{HasRoomFor, RoseWithin};
 ghost use Rattle.tz_info.specs.Digits.{digits};
 ghost use Rattle.tz_info.specs.Steps.Search.{AreEnds, AreLeft, IsNarrowed};
-ghost use Rattle.tz_info.specs.Transitions.{AreRising, AreTransitions, Stands, passed};
+ghost use Rattle.tz_info.specs.Transitions.{AreRising, passed};
 
 use crate::zone::probes::Probes;
 use crate::zone::transition::Transition;
@@ -206,30 +206,4 @@ fn ends_of(transitions: &[Transition]) -> Ends
         },
         _ => Ends { first: 0, last: 0 },
     }
-}
-
-/// Whether a zone of so many types may have the transitions, in one pass over them.
-pub(super) fn are_transitions(type_count: usize, transitions: &[Transition]) -> bool
-    ensures { IsTrue result ↔ AreTransitions type_count transitions.now }
-{
-    for i in 0..transitions.len() {
-        if !stands(type_count, transitions, i) {
-            return false;
-        }
-    }
-    true
-}
-
-/// Whether the transition at that place names a type and comes later than the one before it.
-fn stands(type_count: usize, transitions: &[Transition], place: usize) -> bool
-    requires { place < length transitions.now }
-    ensures { IsTrue result ↔ Stands type_count transitions.now place }
-{
-    if transitions[place].type_index >= type_count {
-        return false;
-    }
-    if place == 0 {
-        return true;
-    }
-    transitions[place - 1].unix_leap_time < transitions[place].unix_leap_time
 }

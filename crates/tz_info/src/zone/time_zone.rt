@@ -1,12 +1,12 @@
 //! A time zone: transitions, the types of its local time, leap seconds, and the rule that goes on
 //! after them.
 
-ghost use Rattle.std.specs.Prelude.{◌≡◌, pos, ◌+◌, ◌*◌, ◌<◌, ◌≤◌, length, IsTrue, ◌↔◌, MatchResult, ◌⊎◌, option_map};
+ghost use Rattle.std.specs.Prelude.{◌≡◌, pos, ◌+◌, ◌*◌, ◌<◌, ◌≤◌, length, MatchResult, ◌⊎◌, option_map};
 ghost use Rattle.tz_info.specs.Errors.{number_of};
-ghost use Rattle.tz_info.specs.Leaps.{AreLeapSeconds, IsLeapTime, IsLeapTimeRefused, IsUnixTime, IsUnixTimeRefused};
+ghost use Rattle.tz_info.specs.Leaps.{IsLeapTime, IsLeapTimeRefused, IsUnixTime, IsUnixTimeRefused};
 ghost use Rattle.tz_info.specs.LocalTypes.{IsUtOffset};
 ghost use Rattle.tz_info.specs.WallPieces.{WallIndex, IsIndex};
-ghost use Rattle.tz_info.specs.Zones.{Zone, IsValid, Agrees, IsRuleOrNone, plain_zone, zone_of_rule, zone_of_type};
+ghost use Rattle.tz_info.specs.Zones.{Zone, IsValid, IsRuleOrNone, plain_zone, zone_of_rule, zone_of_type};
 ghost use Rattle.tz_info.specs.declared.error.Error.TheVariants.{OutOfMemory};
 
 use crate::error::{Error, Expected};
@@ -15,10 +15,11 @@ use crate::rule::TransitionRule;
 use crate::zone::extremes::{Extremes, extremes_of};
 use crate::zone::index::Index;
 use crate::zone::leap_second::LeapSecond;
-use crate::zone::leap_time::{are_leap_seconds, leap_time, unix_time};
+use crate::zone::leap_time::{leap_time, unix_time};
 use crate::zone::segments::Lists;
-use crate::zone::table::{Table, are_transitions};
+use crate::zone::table::Table;
 use crate::zone::transition::Transition;
+use crate::zone::valid::is_valid;
 use std::alloc::Global;
 use std::fmt;
 use std::marker::Model;
@@ -299,62 +300,4 @@ impl TimeZone {
     {
         unix_time(&self.leap_seconds, unix_leap_time)
     }
-}
-
-/// Whether the lists make a zone, in one pass over each.
-fn is_valid(
-    transitions: &[Transition],
-    types: &[LocalTimeType],
-    leaps: &[LeapSecond],
-    rule: &Option<TransitionRule>,
-) -> bool
-    ensures { IsTrue result ↔ IsValid (record {
-      transitions = transitions.now;
-      types = types.now;
-      leaps = leaps.now;
-      rule = rule.now;
-    }) }
-{
-    if types.is_empty() {
-        return false;
-    }
-    if !are_transitions(types.len(), transitions) {
-        return false;
-    }
-    if !are_leap_seconds(leaps) {
-        return false;
-    }
-    match rule {
-        Some(rule) => match transitions.last() {
-            Some(last) => agrees(types, leaps, rule, *last),
-            None => true,
-        },
-        None => true,
-    }
-}
-
-/// Whether at the Unix time of the last transition the rule has that transition's type.
-fn agrees(
-    types: &[LocalTimeType],
-    leaps: &[LeapSecond],
-    rule: &TransitionRule,
-    last: Transition,
-) -> bool
-    requires leaps { AreLeapSeconds leaps.now }
-    requires index { last.type_index < length types.now }
-    ensures { IsTrue result ↔ Agrees types.now leaps.now rule.now last }
-{
-    match unix_time(leaps, last.unix_leap_time) {
-        Ok(time) => match rule.find_local_time_type(time) {
-            Ok(local) => is_same_type(local, &types[last.type_index]),
-            Err(_) => false,
-        },
-        Err(_) => false,
-    }
-}
-
-fn is_same_type(a: &LocalTimeType, b: &LocalTimeType) -> bool
-    ensures { IsTrue result ↔ (a.now ≡ b.now) }
-{
-    *a == *b
 }

@@ -3,7 +3,7 @@ use Rattle.std.proofs.lemmas.Int.{ints}
 use Rattle.offset_core.specs.Offset.{IsWithinDay}
 use Rattle.tz_info.specs.LocalTypes.{LocalType}
 use Rattle.tz_info.specs.Rules.{Alternate, IsAlternate}
-use Rattle.tz_info.specs.declared.rule.alternate.DayTime.{DayTime}
+use Rattle.tz_info.specs.declared.rule.day.DayTime.{DayTime}
 use Rattle.tz_info.proofs.rule.alternate.AlternateTime.new.Goals as goal
 
 shown : LocalType → LocalType → DayTime → DayTime → Alternate

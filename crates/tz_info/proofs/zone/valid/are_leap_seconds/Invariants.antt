@@ -1,6 +1,6 @@
 use Rattle.std.specs.List.{AllAdjacentBelow}
 use Rattle.tz_info.specs.Leaps.{IsNextLeap}
-use Rattle.tz_info.proofs.zone.leap_time.are_leap_seconds.Given as goal
+use Rattle.tz_info.proofs.zone.valid.are_leap_seconds.Given as goal
 
 abbrev pub invariant-loop-i : goal.invariant-loop-i
 invariant-loop-i l = AllAdjacentBelow IsNextLeap l.entries l.i

@@ -1,7 +1,7 @@
 use Rattle.std.proofs.Common.{[], ◌∷◌, rules, to_z-of_z, w64}
 use mir.Val.{SFits}
 use Rattle.tz_info.specs.Steps.Kinds.{seconds_by_kind}
-use Rattle.tz_info.proofs.rule.alternate.DayTime.seconds_by_kind.Goals as goal
+use Rattle.tz_info.proofs.rule.day.DayTime.seconds_by_kind.Goals as goal
 
 pub returns : goal.returns
 unfolding seconds_by_kind

@@ -1,7 +1,7 @@
 use Rattle.std.proofs.Common.{arith, to_z-of_z}
 use Rattle.naive_base.proofs.ForCallers.{floors}
 use Rattle.tz_info.specs.Moments.{moment}
-use Rattle.tz_info.proofs.rule.alternate.DayTime.moment.Goals as goal
+use Rattle.tz_info.proofs.rule.day.DayTime.moment.Goals as goal
 
 pub returns-clause-value : goal.returns-clause-value
 unfolding moment

@@ -1,6 +1,6 @@
 use Rattle.std.proofs.Common.{arith, to_z-of_z}
 use Rattle.naive_base.proofs.ForCallers.{floors}
-use Rattle.tz_info.proofs.rule.alternate.DayTime.second_in.Goals as goal
+use Rattle.tz_info.proofs.rule.day.DayTime.second_in.Goals as goal
 
 pub returns : goal.returns
 returns c =

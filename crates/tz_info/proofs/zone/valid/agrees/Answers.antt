@@ -2,7 +2,7 @@ use Rattle.std.proofs.Common.{refl, to_z-of_z, w64, rules}
 use Rattle.std.proofs.lemmas.Option.{slice_get_read}
 use mir.Val.{SFits}
 use Rattle.tz_info.proofs.Validity.{agrees_if_same, differs_without_time, differs_without_rule}
-use Rattle.tz_info.proofs.zone.time_zone.agrees.Goals as goal
+use Rattle.tz_info.proofs.zone.valid.agrees.Goals as goal
 
 pub returns-in-Ok-find_local_time_type : goal.returns-in-Ok-find_local_time_type
 returns-in-Ok-find_local_time_type c =

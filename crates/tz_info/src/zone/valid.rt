@@ -1,0 +1,139 @@
+//! Whether lists make a zone.
+
+ghost use Rattle.std.specs.Prelude.{◌≡◌, ◌+ℤ◌, ◌<◌, ◌≤ℤ◌, pos, length, IsTrue, ◌↔◌};
+ghost use Rattle.tz_info.specs.Leaps.{IsOneStep, IsFirstLeap, IsNextLeap, AreLeapSeconds};
+ghost use Rattle.tz_info.specs.Transitions.{AreTransitions, Stands};
+ghost use Rattle.tz_info.specs.Zones.{IsValid, Agrees};
+
+use crate::local_time_type::LocalTimeType;
+use crate::rule::TransitionRule;
+use crate::zone::leap_second::LeapSecond;
+use crate::zone::leap_time::unix_time;
+use crate::zone::transition::Transition;
+
+/// Whether the lists make a zone, in one pass over each.
+pub(super) fn is_valid(
+    transitions: &[Transition],
+    types: &[LocalTimeType],
+    leaps: &[LeapSecond],
+    rule: &Option<TransitionRule>,
+) -> bool
+    ensures { IsTrue result ↔ IsValid (record {
+      transitions = transitions.now;
+      types = types.now;
+      leaps = leaps.now;
+      rule = rule.now;
+    }) }
+{
+    if types.is_empty() {
+        return false;
+    }
+    if !are_transitions(types.len(), transitions) {
+        return false;
+    }
+    if !are_leap_seconds(leaps) {
+        return false;
+    }
+    match rule {
+        Some(rule) => match transitions.last() {
+            Some(last) => agrees(types, leaps, rule, *last),
+            None => true,
+        },
+        None => true,
+    }
+}
+
+/// Whether at the Unix time of the last transition the rule has that transition's type.
+fn agrees(
+    types: &[LocalTimeType],
+    leaps: &[LeapSecond],
+    rule: &TransitionRule,
+    last: Transition,
+) -> bool
+    requires leaps { AreLeapSeconds leaps.now }
+    requires index { last.type_index < length types.now }
+    ensures { IsTrue result ↔ Agrees types.now leaps.now rule.now last }
+{
+    match unix_time(leaps, last.unix_leap_time) {
+        Ok(time) => match rule.find_local_time_type(time) {
+            Ok(local) => is_same_type(local, &types[last.type_index]),
+            Err(_) => false,
+        },
+        Err(_) => false,
+    }
+}
+
+fn is_same_type(a: &LocalTimeType, b: &LocalTimeType) -> bool
+    ensures { IsTrue result ↔ (a.now ≡ b.now) }
+{
+    *a == *b
+}
+
+/// Whether a zone of so many types may have the transitions, in one pass over them.
+fn are_transitions(type_count: usize, transitions: &[Transition]) -> bool
+    ensures { IsTrue result ↔ AreTransitions type_count transitions.now }
+{
+    for i in 0..transitions.len() {
+        if !stands(type_count, transitions, i) {
+            return false;
+        }
+    }
+    true
+}
+
+/// Whether the transition at that place names a type and comes later than the one before it.
+fn stands(type_count: usize, transitions: &[Transition], place: usize) -> bool
+    requires { place < length transitions.now }
+    ensures { IsTrue result ↔ Stands type_count transitions.now place }
+{
+    if transitions[place].type_index >= type_count {
+        return false;
+    }
+    if place == 0 {
+        return true;
+    }
+    transitions[place - 1].unix_leap_time < transitions[place].unix_leap_time
+}
+
+/// Whether the entries may be those of a zone, in one pass over them.
+fn are_leap_seconds(entries: &[LeapSecond]) -> bool
+    ensures { IsTrue result ↔ AreLeapSeconds entries.now }
+{
+    for i in 1..entries.len() {
+        if !is_next(entries[i - 1], entries[i]) {
+            return false;
+        }
+    }
+    match entries.first() {
+        Some(first) => is_first(*first),
+        None => true,
+    }
+}
+
+fn is_first(entry: LeapSecond) -> bool
+    ensures { IsTrue result ↔ IsFirstLeap entry }
+{
+    entry.unix_leap_time >= 0 && is_one_step(0, entry.correction)
+}
+
+fn is_next(before: LeapSecond, entry: LeapSecond) -> bool
+    ensures { IsTrue result ↔ IsNextLeap before entry }
+{
+    is_far_enough(before.unix_leap_time, entry.unix_leap_time)
+        && is_one_step(before.correction, entry.correction)
+}
+
+fn is_far_enough(before: i64, after: i64) -> bool
+    ensures { IsTrue result ↔ ((before +ℤ pos 2_419_199) ≤ℤ after) }
+{
+    match before.checked_add(2_419_199) {
+        Some(earliest) => earliest <= after,
+        None => false,
+    }
+}
+
+fn is_one_step(before: i32, after: i32) -> bool
+    ensures { IsTrue result ↔ IsOneStep before after }
+{
+    after as i64 == before as i64 + 1 || after as i64 == before as i64 - 1
+}
