@@ -126,6 +126,7 @@ impl RuleDay {
     ghost use Rattle.tz_info.specs.RuleDays.{IsRuleDay, IsWrittenDate};
     ghost use Rattle.tz_info.specs.RuleDayOf.{rule_day};
     ghost use Rattle.tz_info.specs.Steps.RuleDays.{closed_day};
+
     /// The month, from 1, and the day of the month of the rule's day in the year.
     ///
     /// A plain day number of 365 is the day behind 31 December in a common year; its date is
