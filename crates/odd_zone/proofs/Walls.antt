@@ -1,5 +1,5 @@
 -- What the clocks of the odd zone show.
-use Rattle.std.proofs.Common.{◌≡◌, ℕ, ◌<◌, arith, ℤ, pos, negsuc, ◌+ℤ◌, ◌-ℤ◌, ◌*ℤ◌, refl}
+use Rattle.std.proofs.Common.{◌≡◌, ◌<◌, arith, ℤ, pos, negsuc, ◌+ℤ◌, ◌-ℤ◌, ◌*ℤ◌, refl}
 use Rattle.std.proofs.lemmas.Int.{ints}
 use Rattle.offset_core.specs.WallAnswer.{IsShownBetween}
 use Rattle.naive_base.specs.Range.{IsWide}

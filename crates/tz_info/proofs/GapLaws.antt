@@ -7,7 +7,7 @@ use Rattle.naive_base.specs.DateOf.{year_of}
 use Rattle.naive_base.proofs.ForCallers.{lies_in}
 use Rattle.offset_core.specs.WallAnswer.{IsNeverShown}
 use Rattle.tz_info.specs.Gaps.{ShowsMore, IsBeforeGap}
-use Rattle.tz_info.specs.Leaps.{IsNear, IsLeapTime}
+use Rattle.tz_info.specs.Leaps.{IsNear}
 use Rattle.tz_info.specs.LocalTypes.{LocalType}
 use Rattle.tz_info.specs.Rules.{Alternate as AlternateRule}
 use Rattle.tz_info.specs.Segments.{index_of, segment_of}

@@ -1,5 +1,5 @@
 -- Only a year's own moments and those of its two neighbours can enclose a second of the year.
-use Rattle.std.proofs.Common.{◌≡◌, arith, ℤ, pos, Bool, true, false, not, cond, ◌||◌, ◌+ℤ◌, ◌-ℤ◌, ◌≤ℤ◌, ◌<ℤ◌, ◌*ℤ◌, refl, inl, inr, ◌⊎◌, ⊎_elim, int_lt, int_le, sym, ◌∙◌, ap}
+use Rattle.std.proofs.Common.{◌≡◌, arith, ℤ, pos, Bool, true, false, not, cond, ◌||◌, ◌+ℤ◌, ◌-ℤ◌, ◌≤ℤ◌, ◌<ℤ◌, ◌*ℤ◌, refl, inl, inr, ◌⊎◌, ⊎_elim, int_le, sym, ◌∙◌, ap}
 use Rattle.std.proofs.lemmas.Int.{by_lt_z, ints}
 use Rattle.naive_base.specs.Year.{floor_div, year_start}
 use Rattle.naive_base.proofs.ForCallers.{floors, year_step, days_at_least, starts_rise}

@@ -1,8 +1,7 @@
 -- What a TZ text gives is a zone whose rule's numbers are in their limits.
-use Rattle.std.proofs.Common.{rules, ℕ, ◌<◌, sym, subst, List, length, Bool, false, Option, Some, None, inl, inr, arith}
-use Rattle.tz_info.specs.LocalTypes.{LocalType}
+use Rattle.std.proofs.Common.{ℕ, ◌<◌, sym, subst, List, length, Bool, false, Some, None, inl, inr, arith}
 use Rattle.tz_info.specs.RuleTypes.{IsRule}
-use Rattle.tz_info.specs.Zones.{Zone, IsValid, IsRuleOrNone, zone_of_rule}
+use Rattle.tz_info.specs.Zones.{Zone, IsValid, IsRuleOrNone}
 use Rattle.tz_info.specs.TzTexts.{IsTzText}
 use Rattle.tz_info.specs.PosixZones.{IsPosixZone, types_of}
 use Rattle.tz_info.specs.declared.rule.transition_rule.TransitionRule.{TransitionRule}

@@ -1,5 +1,5 @@
 -- Spans: one second more, and the answer of a span.
-use Rattle.std.proofs.Common.{◌≡◌, ℤ, ◌+ℤ◌, ◌-ℤ◌, ◌<ℤ◌, int_lt, true, ◌⊎◌, inl, inr, ⊎_elim, arith, refl, sym, Option, Some, None, subst, ap, ◌∙◌, FitsSigned}
+use Rattle.std.proofs.Common.{◌≡◌, ℤ, ◌+ℤ◌, ◌-ℤ◌, ◌⊎◌, inl, inr, ⊎_elim, arith, refl, sym, Option, Some, None, subst, ap, ◌∙◌, FitsSigned}
 use Rattle.std.specs.Int.{w64}
 use Rattle.std.proofs.lemmas.Int.{ints, by_lt_z}
 use Rattle.offset_core.specs.WallAnswer.{IsWallAnswer}

@@ -1,5 +1,5 @@
 -- A walk from segment to segment: which seconds it adds, why none lies outside it, and how many transitions it reads.
-use Rattle.std.proofs.Common.{◌≡◌, ℕ, zero, suc, ◌+◌, ◌<◌, ◌≤◌, arith, refl, ap, ◌∙◌, sym, subst, Bool, true, false, cond, ◌&&◌, List, [], ◌∷◌, length, get_or, ℤ, ◌-ℤ◌, ◌≤ℤ◌, ◌<ℤ◌, int_le, int_lt, inl, inr, ◌⊎◌, ⊎_elim, Option, Some, None, slice_get, FitsSigned}
+use Rattle.std.proofs.Common.{◌≡◌, ℕ, zero, suc, ◌+◌, ◌<◌, ◌≤◌, arith, refl, ap, ◌∙◌, sym, subst, Bool, true, false, cond, ◌&&◌, List, [], ◌∷◌, length, get_or, ℤ, ◌-ℤ◌, ◌≤ℤ◌, ◌<ℤ◌, int_le, int_lt, inl, inr, ◌⊎◌, ⊎_elim, Some, None, slice_get, FitsSigned}
 use Rattle.std.specs.List.{filter}
 use Rattle.std.specs.Int.{w64}
 use Rattle.std.proofs.lemmas.Int.{ints, by_lt_z}

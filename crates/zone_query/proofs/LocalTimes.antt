@@ -1,6 +1,6 @@
 -- Which texts are a date and a time.
 use Rattle.std.proofs.Common.{◌≡◌, ℕ, ℤ, pos, neg_ℤ, ◌<◌, ◌≤◌, zero, suc, length, ◌≤ℤ◌, ◌⊎◌, inl, inr, refl, ap, sym, ◌∙◌, subst, List, [], ◌∷◌, arith}
-use Rattle.std.specs.Prelude.{FitsSigned, MatchOption, Option, Some, None, ◌+ℤ◌}
+use Rattle.std.specs.Prelude.{FitsSigned, MatchOption, Option, Some, None}
 use Rattle.std.specs.Int.{w32}
 use Rattle.std.proofs.lemmas.Bool.{cases_lt}
 use Rattle.std.proofs.lemmas.Int.{by_lt_z, ints}

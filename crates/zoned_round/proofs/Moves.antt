@@ -1,7 +1,7 @@
 -- Readings moved within their second, and by how much.
 use Rattle.std.proofs.Common.{◌≡◌, ◌∙◌, ap, ℕ, ◌<◌, ◌≤◌, ◌-◌, arith, ℤ, pos, neg_ℤ, ◌+ℤ◌, ◌*ℤ◌, refl, unsigned_abs}
 use Rattle.std.proofs.lemmas.Int.{by_lt_z}
-use Rattle.naive_base.specs.Reading.{Reading, total, moved, of_total}
+use Rattle.naive_base.specs.Reading.{Reading, moved, of_total}
 use Rattle.naive_base.specs.Year.{floor_div, floor_mod}
 use Rattle.naive_base.proofs.ForCallers.{floors, moved-plain, moved-leap, moved_leap-within, floor_mod_parts}
 

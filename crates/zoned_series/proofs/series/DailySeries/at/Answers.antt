@@ -1,7 +1,6 @@
-use Rattle.std.proofs.Common.{◌≡◌, ap, subst, sym, ◌∙◌, refl}
+use Rattle.std.proofs.Common.{◌≡◌, ap, subst, ◌∙◌, refl}
 use Rattle.naive_base.specs.NaiveDateTime.{reading}
-use Rattle.naive_base.specs.NaiveTime.{second_of, fraction_of}
-use Rattle.naive_base.specs.Reading.{Reading, reading_at}
+use Rattle.naive_base.specs.Reading.{reading_at}
 use Rattle.zoned_time.specs.Choice.{IsUnresolved}
 use Rattle.zoned_series.specs.DailySeries.{series_of}
 use Rattle.zoned_series.specs.Series.{reading_of, unresolved}
