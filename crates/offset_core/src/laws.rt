@@ -35,7 +35,7 @@ pub fn parts_make_total()
 
 /// Any relation between seconds and values, read as: at this second a wall clock shows the time
 /// that is asked for, and this is its value there.
-pub trait WallClock<T> {
+pub trait Showing<T> {
     ghost shows: { ℤ → T → Type 0 };
 
     /// A second has at most one value.
@@ -43,12 +43,12 @@ pub trait WallClock<T> {
 }
 
 /// At most one answer of a lookup by wall clock is right.
-pub fn one_wall_answer<T, C: WallClock<T>>()
+pub fn one_wall_answer<T, C: Showing<T>>()
     ensures { (x y : LocalResult T) → IsWallAnswer C.shows x → IsWallAnswer C.shows y → x ≡ y }
 {}
 
 /// The three cases of an answer exclude each other: never shown, shown once, shown several times.
-pub fn wall_answers_exclude<T, C: WallClock<T>>()
+pub fn wall_answers_exclude<T, C: Showing<T>>()
     ensures never_or_once { (a : T) → IsNeverShown C.shows → IsShownOnce C.shows a → ⊥ }
     ensures never_or_between { (a b : T) → IsNeverShown C.shows → IsShownBetween C.shows a b → ⊥ }
     ensures once_or_between { (c a b : T) → IsShownOnce C.shows c → IsShownBetween C.shows a b → ⊥ }
