@@ -87,7 +87,8 @@
 //!
 //! | you have | you want | call |
 //! |---|---|---|
-//! | the bytes of a TZif file, a TZ text | a zone | [`tz_info::TimeZone::from_tz_data`], [`tz_info::TimeZone::from_posix_tz`] |
+//! | the bytes of a TZif file | a zone | [`tz_info::TimeZone::from_tz_data`] |
+//! | a TZ text | a zone | [`tz_info::TimeZone::from_posix_tz`] |
 //! | a parsed zone | a zone of `DateTime`s | [`TimeZoneRef::new`]: `None` where one of its offsets is a day or more |
 //! | a wall clock | each instant that shows it | [`TimeZone::with_ymd_and_hms`], [`TimeZone::from_local_datetime`] |
 //! | a wall clock | one instant | [`TimeZone::resolve`] |
@@ -95,10 +96,12 @@
 //! | a reading of UTC | the instant | [`TimeZone::from_utc_datetime`], [`NaiveZoned::and_utc`] |
 //! | an instant | what clocks elsewhere show then | [`DateTime::with_timezone`] |
 //! | an instant | what its clock shows | [`DateTime::naive_local`], and the fields of [`Datelike`] and [`Timelike`] |
-//! | an instant of a parsed zone | its abbreviation, whether it is daylight saving time | `instant.offset().name()`, `instant.offset().is_dst()`: [`ZoneOffset`] |
+//! | an instant of a parsed zone | its abbreviation | `instant.offset().name()`: [`ZoneOffset`] |
+//! | an instant of a parsed zone | if it is daylight saving time | `instant.offset().is_dst()` |
 //! | an instant of a parsed zone | one that borrows nothing | [`DateTime::fixed_offset`] |
 //! | an instant | one so much time later | [`DateTime::checked_add_signed`], `+` |
-//! | an instant | the same clock time some days or months later | [`DateTime::checked_add_days`], [`DateTime::checked_add_months`] |
+//! | an instant | the same clock time some days later | [`DateTime::checked_add_days`] |
+//! | an instant | the same clock time some months later | [`DateTime::checked_add_months`] |
 //! | two instants | the time between them | [`DateTime::signed_duration_since`], `-` |
 //! | an instant | it, rounded | [`DurationRound`], [`SubsecRound`] |
 //! | a wall-clock time | it, on each day | [`DailySeries::new`] |
