@@ -10,7 +10,7 @@ pub mod LeapOrder
 pub mod DigitLaws
 pub mod TableSearch
 pub mod SearchSteps
-pub mod PieceSearch
+pub mod HintLaws
 pub mod PassedTransitions
 pub mod Validity
 pub mod ZoneLaws

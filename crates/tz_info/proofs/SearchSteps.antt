@@ -1,135 +1,161 @@
--- What each step of the search in a zone's transitions keeps.
-use Rattle.std.proofs.Common.{◌≡◌, ℕ, zero, suc, ℤ, ◌+◌, ◌-◌, ◌/◌, ◌^◌, ◌<◌, ◌≤◌, arith, refl, ap, ◌∙◌, sym, pos, List, length, get_or, take, ◌≤ℤ◌, ◌<ℤ◌, inl, inr}
-use Rattle.std.proofs.lemmas.List.{get_or_default}
+-- What each step of a search among items in order of time keeps.
+use Rattle.std.proofs.Common.{◌≡◌, ℕ, zero, suc, ℤ, ◌+◌, ◌-◌, ◌*◌, ◌/◌, ◌^◌, ◌<◌, ◌≤◌, arith, refl, ap, ◌∙◌, sym, pos, List, length, get_or, map, ◌≤ℤ◌, ◌<ℤ◌, inl, inr}
 use Rattle.std.proofs.lemmas.Bool.{cases_lt}
 use Rattle.std.proofs.lemmas.Int.{ints}
-use Rattle.tz_info.specs.Counts.{Counts, RoseWithin}
 use Rattle.tz_info.specs.Digits.{digits}
-use Rattle.tz_info.specs.Steps.Search.{AreEnds, AreLeft, IsNarrowed}
-use Rattle.tz_info.specs.Transitions.{AreRising, passed}
-use Rattle.tz_info.specs.declared.zone.table.Ends.{Ends}
-use Rattle.tz_info.specs.declared.zone.table.Places.{Places}
-use Rattle.tz_info.specs.declared.zone.transition.Transition.{Transition}
-use Rattle.tz_info.proofs.DigitLaws.{digits-half, digits-more}
-use Rattle.tz_info.proofs.TableSearch.{search_found}
+use Rattle.tz_info.specs.Steps.Search.{AreEnds, AreOrdered, ArePassed, IsLeft, IsNear, time_at}
+use Rattle.tz_info.specs.declared.zone.hints.Near.{Near}
+use Rattle.tz_info.specs.declared.zone.timeline.Ends.{Ends}
+use Rattle.tz_info.proofs.DigitLaws.{digits-half, digits-less, digits-more}
+use Rattle.tz_info.proofs.Prefixes.{mapped_at}
 
--- before the first step all are left but the last, which comes after v
-pub all_left : (xs : List Transition) (v : ℤ) (n : ℕ) (ends : Ends) → AreRising xs → n ≡ length xs → n < 2 ^ 64 → 0 < n → AreEnds xs ends → v <ℤ ends.last → AreLeft xs v (record { low = 0; size = n - 1 })
-all_left xs v n ends rising e f some are lt = record {
-  rising = rising;
-  within = omega arith;
-  fits = omega arith;
-  before = λ k d h. absurd (omega arith);
-  behind = λ k d h l. let last = are.last d (omega arith) in let i : k ≡ length xs - 1 = omega arith in rw i (omega (arith, ints));
-}
+-- the time of an item that was read
+pub time_read : {A : Type 0} (time : A → ℤ) (items : List A) (place : ℕ) (x : A) → place < length items → x ≡ get_or items place x → time x ≡ time_at (map time items) place
+time_read time items place x h e = ap time e ∙ sym (mapped_at time items place x (pos 0) h)
+
+-- no time comes before an earlier one
+pub not_before : (times : List ℤ) (i k : ℕ) → AreOrdered times → i ≤ k → k < length times → time_at times i ≤ℤ time_at times k
+not_before times i k ordered h l = elim (cases_lt i k) [
+  | inl m ↦ ordered i k (pos 0) m l
+  | inr g ↦ let e : i ≡ k = omega arith in rw e (omega (arith, ints))
+]
 
 -- all have come where the last has
-pub all_passed : (xs : List Transition) (v : ℤ) (n : ℕ) (ends : Ends) → AreRising xs → n ≡ length xs → 0 < n → AreEnds xs ends → ends.last ≤ℤ v → passed xs v ≡ take n xs
-all_passed xs v n ends rising e some are le = search_found xs v n n (omega arith) (record {
-  ordered = omega arith;
-  within = omega arith;
-  below = λ k d h.
-      let last = are.last d (omega arith) in
-      elim (cases_lt k (length xs - 1)) [
-        | inl m ↦ let r = rising k (length xs - 1) d m (omega arith) in omega (arith, ints)
-        | inr g ↦ let i : k ≡ length xs - 1 = omega arith in rw i (omega (arith, ints))
-      ];
-  above = λ k d h l. absurd (omega arith);
-})
+pub all_passed : (times : List ℤ) (v : ℤ) (n : ℕ) (ends : Ends) → AreOrdered times → n ≡ length times → 0 < n → AreEnds times ends → ends.last ≤ℤ v → ArePassed times v n
+all_passed times v n ends ordered e some are le =
+    let last = are.last (omega arith) in
+    record {
+      within = omega arith;
+      before = λ k h. let m = not_before times k (length times - 1) ordered (omega arith) (omega arith) in omega (arith, ints);
+      behind = λ k h l. absurd (omega arith);
+    }
+
+-- and none where the first has not
+pub none_passed : (times : List ℤ) (v : ℤ) (ends : Ends) → AreOrdered times → 0 < length times → AreEnds times ends → v <ℤ ends.first → ArePassed times v 0
+none_passed times v ends ordered some are lt =
+    let first = are.first some in
+    record {
+      within = omega arith;
+      before = λ k h. absurd (omega arith);
+      behind = λ k h l. let m = not_before times 0 k ordered (omega arith) l in omega (arith, ints);
+    }
 
 -- between the first and the last there are two at least
-none : Transition
-none = record { unix_leap_time = pos 0; type_index = 0 }
-
-pub two_at_least : (xs : List Transition) (v : ℤ) (ends : Ends) → 0 < length xs → AreEnds xs ends → ends.first ≤ℤ v → v <ℤ ends.last → 1 < length xs
-two_at_least xs v ends some are from lt = elim (cases_lt 1 (length xs)) [
+pub two_at_least : (times : List ℤ) (v : ℤ) (ends : Ends) → 0 < length times → AreEnds times ends → ends.first ≤ℤ v → v <ℤ ends.last → 1 < length times
+two_at_least times v ends some are from lt = elim (cases_lt 1 (length times)) [
   | inl h ↦ h
   | inr g ↦
-      let one : length xs - 1 ≡ 0 = omega arith in
-      let first = are.first none some in
-      let last = rw one at (are.last none some) in
+      let one : length times - 1 ≡ 0 = omega arith in
+      let first = are.first some in
+      let last = rw one at (are.last some) in
       absurd (omega (arith, ints))
 ]
 
--- none has come where the first has not
-pub none_passed : (xs : List Transition) (v : ℤ) (ends : Ends) → AreRising xs → 0 < length xs → AreEnds xs ends → v <ℤ ends.first → passed xs v ≡ take 0 xs
-none_passed xs v ends rising some are lt = search_found xs v 0 0 (omega arith) (record {
-  ordered = omega arith;
-  within = omega arith;
-  below = λ k d h. absurd (omega arith);
-  above = λ k d h l.
-      let first = are.first d some in
-      elim (cases_lt 0 k) [
-        | inl m ↦ let r = rising 0 k d m l in omega (arith, ints)
-        | inr g ↦ let i : k ≡ 0 = omega arith in rw i (omega (arith, ints))
-      ];
-})
+-- there all but the last are left
+pub all_left : (times : List ℤ) (v : ℤ) (ends : Ends) → AreOrdered times → length times < 2 ^ 64 → 0 < length times → AreEnds times ends → v <ℤ ends.last → IsLeft times v 0 (length times - 1)
+all_left times v ends ordered fits some are lt =
+    let last = are.last some in
+    record {
+      ordered = ordered;
+      rising = omega arith;
+      within = omega arith;
+      fits = omega arith;
+      before = λ k h. absurd (omega arith);
+      behind = λ k h l. let i : k ≡ length times - 1 = omega arith in rw i (omega (arith, ints));
+    }
 
--- a look at a transition at or before v
-pub left_later : (xs : List Transition) (v : ℤ) (old new : Places) (x : Transition) → AreLeft xs v old → old.low < new.low → new.low + new.size ≡ old.low + old.size → x ≡ get_or xs (new.low - 1) x → x.unix_leap_time ≤ℤ v → AreLeft xs v new
-left_later xs v old new x b h s e le = let w = b.within in record {
-  rising = b.rising;
-  within = omega arith;
-  fits = omega (arith, b.fits);
-  before = λ k d l.
-      let same : get_or xs (new.low - 1) d ≡ x = get_or_default xs (new.low - 1) d x (omega arith) ∙ sym e in
-      let times = ap (λ (t : Transition). t.unix_leap_time) same in
-      elim (cases_lt k (new.low - 1)) [
-        | inl m ↦ let r = b.rising k (new.low - 1) d m (omega arith) in omega (arith, ints)
-        | inr g ↦ let i : k ≡ new.low - 1 = omega arith in rw i (omega (arith, ints))
-      ];
-  behind = λ k d l m. b.behind k d (omega arith) m;
+-- a look at one that has come
+pub left_later : (times : List ℤ) (v : ℤ) (first middle high : ℕ) → IsLeft times v first high → middle < high → time_at times middle ≤ℤ v → IsLeft times v (middle + 1) high
+left_later times v first middle high left h le = let w = left.within in record {
+  ordered = left.ordered;
+  rising = omega arith;
+  within = w;
+  fits = left.fits;
+  before = λ k l. let m = not_before times k middle left.ordered (omega arith) (omega arith) in omega (arith, ints);
+  behind = left.behind;
 }
 
--- a look at a transition after v
-pub left_earlier : (xs : List Transition) (v : ℤ) (old new : Places) (middle : ℕ) (x : Transition) → AreLeft xs v old → new.low ≡ old.low → middle ≤ new.low + new.size → new.low + new.size ≤ old.low + old.size → middle < old.low + old.size → x ≡ get_or xs middle x → v <ℤ x.unix_leap_time → AreLeft xs v new
-left_earlier xs v old new middle x b s l h f e lt = let w = b.within in record {
-  rising = b.rising;
+-- and at one that has not
+pub left_earlier : (times : List ℤ) (v : ℤ) (first middle high : ℕ) → IsLeft times v first high → first ≤ middle → middle < high → v <ℤ time_at times middle → IsLeft times v first middle
+left_earlier times v first middle high left h l lt = let w = left.within in record {
+  ordered = left.ordered;
+  rising = h;
   within = omega arith;
-  fits = omega (arith, b.fits);
-  before = λ k d a. b.before k d (omega arith);
-  behind = λ k d a m.
-      let same : get_or xs middle d ≡ x = get_or_default xs middle d x (omega arith) ∙ sym e in
-      let times = ap (λ (t : Transition). t.unix_leap_time) same in
-      elim (cases_lt middle k) [
-        | inl l ↦ let r = b.rising middle k d l m in omega (arith, ints)
-        | inr g ↦ let i : k ≡ middle = omega arith in rw i (omega (arith, ints))
-      ];
+  fits = omega (arith, left.fits);
+  before = left.before;
+  behind = λ k m n. let o = not_before times middle k left.ordered m n in omega (arith, ints);
 }
 
 -- where none is left the search is over
-pub left_none : (xs : List Transition) (v : ℤ) (left : Places) → left.size ≡ 0 → AreLeft xs v left → passed xs v ≡ take left.low xs
-left_none xs v left none b =
-    let w = b.within in
-    search_found xs v left.low left.low (omega arith) (record { ordered = omega arith; within = omega arith; below = b.before; above = λ k d h l. b.behind k d (omega arith) l })
+pub left_none : (times : List ℤ) (v : ℤ) (first high : ℕ) → high ≤ first → IsLeft times v first high → ArePassed times v first
+left_none times v first high h left = let w = left.within in let r = left.rising in record {
+  within = omega arith;
+  before = left.before;
+  behind = λ k l m. left.behind k (omega arith) m;
+}
+
+-- the same among neighbours, the first of which has come
+pub near_later : (times : List ℤ) (v : ℤ) (near after : Near) → IsNear times v near → near.first ≤ after.first → after.first < near.first + near.count → after.first + after.count ≡ near.first + near.count → time_at times after.first ≤ℤ v → IsNear times v after
+near_later times v near after n h l e le = let w = n.within in record {
+  ordered = n.ordered;
+  some = omega arith;
+  within = omega arith;
+  fits = omega (arith, n.fits);
+  come = le;
+  behind = λ k m o. n.behind k (omega arith) o;
+}
+
+pub near_earlier : (times : List ℤ) (v : ℤ) (near after : Near) (middle : ℕ) → IsNear times v near → after.first ≡ near.first → 0 < after.count → middle ≤ after.first + after.count → middle < near.first + near.count → after.first + after.count ≤ near.first + near.count → v <ℤ time_at times middle → IsNear times v after
+near_earlier times v near after middle n e some m l h lt = let w = n.within in record {
+  ordered = n.ordered;
+  some = some;
+  within = omega arith;
+  fits = omega (arith, n.fits);
+  come = rw e n.come;
+  behind = λ k a b. let o = not_before times middle k n.ordered (omega arith) b in omega (arith, ints);
+}
+
+pub near_one : (times : List ℤ) (v : ℤ) (near : Near) → near.count ≤ 1 → IsNear times v near → ArePassed times v (near.first + 1)
+near_one times v near h n = let w = n.within in let s = n.some in record {
+  within = omega arith;
+  before = λ k l. let m = not_before times k near.first n.ordered (omega arith) (omega arith) in let c = n.come in omega (arith, ints);
+  behind = λ k l m. n.behind k (omega arith) m;
+}
 
 -- a halving costs a look
 pub digits-halved : (n : ℕ) → 0 < n → digits n ≡ digits (n / 2) + 1
 digits-halved zero h = absurd (omega arith)
 digits-halved (suc n) h = let e = digits-half n in omega arith
 
--- what the steps cost together
-pub narrowed_none : (a : Counts) (x : ℕ) → IsNarrowed a a x x
-narrowed_none a x = record { kept = omega arith; reads = refl; questions = refl; pieces = refl }
-
-pub narrowed_on : {a b c : Counts} {x y z : ℕ} → IsNarrowed a b x y → IsNarrowed b c y z → IsNarrowed a c x z
-narrowed_on h k = record { kept = omega (arith, h.kept, k.kept); reads = omega (arith, h.reads, k.reads); questions = k.questions ∙ h.questions; pieces = k.pieces ∙ h.pieces }
-
-pub room_on : {a b : Counts} {x y m : ℕ} → IsNarrowed a b x y → a.reads + digits x < m → b.reads + digits y < m
-room_on h room = omega (arith, h.reads)
-
--- and how the counts rose by them
-pub narrowed_to_none : {a b : Counts} {z : ℕ} (n : ℕ) → IsNarrowed a b (n - 1) z → RoseWithin a b (digits n) 0
-narrowed_to_none n h = let q = h.questions in record { reads_kept = h.kept; reads_most = omega (arith, h.reads, digits-more (n - 1) n (omega arith)); questions_kept = omega arith; questions_most = omega arith; pieces_same = h.pieces }
-
--- room for a search among all is room for one among all but the last
-pub room_of_all : (a n m : ℕ) → a + digits n < m → a + digits (n - 1) < m
-room_of_all a n m room = omega (arith, digits-more (n - 1) n (omega arith))
-
 pub digits-none : (z : ℕ) → z ≡ 0 → digits z ≡ 0
 unfolding digits
 digits-none z e = ap digits e
 
--- a search among some looks at one
-pub looked_through : {a b : Counts} {n z : ℕ} → 0 < n → IsNarrowed a b n z → z ≡ 0 → a.reads < b.reads
-looked_through {a} {b} {n} {z} some h none = let d = digits-halved n some in let k = digits-none z none in omega (arith, h.reads)
+digits-four : digits 4 ≡ 3
+unfolding digits
+digits-four = refl
+
+-- a search among four items or more may take three looks
+pub digits-three : (n : ℕ) → 4 ≤ n → 3 ≤ digits n
+digits-three n h = let m = digits-more 4 n h in omega (arith, digits-four)
+
+-- two steps among at most half of the items leave room for one look and the steps that are left
+pub two_steps : (count left n : ℕ) → 0 < count → 2 * count ≤ n → 4 ≤ n → left ≡ (count - count / 2) - (count - count / 2) / 2 → 2 + digits (left - 1) + 1 ≤ digits n
+two_steps count left n some narrow many e = elim (cases_lt 0 (left - 1)) [
+  | inl h ↦
+      let first = digits-halved (count - 1) (omega arith) in
+      let second = digits-halved ((count - 1) / 2) (omega arith) in
+      let same : (count - 1) / 2 / 2 ≡ left - 1 = omega arith in
+      let left_digits = ap digits same in
+      let all = digits-less (count - 1) n (omega arith) (omega arith) in
+      omega arith
+  | inr g ↦ let none = digits-none (left - 1) (omega arith) in let three = digits-three n many in omega arith
+]
+
+-- a step among more than one takes a look
+pub one_step : (count left : ℕ) → 1 < count → left ≡ count - count / 2 → digits (left - 1) + 1 ≤ digits (count - 1)
+one_step count left some e =
+    let first = digits-halved (count - 1) (omega arith) in
+    let same : (count - 1) / 2 ≡ left - 1 = omega arith in
+    let left_digits = ap digits same in
+    omega arith

@@ -1,20 +1,20 @@
 -- Pieces of the wall-clock axis: one piece more, and two runs of pieces together.
-use Rattle.std.proofs.Common.{◌≡◌, ℕ, zero, suc, ◌+◌, ◌-◌, ◌^◌, ◌<◌, ◌≤◌, arith, refl, sym, ap, ◌∙◌, List, [], ◌∷◌, ◌++◌, length, get_or, take, pos, ℤ, ◌≤ℤ◌, ◌<ℤ◌, int_le, inl, inr}
+use Rattle.std.proofs.Common.{◌≡◌, ℕ, zero, suc, ◌+◌, ◌-◌, ◌<◌, ◌≤◌, arith, refl, sym, ap, ◌∙◌, List, [], ◌∷◌, ◌++◌, length, get_or, map, take, pos, ℤ, ◌≤ℤ◌, ◌<ℤ◌, int_le, inl, inr}
 use Rattle.std.proofs.lemmas.Int.{ints, by_lt_z}
 use Rattle.std.proofs.lemmas.Bool.{cases_lt}
-use Rattle.std.proofs.lemmas.List.{take_more, get_or_default, length_push, take_all}
+use Rattle.std.proofs.lemmas.List.{take_more, length_push, take_all, length-map}
 use Rattle.std.proofs.lemmas.List.Elements.{All-push}
 use Rattle.std.proofs.lemmas.List.Quantifiers.{all_pairs_push}
 use Rattle.offset_core.specs.declared.local_result.LocalResult.{LocalResult}
 use Rattle.offset_core.specs.declared.local_result.LocalResult.TheVariants.{None}
 use Rattle.tz_info.specs.Steps.Answers.{joined}
 use Rattle.tz_info.specs.Steps.Merging.{IsMerged, IsNext, IsStep}
-use Rattle.tz_info.specs.Steps.Pieces.{AreEndStarts, AreLeft, IsSearched}
+use Rattle.std.proofs.lemmas.Option.{none-some}
+use Rattle.std.specs.Prelude.{Option, Some as some, None as none, unwrap_or}
+use Rattle.tz_info.specs.Steps.Search.{AreOrdered, ArePassed, IsLastOf}
 use Rattle.tz_info.specs.WallPieces.{answer_before, answer_at, AreInOrder}
-use Rattle.tz_info.specs.declared.zone.index.Ends.{Ends}
-use Rattle.tz_info.specs.declared.zone.index.Places.{Places}
 use Rattle.tz_info.specs.declared.zone.pieces.Piece.{Piece}
-use Rattle.tz_info.proofs.Prefixes.{le_true, le_false, filter_first}
+use Rattle.tz_info.proofs.Prefixes.{le_true, le_false, filter_first, last_taken, mapped_at}
 
 abbrev pub Answer : Type 0
 Answer = LocalResult ℕ
@@ -140,123 +140,40 @@ all_merged bx xs by ys out i j m h =
       answers = λ l. m.answers l ∙ rw (take_all i xs (omega arith), take_all j ys (omega arith)) refl;
     }
 
--- ---- a binary search
+-- pieces in order, by the list of their starts
+pub starts_in_order : (ps : List Piece) → AreInOrder ps → AreOrdered (map (λ (p : Piece). p.start) ps)
+starts_in_order ps order i j d h l =
+    let same = length-map ps (λ (p : Piece). p.start) in
+    let o = order i j blank h (omega arith) in
+    let first = mapped_at (λ (p : Piece). p.start) ps i blank d (omega arith) in
+    let last = mapped_at (λ (p : Piece). p.start) ps j blank d (omega arith) in
+    omega (arith, ints) where
+      blank : Piece
+      blank = record { start = pos 0; answer = None }
 
--- before the first step all are left
-pub none_searched : (b : Answer) (ps : List Piece) (l : ℤ) (n : ℕ) (kept : Answer) → n ≡ length ps → kept ≡ b → IsSearched b ps l 0 n kept
-none_searched b ps l n kept e is = record { ordered = omega arith; within = omega arith; below = λ k d h. absurd (omega arith); above = λ k d h m. absurd (omega arith); answer = is }
+-- the last of the pieces that have started answers, and where none has, what stands before them
+started : (b : Answer) (ps : List Piece) (l : ℤ) (n : ℕ) → ArePassed (map (λ (p : Piece). p.start) ps) l n → answer_at b ps l ≡ answer_before b (take n ps)
+started b ps l n passed =
+    let same = length-map ps (λ (p : Piece). p.start) in
+    let w = passed.within in
+    ap (answer_before b) (filter_first (λ (p : Piece). int_le p.start l) ps n (omega arith)
+    (λ k d m. let e = mapped_at (λ (p : Piece). p.start) ps k d (pos 0) (omega arith) in le_true _ l (rw e at (passed.before k m)))
+    (λ k d m n. let e = mapped_at (λ (p : Piece). p.start) ps k d (pos 0) n in le_false _ l (rw e at (passed.behind k m (omega arith)))))
 
--- a look at a piece that has started
-pub searched_later : (b : Answer) (ps : List Piece) (l : ℤ) (low middle high : ℕ) (kept after : Answer) (p : Piece) → AreInOrder ps → IsSearched b ps l low high kept → middle < high → p ≡ get_or ps middle p → p.start ≤ℤ l → after ≡ p.answer → IsSearched b ps l (middle + 1) high after
-searched_later b ps l low middle high kept after p order s h e le is = let w = s.within in record {
-  ordered = omega arith;
-  within = w;
-  below = λ k d m.
-      let same : get_or ps middle d ≡ p = get_or_default ps middle d p (omega arith) ∙ sym e in
-      let starts = ap (λ (q : Piece). q.start) same in
-      elim (cases_lt k middle) [
-        | inl n ↦ let r = order k middle d n (omega arith) in omega (arith, ints)
-        | inr n ↦ let i : k ≡ middle = omega arith in rw i (omega (arith, ints))
-      ];
-  above = s.above;
-  answer = is ∙ ap (λ (q : Piece). q.answer) e ∙ sym (ap (answer_before b) (take_more ps middle p (omega arith)) ∙ before_pushed b (take middle ps) (get_or ps middle p));
-}
+pub none_answers : (b : Answer) (ps : List Piece) (l : ℤ) (n : ℕ) → ArePassed (map (λ (p : Piece). p.start) ps) l n → IsLastOf ps n none → b ≡ answer_at b ps l
+none_answers b ps l n passed latest = elim (cases_lt 0 n) [
+  | inl h ↦ let s = latest.some h in absurd (none-some s.0 s.1)
+  | inr g ↦ let e : n ≡ 0 = omega arith in sym (started b ps l n passed ∙ rw e refl)
+]
 
--- and at one that has not
-pub searched_earlier : (b : Answer) (ps : List Piece) (l : ℤ) (low middle high : ℕ) (kept after : Answer) (p : Piece) → AreInOrder ps → IsSearched b ps l low high kept → low ≤ middle → middle < high → p ≡ get_or ps middle p → l <ℤ p.start → after ≡ kept → IsSearched b ps l low middle after
-searched_earlier b ps l low middle high kept after p order s from h e lt is = let w = s.within in record {
-  ordered = from;
-  within = omega arith;
-  below = s.below;
-  above = λ k d a m.
-      let same : get_or ps middle d ≡ p = get_or_default ps middle d p (omega arith) ∙ sym e in
-      let starts = ap (λ (q : Piece). q.start) same in
-      elim (cases_lt middle k) [
-        | inl n ↦ let r = order middle k d n m in omega (arith, ints)
-        | inr n ↦ let i : k ≡ middle = omega arith in rw i (omega (arith, ints))
-      ];
-  answer = is ∙ s.answer;
-}
-
-pub all_searched : (b : Answer) (ps : List Piece) (l : ℤ) (low high : ℕ) (kept : Answer) → high ≤ low → IsSearched b ps l low high kept → kept ≡ answer_at b ps l
-all_searched b ps l low high kept h s =
-    let o = s.ordered in let w = s.within in
-    s.answer ∙ ap (answer_before b) (sym (filter_first (λ (p : Piece). int_le p.start l) ps low (omega arith) (λ k d m. le_true _ l (s.below k d m)) (λ k d m n. le_false _ l (s.above k d (omega arith) n))))
-
--- where the last piece has started it answers
-pub last_answers : (b : Answer) (ps : List Piece) (l : ℤ) (n : ℕ) (p : Piece) (ends : Ends) → AreInOrder ps → n ≡ length ps → 0 < n → AreEndStarts ps ends → p ≡ get_or ps (n - 1) p → ends.last ≤ℤ l → p.answer ≡ answer_at b ps l
-last_answers b ps l n p ends order e some are is le =
-    let same : get_or ps (length ps - 1) p ≡ p = let i : length ps - 1 ≡ n - 1 = omega arith in rw i (sym is) in
-    let starts = ap (λ (q : Piece). q.start) same in
-    let last = are.last p (omega arith) in
-    all_searched b ps l (n - 1 + 1) n p.answer (omega arith) (searched_later b ps l 0 (n - 1) n b p.answer p order (none_searched b ps l n b e refl) (omega arith) is (omega (arith, ints)) refl)
-
--- where the first has not started none has
-pub none_answers : (b : Answer) (ps : List Piece) (l : ℤ) (ends : Ends) → AreInOrder ps → 0 < length ps → AreEndStarts ps ends → l <ℤ ends.first → b ≡ answer_at b ps l
-none_answers b ps l ends order some are lt = all_searched b ps l 0 0 b (omega arith) (record {
-  ordered = omega arith;
-  within = omega arith;
-  below = λ k d h. absurd (omega arith);
-  above = λ k d h m.
-      let first = are.first d some in
-      elim (cases_lt 0 k) [
-        | inl n ↦ let r = order 0 k d n m in omega (arith, ints)
-        | inr n ↦ let i : k ≡ 0 = omega arith in rw i (omega (arith, ints))
-      ];
-  answer = refl;
-})
-
--- one step of the search: a look at a piece that has started
-pub left_started : (b : Answer) (ps : List Piece) (l : ℤ) (old new : Places) (p : Piece) → AreLeft b ps l old → old.low < new.low → new.low + new.size ≡ old.low + old.size → p ≡ get_or ps (new.low - 1) p → p.start ≤ℤ l → new.kept.now ≡ p.answer → AreLeft b ps l new
-left_started b ps l old new p left less same is le kept =
-    let here : new.low ≡ new.low - 1 + 1 = omega arith in
-    record {
-      ordered = left.ordered;
-      searched = rw same (rw here (searched_later b ps l old.low (new.low - 1) (old.low + old.size) old.kept.now new.kept.now p left.ordered left.searched (omega arith) is le kept));
-      fits = omega (arith, left.fits);
-    }
-
--- and at one that has not
-pub left_not_started : (b : Answer) (ps : List Piece) (l : ℤ) (old new : Places) (middle : ℕ) (p : Piece) → AreLeft b ps l old → new.low ≡ old.low → old.low ≤ middle → middle ≤ new.low + new.size → new.low + new.size ≤ old.low + old.size → middle < old.low + old.size → p ≡ get_or ps middle p → l <ℤ p.start → new.kept.now ≡ old.kept.now → AreLeft b ps l new
-left_not_started b ps l old new middle p left low from most within inside is lt kept =
-    let s = searched_earlier b ps l old.low middle (old.low + old.size) old.kept.now new.kept.now p left.ordered left.searched from inside is lt kept in
-    let w = left.searched.within in
-    record {
-      ordered = left.ordered;
-      searched = record {
-        ordered = omega arith;
-        within = omega arith;
-        below = λ k d m. s.below k d (omega arith);
-        above = λ k d a m. s.above k d (omega arith) m;
-        answer = rw low s.answer;
-      };
-      fits = omega (arith, left.fits);
-    }
-
--- before the first step all are left but the last, which starts after the local time
-pub all_but_last_left : (b : Answer) (ps : List Piece) (l : ℤ) (n : ℕ) (ends : Ends) (left : Places) → AreInOrder ps → n ≡ length ps → n < 2 ^ 64 → 0 < n → AreEndStarts ps ends → l <ℤ ends.last → left.low ≡ 0 → left.size ≡ n - 1 → left.kept.now ≡ b → AreLeft b ps l left
-all_but_last_left b ps l n ends left order e f some are lt low size kept = record {
-  ordered = order;
-  searched = record {
-    ordered = omega arith;
-    within = omega arith;
-    below = λ k d h. absurd (omega arith);
-    above = λ k d h m. let last = are.last d (omega arith) in let i : k ≡ length ps - 1 = omega arith in rw i (omega (arith, ints));
-    answer = rw low kept;
-  };
-  fits = omega arith;
-}
-
--- between the first and the last there are two at least
-blank : Piece
-blank = record { start = pos 0; answer = None }
-
-pub two_at_least : (ps : List Piece) (l : ℤ) (ends : Ends) → 0 < length ps → AreEndStarts ps ends → ends.first ≤ℤ l → l <ℤ ends.last → 1 < length ps
-two_at_least ps l ends some are from lt = elim (cases_lt 1 (length ps)) [
-  | inl h ↦ h
-  | inr g ↦
-      let one : length ps - 1 ≡ 0 = omega arith in
-      let first = are.first blank some in
-      let last = rw one at (are.last blank some) in
-      absurd (omega (arith, ints))
+pub latest_answers : (b : Answer) (ps : List Piece) (l : ℤ) (n : ℕ) (p : Piece) → ArePassed (map (λ (p : Piece). p.start) ps) l n → IsLastOf ps n (some p) → p.answer ≡ answer_at b ps l
+latest_answers b ps l n p passed latest = elim (cases_lt 0 n) [
+  | inl h ↦
+      let s = latest.some h in
+      let same = length-map ps (λ (p : Piece). p.start) in
+      let w = passed.within in
+      let is : p ≡ s.0 = ap (λ (o : Option Piece). unwrap_or o p) s.1 in
+      let e : n ≡ suc (n - 1) = omega arith in
+      sym (started b ps l n passed ∙ ap (λ k. answer_before b (take k ps)) e ∙ last_taken (λ (q : Piece). q.answer) b ps (n - 1) s.0 (omega arith) ∙ ap (λ (q : Piece). q.answer) (sym s.2 ∙ sym is))
+  | inr g ↦ let e : n ≡ 0 = omega arith in absurd (none-some p (sym (latest.none e)))
 ]

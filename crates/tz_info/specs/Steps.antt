@@ -15,6 +15,8 @@ pub mod FileLists
 pub mod StoredNames
 pub mod Gaps
 pub mod Search
+pub mod Looks
+pub mod Hints
 pub mod Kinds
 pub mod RuleDays
 pub mod Spans

@@ -3,6 +3,7 @@
 mod answers;
 mod extremes;
 mod gap;
+mod hints;
 mod index;
 mod leap_second;
 mod leap_time;
@@ -16,6 +17,7 @@ mod segments;
 mod starts;
 mod table;
 mod time_zone;
+mod timeline;
 mod transition;
 mod valid;
 mod walk;

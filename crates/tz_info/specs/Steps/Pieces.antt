@@ -1,18 +1,14 @@
 -- The pieces of some neighbouring segments, and the search in them.
-use Rattle.std.specs.Prelude.{ℕ, zero, suc, ℤ, ◌≡◌, ◌⊎◌, ◌+◌, ◌-◌, ◌*◌, ◌^◌, ◌<◌, ◌≤◌, ◌≤ℤ◌, ◌<ℤ◌, if◌then◌else◌, nat_lt, List, length, take, slice_index_or, slice_get, Some as some}
+use Rattle.std.specs.Prelude.{ℕ, zero, suc, ℤ, ◌≡◌, ◌⊎◌, ◌+◌, ◌-◌, ◌*◌, ◌<◌, ◌≤◌, ◌≤ℤ◌, ◌<ℤ◌, if◌then◌else◌, nat_lt, List, length, slice_get, Some as some}
 use Rattle.naive_base.specs.Range.{IsWide}
 use Rattle.offset_core.specs.WallAnswer.{IsWallAnswer}
 use Rattle.offset_core.specs.declared.local_result.LocalResult.{LocalResult}
 use Rattle.offset_core.specs.declared.local_result.LocalResult.TheVariants.{None, Single, Ambiguous}
-use Rattle.tz_info.specs.Counts.{Counts}
-use Rattle.tz_info.specs.Digits.{digits}
 use Rattle.tz_info.specs.LocalTypes.{LocalType, IsUtOffset}
 use Rattle.tz_info.specs.Segments.{index_of}
 use Rattle.tz_info.specs.Steps.Starts.{IsCut}
-use Rattle.tz_info.specs.WallPieces.{AreInOrder, ListedAmong, answer_before, answer_at}
+use Rattle.tz_info.specs.WallPieces.{AreInOrder, ListedAmong, answer_at}
 use Rattle.tz_info.specs.Zones.{Zone, HasType}
-use Rattle.tz_info.specs.declared.zone.index.Ends.{Ends}
-use Rattle.tz_info.specs.declared.zone.index.Places.{Places}
 use Rattle.tz_info.specs.declared.zone.pieces.Piece.{Piece}
 use Rattle.tz_info.specs.declared.zone.segments.Lists.{Lists}
 
@@ -32,32 +28,6 @@ AreListed types None None = Unit {0}
 AreListed types (Single i) (Single t) = slice_get types i ≡ some t
 AreListed types (Ambiguous i j) (Ambiguous s t) = (slice_get types i ≡ some s) × (slice_get types j ≡ some t)
 AreListed types _ _ = ⊥
-
--- the starts of the first and the last piece, where there is one
-pub record AreEndStarts (pieces : List Piece) (ends : Ends) : Type 0 where
-  pub first : (d : Piece) → 0 < length pieces → ends.first ≡ (slice_index_or pieces 0 d).start
-  pub last : (d : Piece) → 0 < length pieces → ends.last ≡ (slice_index_or pieces (length pieces - 1) d).start
-
--- the pieces below `low` start at or before the local time and the last of them answers, and those from `high` on start after it
-pub record IsSearched (before : LocalResult ℕ) (pieces : List Piece) (local : ℤ) (low high : ℕ) (kept : LocalResult ℕ) : Type 0 where
-  pub ordered : low ≤ high
-  pub within : high ≤ length pieces
-  pub below : (k : ℕ) (d : Piece) → k < low → (slice_index_or pieces k d).start ≤ℤ local
-  pub above : (k : ℕ) (d : Piece) → high ≤ k → k < length pieces → local <ℤ (slice_index_or pieces k d).start
-  pub answer : kept ≡ answer_before before (take low pieces)
-
--- what a search has left of pieces that come in order
-pub record AreLeft (before : LocalResult ℕ) (pieces : List Piece) (local : ℤ) (left : Places) : Type 0 where
-  pub ordered : AreInOrder pieces
-  pub searched : IsSearched before pieces local left.low (left.low + left.size) left.kept.now
-  pub fits : left.low + left.size < 2 ^ 64
-
--- of `from` places `to` are left, for a look at a piece for each digit fewer, and no question to a rule
-pub record IsNarrowed (before after : Counts) (from to : ℕ) : Type 0 where
-  pub kept : before.piece_reads ≤ after.piece_reads
-  pub pieces : after.piece_reads + digits to ≡ before.piece_reads + digits from
-  pub questions : after.rule_questions ≡ before.rule_questions
-  pub reads : after.reads ≡ before.reads
 
 -- one piece less where the first segment is among them, which has no start, and one less where the last is, which has no end
 abbrev pub opening : ℕ → ℕ

@@ -1,28 +1,54 @@
--- A binary search in transitions whose times rise.
-use Rattle.std.specs.Prelude.{ℕ, ◌≡◌, ◌+◌, ◌-◌, ◌^◌, ◌<◌, ◌≤◌, List, length, slice_index_or, ℤ, ◌≤ℤ◌, ◌<ℤ◌}
+-- A search among items that come in order of time, by the list of their times.
+use Rattle.std.specs.Prelude.{ℕ, ◌≡◌, ◌+◌, ◌-◌, ◌^◌, ◌<◌, ◌≤◌, List, length, slice_index_or, AllPairs, ℤ, pos, ◌≤ℤ◌, ◌<ℤ◌, Option, None, Some}
 use Rattle.tz_info.specs.Counts.{Counts}
-use Rattle.tz_info.specs.Digits.{digits}
-use Rattle.tz_info.specs.Transitions.{AreRising}
-use Rattle.tz_info.specs.declared.zone.table.Ends.{Ends}
-use Rattle.tz_info.specs.declared.zone.table.Places.{Places}
-use Rattle.tz_info.specs.declared.zone.transition.Transition.{Transition}
+use Rattle.tz_info.specs.declared.zone.hints.Near.{Near}
+use Rattle.tz_info.specs.declared.zone.timeline.Ends.{Ends}
 
--- the times of the first and the last transition, where there is one
-pub record AreEnds (transitions : List Transition) (ends : Ends) : Type 0 where
-  pub first : (d : Transition) → 0 < length transitions → ends.first ≡ (slice_index_or transitions 0 d).unix_leap_time
-  pub last : (d : Transition) → 0 < length transitions → ends.last ≡ (slice_index_or transitions (length transitions - 1) d).unix_leap_time
+-- none comes before one that stands earlier
+abbrev pub AreOrdered : List ℤ → Type 0
+AreOrdered times = AllPairs (λ a b. a ≤ℤ b) times
 
--- the transitions before those that are left come at or before the leap time x, and those behind them after it
-pub record AreLeft (transitions : List Transition) (x : ℤ) (left : Places) : Type 0 where
-  pub rising : AreRising transitions
-  pub within : left.low + left.size ≤ length transitions
-  pub fits : left.low + left.size < 2 ^ 64
-  pub before : (k : ℕ) (d : Transition) → k < left.low → (slice_index_or transitions k d).unix_leap_time ≤ℤ x
-  pub behind : (k : ℕ) (d : Transition) → left.low + left.size ≤ k → k < length transitions → x <ℤ (slice_index_or transitions k d).unix_leap_time
+-- the time at that place
+abbrev pub time_at : List ℤ → ℕ → ℤ
+time_at times place = slice_index_or times place (pos 0)
 
--- of `from` places `to` are left, for a look for each digit fewer, and no question to a rule
-pub record IsNarrowed (before after : Counts) (from to : ℕ) : Type 0 where
-  pub kept : before.reads ≤ after.reads
-  pub reads : after.reads + digits to ≡ before.reads + digits from
-  pub questions : after.rule_questions ≡ before.rule_questions
-  pub pieces : after.piece_reads ≡ before.piece_reads
+-- the first and the last of the times, where there is one
+pub record AreEnds (times : List ℤ) (ends : Ends) : Type 0 where
+  pub first : 0 < length times → ends.first ≡ time_at times 0
+  pub last : 0 < length times → ends.last ≡ time_at times (length times - 1)
+
+-- the first `count` come at or before v, the others after it
+pub record ArePassed (times : List ℤ) (v : ℤ) (count : ℕ) : Type 0 where
+  pub within : count ≤ length times
+  pub before : (k : ℕ) → k < count → time_at times k ≤ℤ v
+  pub behind : (k : ℕ) → count ≤ k → k < length times → v <ℤ time_at times k
+
+-- the last of the first `count` items
+pub record IsLastOf {A : Type 0} (items : List A) (count : ℕ) (last : Option A) : Type 0 where
+  pub none : count ≡ 0 → last ≡ None
+  pub some : 0 < count → (x : A) × (last ≡ Some x) × (x ≡ slice_index_or items (count - 1) x)
+
+-- the last one that comes at or before v is one of these
+pub record IsNear (times : List ℤ) (v : ℤ) (near : Near) : Type 0 where
+  pub ordered : AreOrdered times
+  pub some : 0 < near.count
+  pub within : near.first + near.count ≤ length times
+  pub fits : near.first + near.count < 2 ^ 64
+  pub come : time_at times near.first ≤ℤ v
+  pub behind : (k : ℕ) → near.first + near.count ≤ k → k < length times → v <ℤ time_at times k
+
+-- those before `first` come at or before v, those from `high` on after it
+pub record IsLeft (times : List ℤ) (v : ℤ) (first high : ℕ) : Type 0 where
+  pub ordered : AreOrdered times
+  pub rising : first ≤ high
+  pub within : high ≤ length times
+  pub fits : high < 2 ^ 64
+  pub before : (k : ℕ) → k < first → time_at times k ≤ℤ v
+  pub behind : (k : ℕ) → high ≤ k → k < length times → v <ℤ time_at times k
+
+-- so many looks were counted, at most `most`
+pub record AreCounted (counted : Counts → ℕ → Counts) (before after : Counts) (most : ℕ) : Type 0 where
+  pub looks : ℕ
+  pub some : 0 < looks
+  pub within : looks ≤ most
+  pub counts : after ≡ counted before looks

@@ -151,7 +151,7 @@ impl TimeZone {
         let index = Index::new(alloc, lists)?;
         let extremes = extremes_of(&types, &rule);
         Ok(TimeZone {
-            table: Table::new(transitions),
+            table: Table::new(alloc, transitions)?,
             local_types: types,
             leap_seconds: leaps,
             last_rule: rule,
@@ -203,7 +203,7 @@ impl TimeZone {
         let index = Index::without_pieces(alloc, lists);
         let extremes = extremes_of(&types, &rule);
         TimeZone {
-            table: Table::new(transitions),
+            table: Table::none(alloc),
             local_types: types,
             leap_seconds: leaps,
             last_rule: rule,

@@ -1,0 +1,5 @@
+use Rattle.tz_info.proofs.TableSearch.{in_order}
+use Rattle.tz_info.proofs.zone.table.Table.new.Goals as goal
+
+pub new-requires : goal.new-requires
+new-requires c = in_order c.args.entries.items c.requires
