@@ -74,34 +74,36 @@ fn shown(
     assert_eq!(rt; walked.rule_questions(), 0);
 }
 
-/// A search by halves takes 11 looks in the 2,047 pieces before the last, and 10 in the 1,023
-/// transitions before the last. The walk takes one more at the transition before the window, one at
-/// that in the window if there is one, and one at the next.
+/// No stretch of a hint has more than one change: a change comes each 1,000,000 seconds, and of the
+/// stretches there are more than one for each piece, and for each transition. So a search takes two
+/// looks at the pieces, or transitions, that the hints leave, and one at the latest. The walk takes
+/// one more at the transition before the window, one at that in the window if there is one, and one
+/// at the next.
 #[test]
 fn a_thousand_changes(rt: HostRuntime) -> Result<(), Fail> {
     let zone = turning(&rt, rt.alloc(), 1024)?;
     assert_eq!(rt; zone.piece_count(), 2048);
-    shown(&rt, &zone, 512_000_000, LocalResult::None, 11, 13);
-    shown(&rt, &zone, 512_003_599, LocalResult::None, 11, 13);
-    shown(&rt, &zone, 512_003_600, LocalResult::Single(3600), 11, 12);
-    shown(&rt, &zone, 512_999_999, LocalResult::Single(3600), 11, 12);
+    shown(&rt, &zone, 512_000_000, LocalResult::None, 3, 6);
+    shown(&rt, &zone, 512_003_599, LocalResult::None, 3, 6);
+    shown(&rt, &zone, 512_003_600, LocalResult::Single(3600), 3, 5);
+    shown(&rt, &zone, 512_999_999, LocalResult::Single(3600), 3, 5);
     shown(
         &rt,
         &zone,
         513_000_000,
         LocalResult::Ambiguous(3600, 0),
-        11,
-        13,
+        3,
+        6,
     );
     shown(
         &rt,
         &zone,
         513_003_599,
         LocalResult::Ambiguous(3600, 0),
-        11,
-        13,
+        3,
+        6,
     );
-    shown(&rt, &zone, 513_003_600, LocalResult::Single(0), 11, 12);
+    shown(&rt, &zone, 513_003_600, LocalResult::Single(0), 3, 5);
     Ok(())
 }
 

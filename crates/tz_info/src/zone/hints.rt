@@ -1,8 +1,8 @@
 //! Hints at the places of items that come in order of time.
 //!
 //! The time from the first item on is cut into stretches of equal length, one or two for each
-//! item. Of each stretch a hint says which item is the last one before it. So the latest item at a
-//! second of a stretch is the one of its hint, or one of the few up to that of the next hint.
+//! item, and of each stretch a hint says which item is the last one before it. The latest item at a
+//! second of a stretch is then the one of its hint, or one of the few up to that of the next hint.
 
 ghost use Rattle.std.specs.Prelude.{◌≡◌, ◌+◌, ◌*◌, ◌/◌, ◌^◌, ◌<◌, ◌≤◌, ◌≤ℤ◌, ◌-ℤ◌, pos, suc, length, map, List, ℤ, ℕ, slice_index, MatchOption, MatchResult, ⊤};
 ghost use Rattle.tz_info.specs.Steps.Hints.{AreFilled, AreHints, AreMarked, AreRaised, AreRising, IsHinted, stretch_of};
@@ -16,7 +16,7 @@ use std::cmp::max;
 
 /// The place of the last item before each stretch, or of the first item where none comes before it.
 /// There are no hints where they would leave more than half of the items between two of them, or
-/// where there are fewer than four items.
+/// where there are fewer than five items.
 #[derive(Drop)]
 pub(super) struct Hints {
     places: Vec<u32>,
@@ -49,7 +49,7 @@ impl Hints {
             (λ h. AreHints (map T.time items.now) h) (λ e. e ≡ OutOfMemory) }
     {
         let count = items.len();
-        if count < 4 || count > 0xffff_ffff {
+        if count < 5 || count > 0xffff_ffff {
             return Ok(Hints::none(alloc));
         }
         let first = items[0].second();
