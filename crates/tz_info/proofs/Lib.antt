@@ -36,6 +36,7 @@ pub mod WallSegments
 pub mod OnePass
 pub mod ExtremeLaws
 pub mod WalkLaws
+pub mod SeasonAnswers
 pub mod WindowLaws
 pub mod GapLaws
 pub mod PosixZoneLaws

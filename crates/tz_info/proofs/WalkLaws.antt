@@ -201,13 +201,16 @@ asked_early z l o start answer valid near begun less = inl (
   λ t s. let g = (rule_begun z (l -ℤ o) start valid near begun).0 s.type.segment in omega (arith, ints),
 )
 
-pub asked_found : (z : Zone) (l o start : ℤ) (rule : TransitionRule) (t : LocalType) (before after : LocalResult LocalType) → IsValid z → z.rule ≡ Some rule → IsNear (l -ℤ o) → IsStart z.transitions z.leaps (length z.transitions) start → start ≤ℤ (l -ℤ o) → RuleAt rule (l -ℤ o) t → t.offset ≡ o → FitsSigned w64 (l -ℤ o) → after ≡ joined before (Single t) → IsAskedLast (TypeIn z (length z.transitions)) l o before after
-asked_found z l o start rule t before after valid is near begun from a e f g =
+pub asked_there : (z : Zone) (l o : ℤ) (rule : TransitionRule) (t : LocalType) (before after : LocalResult LocalType) → IsValid z → z.rule ≡ Some rule → IsNear (l -ℤ o) → segment_of z (l -ℤ o) ≡ length z.transitions → RuleAt rule (l -ℤ o) t → t.offset ≡ o → FitsSigned w64 (l -ℤ o) → after ≡ joined before (Single t) → IsAskedLast (TypeIn z (length z.transitions)) l o before after
+asked_there z l o rule t before after valid is near there a e f g =
     let r = valid.transitions.rising in
-    let there = (rule_begun z (l -ℤ o) start valid near begun).1 from in
     let time = leap_time_of z (l -ℤ o) valid near in
     let b : Between z.transitions time.0 (length z.transitions) (length z.transitions) = rw (sym time.1.sum) at (segment_at z (l -ℤ o) (length z.transitions) r there) in
     inr (t, record { fits = f; type = type_in_from z (l -ℤ o) time.0 t time.1 b (rw is a); shown = omega (arith, ints) }, g)
+
+pub asked_found : (z : Zone) (l o start : ℤ) (rule : TransitionRule) (t : LocalType) (before after : LocalResult LocalType) → IsValid z → z.rule ≡ Some rule → IsNear (l -ℤ o) → IsStart z.transitions z.leaps (length z.transitions) start → start ≤ℤ (l -ℤ o) → RuleAt rule (l -ℤ o) t → t.offset ≡ o → FitsSigned w64 (l -ℤ o) → after ≡ joined before (Single t) → IsAskedLast (TypeIn z (length z.transitions)) l o before after
+asked_found z l o start rule t before after valid is near begun from a e f g =
+    asked_there z l o rule t before after valid is near ((rule_begun z (l -ℤ o) start valid near begun).1 from) a e f g
 
 pub asked_other : (z : Zone) (l o : ℤ) (rule : TransitionRule) (t : LocalType) (answer : LocalResult LocalType) → IsValid z → z.rule ≡ Some rule → RuleAt rule (l -ℤ o) t → (t.offset ≡ o → ⊥) → IsAskedLast (TypeIn z (length z.transitions)) l o answer answer
 asked_other z l o rule t answer valid is a other = inl (

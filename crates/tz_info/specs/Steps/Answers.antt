@@ -1,4 +1,5 @@
 -- Answers of wall clocks, joined.
+use Rattle.std.specs.Prelude.{Bool, if◌then◌else◌}
 use Rattle.offset_core.specs.declared.local_result.LocalResult.{LocalResult}
 use Rattle.offset_core.specs.declared.local_result.LocalResult.TheVariants.{None, Single, Ambiguous}
 
@@ -11,3 +12,7 @@ joined (Single s) (Ambiguous t w) = Ambiguous s w
 joined (Ambiguous s v) None = Ambiguous s v
 joined (Ambiguous s v) (Single t) = Ambiguous s t
 joined (Ambiguous s v) (Ambiguous t w) = Ambiguous s w
+
+-- the answer of one second, where it shows the local time or doesn't
+abbrev pub shown_if : {T : Type 0} → Bool → T → LocalResult T
+shown_if b t = if b then Single t else None

@@ -1,5 +1,5 @@
 -- Seasons: the moments of one year, for several seconds near it.
-use Rattle.std.specs.Prelude.{◌≡◌, ℤ, pos, ◌+ℤ◌, ◌*ℤ◌}
+use Rattle.std.specs.Prelude.{◌≡◌, ℤ, pos, ◌+ℤ◌, ◌*ℤ◌, ◌≤ℤ◌, ◌<ℤ◌}
 use Rattle.naive_base.specs.Year.{year_start}
 use Rattle.tz_info.specs.Moments.{IsRuleYear, start_in, end_in}
 use Rattle.tz_info.specs.Rules.{Alternate}
@@ -13,3 +13,7 @@ pub record IsSeason (a : Alternate) (s : Season) : Type 0 where
   pub until : s.until ≡ (year_start year +ℤ pos 357) *ℤ pos 86_400
   pub start : s.turns.start ≡ start_in a year
   pub end : s.turns.end ≡ end_in a year
+
+-- the season's moments alone decide at the second u
+abbrev pub IsDecidedIn : Season → ℤ → Type 0
+IsDecidedIn s u = (s.from ≤ℤ u) × (u <ℤ s.until)

@@ -1,5 +1,5 @@
 -- The walk's steps: what one segment adds to an answer.
-use Rattle.std.specs.Prelude.{ℕ, ◌≡◌, ◌<◌, ℤ, ◌-ℤ◌, ◌≤ℤ◌, ◌⊎◌, FitsSigned}
+use Rattle.std.specs.Prelude.{ℕ, ◌≡◌, ◌<◌, length, ℤ, ◌-ℤ◌, ◌≤ℤ◌, ◌⊎◌, FitsSigned}
 use Rattle.std.specs.Int.{w64}
 use Rattle.offset_core.specs.declared.local_result.LocalResult.{LocalResult}
 use Rattle.offset_core.specs.declared.local_result.LocalResult.TheVariants.{Single}
@@ -7,6 +7,8 @@ use Rattle.tz_info.specs.Leaps.{IsLeapTime, least_time}
 use Rattle.tz_info.specs.LocalTypes.{LocalType}
 use Rattle.tz_info.specs.Segments.{segment_of}
 use Rattle.tz_info.specs.Steps.Answers.{joined}
+use Rattle.tz_info.specs.Steps.Seasons.{IsDecidedIn}
+use Rattle.tz_info.specs.declared.rule.alternate.Season.{Season}
 use Rattle.tz_info.specs.WallClocks.{Shows}
 use Rattle.tz_info.specs.Zones.{Zone, HasType, TypeAt}
 
@@ -36,3 +38,8 @@ pub record IsTried (z : Zone) (local : ℤ) (index : ℕ) (within : ℤ → Type
   pub fits : FitsSigned w64 (local -ℤ type.offset)
   pub leap_fits : least_time ≤ℤ leap_time
   pub tried : (within leap_time × (after ≡ joined before (Single type))) ⊎ ((within leap_time → ⊥) × (after ≡ before))
+
+-- the second u lies behind the last transition, and the season's moments decide there
+pub record IsAmidSeason (z : Zone) (s : Season) (u : ℤ) : Type 0 where
+  pub decided : IsDecidedIn s u
+  pub behind : segment_of z u ≡ length z.transitions

@@ -7,6 +7,7 @@ ghost use Rattle.offset_core.specs.Offset.{IsWithinDay};
 ghost use Rattle.tz_info.specs.Errors.{number_of};
 ghost use Rattle.tz_info.specs.Rules.{Alternate, IsAlternate, IsAlternateRule, IsWithinWeek};
 ghost use Rattle.tz_info.specs.Moments.{IsRuleTime};
+ghost use Rattle.tz_info.specs.Steps.Seasons.{IsDecidedIn};
 ghost use Rattle.tz_info.specs.Steps.Turns.{is_between, is_dst_by_one};
 
 use crate::error::{Error, Expected};
@@ -245,12 +246,22 @@ impl AlternateTime {
         requires time { IsRuleTime unix_time }
         ensures { AlternateAt self.now unix_time (type_when self.now result) }
     {
-        let _std = self.std();
-        if season.from <= unix_time && unix_time < season.until {
-            return season.turns.is_dst(unix_time);
+        if season.decides(unix_time) {
+            return self.is_dst_amid(season, unix_time);
         }
         let day = day_of(unix_time);
         self.is_dst(year_of(day), day, unix_time)
+    }
+
+    /// Whether it is daylight saving time at a second at which the season's moments decide.
+    #[inline(always)]
+    pub(crate) fn is_dst_amid(&self, season: Season, unix_time: i64) -> bool
+        requires season { IsSeason self.now season }
+        requires decides { IsDecidedIn season unix_time }
+        ensures { AlternateAt self.now unix_time (type_when self.now result) }
+    {
+        let _std = self.std();
+        season.turns.is_dst(unix_time)
     }
 
     /// Whether it is daylight saving time at the second, which lies on that day of that year.
@@ -311,6 +322,16 @@ impl AlternateTime {
         ensures rule { IsAlternateRule self.now }
     {
         &self.dst_type
+    }
+}
+
+impl Season {
+    /// Whether the season's moments alone decide at the second.
+    #[inline(always)]
+    pub(crate) fn decides(self, unix_time: i64) -> bool
+        ensures { IsTrue result ↔ IsDecidedIn self unix_time }
+    {
+        (self.from <= unix_time) & (unix_time < self.until)
     }
 }
 

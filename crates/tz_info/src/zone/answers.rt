@@ -1,7 +1,7 @@
 //! Answers of wall clocks, joined.
 
 ghost use Rattle.std.specs.Prelude.{◌≡◌};
-ghost use Rattle.tz_info.specs.Steps.Answers.{joined};
+ghost use Rattle.tz_info.specs.Steps.Answers.{joined, shown_if};
 
 use offset_core::MappedLocalTime;
 
@@ -27,4 +27,25 @@ pub(super) fn joined<T: Copy>(
         ),
     };
     MappedLocalTime::Ambiguous(least, greatest)
+}
+
+/// The answer of two seconds, the first of which is the earlier, where each shows the local time or
+/// doesn't.
+#[inline(always)]
+pub(super) fn answer_of_two<T: Copy>(
+    first: &T,
+    is_first: bool,
+    last: &T,
+    is_last: bool,
+) -> MappedLocalTime<T>
+    ensures { result ≡ joined (shown_if is_first first.now) (shown_if is_last last.now) }
+{
+    if is_first != is_last {
+        return MappedLocalTime::Single(if is_first { *first } else { *last });
+    }
+    if is_first {
+        MappedLocalTime::Ambiguous(*first, *last)
+    } else {
+        MappedLocalTime::None
+    }
 }

@@ -1,18 +1,18 @@
 //! What a zone's rule adds to a wall clock: the seconds from the last transition on.
 
-ghost use Rattle.std.specs.Prelude.{◌≡◌, ◌+◌, length, IsTrue, Some};
+ghost use Rattle.std.specs.Prelude.{◌≡◌, ◌≢◌, ◌+◌, ◌-ℤ◌, length, IsTrue, Some};
 ghost use Rattle.naive_base.specs.Range.{IsWide};
 ghost use Rattle.offset_core.specs.WallAnswer.{IsWallAnswer};
 ghost use Rattle.offset_core.specs.declared.local_result.LocalResult.{LocalResult};
 ghost use Rattle.tz_info.specs.Counts.{HasRoomFor, RoseWithin};
 ghost use Rattle.tz_info.specs.LocalTypes.{LocalType};
 ghost use Rattle.tz_info.specs.Steps.Seasons.{IsSeason};
-ghost use Rattle.tz_info.specs.Steps.Walk.{TypeIn, IsShownIn, IsAskedLast};
+ghost use Rattle.tz_info.specs.Steps.Walk.{TypeIn, IsShownIn, IsAskedLast, IsAmidSeason};
 ghost use Rattle.tz_info.specs.declared.rule.transition_rule.TransitionRule.TheVariants.{Fixed, Alternate};
 
 use crate::local_time_type::LocalTimeType;
 use crate::rule::{AlternateTime, Season, TransitionRule};
-use crate::zone::answers::joined;
+use crate::zone::answers::{answer_of_two, joined};
 use crate::zone::probes::Probes;
 use crate::zone::time_zone::TimeZone;
 use offset_core::MappedLocalTime;
@@ -98,6 +98,9 @@ impl TimeZone {
         if standard == daylight {
             return self.ask_turn(turns, season, local, standard, answer, probes);
         }
+        if self.are_amid(season, local, standard, daylight) {
+            return self.ask_amid(turns, season, local, answer, probes);
+        }
         // The greater offset has the earlier second.
         if standard < daylight {
             let one = self.ask_turn(turns, season, local, daylight, answer, probes);
@@ -117,6 +120,75 @@ impl TimeZone {
     {
         let _types = self.local_time_types();
         local - (offset as i64) < self.index.rule_from()
+    }
+
+    /// Whether the rule is asked at the second at which a clock at that offset shows the local time,
+    /// and the season's moments decide there.
+    #[inline(always)]
+    fn is_amid(&self, season: Season, local: i64, offset: i32) -> bool
+        requires { IsWide local }
+        ensures { IsTrue result → IsAmidSeason self.now season (local -ℤ offset) }
+    {
+        let _types = self.local_time_types();
+        let second = local - offset as i64;
+        if second < self.index.rule_from() {
+            return false;
+        }
+        season.decides(second)
+    }
+
+    /// Whether that holds at both offsets.
+    #[inline(always)]
+    fn are_amid(&self, season: Season, local: i64, standard: i32, daylight: i32) -> bool
+        requires { IsWide local }
+        ensures { IsTrue result → IsAmidSeason self.now season (local -ℤ standard)
+            × IsAmidSeason self.now season (local -ℤ daylight) }
+    {
+        self.is_amid(season, local, standard) && self.is_amid(season, local, daylight)
+    }
+
+    /// Asks the rule of two types for the two seconds that could show the local time, where the
+    /// season's moments decide at both.
+    #[inline(always)]
+    fn ask_amid(
+        &self,
+        turns: &AlternateTime,
+        season: Season,
+        local: i64,
+        answer: MappedLocalTime<LocalTimeType>,
+        probes: &mut Probes,
+    ) -> MappedLocalTime<LocalTimeType>
+        requires local { IsWide local }
+        requires room { HasRoomFor 2 probes.old.rule_questions }
+        requires rule { self.now.rule ≡ Some (Alternate turns.now) }
+        requires season { IsSeason turns.now season }
+        requires other { turns.now.std.offset ≢ turns.now.dst.offset }
+        requires standard { IsAmidSeason self.now season (local -ℤ turns.now.std.offset) }
+        requires daylight { IsAmidSeason self.now season (local -ℤ turns.now.dst.offset) }
+        requires seen { IsWallAnswer
+            (IsShownIn self.now local (length self.now.transitions)) answer }
+        ensures found { IsWallAnswer (IsShownIn self.now local
+            (length self.now.transitions + 1)) result }
+        ensures cost { RoseWithin probes.old probes.new 0 2 }
+    {
+        let _types = self.local_time_types();
+        let standard = turns.std().offset();
+        let daylight = turns.dst().offset();
+        probes.count_question();
+        probes.count_question();
+        let is_std = !turns.is_dst_amid(season, local - standard as i64);
+        let is_dst = turns.is_dst_amid(season, local - daylight as i64);
+        // The greater offset has the earlier second.
+        if standard < daylight {
+            return joined(
+                answer,
+                answer_of_two(turns.dst(), is_dst, turns.std(), is_std),
+            );
+        }
+        joined(
+            answer,
+            answer_of_two(turns.std(), is_std, turns.dst(), is_dst),
+        )
     }
 
     /// Asks the rule of two types for the one second that could show the local time at the offset.

@@ -60,3 +60,23 @@ returns-clause-found c =
     let a = c.args.turns.now in
     asked_both c.args.self.now c.args.local a.std.offset a.dst.offset c.args.answer c.ask_turn-one-2.result c.ask_turn-2.result valid (omega (arith, ints)) both
     (rw vs at (simp to_z-of_z at c.ask_turn-one-2.ensures.asked)) (rw vd at (simp to_z-of_z at c.ask_turn-2.ensures.asked)) c.requires.seen
+
+pub ask_amid-requires-clause-standard : goal.ask_amid-requires-clause-standard
+ask_amid-requires-clause-standard c =
+    let fl = c.ranges.local in
+    let fs : SFits w32 c.offset-standard.result = let b = c.offset-standard.ensures.bound in let v = c.offset-standard.ensures.value in omega (arith, ints) in
+    let fd : SFits w32 c.offset-daylight.result = let b = c.offset-daylight.ensures.bound in let v = c.offset-daylight.ensures.value in omega (arith, ints) in
+    let vs = c.offset-standard.ensures.value ∙ ap (λ (t : LocalType). t.offset) c.std.ensures.value in
+    let vd = c.offset-daylight.ensures.value ∙ ap (λ (t : LocalType). t.offset) c.dst.ensures.value in
+    let both = simp to_z-of_z at (c.are_amid.ensures c.if-are_amid.true) in
+    simp to_z-of_z (rw vs at both.0)
+
+pub ask_amid-requires-clause-daylight : goal.ask_amid-requires-clause-daylight
+ask_amid-requires-clause-daylight c =
+    let fl = c.ranges.local in
+    let fs : SFits w32 c.offset-standard.result = let b = c.offset-standard.ensures.bound in let v = c.offset-standard.ensures.value in omega (arith, ints) in
+    let fd : SFits w32 c.offset-daylight.result = let b = c.offset-daylight.ensures.bound in let v = c.offset-daylight.ensures.value in omega (arith, ints) in
+    let vs = c.offset-standard.ensures.value ∙ ap (λ (t : LocalType). t.offset) c.std.ensures.value in
+    let vd = c.offset-daylight.ensures.value ∙ ap (λ (t : LocalType). t.offset) c.dst.ensures.value in
+    let both = simp to_z-of_z at (c.are_amid.ensures c.if-are_amid.true) in
+    simp to_z-of_z (rw vd at both.1)
