@@ -7,7 +7,8 @@ use Rattle.std.proofs.lemmas.Grind.{same_number_lists}
 use Rattle.std.proofs.Math.ListN.{get_or-eq_default}
 use Rattle.std.proofs.Math.Seq.{take-append_seam}
 use Rattle.tz_info.specs.FileContents.{time_of, SpellTransitions, SpellsLeapSecond, SpellLeapSeconds, IndicatorsAgree}
-use Rattle.tz_info.specs.Steps.ContentReading.{record_at, values_below, transition_in, leap_second_of, leap_second_in, pair_agrees, all_below, indicators_of}
+use Rattle.tz_info.specs.Steps.ContentReading.{record_at, values_below, transition_in, leap_second_of, leap_second_in, pair_agrees, indicators_of}
+use Rattle.tz_info.specs.Steps.Below.{all_below}
 use Rattle.tz_info.specs.declared.zone.transition.Transition.{Transition}
 use Rattle.tz_info.specs.declared.zone.leap_second.LeapSecond.{LeapSecond}
 use Rattle.tz_info.proofs.ReadLaws.{ok_same, guard_ok, guard_err, and_true, drop_front}

@@ -1,5 +1,6 @@
 -- A rule's moments, counted from the first second of their year, depend on the year's kind alone.
-use Rattle.std.proofs.Common.{◌≡◌, ℕ, zero, suc, ◌+◌, ◌-◌, ◌%◌, ◌<◌, Bool, true, false, cond, arith, refl, sym, ap, ◌∙◌, ℤ, pos, ◌+ℤ◌, ◌-ℤ◌, ◌*ℤ◌, ◌≤ℤ◌, neg_ℤ, List, get_or, length}
+use Rattle.std.proofs.lemmas.Int.{by_lt_z, ints}
+use Rattle.std.proofs.Common.{◌⊎◌, inl, inr, int_le, int_lt, ◌&&◌, ◌<ℤ◌, ◌≡◌, ℕ, zero, suc, ◌+◌, ◌-◌, ◌%◌, ◌<◌, Bool, true, false, cond, arith, refl, sym, ap, ◌∙◌, ℤ, pos, ◌+ℤ◌, ◌-ℤ◌, ◌*ℤ◌, ◌≤ℤ◌, neg_ℤ, List, get_or, length}
 use Rattle.naive_base.specs.Year.{is_leap, year_start}
 use Rattle.naive_base.specs.Month.{days_in_month, days_of_months}
 use Rattle.naive_base.specs.Date.{day_number}
@@ -9,13 +10,15 @@ use Rattle.tz_info.specs.RuleDays.{IsRuleDay}
 use Rattle.tz_info.specs.RuleDayOf.{rule_day}
 use Rattle.tz_info.specs.Rules.{Alternate, IsAlternateRule}
 use Rattle.tz_info.specs.Moments.{moment, start_in, end_in}
-use Rattle.tz_info.specs.Steps.Kinds.{kind_place, second_in, seconds_by_kind}
+use Rattle.tz_info.specs.Steps.Kinds.{kind_place, second_in, seconds_by_kind, is_inside, is_calm, is_calm_kind, are_calm, margin_of}
 use Rattle.tz_info.specs.Steps.RuleDays.{julian_place, weekday_place, closed_day}
 use Rattle.tz_info.specs.declared.rule.day.DayTime.{DayTime}
 use Rattle.tz_info.specs.declared.rule.day.DayForm.{DayForm}
 use Rattle.tz_info.specs.declared.rule.day.DayForm.TheVariants.{Julian1, Julian0, MonthWeekday}
 use Rattle.tz_info.proofs.RuleDays.{rule_day_closed}
-use Rattle.tz_info.proofs.Neighbours.{IsNear, starts_near, ends_near}
+use Rattle.tz_info.proofs.ListLaws.{and_parts, one_true}
+use Rattle.tz_info.proofs.Prefixes.{le_true}
+use Rattle.tz_info.proofs.Neighbours.{IsNear, KeepsMargin, starts_near, ends_near, near_margin, le_false}
 
 -- how many days of a year of that kind come before the rule's day
 unfoldable place_by : DayForm → Bool → ℕ → ℕ
@@ -101,3 +104,80 @@ start_by_kind a year first seconds kind rule e f g =
 pub end_by_kind : (a : Alternate) (year first : ℤ) (seconds : List ℤ) (kind : ℕ) → IsAlternateRule a → seconds ≡ seconds_by_kind a.end a.dst.offset → kind ≡ kind_place year → first ≡ year_start year → IsKept first (get_or seconds kind (pos 0)) (end_in a year)
 end_by_kind a year first seconds kind rule e f g =
     moment_by_kind a.end a.dst.offset year first (pos 0) seconds kind rule.end_day (ends_near a rule) e f g
+
+-- ---- margins
+-- how far the moments of a rule lie from the ends of their years; further outside than eight days they never lie
+pub record IsMargin (a : Alternate) (margin : ℤ) : Type 0 where
+  pub start : KeepsMargin (start_in a) margin
+  pub end : KeepsMargin (end_in a) margin
+  pub order : (margin ≡ neg_ℤ (pos 691_200)) ⊎ ((v w : ℤ) → int_le (start_in a v) (end_in a v) ≡ int_le (start_in a w) (end_in a w))
+  pub bound : (neg_ℤ (pos 691_200) ≤ℤ margin) × (margin ≤ℤ pos 172_800)
+
+record IsCalm (start_first : Bool) (start end : ℤ) : Type 0 where
+  start_in : (pos 172_800 ≤ℤ start) × (start ≤ℤ pos 31_363_200)
+  end_in : (pos 172_800 ≤ℤ end) × (end ≤ℤ pos 31_363_200)
+  order : int_le start end ≡ start_first
+
+inside_is : (second : ℤ) → is_inside second ≡ true → (pos 172_800 ≤ℤ second) × (second ≤ℤ pos 31_363_200)
+inside_is second h = grind (arith, ints)
+
+order_is : (start_first : Bool) (start end : ℤ) → cond start_first (int_le start end) (int_lt end start) ≡ true → int_le start end ≡ start_first
+order_is true start end h = h
+order_is false start end h = let less : end <ℤ start = grind (arith, ints) in le_false start end less
+
+calm_is : (start_first : Bool) (start end : ℤ) → is_calm start_first start end ≡ true → IsCalm start_first start end
+calm_is start_first start end h =
+    let parts = and_parts (is_inside start && is_inside end) (cond start_first (int_le start end) (int_lt end start)) h in
+    let both = and_parts (is_inside start) (is_inside end) parts.0 in
+    record { start_in = inside_is start both.0; end_in = inside_is end both.1; order = order_is start_first start end parts.1 }
+
+kind_sum : (leap : Bool) (first : ℕ) → first < 7 → cond leap 7 0 + first < 14
+kind_sum true first h = omega arith
+kind_sum false first h = omega arith
+
+kind_below : (year : ℤ) → kind_place year < 14
+kind_below year = let b = weekday_below (year_start year) in kind_sum (is_leap year) (weekday_of (year_start year)) b
+
+-- where all kinds are calm, each year is
+calm_year : (a : Alternate) (starts ends : List ℤ) (year : ℤ) → IsAlternateRule a → starts ≡ seconds_by_kind a.start a.std.offset → ends ≡ seconds_by_kind a.end a.dst.offset → are_calm starts ends ≡ true
+    → IsCalm (int_le (get_or starts 0 (pos 0)) (get_or ends 0 (pos 0))) (second_in a.start a.std.offset year) (second_in a.end a.dst.offset year)
+unfolding are_calm
+calm_year a starts ends year rule e f all =
+    let kind = kind_place year in
+    let calm = calm_is (int_le (get_or starts 0 (pos 0)) (get_or ends 0 (pos 0))) (get_or starts kind (pos 0)) (get_or ends kind (pos 0)) (one_true 14 (kind_place year) (is_calm_kind starts ends) (kind_below year) all) in
+    let start : get_or starts (kind_place year) (pos 0) ≡ second_in a.start a.std.offset year = rw e (kind_found a.start a.std.offset year (pos 0) rule.start_day) in
+    let end : get_or ends (kind_place year) (pos 0) ≡ second_in a.end a.dst.offset year = rw f (kind_found a.end a.dst.offset year (pos 0) rule.end_day) in
+    rw (start, end) at calm
+
+shifted : (x y base : ℤ) → int_le (x -ℤ base) (y -ℤ base) ≡ int_le x y
+shifted x y base = by_lt_z y x
+    (λ less. let far : (y -ℤ base) <ℤ (x -ℤ base) = omega (arith, floors) in le_false (x -ℤ base) (y -ℤ base) far ∙ sym (le_false x y less))
+    (λ order. let near : (x -ℤ base) ≤ℤ (y -ℤ base) = omega (arith, floors) in le_true (x -ℤ base) (y -ℤ base) near ∙ sym (le_true x y order))
+
+margin_by : (a : Alternate) (starts ends : List ℤ) (margin : ℤ) (calm : Bool) → IsAlternateRule a → starts ≡ seconds_by_kind a.start a.std.offset → ends ≡ seconds_by_kind a.end a.dst.offset → are_calm starts ends ≡ calm → margin ≡ cond calm (pos 172_800) (neg_ℤ (pos 691_200)) → IsMargin a margin
+margin_by a starts ends margin false rule e f all is = rw is (record {
+  start = near_margin (start_in a) (starts_near a rule);
+  end = near_margin (end_in a) (ends_near a rule);
+  order = inl refl;
+  bound = (omega (arith, floors), omega (arith, floors));
+})
+margin_by a starts ends margin true rule e f all is =
+    let first = int_le (get_or starts 0 (pos 0)) (get_or ends 0 (pos 0)) in
+    let ordered : (year : ℤ) → int_le (start_in a year) (end_in a year) ≡ first = λ year. sym (shifted (start_in a year) (end_in a year) (pos 86_400 *ℤ year_start year)) ∙ (calm_year a starts ends year rule e f all).order in
+    rw is (record {
+      start = record {
+        low = λ year. let b = (calm_year a starts ends year rule e f all).start_in.0 in omega (arith, floors);
+        high = λ year. let b = (calm_year a starts ends year rule e f all).start_in.1 in omega (arith, floors);
+      };
+      end = record {
+        low = λ year. let b = (calm_year a starts ends year rule e f all).end_in.0 in omega (arith, floors);
+        high = λ year. let b = (calm_year a starts ends year rule e f all).end_in.1 in omega (arith, floors);
+      };
+      order = inr (λ v w. ordered v ∙ sym (ordered w));
+      bound = (omega (arith, floors), omega (arith, floors));
+    })
+
+pub margin_kept : (a : Alternate) (margin : ℤ) → IsAlternateRule a → margin ≡ margin_of (seconds_by_kind a.start a.std.offset) (seconds_by_kind a.end a.dst.offset) → IsMargin a margin
+unfolding margin_of
+margin_kept a margin rule is =
+    margin_by a (seconds_by_kind a.start a.std.offset) (seconds_by_kind a.end a.dst.offset) margin _ rule refl refl refl is

@@ -1,7 +1,8 @@
 -- Values by places.
 use Rattle.std.proofs.Common.{◌≡◌, ℕ, zero, suc, ◌<◌, List, Result, Ok, Err, refl, sym, arith, inl, inr, Bool, true, false, ◌&&◌}
 use Rattle.std.proofs.lemmas.Bool.{cases_lt}
-use Rattle.tz_info.specs.Steps.ContentReading.{values_below, all_below}
+use Rattle.tz_info.specs.Steps.Below.{all_below}
+use Rattle.tz_info.specs.Steps.ContentReading.{values_below}
 
 -- the first refusal is that of all
 pub first_refusal : {X : Type 0} (n i : ℕ) (read : ℕ → Result X ℕ) (xs : List X) (e : ℕ) → i < n → values_below i read ≡ Ok xs → read i ≡ Err e → values_below n read ≡ Err e
@@ -26,3 +27,16 @@ one_false (suc n) i test l q = elim (cases_lt i n) as (λ _. all_below (suc n) t
       let same : i ≡ n = omega arith in
       let q' : test n ≡ false = rw (sym same) q in rw q' (and_false (all_below n test))
 ]
+
+pub and_parts : (a b : Bool) → (a && b) ≡ true → (a ≡ true) × (b ≡ true)
+and_parts true b h = (refl, h)
+and_parts false b h = cc
+
+pub one_true : (n i : ℕ) (test : ℕ → Bool) → i < n → all_below n test ≡ true → test i ≡ true
+one_true zero i test l q = absurd (omega arith)
+one_true (suc n) i test l q =
+    let parts = and_parts (all_below n test) (test n) q in
+    elim (cases_lt i n) as (λ _. test i ≡ true) [
+      | inl h ↦ one_true n i test h parts.0
+      | inr h ↦ let same : i ≡ n = omega arith in rw same parts.1
+    ]

@@ -1,13 +1,13 @@
 -- Only a year's own moments and those of its two neighbours can enclose a second of the year.
-use Rattle.std.proofs.Common.{◌≡◌, arith, ℤ, pos, Bool, true, false, not, cond, ◌||◌, ◌+ℤ◌, ◌-ℤ◌, ◌≤ℤ◌, ◌<ℤ◌, ◌*ℤ◌, refl, inl, inr, ◌⊎◌, ⊎_elim, int_le, sym, ◌∙◌, ap}
+use Rattle.std.proofs.Common.{◌≡◌, arith, ℤ, pos, neg_ℤ, Bool, true, false, not, cond, ◌||◌, ◌+ℤ◌, ◌-ℤ◌, ◌≤ℤ◌, ◌<ℤ◌, ◌*ℤ◌, refl, inl, inr, ◌⊎◌, ⊎_elim, int_le, sym, ◌∙◌, ap}
 use Rattle.std.proofs.lemmas.Int.{by_lt_z, ints}
-use Rattle.naive_base.specs.Year.{floor_div, year_start}
+use Rattle.naive_base.specs.Year.{year_start}
 use Rattle.naive_base.proofs.ForCallers.{floors, year_step, days_at_least, starts_rise}
 use Rattle.tz_info.specs.RuleDays.{IsRuleDay}
 use Rattle.offset_core.specs.Offset.{IsWithinDay}
 use Rattle.tz_info.specs.Rules.{Alternate, IsAlternateRule, IsWithinWeek}
 use Rattle.tz_info.specs.Moments.{moment, IsYearOf, IsInSomeYear, IsDstAt, start_in, end_in}
-use Rattle.tz_info.specs.Steps.Turns.{IsAmid, is_between, is_dst_by_one, is_in_three}
+use Rattle.tz_info.specs.Steps.Turns.{is_between, is_dst_by_one, is_in_three}
 use Rattle.tz_info.specs.declared.rule.day.DayTime.{DayTime}
 use Rattle.tz_info.proofs.RuleDays.{day_within}
 
@@ -108,13 +108,30 @@ three_all firsts lasts year u near_first near_last of_second (other, from, befor
     ⊎_elim (λ same. or_first x v w (here _ same)) (⊎_elim (λ same. or_second x v w (here _ same)) (λ same. or_third x v w (here _ same)))
     (place year other (not_earlier lasts u year other near_last of_second before) (not_later firsts u year other near_first of_second from))
 
--- far from the neighbours only the year's own moments can
-own_year : (firsts lasts : ℤ → ℤ) (year u other : ℤ) → IsNear firsts → IsNear lasts → IsAmid (floor_div u 86_400) year → firsts other ≤ℤ u → u <ℤ lasts other → other ≡ year
-own_year firsts lasts year u other near_first near_last amid from before =
+-- the moments of each year keep that margin from its ends
+pub record KeepsMargin (moments : ℤ → ℤ) (margin : ℤ) : Type 0 where
+  pub low : (year : ℤ) → (pos 86_400 *ℤ year_start year +ℤ margin) ≤ℤ moments year
+  pub high : (year : ℤ) → moments year ≤ℤ (pos 86_400 *ℤ (year_start year +ℤ pos 365) -ℤ margin)
+
+pub near_margin : (moments : ℤ → ℤ) → IsNear moments → KeepsMargin moments (neg_ℤ (pos 691_200))
+near_margin moments near = record {
+  low = λ year. let low = near.low year in omega (arith, floors);
+  high = λ year. let high = near.high year in omega (arith, floors);
+}
+
+-- the second lies no further outside the year than its neighbours' moments lie inside theirs
+abbrev pub IsBeside : ℤ → ℤ → ℤ → Type 0
+IsBeside margin year u =
+    ((pos 86_400 *ℤ year_start year -ℤ margin) ≤ℤ u) × (u <ℤ (pos 86_400 *ℤ (year_start year +ℤ pos 365) +ℤ margin))
+
+-- there only the year's own moments can enclose it
+own_year : (firsts lasts : ℤ → ℤ) (margin year u other : ℤ) → KeepsMargin firsts margin → KeepsMargin lasts margin → IsBeside margin year u → firsts other ≤ℤ u → u <ℤ lasts other → other ≡ year
+own_year firsts lasts margin year u other first last beside from before =
+    let here = beside.0 in let there = beside.1 in
     by_lt_z other year
-    (λ less. let after = year_after other year less in let high = near_last.high other in absurd (omega (arith, floors)))
+    (λ less. let after = year_after other year less in let high = last.high other in absurd (omega (arith, floors)))
     (λ not_less. by_lt_z year other
-    (λ more. let after = year_after year other more in let low = near_first.low other in absurd (omega (arith, floors)))
+    (λ more. let after = year_after year other more in let low = first.low other in absurd (omega (arith, floors)))
     (λ not_more. omega (arith, floors)))
 
 -- a test that finds what some year has, with the start first or the end first
@@ -145,21 +162,30 @@ end_first_by_three starts ends year u dst near_start near_end of_second order is
 one_found : (firsts lasts : ℤ → ℤ) (year u : ℤ) → is_between (firsts year) (lasts year) u ≡ true → IsInSomeYear firsts lasts u
 one_found firsts lasts year u h = let b = between_is (firsts year) (lasts year) u h in (year, b.0, b.1)
 
-one_all : (firsts lasts : ℤ → ℤ) (year u : ℤ) → IsNear firsts → IsNear lasts → IsAmid (floor_div u 86_400) year → IsInSomeYear firsts lasts u → is_between (firsts year) (lasts year) u ≡ true
-one_all firsts lasts year u near_first near_last amid (other, from, before) =
-    rw (← own_year firsts lasts year u other near_first near_last amid from before) (between_true (firsts other) (lasts other) u from before)
+one_all : (firsts lasts : ℤ → ℤ) (margin year u : ℤ) → KeepsMargin firsts margin → KeepsMargin lasts margin → IsBeside margin year u → IsInSomeYear firsts lasts u → is_between (firsts year) (lasts year) u ≡ true
+one_all firsts lasts margin year u first last beside (other, from, before) =
+    rw (← own_year firsts lasts margin year u other first last beside from before) (between_true (firsts other) (lasts other) u from before)
 
--- the year's own moments decide far from its neighbours
-pub dst_by_one : (starts ends : ℤ → ℤ) (year u : ℤ) (dst : Bool) → IsNear starts → IsNear ends → IsAmid (floor_div u 86_400) year → dst ≡ is_dst_by_one (starts year) (ends year) u → IsDstAt starts ends year u dst
-dst_by_one starts ends year u dst near_start near_end amid is =
+pub le_false : (a b : ℤ) → b <ℤ a → int_le a b ≡ false
+le_false a b h = grind (arith, ints)
+
+le_is : (a b : ℤ) → int_le a b ≡ true → a ≤ℤ b
+le_is a b h = grind (arith, ints)
+
+lt_is : (a b : ℤ) → int_le a b ≡ false → b <ℤ a
+lt_is a b h = grind (arith, ints)
+
+-- and they decide, where moments come in their order in the second's own year
+pub dst_by_one : (starts ends : ℤ → ℤ) (margin year own u : ℤ) (dst : Bool) → KeepsMargin starts margin → KeepsMargin ends margin → IsBeside margin year u → int_le (starts own) (ends own) ≡ int_le (starts year) (ends year) → dst ≡ is_dst_by_one (starts year) (ends year) u → IsDstAt starts ends own u dst
+dst_by_one starts ends margin year own u dst start end beside same is =
     by_lt_z (ends year) (starts year)
     (λ less.
-    let t : int_le (starts year) (ends year) ≡ false = grind (arith, ints) in
-    by_end starts ends year u dst (is_between (ends year) (starts year) u) less (rw t at is) (one_found ends starts year u) (one_all ends starts year u near_end near_start amid))
+    let t = le_false (starts year) (ends year) less in
+    by_end starts ends own u dst (is_between (ends year) (starts year) u) (lt_is (starts own) (ends own) (same ∙ t)) (rw t at is) (one_found ends starts year u) (one_all ends starts margin year u end start beside))
     (λ order.
     let t : int_le (starts year) (ends year) ≡ true = grind (arith, ints) in
-    let own = rw t at is in
-    by_start starts ends year u dst order (λ h. one_found starts ends year u (sym own ∙ h)) (λ some. own ∙ one_all starts ends year u near_start near_end amid some))
+    let is_own = rw t at is in
+    by_start starts ends own u dst (le_is (starts own) (ends own) (same ∙ t)) (λ h. one_found starts ends year u (sym is_own ∙ h)) (λ some. is_own ∙ one_all starts ends margin year u start end beside some))
 
 -- no second has two answers
 pub one_answer : (starts ends : ℤ → ℤ) (year u : ℤ) (a b : Bool) → IsDstAt starts ends year u a → IsDstAt starts ends year u b → a ≡ b

@@ -1,25 +1,41 @@
 -- What a season's moments decide.
-use Rattle.std.proofs.Common.{◌≡◌, refl, arith, Bool, ℤ, pos, ◌+ℤ◌, ◌*ℤ◌, ◌≤ℤ◌, ◌<ℤ◌}
-use Rattle.naive_base.specs.Year.{floor_div, year_start, LiesIn}
-use Rattle.naive_base.proofs.ForCallers.{floors, year_step, days_at_least}
-use Rattle.tz_info.specs.Moments.{AlternateAt, start_in, end_in, type_when}
-use Rattle.tz_info.specs.Rules.{Alternate, IsAlternateRule}
+use Rattle.std.proofs.Common.{◌≡◌, refl, ap, arith, ℤ, pos, neg_ℤ, ◌+ℤ◌, ◌-ℤ◌, ◌*ℤ◌, ◌⊎◌, inl, inr, int_le}
+use Rattle.naive_base.specs.Year.{floor_div, year_start}
+use Rattle.naive_base.specs.DateOf.{year_of}
+use Rattle.naive_base.proofs.ForCallers.{floors, year_step, days_at_least, one_year}
+use Rattle.tz_info.specs.Moments.{IsYearOf, start_in, end_in}
+use Rattle.tz_info.specs.Rules.{Alternate}
 use Rattle.tz_info.specs.Steps.Seasons.{IsSeason}
-use Rattle.tz_info.specs.Steps.Turns.{IsAmid, is_dst_by_one}
+use Rattle.tz_info.specs.Steps.Turns.{is_dst_by_one}
 use Rattle.tz_info.specs.declared.rule.alternate.Season.{Season}
-use Rattle.tz_info.proofs.Neighbours.{starts_near, ends_near, dst_by_one}
-use Rattle.tz_info.proofs.RuleLaws.{alternate_at}
+use Rattle.tz_info.proofs.KindLaws.{IsMargin}
+use Rattle.tz_info.proofs.Neighbours.{IsBeside, dst_by_one}
+use Rattle.tz_info.proofs.RuleLaws.{year_found, alternate_at}
 
-amid_between : (first u : ℤ) → ((first +ℤ pos 8) *ℤ pos 86_400) ≤ℤ u → u <ℤ ((first +ℤ pos 357) *ℤ pos 86_400) → ((first +ℤ pos 8) ≤ℤ floor_div u 86_400) × (floor_div u 86_400 <ℤ (first +ℤ pos 357))
-amid_between first u a b = (omega (arith, floors), omega (arith, floors))
+-- a second eight days or more from the neighbouring years lies in the year
+amid_lies : (u year : ℤ) → IsBeside (neg_ℤ (pos 691_200)) year u → IsYearOf u year
+amid_lies u year h =
+    let step = year_step year in let least = days_at_least year in
+    let low = h.0 in let high = h.1 in
+    (omega (arith, floors), omega (arith, floors))
 
-amid_lies : (day year : ℤ) → IsAmid day year → LiesIn day year
-amid_lies day year h = let step = year_step year in let least = days_at_least year in (omega (arith, floors, h.0), omega (arith, floors, h.1))
+-- moments come in one order in the season's year and in the second's
+one_order : (a : Alternate) (margin year own u : ℤ) → IsBeside margin year u → IsYearOf u own
+    → (margin ≡ neg_ℤ (pos 691_200)) ⊎ ((v w : ℤ) → int_le (start_in a v) (end_in a v) ≡ int_le (start_in a w) (end_in a w))
+    → int_le (start_in a own) (end_in a own) ≡ int_le (start_in a year) (end_in a year)
+one_order a margin year own u beside of_second (inl e) =
+    ap (λ (y : ℤ). int_le (start_in a y) (end_in a y)) (one_year (floor_div u 86_400) own year of_second (amid_lies u year (rw e at beside)))
+one_order a margin year own u beside of_second (inr same) = same own year
 
-pub season_decides : (a : Alternate) (s : Season) (u : ℤ) (dst : Bool) → IsAlternateRule a → (k : IsSeason a s) → s.from ≤ℤ u → u <ℤ s.until → dst ≡ is_dst_by_one s.turns.start s.turns.end u → AlternateAt a u (type_when a dst)
-season_decides a s u dst rule k from until is =
-    let low = rw k.from at from in
-    let high = rw k.until at until in
-    let amid : IsAmid (floor_div u 86_400) k.year = amid_between (year_start k.year) u low high in
-    alternate_at a u (floor_div u 86_400) k.year dst refl (amid_lies (floor_div u 86_400) k.year amid) k.inside
-    (dst_by_one (start_in a) (end_in a) k.year u dst (starts_near a rule) (ends_near a rule) amid (rw (k.start, k.end) at is))
+pub season_made : (a : Alternate) (margin year first : ℤ) (s : Season) → IsMargin a margin → first ≡ year_start year → s.from ≡ pos 86_400 *ℤ first -ℤ margin → s.until ≡ pos 86_400 *ℤ first +ℤ pos 31_536_000 +ℤ margin → s.turns.start ≡ start_in a year → s.turns.end ≡ end_in a year → IsSeason a s
+season_made a margin year first s kept begins from until start end = record {
+  decided = λ u within decided.
+      let day = floor_div u 86_400 in
+      let own = year_of day in
+      let found = year_found u day own refl refl within in
+      let low = decided.0 in let high = decided.1 in
+      let beside : IsBeside margin year u = (omega (arith, floors), omega (arith, floors)) in
+      let dst = is_dst_by_one s.turns.start s.turns.end u in
+      alternate_at a u day own dst refl found.0 found.1
+      (dst_by_one (start_in a) (end_in a) margin year own u dst kept.start kept.end beside (one_order a margin year own u beside found.0 kept.order) (rw (start, end) refl));
+}

@@ -1,5 +1,7 @@
 -- Steps of the proofs: what private functions ensure. No public contract cites a page of this folder.
 pub mod Extremes
+pub mod Below
+pub mod Turns
 pub mod Seasons
 pub mod Answers
 pub mod Walk
@@ -20,4 +22,3 @@ pub mod Hints
 pub mod Kinds
 pub mod RuleDays
 pub mod Spans
-pub mod Turns

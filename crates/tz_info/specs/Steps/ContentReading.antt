@@ -5,6 +5,7 @@ use Rattle.std.specs.List.{position_from}
 use Rattle.tz_info.specs.Errors.{number_of}
 use Rattle.tz_info.specs.LocalTypes.{LocalType}
 use Rattle.tz_info.specs.Fronts.{◌>>=◌}
+use Rattle.tz_info.specs.Steps.Below.{all_below}
 use Rattle.tz_info.specs.Steps.Readings.{is_name}
 use Rattle.tz_info.specs.FileContents.{signed, time_of, is_zero, designation_of, offset_in, mark_in, place_in, least_offset}
 use Rattle.tz_info.specs.declared.error.Error.{Error}
@@ -77,10 +78,6 @@ type_in designations part k = type_of_record designations (record_at 6 part k)
 -- ---- indicators
 abbrev pub pair_agrees : List ℕ → List ℕ → ℕ → Bool
 pair_agrees standard_wall ut_local k = not ((slice_index standard_wall k == 0) && (slice_index ut_local k == 1))
-
-abbrev pub all_below : ℕ → (ℕ → Bool) → Bool
-all_below zero test = true
-all_below (suc n) test = all_below n test && test n
 
 unfoldable pub indicators_of : List ℕ → List ℕ → Result Unit ℕ
 indicators_of standard_wall ut_local = if all_below (length ut_local) (pair_agrees standard_wall ut_local) then Ok tt else Err 5

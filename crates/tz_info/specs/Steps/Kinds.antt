@@ -1,8 +1,9 @@
 -- Kinds of years: a year is a leap year or not, and begins with one of the seven weekdays.
-use Rattle.std.specs.Prelude.{ℕ, ◌+◌, if◌then◌else◌, List, [], ◌∷◌, map, ℤ, pos, ◌-ℤ◌, ◌*ℤ◌}
+use Rattle.std.specs.Prelude.{ℕ, ◌+◌, Bool, ◌&&◌, if◌then◌else◌, List, [], ◌∷◌, map, slice_index_or, ℤ, pos, neg_ℤ, ◌-ℤ◌, ◌*ℤ◌, int_le, int_lt}
 use Rattle.naive_base.specs.Year.{is_leap, year_start}
 use Rattle.naive_base.specs.Weekday.{weekday_of}
 use Rattle.tz_info.specs.Moments.{moment}
+use Rattle.tz_info.specs.Steps.Below.{all_below}
 use Rattle.tz_info.specs.declared.rule.day.DayTime.{DayTime}
 
 -- the place of the year's kind: the common years that begin with Sunday to Saturday, and then the leap years
@@ -22,3 +23,25 @@ second_in t offset year = moment t offset year -ℤ pos 86_400 *ℤ year_start y
 -- that second in a year of each kind
 unfoldable pub seconds_by_kind : DayTime → ℤ → List ℤ
 seconds_by_kind t offset = map (second_in t offset) kind_years
+
+-- the second, counted from the year's first, lies two days or more from the year's ends
+abbrev pub is_inside : ℤ → Bool
+is_inside second = int_le (pos 172_800) second && int_le second (pos 31_363_200)
+
+-- so do both moments, and the start comes first or not
+abbrev pub is_calm : Bool → ℤ → ℤ → Bool
+is_calm start_first start end = is_inside start && is_inside end && (if start_first then int_le start end else int_lt end start)
+
+-- the moments of that kind do, in the order of the first kind
+abbrev pub is_calm_kind : List ℤ → List ℤ → ℕ → Bool
+is_calm_kind starts ends kind =
+    is_calm (int_le (slice_index_or starts 0 (pos 0)) (slice_index_or ends 0 (pos 0)))
+    (slice_index_or starts kind (pos 0)) (slice_index_or ends kind (pos 0))
+
+-- those of all kinds do
+unfoldable pub are_calm : List ℤ → List ℤ → Bool
+are_calm starts ends = all_below 14 (is_calm_kind starts ends)
+
+-- how far from the ends of their year moments lie
+unfoldable pub margin_of : List ℤ → List ℤ → ℤ
+margin_of starts ends = if are_calm starts ends then pos 172_800 else neg_ℤ (pos 691_200)

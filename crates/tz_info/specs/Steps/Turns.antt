@@ -1,10 +1,5 @@
 -- What the code asks of the moments of a year and of its neighbours.
-use Rattle.std.specs.Prelude.{Bool, ◌&&◌, ◌||◌, not, if◌then◌else◌, ℤ, pos, ◌+ℤ◌, ◌-ℤ◌, ◌≤ℤ◌, ◌<ℤ◌, int_le, int_lt}
-use Rattle.naive_base.specs.Year.{year_start}
-
--- the day is at least eight days from the years before and after its own
-abbrev pub IsAmid : ℤ → ℤ → Type 0
-IsAmid day year = ((year_start year +ℤ pos 8) ≤ℤ day) × (day <ℤ (year_start year +ℤ pos 357))
+use Rattle.std.specs.Prelude.{Bool, ◌&&◌, ◌||◌, not, if◌then◌else◌, ℤ, pos, ◌+ℤ◌, ◌-ℤ◌, int_le, int_lt}
 
 -- from the first moment on, and before the last
 abbrev pub is_between : ℤ → ℤ → ℤ → Bool

@@ -13,7 +13,7 @@ ghost use Rattle.tz_info.specs.Steps.Turns.{is_between, is_dst_by_one};
 use crate::error::{Error, Expected};
 use crate::local_time_type::LocalTimeType;
 use crate::rule::day::{DayTime, RuleDay};
-use crate::rule::kinds::kind_of;
+use crate::rule::kinds::{kind_of, margin_of};
 use naive_base::calendar::{day_of_year, year_of, year_start};
 use std::fmt;
 use std::marker::Model;
@@ -39,6 +39,8 @@ pub struct AlternateTime {
     starts: [i64; 14],
     /// When it ends.
     ends: [i64; 14],
+    /// How far inside its year each moment lies at least; below 0, how far outside at most.
+    margin: i64,
 }
 
 /// The seconds at which daylight saving time starts and ends in one year.
@@ -60,7 +62,7 @@ impl Model for AlternateTime {
     ghost use Rattle.std.specs.Prelude.{◌≡◌};
     ghost use Rattle.std.proofs.Common.{sym};
     ghost use Rattle.tz_info.specs.Rules.{Alternate, IsAlternateRule};
-    ghost use Rattle.tz_info.specs.Steps.Kinds.{seconds_by_kind};
+    ghost use Rattle.tz_info.specs.Steps.Kinds.{seconds_by_kind, margin_of};
 
     ghost Value = { Alternate };
 
@@ -78,7 +80,9 @@ impl Model for AlternateTime {
       end = a.dst_end;
     })
         × (a.starts ≡ seconds_by_kind a.dst_start a.std_type.offset)
-        × (a.ends ≡ seconds_by_kind a.dst_end a.dst_type.offset) };
+        × (a.ends ≡ seconds_by_kind a.dst_end a.dst_type.offset)
+        × (a.margin ≡ margin_of (seconds_by_kind a.dst_start a.std_type.offset)
+        (seconds_by_kind a.dst_end a.dst_type.offset)) };
 
     ghost inverse = { λ a. record {
       std_type = a.std;
@@ -87,6 +91,8 @@ impl Model for AlternateTime {
       dst_end = a.end;
       starts = seconds_by_kind a.start a.std.offset;
       ends = seconds_by_kind a.end a.dst.offset;
+      margin = margin_of (seconds_by_kind a.start a.std.offset)
+          (seconds_by_kind a.end a.dst.offset);
     } };
 
     ghost inverse_ok = { λ a h i. record {
@@ -96,6 +102,7 @@ impl Model for AlternateTime {
       dst_end = a.dst_end;
       starts = sym h.1 i;
       ends = sym h.2 i;
+      margin = sym h.3 i;
     } };
 }
 
@@ -174,6 +181,7 @@ impl AlternateTime {
         };
         let starts = start.seconds_by_kind(std.offset());
         let ends = end.seconds_by_kind(dst.offset());
+        let margin = margin_of(&starts, &ends);
         Ok(AlternateTime {
             std_type: std,
             dst_type: dst,
@@ -181,6 +189,7 @@ impl AlternateTime {
             dst_end: end,
             starts,
             ends,
+            margin,
         })
     }
 }
@@ -217,9 +226,10 @@ impl AlternateTime {
         let day = day_of(unix_time);
         let year = year_of(day);
         let first = first_of_year(day);
+        let midnight = 86_400 * first;
         Season {
-            from: (first + 8) * 86_400,
-            until: (first + 357) * 86_400,
+            from: midnight - self.margin,
+            until: midnight + 31_536_000 + self.margin,
             turns: self.turns_from(year, first),
         }
     }
@@ -257,10 +267,10 @@ impl AlternateTime {
     #[inline(always)]
     pub(crate) fn is_dst_amid(&self, season: Season, unix_time: i64) -> bool
         requires season { IsSeason self.now season }
+        requires time { IsRuleTime unix_time }
         requires decides { IsDecidedIn season unix_time }
         ensures { AlternateAt self.now unix_time (type_when self.now result) }
     {
-        let _std = self.std();
         season.turns.is_dst(unix_time)
     }
 

@@ -3,11 +3,11 @@
 //! A rule's moments, counted from the first second of their year, are the same in all years of a
 //! kind. They are found once in a year of each of the fourteen kinds, when the rule is made.
 
-ghost use Rattle.std.specs.Prelude.{◌≡◌, ◌<◌};
+ghost use Rattle.std.specs.Prelude.{◌≡◌, ◌<◌, if◌then◌else◌, int_le, int_lt};
 ghost use Rattle.naive_base.specs.Year.{year_start, IsDay};
 ghost use Rattle.offset_core.specs.Offset.{IsWithinDay};
 ghost use Rattle.tz_info.specs.Rules.{IsWithinWeek};
-ghost use Rattle.tz_info.specs.Steps.Kinds.{kind_place, second_in, seconds_by_kind};
+ghost use Rattle.tz_info.specs.Steps.Kinds.{kind_place, second_in, seconds_by_kind, is_inside, is_calm, is_calm_kind, are_calm, margin_of};
 
 use crate::rule::day::DayTime;
 use naive_base::calendar::{is_leap_year, weekday_of, year_start};
@@ -64,4 +64,60 @@ impl DayTime {
     {
         self.moment(offset, year) - 86_400 * year_start(year)
     }
+}
+
+/// How far inside its year each moment lies at least, where the two also come in one order in all
+/// years; else how far outside of it none lies, as a number below 0.
+pub(super) fn margin_of(starts: &[i64; 14], ends: &[i64; 14]) -> i64
+    ensures { result ≡ margin_of starts.now ends.now }
+{
+    if are_calm(starts, ends) {
+        172_800
+    } else {
+        -691_200
+    }
+}
+
+/// Whether in years of each kind the moments lie two days or more from the ends of the year, and
+/// come in the order in which they come in years of the first kind.
+fn are_calm(starts: &[i64; 14], ends: &[i64; 14]) -> bool
+    ensures { result ≡ are_calm starts.now ends.now }
+{
+    for kind in 0..14 {
+        if !is_calm_kind(starts, ends, kind) {
+            return false;
+        }
+    }
+    true
+}
+
+fn is_calm_kind(starts: &[i64; 14], ends: &[i64; 14], kind: usize) -> bool
+    requires { kind < 14 }
+    ensures { result ≡ is_calm_kind starts.now ends.now kind }
+{
+    is_calm(starts[0] <= ends[0], starts[kind], ends[kind])
+}
+
+fn is_calm(start_first: bool, start: i64, end: i64) -> bool
+    ensures { result ≡ is_calm start_first start end }
+{
+    is_inside(start) && is_inside(end) && is_in_order(start_first, start, end)
+}
+
+fn is_in_order(start_first: bool, start: i64, end: i64) -> bool
+    ensures { result ≡ (if start_first then int_le start end else int_lt end start) }
+{
+    if start_first {
+        start <= end
+    } else {
+        end < start
+    }
+}
+
+/// Whether the second, counted from the year's first, lies two days or more from the ends of the
+/// year.
+fn is_inside(second: i64) -> bool
+    ensures { result ≡ is_inside second }
+{
+    172_800 <= second && second <= 31_363_200
 }

@@ -1,8 +1,10 @@
-use Rattle.std.proofs.Common.{arith, rules, subst, ◌≡◌, to_z-of_z}
+use mir.Val.{SFits}
+use Rattle.std.proofs.Common.{w64, arith, rules, subst, ◌≡◌, to_z-of_z}
 use Rattle.std.proofs.lemmas.Int.{ints}
 use Rattle.offset_core.specs.Offset.{IsWithinDay}
 use Rattle.tz_info.specs.LocalTypes.{LocalType}
 use Rattle.tz_info.specs.Rules.{Alternate, IsAlternate}
+use Rattle.tz_info.specs.Steps.Kinds.{seconds_by_kind}
 use Rattle.tz_info.specs.declared.rule.day.DayTime.{DayTime}
 use Rattle.tz_info.proofs.rule.alternate.AlternateTime.new.Goals as goal
 
@@ -18,15 +20,19 @@ seconds_by_kind-ends-requires-clause-offset c =
     (omega (arith, ints, within), omega (arith, ints, within))
 
 pub invariant_of-result : goal.invariant_of-result
-invariant_of-result c = (
-  record {
-    within = record { std_offset = search rules; dst_offset = search rules; start_time = c.in-Some.ensures.0; end_time = c.in-Some-at.ensures.0 };
-    start_day = c.in-Some.ensures.1;
-    end_day = c.in-Some-at.ensures.1;
-  },
-  search rules,
-  search rules,
-)
+invariant_of-result c =
+    let at_margin : SFits w64 c.margin_of-margin.result = search rules in
+    let starts : c.seconds_by_kind-starts.result ≡ seconds_by_kind c.in-Some.start c.args.std.offset = search rules in
+    let ends : c.seconds_by_kind-ends.result ≡ seconds_by_kind c.in-Some-at.end c.args.dst.offset = search rules in (
+      record {
+        within = record { std_offset = search rules; dst_offset = search rules; start_time = c.in-Some.ensures.0; end_time = c.in-Some-at.ensures.0 };
+        start_day = c.in-Some.ensures.1;
+        end_day = c.in-Some-at.ensures.1;
+      },
+      starts,
+      ends,
+      simp to_z-of_z (rw (starts, ends) at c.margin_of-margin.ensures),
+    )
 
 pub returns : goal.returns
 unfolding shown
