@@ -94,20 +94,20 @@ impl TimeZone {
         if self.is_before_rule(local, standard) && self.is_before_rule(local, daylight) {
             return answer;
         }
-        let season = turns.season(local);
         if standard == daylight {
-            return self.ask_turn(turns, season, local, standard, answer, probes);
+            return self.ask_turn(turns, local, standard, answer, probes);
         }
+        let season = turns.season(local);
         if self.are_amid(season, local, standard, daylight) {
             return self.ask_amid(turns, season, local, answer, probes);
         }
         // The greater offset has the earlier second.
         if standard < daylight {
-            let one = self.ask_turn(turns, season, local, daylight, answer, probes);
-            return self.ask_turn(turns, season, local, standard, one, probes);
+            let one = self.ask_turn(turns, local, daylight, answer, probes);
+            return self.ask_turn(turns, local, standard, one, probes);
         }
-        let one = self.ask_turn(turns, season, local, standard, answer, probes);
-        self.ask_turn(turns, season, local, daylight, one, probes)
+        let one = self.ask_turn(turns, local, standard, answer, probes);
+        self.ask_turn(turns, local, daylight, one, probes)
     }
 
     /// Whether the rule is not asked at the second at which a clock at that offset shows the local
@@ -196,7 +196,6 @@ impl TimeZone {
     fn ask_turn(
         &self,
         turns: &AlternateTime,
-        season: Season,
         local: i64,
         offset: i32,
         answer: MappedLocalTime<LocalTimeType>,
@@ -205,7 +204,6 @@ impl TimeZone {
         requires local { IsWide local }
         requires room { HasRoomFor 1 probes.old.rule_questions }
         requires rule { self.now.rule ≡ Some (Alternate turns.now) }
-        requires season { IsSeason turns.now season }
         ensures asked { IsAskedLast (TypeIn self.now
             (length self.now.transitions)) local offset answer result }
         ensures cost { RoseWithin probes.old probes.new 0 1 }
@@ -216,7 +214,7 @@ impl TimeZone {
             return answer;
         }
         probes.count_question();
-        let found = turns.type_in(season, second);
+        let found = turns.type_at(second);
         if found.offset() == offset {
             return joined(answer, MappedLocalTime::Single(*found));
         }

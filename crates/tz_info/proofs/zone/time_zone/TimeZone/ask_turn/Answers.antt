@@ -34,8 +34,8 @@ returns-then-offset-clause-asked c =
     let at = asked (goal.at.returns-then-offset-clause-asked c).After-rule_from in
     let go = at.0 in let gu = at.1 in
     let ft : SFits w32 c.offset.result = let b = c.offset.ensures.bound in let v = c.offset.ensures.value in omega (arith, ints) in
-    asked_found c.args.self.now c.args.local c.args.offset c.self.inside.index.rule_from (Alternate c.args.turns.now) c.type_in-found.result.now c.args.answer c.joined.result c.local_time_types-types.ensures.valid c.requires.rule at.2 at.3 (omega (arith, ints))
-    (simp to_z-of_z at c.type_in-found.ensures) (let v = c.offset.ensures.value in omega (arith, ints)) gu c.joined.ensures
+    asked_found c.args.self.now c.args.local c.args.offset c.self.inside.index.rule_from (Alternate c.args.turns.now) c.type_at-found.result.now c.args.answer c.joined.result c.local_time_types-types.ensures.valid c.requires.rule at.2 at.3 (omega (arith, ints))
+    (simp to_z-of_z at c.type_at-found.ensures) (let v = c.offset.ensures.value in omega (arith, ints)) gu c.joined.ensures
 
 pub returns-clause-asked : goal.returns-clause-asked
 returns-clause-asked c =
@@ -43,4 +43,4 @@ returns-clause-asked c =
     let at = asked (goal.at.returns-clause-asked c).After-rule_from in
     let go = at.0 in let gu = at.1 in
     let ft : SFits w32 c.offset.result = let b = c.offset.ensures.bound in let v = c.offset.ensures.value in omega (arith, ints) in
-    asked_other c.args.self.now c.args.local c.args.offset (Alternate c.args.turns.now) c.type_in-found.result.now c.args.answer c.local_time_types-types.ensures.valid c.requires.rule (simp to_z-of_z at c.type_in-found.ensures) (λ e. let v = c.offset.ensures.value in omega (arith, ints))
+    asked_other c.args.self.now c.args.local c.args.offset (Alternate c.args.turns.now) c.type_at-found.result.now c.args.answer c.local_time_types-types.ensures.valid c.requires.rule (simp to_z-of_z at c.type_at-found.ensures) (λ e. let v = c.offset.ensures.value in omega (arith, ints))

@@ -1,0 +1,5 @@
+use Rattle.std.proofs.Common.{to_z-of_z}
+use Rattle.tz_info.proofs.rule.alternate.AlternateTime.type_at.Goals as goal
+
+pub returns : goal.returns
+returns c = let at_second = c.ranges.unix_time in simp to_z-of_z at c.type_in.ensures
