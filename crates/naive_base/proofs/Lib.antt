@@ -4,6 +4,7 @@ pub mod MonthDays
 pub mod Cycle
 pub mod Dates
 pub mod Weekdays
+pub mod YearDays
 pub mod Moves
 pub mod Ranges
 pub mod Digits

@@ -12,12 +12,14 @@ mod dates;
 mod months;
 mod weekdays;
 mod weeks;
+mod year_days;
 mod years;
 
 pub use dates::{YearMonthDay, date_of, dates_law, day_number, is_date, month_and_day};
 pub use months::{days_before_month, days_in_month};
 pub use weekdays::{weekday_of, weekdays_law};
 pub use weeks::{thursday_of_week, weeks_law};
+pub use year_days::{YearDay, year_day_of};
 pub use years::{
     FIRST_DAY, LAST_DAY, day_of_year, days_in_year, is_day, is_leap_year, year_of, year_start,
     years_law,

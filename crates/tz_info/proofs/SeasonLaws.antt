@@ -1,8 +1,8 @@
 -- What a season's moments decide.
 use Rattle.std.proofs.Common.{◌≡◌, refl, ap, arith, ℤ, pos, neg_ℤ, ◌+ℤ◌, ◌-ℤ◌, ◌*ℤ◌, ◌⊎◌, inl, inr, int_le}
-use Rattle.naive_base.specs.Year.{floor_div, year_start}
+use Rattle.naive_base.specs.Year.{floor_div, year_start, LiesIn}
 use Rattle.naive_base.specs.DateOf.{year_of}
-use Rattle.naive_base.proofs.ForCallers.{floors, year_step, days_at_least, one_year}
+use Rattle.naive_base.proofs.ForCallers.{floors, year_step, days_at_least, lies_in, one_year}
 use Rattle.tz_info.specs.Moments.{IsYearOf, start_in, end_in}
 use Rattle.tz_info.specs.Rules.{Alternate}
 use Rattle.tz_info.specs.Steps.Seasons.{IsSeason}
@@ -39,3 +39,10 @@ season_made a margin year first s kept begins from until start end = record {
       alternate_at a u day own dst refl found.0 found.1
       (dst_by_one (start_in a) (end_in a) margin year own u dst kept.start kept.end beside (one_order a margin year own u beside found.0 kept.order) (rw (start, end) refl));
 }
+
+-- the first day of a year lies in it
+pub own_start : (year : ℤ) → year_of (year_start year) ≡ year
+own_start year =
+    let step = year_step year in let least = days_at_least year in
+    let lies : LiesIn (year_start year) year = (omega (arith, floors), omega (arith, floors)) in
+    one_year (year_start year) (year_of (year_start year)) year (lies_in (year_start year)) lies

@@ -85,7 +85,7 @@ pub fn year_start(year: i32) -> i64
     days_of_years(years_since_base(year) - 1) as i64 - DAYS_FROM_JANUARY
 }
 
-fn days_since_january(day: i64) -> u64
+pub(crate) fn days_since_january(day: i64) -> u64
     requires { IsDay day }
     ensures value { day +ℤ pos 784_353_144_032 ≡ pos result }
     ensures bound { IsInRange 128_199 1_568_704_720_808 result }

@@ -1,20 +1,21 @@
 //! Two types that take turns each year.
 
 ghost use Rattle.std.specs.Prelude.{◌≡◌, ◌<◌, ℤ, pos, neg_ℤ, ◌+ℤ◌, ◌≤ℤ◌, ◌<ℤ◌, int_le, MatchResult, IsTrue, ◌↔◌, ◌||◌, not, if◌then◌else◌};
-ghost use Rattle.naive_base.specs.DateOf.{year_of};
+ghost use Rattle.naive_base.specs.DateOf.{year_of, day_of_year};
 ghost use Rattle.naive_base.specs.Year.{floor_div, year_start, LiesIn, IsDay};
 ghost use Rattle.offset_core.specs.Offset.{IsWithinDay};
 ghost use Rattle.tz_info.specs.Errors.{number_of};
 ghost use Rattle.tz_info.specs.Rules.{Alternate, IsAlternate, IsAlternateRule, IsWithinWeek};
 ghost use Rattle.tz_info.specs.Moments.{IsRuleTime};
+ghost use Rattle.tz_info.specs.Steps.Kinds.{kind_place};
 ghost use Rattle.tz_info.specs.Steps.Seasons.{IsDecidedIn};
 ghost use Rattle.tz_info.specs.Steps.Turns.{is_between, is_dst_by_one};
 
 use crate::error::{Error, Expected};
 use crate::local_time_type::LocalTimeType;
 use crate::rule::day::{DayTime, RuleDay};
-use crate::rule::kinds::{kind_of, margin_of};
-use naive_base::calendar::{day_of_year, year_of, year_start};
+use crate::rule::kinds::{kind_by, kind_of, margin_of};
+use naive_base::calendar::{year_day_of, year_of, year_start};
 use std::fmt;
 use std::marker::Model;
 
@@ -233,13 +234,13 @@ impl AlternateTime {
         ensures { IsSeason self.now result }
     {
         let day = day_of(unix_time);
-        let year = year_of(day);
-        let first = first_of_year(day);
+        let place = year_day_of(day);
+        let first = first_of_year(day, place.day_of_year);
         let midnight = 86_400 * first;
         Season {
             from: midnight - self.margin,
             until: midnight + 31_536_000 + self.margin,
-            turns: self.turns_from(year, first),
+            turns: self.turns_from(first, kind_by(place.is_leap, place.first_weekday)),
         }
     }
 
@@ -305,20 +306,22 @@ impl AlternateTime {
         ensures end { result.end ≡ end_in self.now year }
         ensures rule { IsAlternateRule self.now }
     {
-        self.turns_from(year, year_start(year))
+        let first = year_start(year);
+        self.turns_from(first, kind_of(year, first))
     }
 
-    /// The moments of the year that begins on that day.
+    /// The moments of the year that begins on that day and is of that kind.
     #[inline(always)]
-    fn turns_from(&self, year: i32, first: i64) -> Turns
-        requires first { first ≡ year_start year }
+    fn turns_from(&self, first: i64, kind: usize) -> Turns
+        requires first { first ≡ year_start (year_of first) }
         requires day { IsDay first }
-        ensures start { result.start ≡ start_in self.now year }
-        ensures end { result.end ≡ end_in self.now year }
+        requires kind { kind ≡ kind_place (year_of first) }
+        requires below { kind < 14 }
+        ensures start { result.start ≡ start_in self.now (year_of first) }
+        ensures end { result.end ≡ end_in self.now (year_of first) }
         ensures rule { IsAlternateRule self.now }
     {
         let midnight = 86_400 * first;
-        let kind = kind_of(year, first);
         Turns {
             start: midnight + self.starts[kind],
             end: midnight + self.ends[kind],
@@ -459,12 +462,14 @@ fn day_of(unix_time: i64) -> i64
 
 /// The day number of the first day of the year that the day lies in.
 #[inline(always)]
-fn first_of_year(day: i64) -> i64
-    requires { IsDay day }
+fn first_of_year(day: i64, passed: u32) -> i64
+    requires day { IsDay day }
+    requires place { passed ≡ day_of_year day }
+    requires bound { passed < 366 }
     ensures value { result ≡ year_start (year_of day) }
     ensures bound { IsDay result }
 {
-    day - day_of_year(day) as i64
+    day - passed as i64
 }
 
 /// Whether the type's offset is strictly within a day.

@@ -3,7 +3,7 @@
 //! A rule's moments, counted from the first second of their year, are the same in all years of a
 //! kind. They are found once in a year of each of the fourteen kinds, when the rule is made.
 
-ghost use Rattle.std.specs.Prelude.{◌≡◌, ◌<◌, if◌then◌else◌, int_le, int_lt};
+ghost use Rattle.std.specs.Prelude.{◌≡◌, ◌+◌, ◌<◌, if◌then◌else◌, int_le, int_lt};
 ghost use Rattle.naive_base.specs.Year.{year_start, IsDay};
 ghost use Rattle.offset_core.specs.Offset.{IsWithinDay};
 ghost use Rattle.tz_info.specs.Rules.{IsWithinWeek};
@@ -21,12 +21,17 @@ pub(super) fn kind_of(year: i32, first: i64) -> usize
     ensures place { result ≡ kind_place year }
     ensures bound { result < 14 }
 {
-    let weekday = weekday_of(first) as usize;
-    if is_leap_year(year) {
-        7 + weekday
-    } else {
-        weekday
-    }
+    kind_by(is_leap_year(year), weekday_of(first))
+}
+
+/// That of a leap year or a common one, by the weekday of its first day.
+#[inline(always)]
+pub(super) fn kind_by(is_leap: bool, first_weekday: u32) -> usize
+    requires { first_weekday < 7 }
+    ensures value { result ≡ (if is_leap then 7 else 0) + first_weekday }
+    ensures bound { result < 14 }
+{
+    (7 * is_leap as u32 + first_weekday) as usize
 }
 
 impl DayTime {
