@@ -2,8 +2,8 @@
 //! the types' rules.
 use crate::calendar::{
     FIRST_DAY, LAST_DAY, YearMonthDay, date_of, day_number, day_of_year, days_before_month,
-    days_in_month, days_in_year, is_date, is_day, is_leap_year, month_and_day, weekday_of, year_of,
-    year_start,
+    days_in_month, days_in_year, is_date, is_day, is_leap_year, month_and_day, weekday_of,
+    year_day_of, year_of, year_start,
 };
 use crate::{NaiveDate, NaiveDateTime, NaiveTime, Timelike};
 use offset_core::{FixedOffset, TimeDelta};
@@ -49,6 +49,13 @@ fn days_of_dates(rt: HostRuntime) {
         assert_eq!(rt; weekday_of(number), weekday, "{year}-{month}-{day}");
         assert_eq!(rt; year_of(number), year);
         assert_eq!(rt; day_of_year(number), passed, "{year}-{month}-{day}");
+        let place = year_day_of(number);
+        assert_eq!(rt; place.day_of_year, passed, "{year}-{month}-{day}");
+        assert_eq!(rt;
+            (place.first_weekday + passed) % 7,
+            weekday,
+            "{year}-{month}-{day}"
+        );
         assert!(rt; passed < days_in_year(year));
         assert_eq!(rt; month_and_day(year, passed), (month, day));
     }
@@ -65,6 +72,7 @@ fn years_and_months(rt: HostRuntime) {
     ] {
         assert_eq!(rt; is_leap_year(year), leap, "{year}");
         assert_eq!(rt; year_start(year), start, "{year}");
+        assert_eq!(rt; year_day_of(start).is_leap, leap, "{year}");
     }
     assert_eq!(rt; days_in_month(2000, 2), 29);
     assert_eq!(rt; days_in_month(2001, 2), 28);

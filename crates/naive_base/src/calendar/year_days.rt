@@ -2,11 +2,10 @@
 
 ghost use Rattle.std.specs.Prelude.{◌≡◌, ◌+◌, ◌*◌, ◌/◌, ◌%◌, ◌<◌, ◌==◌, not, ◌&&◌, ◌||◌};
 ghost use Rattle.naive_base.specs.DateOf.{year_of, day_of_year};
-ghost use Rattle.naive_base.specs.Steps.Cycle.{days_of_years};
 ghost use Rattle.naive_base.specs.Weekday.{weekday_of};
 ghost use Rattle.naive_base.specs.Year.{is_leap, year_start, IsDay};
 
-use super::years::days_since_january;
+use super::years::{days_since_january, place_of};
 
 /// A day in its year.
 #[derive(Clone, Copy, Debug, PartialEq, Eq)]
@@ -17,32 +16,6 @@ pub struct YearDay {
     pub is_leap: bool,
     /// The weekday of the year's 1 January, 0 for Sunday to 6 for Saturday.
     pub first_weekday: u32,
-}
-
-// Where a day lies: so many whole centuries, years and days behind a January.
-#[derive(Clone, Copy)]
-struct Place {
-    century: u64,
-    year: u32,
-    passed: u32,
-}
-
-fn place_of(days: u64) -> Place
-    requires { days < 2_000_000_000_000 }
-    ensures value { days_of_years (100 * result.century + result.year) + result.passed ≡ days }
-    ensures within { days < days_of_years (100 * result.century + result.year + 1) }
-    ensures century { result.century < 100_000_000 }
-    ensures year { result.year < 100 }
-    ensures bound { result.passed < 366 }
-{
-    let scaled = 4 * days + 3;
-    let century = scaled / 146_097;
-    let in_century = (scaled % 146_097) as u32 / 4 * 4 + 3;
-    Place {
-        century,
-        year: in_century / 1461,
-        passed: in_century % 1461 / 4,
-    }
 }
 
 /// The day's place in its year, and the two things that tell the year's calendar: with the weekday

@@ -41,6 +41,32 @@ pub(crate) fn days_of_years(years: u64) -> u64
     1461 * years / 4 - century + century / 4
 }
 
+// Where a day lies: so many whole centuries, years and days behind a January.
+#[derive(Clone, Copy)]
+pub(crate) struct Place {
+    pub(crate) century: u64,
+    pub(crate) year: u32,
+    pub(crate) passed: u32,
+}
+
+pub(crate) fn place_of(days: u64) -> Place
+    requires { days < 2_000_000_000_000 }
+    ensures value { days_of_years (100 * result.century + result.year) + result.passed ≡ days }
+    ensures within { days < days_of_years (100 * result.century + result.year + 1) }
+    ensures century { result.century < 100_000_000 }
+    ensures year { result.year < 100 }
+    ensures bound { result.passed < 366 }
+{
+    let scaled = 4 * days + 3;
+    let century = scaled / 146_097;
+    let in_century = (scaled % 146_097) as u32 / 4 * 4 + 3;
+    Place {
+        century,
+        year: in_century / 1461,
+        passed: in_century % 1461 / 4,
+    }
+}
+
 // How many whole years of such cycles fit into so many days, and how many days are left over.
 pub(crate) fn split_years(days: u64) -> (u64, u64)
     requires { days < 2_000_000_000_000 }
@@ -48,10 +74,8 @@ pub(crate) fn split_years(days: u64) -> (u64, u64)
     ensures within { days < days_of_years (result.0 + 1) }
     ensures bound { result.1 < 366 }
 {
-    let scaled = 4 * days + 3;
-    let century = scaled / 146_097;
-    let in_century = scaled % 146_097 / 4 * 4 + 3;
-    (100 * century + in_century / 1461, in_century % 1461 / 4)
+    let place = place_of(days);
+    (100 * place.century + place.year as u64, place.passed as u64)
 }
 
 /// Whether the day lies in a year that an `i32` holds.
