@@ -1,23 +1,85 @@
 -- The pieces of the first segments, as long as the last of them has no end, and one segment more.
-use Rattle.std.proofs.Common.{◌≡◌, ℕ, zero, suc, ◌-◌, ◌<◌, ◌≤◌, arith, refl, sym, ap, ◌∙◌, List, [], ◌∷◌, ◌++◌, length, ℤ, ◌≤ℤ◌, ◌<ℤ◌, inl, inr, ◌⊎◌, ⊎_elim, Option, Some as some, None as none}
+use Rattle.std.proofs.Common.{◌≡◌, ℕ, zero, suc, ◌-◌, ◌<◌, ◌≤◌, arith, refl, sym, ap, ◌∙◌, List, [], ◌∷◌, ◌++◌, length, get_or, w64, true, int_le, IsTrue, ℤ, pos, neg_ℤ, ◌+ℤ◌, ◌≤ℤ◌, ◌<ℤ◌, inl, inr, ◌⊎◌, ⊎_elim, Option, Some as some, None as none}
+use Rattle.std.specs.Int.{saturate_signed}
+use Rattle.std.proofs.lemmas.Bool.{cases_lt}
 use Rattle.std.proofs.lemmas.Int.{ints, by_lt_z}
-use Rattle.std.proofs.lemmas.List.{length_push}
+use Rattle.std.proofs.lemmas.List.{length_push, get_or_default}
 use Rattle.std.proofs.lemmas.List.Quantifiers.{all_pairs_push}
 use Rattle.offset_core.specs.declared.local_result.LocalResult.TheVariants.{None, Single, Ambiguous}
-use Rattle.tz_info.specs.Leaps.{least_time}
+use Rattle.tz_info.specs.Leaps.{AreLeapSeconds, least_time}
 use Rattle.tz_info.specs.LocalTypes.{LocalType, IsUtOffset}
 use Rattle.tz_info.specs.Segments.{index_of, table_count, table_count_by}
 use Rattle.tz_info.specs.Steps.Answers.{joined}
 use Rattle.tz_info.specs.Steps.Merging.{IsMerged}
-use Rattle.tz_info.specs.Steps.Pieces.{ArePieces, ArePiecesAt, IsGap, IsFold, IsCutAt, AreCutsCrossed}
-use Rattle.tz_info.specs.Steps.Starts.{IsCut}
-use Rattle.tz_info.specs.WallPieces.{answer_before, answer_at, AreInOrder}
+use Rattle.tz_info.specs.Steps.Pieces.{ArePieces, ArePiecesAt, IsGap, IsFold, IsCutAt, AreCutsCrossed, IsSegment}
+use Rattle.tz_info.specs.Steps.Starts.{IsCut, IsReachedFrom, IsLeapless}
+use Rattle.tz_info.specs.Transitions.{AreRising}
+use Rattle.tz_info.specs.WallPieces.{answer_before, answer_at, AreInOrder, IsStart}
 use Rattle.tz_info.specs.Zones.{Zone, IsValid, HasType}
 use Rattle.tz_info.specs.declared.rule.transition_rule.TransitionRule.{TransitionRule}
+use Rattle.tz_info.specs.declared.zone.leap_second.LeapSecond.{LeapSecond}
+use Rattle.tz_info.specs.declared.zone.one_pass.Segment.{Segment}
 use Rattle.tz_info.specs.declared.zone.pieces.Piece.{Piece}
+use Rattle.tz_info.specs.declared.zone.transition.Transition.{Transition}
+use Rattle.tz_info.proofs.LeapStarts.{reached_first}
 use Rattle.tz_info.proofs.Prefixes.{le_true, le_false}
 use Rattle.tz_info.proofs.WallPieces.{Answer, StartBy, before_pushed, at_later, at_earlier, at_all, start_by_push}
-use Rattle.tz_info.proofs.WallSegments.{piece, own_segment, listed_once, pieces_joined, first_pieces, inner_pieces, last_pieces}
+use Rattle.tz_info.proofs.WallSegments.{start_found, cut_found, piece, own_segment, listed_once, pieces_joined, first_pieces, inner_pieces, last_pieces}
+
+-- ---- the pieces at a transition
+
+reached_leapless : (es : List LeapSecond) (x : ℤ) → AreLeapSeconds es → length es ≡ 0 → IsReachedFrom es x x
+reached_leapless es x valid e = λ u y near l.
+    reached_first es x u y valid (record { within = omega arith; before = λ k d h. absurd (omega arith); after = λ k d h m. absurd (omega arith) }) l
+
+-- without leap seconds so many transitions have come from the time of the last of them on
+pub start_leapless : (ts : List Transition) (es : List LeapSecond) (count : ℕ) (d : Transition) → AreLeapSeconds es → AreRising ts → 0 < count → count ≤ length ts → IsLeapless ts es → IsStart ts es count (get_or ts (count - 1) d).unix_leap_time
+start_leapless ts es count d valid rising any h leapless = start_found ts es count d (get_or ts (count - 1) d).unix_leap_time rising any h (reached_leapless es (get_or ts (count - 1) d).unix_leap_time valid leapless.none)
+
+pub at_least : (x : ℤ) → int_le (neg_ℤ (pos 4_611_686_018_427_387_904)) x ≡ true → neg_ℤ (pos 4_611_686_018_427_387_904) ≤ℤ x
+at_least x h = grind (arith, ints)
+
+pub at_most : (x : ℤ) → IsTrue (int_le x (pos 4_611_686_018_427_387_904)) → x ≤ℤ pos 4_611_686_018_427_387_904
+at_most x h = grind (arith, ints)
+
+-- all times lie from the first to the last
+pub leapless_between : (ts : List Transition) (es : List LeapSecond) (d : Transition) → AreRising ts → length es ≡ 0 → 0 < length ts
+    → neg_ℤ (pos 4_611_686_018_427_387_904) ≤ℤ (get_or ts 0 d).unix_leap_time → (get_or ts (length ts - 1) d).unix_leap_time ≤ℤ pos 4_611_686_018_427_387_904 → IsLeapless ts es
+leapless_between ts es d rising empty any low high = record {
+  none = empty;
+  far = λ k e h.
+      let m = from_first ts k d rising h in
+      let n = to_last ts k d rising h in
+      rw (get_or_default ts k e d h) (omega (arith, ints), omega (arith, ints));
+} where
+  from_first : (ts : List Transition) (k : ℕ) (d : Transition) → AreRising ts → k < length ts → (get_or ts 0 d).unix_leap_time ≤ℤ (get_or ts k d).unix_leap_time
+  from_first ts zero d rising h = omega (arith, ints)
+  from_first ts (suc k) d rising h = let r = rising 0 (suc k) d (omega arith) h in omega (arith, ints)
+
+  to_last : (ts : List Transition) (k : ℕ) (d : Transition) → AreRising ts → k < length ts → (get_or ts k d).unix_leap_time ≤ℤ (get_or ts (length ts - 1) d).unix_leap_time
+  to_last ts k d rising h = ⊎_elim
+      (λ less. let r = rising k (length ts - 1) d less (omega arith) in omega (arith, ints))
+      (λ more. let e : length ts - 1 ≡ k = omega arith in rw e (omega (arith, ints)))
+      (cases_lt k (length ts - 1))
+
+pub pieces_found : (z : Zone) (place : ℕ) (before behind : Segment) (second end start : ℤ) (p q : Piece) → IsSegment z (place - 1) before → IsSegment z place behind → IsStart z.transitions z.leaps place second
+    → end ≡ saturate_signed w64 (second +ℤ before.offset) → start ≡ saturate_signed w64 (second +ℤ behind.offset)
+    → IsGap end start behind.index p q ⊎ IsFold end start before.index behind.index p q → ArePiecesAt z place p q
+pieces_found z place before behind second end start p q b a s e f pieces = record {
+  type_before = b.type;
+  type = a.type;
+  end = end;
+  start = start;
+  listed_before = rw b.index at b.listed;
+  listed = rw a.index at a.listed;
+  offset_before = b.is_offset;
+  offset = a.is_offset;
+  ends = cut_found z.transitions z.leaps place b.type.offset second (second +ℤ before.offset) end s b.is_offset e (ap (λ (o : ℤ). second +ℤ o) b.offset);
+  starts = cut_found z.transitions z.leaps place a.type.offset second (second +ℤ behind.offset) start s a.is_offset f (ap (λ (o : ℤ). second +ℤ o) a.offset);
+  pieces = rw (b.index, a.index) at pieces;
+}
+
+-- ---- no answer more
 
 joined_none : (a : Answer) → joined a None ≡ a
 joined_none None = refl

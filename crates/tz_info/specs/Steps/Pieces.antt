@@ -9,6 +9,7 @@ use Rattle.tz_info.specs.Segments.{index_of}
 use Rattle.tz_info.specs.Steps.Starts.{IsCut}
 use Rattle.tz_info.specs.WallPieces.{AreInOrder, ListedAmong, answer_at}
 use Rattle.tz_info.specs.Zones.{Zone, HasType}
+use Rattle.tz_info.specs.declared.zone.one_pass.Segment.{Segment}
 use Rattle.tz_info.specs.declared.zone.pieces.Piece.{Piece}
 use Rattle.tz_info.specs.declared.zone.segments.Lists.{Lists}
 
@@ -43,6 +44,14 @@ pub record ArePieces (z : Zone) (low high : ℕ) (before : LocalResult ℕ) (pie
   pub most : length pieces + opening low + closing (length z.transitions) high + 2 * low ≤ 2 * high
   pub some : low ≡ 0 → 0 < length z.transitions → 0 < length pieces
   pub answers : (local : ℤ) → IsWide local → IsWallAnswer (ListedAmong z low high local) (answer_at before pieces local)
+
+-- the index and the offset are those of the type in the segment at that place
+pub record IsSegment (z : Zone) (place : ℕ) (segment : Segment) : Type 0 where
+  pub index : segment.index ≡ index_of z.transitions place
+  pub type : LocalType
+  pub listed : HasType z segment.index type
+  pub is_offset : IsUtOffset type.offset
+  pub offset : segment.offset ≡ type.offset
 
 -- one segment ends and the next starts: from the first of the two cuts up to the last neither shows the local time, as in a gap
 pub record IsGap (end start : ℤ) (index : ℕ) (first last : Piece) : Type 0 where

@@ -1,5 +1,5 @@
 -- From which second on a transition has come, and which local time a clock shows then.
-use Rattle.std.specs.Prelude.{ℕ, ℤ, ◌<◌, ◌≤◌, ◌-ℤ◌, ◌≤ℤ◌, ◌↔◌, List, length, slice_index_or}
+use Rattle.std.specs.Prelude.{ℕ, ℤ, pos, neg_ℤ, ◌≡◌, ◌<◌, ◌≤◌, ◌-ℤ◌, ◌≤ℤ◌, ◌↔◌, List, length, slice_index_or}
 use Rattle.naive_base.specs.Range.{IsWide}
 use Rattle.tz_info.specs.Leaps.{IsLeapTime, IsNear}
 use Rattle.tz_info.specs.Transitions.{passed}
@@ -19,3 +19,12 @@ pub record HaveCome (leaps : List LeapSecond) (x : ℤ) (n : ℕ) : Type 0 where
 -- where clocks of that offset show `cut` or later, `count` transitions have come, and where they show less, fewer
 abbrev pub IsCut : List Transition → List LeapSecond → ℕ → ℤ → ℤ → Type 0
 IsCut transitions leaps count offset cut = (local x : ℤ) → IsWide local → IsLeapTime leaps (local -ℤ offset) x → (count ≤ length (passed transitions x)) ↔ (cut ≤ℤ local)
+
+-- the time and any offset are a sum of 64 bits
+abbrev pub IsFarFromEnds : ℤ → Type 0
+IsFarFromEnds x = (neg_ℤ (pos 4_611_686_018_427_387_904) ≤ℤ x) × (x ≤ℤ pos 4_611_686_018_427_387_904)
+
+-- there is no leap second, and the transitions are far from the ends of 64 bits
+pub record IsLeapless (transitions : List Transition) (leaps : List LeapSecond) : Type 0 where
+  pub none : length leaps ≡ 0
+  pub far : (k : ℕ) (d : Transition) → k < length transitions → IsFarFromEnds (slice_index_or transitions k d).unix_leap_time

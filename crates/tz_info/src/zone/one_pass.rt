@@ -1,20 +1,42 @@
 //! The pieces of a zone's table in one pass over its transitions, where their cuts come in order.
 
-ghost use Rattle.std.specs.Prelude.{◌≡◌, ◌<◌, length, MatchOption, MatchResult};
+ghost use Rattle.std.specs.Prelude.{◌≡◌, ◌+ℤ◌, ◌-◌, ◌<◌, ◌≤◌, length, IsTrue, MatchOption, MatchResult};
+ghost use Rattle.std.specs.Int.{saturate_signed, w64};
+ghost use Rattle.tz_info.specs.Leaps.{AreLeapSeconds};
+ghost use Rattle.tz_info.specs.LocalTypes.{IsUtOffset};
 ghost use Rattle.tz_info.specs.Segments.{table_count};
-ghost use Rattle.tz_info.specs.Steps.Pieces.{zone_in, ArePieces, ArePiecesAt, AreCutsCrossed};
+ghost use Rattle.tz_info.specs.Steps.Pieces.{zone_in, ArePieces, ArePiecesAt, AreCutsCrossed, IsSegment};
+ghost use Rattle.tz_info.specs.Steps.Starts.{IsFarFromEnds, IsLeapless};
+ghost use Rattle.tz_info.specs.Transitions.{AreRising};
+ghost use Rattle.tz_info.specs.WallPieces.{IsStart};
 ghost use Rattle.tz_info.specs.Zones.{IsValid};
 ghost use Rattle.tz_info.specs.declared.error.Error.TheVariants.{OutOfMemory};
 
 use crate::error::Error;
+use crate::zone::leap_second::LeapSecond;
 use crate::zone::pieces::Piece;
 use crate::zone::segments::{Lists, Pieces, index_of_segment, listed, table_count};
-use crate::zone::starts::{cut_at, cut_of, start_of};
+use crate::zone::starts::{cut_of, start_of};
+use crate::zone::transition::Transition;
 use offset_core::MappedLocalTime;
 use std::alloc::Global;
 
+/// How far from 1970 a transition may lie whose time takes an offset within 64 bits.
+const FAR: i64 = 4_611_686_018_427_387_904;
+
+/// The type in force in a segment, by its index and its offset.
+#[derive(Clone, Copy)]
+struct Segment {
+    index: usize,
+    offset: i64,
+}
+
 /// The pieces of the table, two for each transition. None where a transition cuts the axis before
 /// the one before it does, as where the two lie closer together than their offsets differ.
+///
+/// Most zones have no leap seconds, and there the pass is made without them: it is written once and
+/// compiled twice.
+#[inline(never)]
 pub(super) fn pieces_in_one_pass(alloc: Global, lists: Lists) -> Result<Option<Pieces>, Error>
     requires valid { IsValid (zone_in lists) }
     requires some { 0 < length lists.transitions.now }
@@ -23,17 +45,52 @@ pub(super) fn pieces_in_one_pass(alloc: Global, lists: Lists) -> Result<Option<P
         (zone_in lists.entry) 0 (table_count (zone_in lists.entry)) s.before s.pieces.items))
         (λ e. e ≡ OutOfMemory) }
 {
+    if is_leapless(lists.transitions, lists.leaps) {
+        pieces_by(alloc, lists, true)
+    } else {
+        pieces_with_leaps(alloc, lists)
+    }
+}
+
+/// The same where there may be leap seconds. It is not inlined: the pass without them is to have
+/// the registers.
+#[inline(never)]
+fn pieces_with_leaps(alloc: Global, lists: Lists) -> Result<Option<Pieces>, Error>
+    requires valid { IsValid (zone_in lists) }
+    requires some { 0 < length lists.transitions.now }
+    ensures { MatchResult result
+        (λ made. MatchOption made (AreCutsCrossed (zone_in lists.entry)) (λ s. ArePieces
+        (zone_in lists.entry) 0 (table_count (zone_in lists.entry)) s.before s.pieces.items))
+        (λ e. e ≡ OutOfMemory) }
+{
+    pieces_by(alloc, lists, false)
+}
+
+/// The same, where it is known whether there are no leap seconds to be counted.
+#[inline(always)]
+fn pieces_by(alloc: Global, lists: Lists, leapless: bool) -> Result<Option<Pieces>, Error>
+    requires valid { IsValid (zone_in lists) }
+    requires some { 0 < length lists.transitions.now }
+    requires leapless { IsTrue leapless → IsLeapless lists.transitions.now lists.leaps.now }
+    ensures { MatchResult result
+        (λ made. MatchOption made (AreCutsCrossed (zone_in lists.entry)) (λ s. ArePieces
+        (zone_in lists.entry) 0 (table_count (zone_in lists.entry)) s.before s.pieces.items))
+        (λ e. e ≡ OutOfMemory) }
+{
     let count = table_count(lists);
     let mut pieces = Vec::with_capacity(alloc, lists.transitions.len() + count - 1)?;
     let mut latest = i64::MIN;
+    let mut before = segment_at(lists, 0);
     for place in 1..count {
-        let (first, last) = pieces_at(lists, place);
+        let behind = segment_at(lists, place);
+        let (first, last) = pieces_at(lists, place, before, behind, leapless);
         if first.start < latest {
             return Ok(None);
         }
-        pieces.push(first)?;
-        pieces.push(last)?;
+        pieces.push_reserved(first);
+        pieces.push_reserved(last);
         latest = last.start;
+        before = behind;
     }
     if count == lists.transitions.len() {
         let last_type = listed(lists.types, index_of_segment(lists, count - 1));
@@ -41,10 +98,10 @@ pub(super) fn pieces_in_one_pass(alloc: Global, lists: Lists) -> Result<Option<P
         if end < latest {
             return Ok(None);
         }
-        pieces.push(Piece {
+        pieces.push_reserved(Piece {
             start: end,
             answer: MappedLocalTime::None,
-        })?;
+        });
     }
     Ok(Some(Pieces {
         before: MappedLocalTime::Single(index_of_segment(lists, 0)),
@@ -52,23 +109,47 @@ pub(super) fn pieces_in_one_pass(alloc: Global, lists: Lists) -> Result<Option<P
     }))
 }
 
+/// The segment behind so many transitions.
+#[inline(always)]
+fn segment_at(lists: Lists, place: usize) -> Segment
+    requires valid { IsValid (zone_in lists) }
+    requires place { place ≤ length lists.transitions.now }
+    ensures { IsSegment (zone_in lists.entry) place result }
+{
+    let index = index_of_segment(lists, place);
+    let offset = listed(lists.types, index).offset() as i64;
+    Segment { index, offset }
+}
+
 /// The pieces at the transition between the segment at that place and the one before: in a gap
 /// neither shows the local time, in a fold both do.
-fn pieces_at(lists: Lists, place: usize) -> (Piece, Piece)
+#[inline(always)]
+fn pieces_at(
+    lists: Lists,
+    place: usize,
+    before: Segment,
+    behind: Segment,
+    leapless: bool,
+) -> (Piece, Piece)
     requires valid { IsValid (zone_in lists) }
     requires some { 0 < place }
     requires place { place < table_count (zone_in lists) }
+    requires before { IsSegment (zone_in lists) (place - 1) before }
+    requires behind { IsSegment (zone_in lists) place behind }
+    requires leapless { IsTrue leapless → IsLeapless lists.transitions.now lists.leaps.now }
     ensures { ArePiecesAt (zone_in lists.entry) place result.0 result.1 }
 {
-    let before = index_of_segment(lists, place - 1);
-    let behind = index_of_segment(lists, place);
-    let transition = start_of(lists.transitions, lists.leaps, place);
-    let end = cut_at(transition, listed(lists.types, before));
-    let start = cut_at(transition, listed(lists.types, behind));
+    let second = start_by(lists.transitions, lists.leaps, place, leapless);
+    let end = cut_by(second, before.offset, leapless);
+    let start = cut_by(second, behind.offset, leapless);
     let (first, answer, last) = if end <= start {
         (end, MappedLocalTime::None, start)
     } else {
-        (start, MappedLocalTime::Ambiguous(before, behind), end)
+        (
+            start,
+            MappedLocalTime::Ambiguous(before.index, behind.index),
+            end,
+        )
     };
     (
         Piece {
@@ -77,7 +158,55 @@ fn pieces_at(lists: Lists, place: usize) -> (Piece, Piece)
         },
         Piece {
             start: last,
-            answer: MappedLocalTime::Single(behind),
+            answer: MappedLocalTime::Single(behind.index),
         },
     )
+}
+
+/// Whether there are no leap seconds, and each transition is so far from the ends of 64 bits that
+/// its time takes an offset.
+fn is_leapless(transitions: &[Transition], leaps: &[LeapSecond]) -> bool
+    requires rising { AreRising transitions.now }
+    requires some { 0 < length transitions.now }
+    ensures { IsTrue result → IsLeapless transitions.now leaps.now }
+{
+    if !leaps.is_empty() {
+        return false;
+    }
+    let first = transitions[0].unix_leap_time;
+    let last = transitions[transitions.len() - 1].unix_leap_time;
+    -FAR <= first && last <= FAR
+}
+
+/// The first second at which so many transitions have come: without leap seconds that is the
+/// transition's own time.
+#[inline(always)]
+fn start_by(transitions: &[Transition], leaps: &[LeapSecond], count: usize, leapless: bool) -> i64
+    requires leaps { AreLeapSeconds leaps.now }
+    requires rising { AreRising transitions.now }
+    requires some { 0 < count }
+    requires count { count ≤ length transitions.now }
+    requires leapless { IsTrue leapless → IsLeapless transitions.now leaps.now }
+    ensures start { IsStart transitions.now leaps.now count result }
+    ensures far { IsTrue leapless → IsFarFromEnds result }
+{
+    if leapless {
+        transitions[count - 1].unix_leap_time
+    } else {
+        start_of(transitions, leaps, count)
+    }
+}
+
+/// What a clock at that offset shows at the second.
+#[inline(always)]
+fn cut_by(second: i64, offset: i64, leapless: bool) -> i64
+    requires offset { IsUtOffset offset }
+    requires far { IsTrue leapless → IsFarFromEnds second }
+    ensures { result ≡ saturate_signed w64 (second +ℤ offset) }
+{
+    if leapless {
+        second + offset
+    } else {
+        second.saturating_add(offset)
+    }
 }

@@ -1,17 +1,20 @@
-use Rattle.std.proofs.Common.{◌≡◌, ◌++◌, ◌∷◌, [], ◌∙◌, ap, refl, inl, List, arith, add-one, to_z-of_z, w64, rules}
+use Rattle.std.proofs.Common.{suc, ◌-◌, ◌≡◌, ◌++◌, ◌∷◌, [], ◌∙◌, ap, refl, inl, List, arith, add-one, to_z-of_z, w64, rules}
 use mir.Val.{SFits}
 use Rattle.std.proofs.lemmas.Int.{ints}
 use Rattle.tz_info.specs.Segments.{table_count}
 use Rattle.tz_info.specs.Steps.Pieces.{zone_in}
 use Rattle.tz_info.specs.declared.zone.pieces.Piece.{Piece}
 use Rattle.tz_info.proofs.OnePass.{open_first, open_more, table_most, within_table, first_cut, last_cut, latest_more, crossed_by}
-use Rattle.tz_info.proofs.zone.one_pass.pieces_in_one_pass.Goals as goal
-use Rattle.tz_info.proofs.zone.one_pass.pieces_in_one_pass.Goals.{then-count-lists+else-end-latest+in_ok-push-3, else-count-lists}
+use Rattle.tz_info.proofs.zone.one_pass.pieces_by.Goals as goal
+use Rattle.tz_info.proofs.zone.one_pass.pieces_by.Goals.{then-count-lists+else-end-latest, else-count-lists}
 
 pub loop-place-init : goal.loop-place-init
 loop-place-init c = record {
   pieces = rw c.in_ok-pieces.ensures.items (open_first (zone_in c.args.lists) _ c.requires.valid c.requires.some);
   latest = inl (refl, refl);
+  before = c.segment_at-before.ensures;
+  count = omega (arith, c.in_ok-pieces.ensures.len);
+  room = omega (arith, c.in_ok-pieces.ensures.exact);
 }
 
 pub loop-place-preserved : goal.loop-place-preserved
@@ -20,10 +23,13 @@ loop-place-preserved c =
     let fl : SFits w64 c.pieces_at.result.1.start = search rules in
     let count = c.table_count-count.ensures in
     let held = rw c.loop-place.latest-is at c.loop-place.invariant.pieces in
-    let out = c.in_ok-push-2.ensures.items ∙ ap (λ (ps : List Piece). ps ++ (c.pieces_at.result.1 ∷ [])) c.in_ok-push.ensures.items in
+    let out = c.push_reserved-in-loop-place.ensures.items ∙ ap (λ (ps : List Piece). ps ++ (c.pieces_at.result.1 ∷ [])) c.push_reserved.ensures.items in
     rw add-one (record {
       pieces = simp to_z-of_z (open_more (zone_in c.args.lists) c.loop-place.place _ c.loop-place.pieces.items _ c.loop-place.latest c.pieces_at.result.0 c.pieces_at.result.1 c.requires.valid (omega arith) (omega arith) held c.pieces_at.ensures (omega (arith, ints)) out);
       latest = simp to_z-of_z (latest_more (zone_in c.args.lists) c.loop-place.place c.pieces_at.result.1.start (omega arith) (last_cut (zone_in c.args.lists) c.loop-place.place c.pieces_at.result.0 c.pieces_at.result.1 c.pieces_at.ensures));
+      before = let one : suc c.loop-place.place - 1 ≡ c.loop-place.place = omega arith in rw one c.segment_at-behind.ensures;
+      count = omega (arith, c.push_reserved.ensures.len, c.push_reserved-in-loop-place.ensures.len);
+      room = omega (arith, c.push_reserved.ensures.capacity, c.push_reserved-in-loop-place.ensures.capacity);
     })
 
 pub returns-then-first-latest : goal.returns-then-first-latest
@@ -53,10 +59,10 @@ returns c =
     let until = c.loop-place.auto.place-end (omega arith) in
     let all : c.loop-place.place ≡ table_count (zone_in c.args.lists) = let far = c.loop-place-test.false in omega arith in
     elim c.if-count-lists.branch [
-      | then-count-lists+else-end-latest+in_ok-push-3 w ↦
+      | then-count-lists+else-end-latest w ↦
           let fe : SFits w64 w.cut_of-end.result = search rules in
           let here : c.table_count-count.result ≡ c.loop-place.place = omega arith in
           let has = rw (w.index_of_segment.ensures.index, here) at w.listed-last_type.ensures.listed in
-          rw (w.pieces-is, simp to_z-of_z at w.in_ok-push-3.ensures.items, c.index_of_segment-2.ensures.index) (rw all at (c.loop-place.invariant.pieces.closed (omega arith) w.listed-last_type.result.now w.cut_of-end.result has w.listed-last_type.ensures.offset (rw here at w.cut_of-end.ensures) (omega (arith, ints))))
+          rw (w.pieces-is, simp to_z-of_z at w.push_reserved-then-count-lists.ensures.items, c.index_of_segment-2.ensures.index) (rw all at (c.loop-place.invariant.pieces.closed (omega arith) w.listed-last_type.result.now w.cut_of-end.result has w.listed-last_type.ensures.offset (rw here at w.cut_of-end.ensures) (omega (arith, ints))))
       | else-count-lists w ↦ rw (w.pieces-is, c.index_of_segment-2.ensures.index) (rw all at (c.loop-place.invariant.pieces.whole (let rule = w.if-count-lists.false in omega arith)))
     ]
