@@ -4,7 +4,7 @@ use Rattle.std.proofs.lemmas.Bool.{cases_lt}
 use Rattle.std.proofs.lemmas.Int.{ints}
 use Rattle.std.proofs.lemmas.List.{length-map}
 use Rattle.tz_info.specs.Steps.Search.{AreOrdered, ArePassed}
-use Rattle.tz_info.specs.Transitions.{passed, AreRising, AreTransitions, Stands}
+use Rattle.tz_info.specs.Transitions.{passed, AreRising, Stands}
 use Rattle.tz_info.specs.declared.zone.transition.Transition.{Transition}
 use Rattle.tz_info.proofs.Prefixes.{filter_first, le_true, le_false, mapped_at}
 
@@ -50,8 +50,11 @@ pub record StandUntil (types : ℕ) (xs : List Transition) (n : ℕ) : Type 0 wh
   pub indexes : (k : ℕ) (d : Transition) → k < n → (get_or xs k d).type_index < types
   pub rising : (i j : ℕ) (d : Transition) → i < j → j < n → (get_or xs i d).unix_leap_time <ℤ (get_or xs j d).unix_leap_time
 
-pub stand_none : (types : ℕ) (xs : List Transition) → StandUntil types xs 0
-stand_none types xs = record { indexes = λ k d h. absurd (omega arith); rising = λ i j d h l. absurd (omega arith) }
+pub stand_less : (types : ℕ) (xs : List Transition) (n : ℕ) → 0 < n → StandUntil types xs (n + 1) → StandUntil types xs n × Stands types xs n
+stand_less types xs n some s = (
+  record { indexes = λ k d h. s.indexes k d (omega arith); rising = λ i j d h l. s.rising i j d h (omega arith) },
+  record { index = λ d. s.indexes n d (omega arith); later = λ d h. s.rising (n - 1) n d (omega arith) (omega arith) },
+)
 
 pub stand_more : (types : ℕ) (xs : List Transition) (n : ℕ) → StandUntil types xs n → Stands types xs n → StandUntil types xs (n + 1)
 stand_more types xs n s here = record {
@@ -66,16 +69,4 @@ stand_more types xs n s here = record {
           | inr m ↦ let f : i ≡ n - 1 = omega arith in rw (e, f) last
         ]
   ];
-}
-
-pub all_stand : (types : ℕ) (xs : List Transition) (n : ℕ) → length xs ≤ n → StandUntil types xs n → AreTransitions types xs
-all_stand types xs n h s = record {
-  indexes = λ k d l. s.indexes k d (omega arith);
-  rising = λ i j d l m. s.rising i j d l (omega arith);
-}
-
-pub one_stands : (types : ℕ) (xs : List Transition) (n : ℕ) → n < length xs → AreTransitions types xs → Stands types xs n
-one_stands types xs n h a = record {
-  index = λ d. a.indexes n d h;
-  later = λ d l. a.rising (n - 1) n d (omega arith) h;
 }

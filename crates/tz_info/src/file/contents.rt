@@ -25,10 +25,10 @@ pub fn read_transitions(
 {
     let mut transitions = Vec::with_capacity(alloc, type_indexes.len())?;
     for k in 0..type_indexes.len() {
-        transitions.push(Transition {
+        transitions.push_reserved(Transition {
             unix_leap_time: time_of(time_size, record_at(times, time_size, k)),
             type_index: type_indexes[k] as usize,
-        })?;
+        });
     }
     Ok(transitions)
 }
@@ -47,7 +47,7 @@ pub fn read_leap_seconds(
 {
     let mut leap_seconds = Vec::with_capacity(alloc, count)?;
     for k in 0..count {
-        leap_seconds.push(leap_second_of(time_size, record_at(part, time_size + 4, k)))?;
+        leap_seconds.push_reserved(leap_second_of(time_size, record_at(part, time_size + 4, k)));
     }
     Ok(leap_seconds)
 }

@@ -1,6 +1,6 @@
 //! Whether lists make a zone.
 
-ghost use Rattle.std.specs.Prelude.{◌≡◌, ◌+ℤ◌, ◌<◌, ◌≤ℤ◌, pos, length, IsTrue, ◌↔◌};
+ghost use Rattle.std.specs.Prelude.{◌≡◌, ◌+ℤ◌, ◌<◌, ◌≤ℤ◌, ◌<ℤ◌, pos, length, IsTrue, ◌↔◌};
 ghost use Rattle.tz_info.specs.Leaps.{IsOneStep, IsFirstLeap, IsNextLeap, AreLeapSeconds};
 ghost use Rattle.tz_info.specs.Transitions.{AreTransitions, Stands};
 ghost use Rattle.tz_info.specs.Zones.{IsValid, Agrees};
@@ -69,30 +69,52 @@ fn is_same_type(a: &LocalTimeType, b: &LocalTimeType) -> bool
     *a == *b
 }
 
-/// Whether a zone of so many types may have the transitions, in one pass over them.
+/// Whether a zone of so many types may have the transitions, in one pass over them. None is left
+/// out where one before it does not stand, so that the loop has no branch.
 fn are_transitions(type_count: usize, transitions: &[Transition]) -> bool
     ensures { IsTrue result ↔ AreTransitions type_count transitions.now }
 {
-    for i in 0..transitions.len() {
-        if !stands(type_count, transitions, i) {
-            return false;
-        }
+    if transitions.is_empty() {
+        return true;
     }
-    true
+    let mut all_stand = is_below(transitions[0].type_index, type_count);
+    for i in 1..transitions.len() {
+        all_stand = are_both(all_stand, stands(type_count, transitions, i));
+    }
+    all_stand
 }
 
 /// Whether the transition at that place names a type and comes later than the one before it.
 fn stands(type_count: usize, transitions: &[Transition], place: usize) -> bool
-    requires { place < length transitions.now }
+    requires some { 0 < place }
+    requires place { place < length transitions.now }
     ensures { IsTrue result ↔ Stands type_count transitions.now place }
 {
-    if transitions[place].type_index >= type_count {
-        return false;
-    }
-    if place == 0 {
-        return true;
-    }
-    transitions[place - 1].unix_leap_time < transitions[place].unix_leap_time
+    let before = transitions[place - 1];
+    let here = transitions[place];
+    are_both(
+        is_below(here.type_index, type_count),
+        is_before(before.unix_leap_time, here.unix_leap_time),
+    )
+}
+
+fn is_below(index: usize, count: usize) -> bool
+    ensures { IsTrue result ↔ (index < count) }
+{
+    index < count
+}
+
+fn is_before(a: i64, b: i64) -> bool
+    ensures { IsTrue result ↔ (a <ℤ b) }
+{
+    a < b
+}
+
+/// Both are looked at, and no branch is taken by the first.
+fn are_both(a: bool, b: bool) -> bool
+    ensures { IsTrue result ↔ (IsTrue a × IsTrue b) }
+{
+    a & b
 }
 
 /// Whether the entries may be those of a zone, in one pass over them.

@@ -1,6 +1,10 @@
-use Rattle.std.proofs.Common.{◌≡◌, Ok}
+use Rattle.std.proofs.Common.{◌≡◌, Ok, vec_len, vec_capacity}
 use Rattle.tz_info.specs.Steps.ContentReading.{values_below, leap_second_in}
 use Rattle.tz_info.proofs.file.contents.read_leap_seconds.Given as goal
 
 abbrev pub invariant-loop-k : goal.invariant-loop-k
-invariant-loop-k l = values_below l.k (leap_second_in l.time_size l.part) ≡ Ok l.leap_seconds.items
+invariant-loop-k l = record {
+  read : values_below l.k (leap_second_in l.time_size l.part) ≡ Ok l.leap_seconds.items;
+  count : vec_len l.leap_seconds ≡ l.k;
+  room : vec_capacity l.leap_seconds ≡ l.count;
+}

@@ -1,5 +1,6 @@
+use Rattle.std.proofs.Common.{IsTrue, ◌↔◌}
 use Rattle.tz_info.proofs.TableSearch.{StandUntil}
 use Rattle.tz_info.proofs.zone.valid.are_transitions.Given as goal
 
 abbrev pub invariant-loop-i : goal.invariant-loop-i
-invariant-loop-i l = StandUntil l.type_count l.transitions l.i
+invariant-loop-i l = IsTrue l.all_stand ↔ StandUntil l.type_count l.transitions l.i
