@@ -2,14 +2,17 @@
 -- That it is what the grammar derives is a law of each piece.
 use Rattle.std.specs.Prelude.{ℕ, ℤ, pos, ◌+ℤ◌, int_le, nat_lt, nat_le, Bool, true, false, not, ◌&&◌, ◌||◌, if◌then◌else◌, List, [], ◌∷◌, length, Result, Ok, Err, Some}
 use Rattle.std.specs.List.{list_all}
+use Rattle.offset_core.specs.Offset.{IsWithinDay}
 use Rattle.tz_info.specs.Fronts.{◌>>=◌, tag_at, optional_tag_at, int_at, run_of, after_run}
 use Rattle.tz_info.specs.Pieces.{plus, comma, minus, dot, slash, colon, less, greater, letter_J, letter_M, is_letter, is_not_greater, clock_max, date_max, day_max, seconds_of, time_limit}
 use Rattle.tz_info.specs.Names.{is_name_byte}
 use Rattle.tz_info.specs.LocalTypes.{LocalType}
-use Rattle.tz_info.specs.Rules.{Alternate}
+use Rattle.tz_info.specs.Rules.{Alternate, IsWithinWeek}
 use Rattle.tz_info.specs.declared.rule.day.DayForm.{DayForm}
 use Rattle.tz_info.specs.declared.rule.day.DayForm.TheVariants.{Julian1, Julian0, MonthWeekday}
 use Rattle.tz_info.specs.declared.rule.day.DayTime.{DayTime}
+use Rattle.tz_info.specs.declared.rule.reader.text.Spelled.{Spelled}
+use Rattle.tz_info.specs.declared.rule.reader.text.Spelled.TheVariants as spelled
 use Rattle.tz_info.specs.declared.rule.transition_rule.TransitionRule.{TransitionRule}
 use Rattle.tz_info.specs.declared.rule.transition_rule.TransitionRule.TheVariants as rules
 
@@ -130,6 +133,16 @@ day_time_of d = record { day = d.0; time = d.1 }
 
 abbrev pub alternate_of : LocalType → LocalType → DayForm × ℤ → DayForm × ℤ → Alternate
 alternate_of std dst start end = record { std = std; dst = dst; start = day_time_of start; end = day_time_of end }
+
+-- the rule that was spelled
+abbrev pub rule_of : Spelled → TransitionRule
+rule_of (spelled.Fixed t) = rules.Fixed t
+rule_of (spelled.Alternate std dst start end) = rules.Alternate (alternate_of std dst start end)
+
+-- and the limits that its offsets and times were read within
+abbrev pub IsSpelled : Spelled → Type 0
+IsSpelled (spelled.Fixed t) = Unit {0}
+IsSpelled (spelled.Alternate std dst start end) = IsWithinDay std.offset × IsWithinDay dst.offset × IsWithinWeek start.1 × IsWithinWeek end.1
 
 -- ---- the offset of daylight saving time
 unfoldable pub next_hour_of : ℤ → Result ℤ ℕ

@@ -17,7 +17,7 @@ mod text;
 use crate::cursor::Cursor;
 use crate::error::Error;
 use crate::rule::transition_rule::TransitionRule;
-use text::read_text;
+use text::{read_text, rule_of};
 
 impl TransitionRule {
     /// The rule that a TZ text spells, as `EST5EDT,M3.2.0,M11.1.0` (POSIX.1 section 8.3). With
@@ -51,5 +51,6 @@ pub(crate) fn read_all(bytes: &[u8], extended: bool) -> Result<TransitionRule, E
     ensures { (rest : List ℕ) × Gives (λ rule. (rule, rest)) result (text_at extended bytes.now) }
 {
     let mut cursor = Cursor::new(bytes);
-    read_text(extended, &mut cursor)
+    let spelled = read_text(extended, &mut cursor)?;
+    Ok(rule_of(spelled))
 }

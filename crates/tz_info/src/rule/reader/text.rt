@@ -4,7 +4,7 @@ ghost use Rattle.std.specs.Prelude.{◌≡◌, IfOk};
 ghost use Rattle.offset_core.specs.Offset.{IsWithinDay};
 ghost use Rattle.tz_info.specs.Fronts.{Gives};
 ghost use Rattle.tz_info.specs.Rules.{IsWithinWeek};
-ghost use Rattle.tz_info.specs.Steps.Readings.{is_end, more_at, end_at, next_hour_of, given_offset_at, dst_offset_at, named_type_of, fixed_at, alternate_at, days_at, named_types_of, rule_at, text_at, day_time_of, alternate_of};
+ghost use Rattle.tz_info.specs.Steps.Readings.{is_end, more_at, end_at, next_hour_of, given_offset_at, dst_offset_at, named_type_of, fixed_at, alternate_at, days_at, named_types_of, rule_at, text_at, day_time_of, alternate_of, rule_of, IsSpelled};
 
 use crate::cursor::Cursor;
 use crate::error::{Error, Expected};
@@ -16,10 +16,34 @@ use crate::rule::reader::date::read_day;
 use crate::rule::reader::name::read_name;
 use crate::rule::transition_rule::TransitionRule;
 
-/// The rule that all bytes of the cursor spell.
+/// What a text spells: one type, or two with the days and times at which the second starts and
+/// ends. The rule is made of it at the end, since it is large and each call would copy it.
+#[derive(Clone, Copy)]
+pub(super) enum Spelled {
+    Fixed(LocalTimeType),
+    Alternate(LocalTimeType, LocalTimeType, (RuleDay, i32), (RuleDay, i32)),
+}
+
+/// The rule that was spelled.
+#[inline(always)]
+pub(super) fn rule_of(spelled: Spelled) -> TransitionRule
+    requires { IsSpelled spelled }
+    ensures { result ≡ rule_of spelled }
+{
+    match spelled {
+        Spelled::Fixed(local) => TransitionRule::Fixed(local),
+        Spelled::Alternate(std, dst, start, end) => {
+            TransitionRule::Alternate(alternate(std, dst, start, end))
+        }
+    }
+}
+
+/// What all bytes of the cursor spell.
 #[tactic(auto, unfolding(crate::specs::Steps::Readings::text_at))]
-pub(super) fn read_text(extended: bool, cursor: &mut Cursor<'_>) -> Result<TransitionRule, Error>
-    ensures { Gives (λ rule. (rule, cursor.new)) result (text_at extended cursor.old) }
+pub(super) fn read_text(extended: bool, cursor: &mut Cursor<'_>) -> Result<Spelled, Error>
+    ensures value { Gives (λ spelled. (rule_of spelled, cursor.new)) result
+        (text_at extended cursor.old) }
+    ensures limits { IfOk result (λ spelled. IsSpelled spelled) }
 {
     let name = read_name(cursor)?;
     let offset = read_offset(cursor)?;
@@ -32,10 +56,11 @@ fn read_rule(
     name: &[u8],
     offset: i32,
     cursor: &mut Cursor<'_>,
-) -> Result<TransitionRule, Error>
+) -> Result<Spelled, Error>
     requires { IsWithinDay offset }
-    ensures { Gives (λ rule. (rule, cursor.new)) result
+    ensures value { Gives (λ spelled. (rule_of spelled, cursor.new)) result
         (rule_at extended name.now offset cursor.old) }
+    ensures limits { IfOk result (λ spelled. IsSpelled spelled) }
 {
     if is_at_end(cursor) {
         read_fixed(name, offset, cursor)
@@ -45,11 +70,13 @@ fn read_rule(
 }
 
 #[tactic(auto, unfolding(crate::specs::Steps::Readings::fixed_at))]
-fn read_fixed(name: &[u8], offset: i32, cursor: &mut Cursor<'_>) -> Result<TransitionRule, Error>
+fn read_fixed(name: &[u8], offset: i32, cursor: &mut Cursor<'_>) -> Result<Spelled, Error>
     requires { IsWithinDay offset }
-    ensures { Gives (λ rule. (rule, cursor.new)) result (fixed_at name.now offset cursor.old) }
+    ensures value { Gives (λ spelled. (rule_of spelled, cursor.new)) result
+        (fixed_at name.now offset cursor.old) }
+    ensures limits { IfOk result (λ spelled. IsSpelled spelled) }
 {
-    Ok(TransitionRule::Fixed(named_type(name, false, offset)?))
+    Ok(Spelled::Fixed(named_type(name, false, offset)?))
 }
 
 /// What follows the offset of standard time. The names are looked at last.
@@ -59,17 +86,18 @@ fn read_alternate(
     name: &[u8],
     offset: i32,
     cursor: &mut Cursor<'_>,
-) -> Result<TransitionRule, Error>
+) -> Result<Spelled, Error>
     requires { IsWithinDay offset }
-    ensures { Gives (λ rule. (rule, cursor.new)) result
+    ensures value { Gives (λ spelled. (rule_of spelled, cursor.new)) result
         (alternate_at extended name.now offset cursor.old) }
+    ensures limits { IfOk result (λ spelled. IsSpelled spelled) }
 {
     let dst_name = read_name(cursor)?;
     let dst_offset = read_dst_offset(offset, cursor)?;
     let (start, end) = read_days(extended, cursor)?;
     expect_end(cursor)?;
     let (std, dst) = named_types(name, offset, dst_name, dst_offset)?;
-    Ok(TransitionRule::Alternate(alternate(std, dst, start, end)))
+    Ok(Spelled::Alternate(std, dst, start, end))
 }
 
 /// The days when daylight saving time starts and ends, with their times.
