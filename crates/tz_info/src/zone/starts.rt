@@ -66,7 +66,7 @@ pub(super) fn start_of(transitions: &[Transition], leaps: &[LeapSecond], count: 
 }
 
 /// What a clock of that type shows at the second.
-pub(super) fn cut_at(second: i64, local_type: &LocalTimeType) -> i64
+fn cut_at(second: i64, local_type: &LocalTimeType) -> i64
     ensures offset { IsUtOffset local_type.now.offset }
     ensures sum { result ≡ saturate_signed w64 (second +ℤ local_type.now.offset) }
 {
