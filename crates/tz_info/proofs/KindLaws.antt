@@ -10,8 +10,9 @@ use Rattle.tz_info.specs.RuleDays.{IsRuleDay}
 use Rattle.tz_info.specs.RuleDayOf.{rule_day}
 use Rattle.tz_info.specs.Rules.{Alternate, IsAlternateRule}
 use Rattle.tz_info.specs.Moments.{moment, start_in, end_in}
-use Rattle.tz_info.specs.Steps.Kinds.{kind_place, second_in, seconds_by_kind, is_inside, is_calm, is_calm_kind, are_calm, margin_of}
+use Rattle.tz_info.specs.Steps.Kinds.{kind_place, second_in, seconds_by_kind, is_inside, is_calm, is_calm_kind, are_calm, margin_of, second_at}
 use Rattle.tz_info.specs.Steps.RuleDays.{julian_place, weekday_place, closed_day}
+use Rattle.tz_info.specs.Steps.KindPlaces.{place_by}
 use Rattle.tz_info.specs.declared.rule.day.DayTime.{DayTime}
 use Rattle.tz_info.specs.declared.rule.day.DayForm.{DayForm}
 use Rattle.tz_info.specs.declared.rule.day.DayForm.TheVariants.{Julian1, Julian0, MonthWeekday}
@@ -19,13 +20,6 @@ use Rattle.tz_info.proofs.RuleDays.{rule_day_closed}
 use Rattle.tz_info.proofs.ListLaws.{and_parts, one_true}
 use Rattle.tz_info.proofs.Prefixes.{le_true}
 use Rattle.tz_info.proofs.Neighbours.{IsNear, KeepsMargin, starts_near, ends_near, near_margin, le_false}
-
--- how many days of a year of that kind come before the rule's day
-unfoldable place_by : DayForm → Bool → ℕ → ℕ
-place_by (Julian1 n) leap first = julian_place leap n
-place_by (Julian0 n) leap first = n
-place_by (MonthWeekday month week weekday) leap first =
-    days_of_months leap (month - 1) + weekday_place (days_in_month leap month) ((first + days_of_months leap (month - 1)) % 7) week weekday
 
 first_of_month : (year : ℤ) (month : ℕ) → day_number year month 1 ≡ year_start year +ℤ pos (days_of_months (is_leap year) (month - 1))
 unfolding day_number
@@ -49,7 +43,7 @@ rule_day_by : (form : DayForm) (year : ℤ) → IsRuleDay form → rule_day form
 rule_day_by form year fits = rule_day_closed form year fits ∙ closed_day_by form year
 
 unfoldable second_by : DayTime → ℤ → Bool → ℕ → ℤ
-second_by t offset leap first = pos 86_400 *ℤ pos (place_by t.day leap first) +ℤ (t.time -ℤ offset)
+second_by t offset leap first = second_at t offset (place_by t.day leap first)
 
 second_is : (t : DayTime) (offset year : ℤ) → IsRuleDay t.day → second_in t offset year ≡ second_by t offset (is_leap year) (weekday_of (year_start year))
 unfolding moment second_by
@@ -57,6 +51,11 @@ second_is t offset year fits = let d = rule_day_by t.day year fits in omega (ari
 
 in_kind : (t : DayTime) (offset year : ℤ) (leap : Bool) (first : ℕ) → IsRuleDay t.day → is_leap year ≡ leap → weekday_of (year_start year) ≡ first → second_in t offset year ≡ second_by t offset leap first
 in_kind t offset year leap first fits e f = second_is t offset year fits ∙ ap (λ l. second_by t offset l (weekday_of (year_start year))) e ∙ ap (second_by t offset leap) f
+
+-- what is kept for a kind of years is the second in each year of that kind
+pub second_kept : (t : DayTime) (offset year : ℤ) (leap : Bool) (first place : ℕ) (second : ℤ) → IsRuleDay t.day → is_leap year ≡ leap → weekday_of (year_start year) ≡ first → place ≡ place_by t.day leap first → second ≡ second_at t offset place → second ≡ second_in t offset year
+unfolding second_by
+second_kept t offset year leap first place second fits e f g h = h ∙ ap (second_at t offset) g ∙ sym (in_kind t offset year leap first fits e f)
 
 kind_at : (t : DayTime) (offset : ℤ) (leap : Bool) (first : ℕ) (d : ℤ) → IsRuleDay t.day → first < 7 → get_or (seconds_by_kind t offset) (cond leap 7 0 + first) d ≡ second_by t offset leap first
 unfolding seconds_by_kind year_start

@@ -19,6 +19,7 @@ pub mod Gaps
 pub mod Search
 pub mod Looks
 pub mod Hints
+pub mod KindPlaces
 pub mod Kinds
 pub mod RuleDays
 pub mod Spans

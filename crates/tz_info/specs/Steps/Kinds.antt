@@ -1,5 +1,5 @@
 -- Kinds of years: a year is a leap year or not, and begins with one of the seven weekdays.
-use Rattle.std.specs.Prelude.{ℕ, ◌+◌, Bool, ◌&&◌, if◌then◌else◌, List, [], ◌∷◌, map, slice_index_or, ℤ, pos, neg_ℤ, ◌-ℤ◌, ◌*ℤ◌, int_le, int_lt}
+use Rattle.std.specs.Prelude.{ℕ, ◌+◌, Bool, ◌&&◌, if◌then◌else◌, List, [], ◌∷◌, map, slice_index_or, ℤ, pos, neg_ℤ, ◌-ℤ◌, ◌*ℤ◌, int_le, int_lt, ◌+ℤ◌}
 use Rattle.naive_base.specs.Year.{is_leap, year_start}
 use Rattle.naive_base.specs.Weekday.{weekday_of}
 use Rattle.tz_info.specs.Moments.{moment}
@@ -19,6 +19,10 @@ kind_years =
 -- the second, counted from the year's first, at which a clock at that offset shows the day's time
 abbrev pub second_in : DayTime → ℤ → ℤ → ℤ
 second_in t offset year = moment t offset year -ℤ pos 86_400 *ℤ year_start year
+
+-- that second where so many days of the year come before the day
+abbrev pub second_at : DayTime → ℤ → ℕ → ℤ
+second_at t offset place = pos 86_400 *ℤ pos place +ℤ (t.time -ℤ offset)
 
 -- that second in a year of each kind
 unfoldable pub seconds_by_kind : DayTime → ℤ → List ℤ

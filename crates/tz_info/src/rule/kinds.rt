@@ -1,16 +1,16 @@
 //! Kinds of years: a year is a leap year or not, and begins with one of the seven weekdays.
 //!
 //! A rule's moments, counted from the first second of their year, are the same in all years of a
-//! kind. They are found once in a year of each of the fourteen kinds, when the rule is made.
+//! kind. They are found once for each of the fourteen kinds, when the rule is made.
 
 ghost use Rattle.std.specs.Prelude.{◌≡◌, ◌+◌, ◌<◌, if◌then◌else◌, int_le, int_lt};
 ghost use Rattle.naive_base.specs.Year.{year_start, IsDay};
 ghost use Rattle.offset_core.specs.Offset.{IsWithinDay};
 ghost use Rattle.tz_info.specs.Rules.{IsWithinWeek};
-ghost use Rattle.tz_info.specs.Steps.Kinds.{kind_place, second_in, seconds_by_kind, is_inside, is_calm, is_calm_kind, are_calm, margin_of};
+ghost use Rattle.tz_info.specs.Steps.Kinds.{kind_place, second_in, seconds_by_kind, is_inside, is_calm, is_calm_kind, are_calm, margin_of, second_at};
 
 use crate::rule::day::DayTime;
-use naive_base::calendar::{is_leap_year, weekday_of, year_start};
+use naive_base::calendar::{is_leap_year, weekday_of};
 
 /// The place of the kind of the year that begins on that day: the common years that begin with
 /// Sunday to Saturday, and then the leap years.
@@ -42,32 +42,33 @@ impl DayTime {
         requires offset { IsWithinDay offset }
         ensures { result ≡ seconds_by_kind self.now offset }
     {
+        let places = self.day.places_by_kind();
         [
-            self.second_in(offset, 2017),
-            self.second_in(offset, 2018),
-            self.second_in(offset, 2013),
-            self.second_in(offset, 2014),
-            self.second_in(offset, 2015),
-            self.second_in(offset, 2010),
-            self.second_in(offset, 2011),
-            self.second_in(offset, 2012),
-            self.second_in(offset, 2024),
-            self.second_in(offset, 2008),
-            self.second_in(offset, 2020),
-            self.second_in(offset, 2004),
-            self.second_in(offset, 2016),
-            self.second_in(offset, 2000),
+            self.second_at(offset, places[0]),
+            self.second_at(offset, places[1]),
+            self.second_at(offset, places[2]),
+            self.second_at(offset, places[3]),
+            self.second_at(offset, places[4]),
+            self.second_at(offset, places[5]),
+            self.second_at(offset, places[6]),
+            self.second_at(offset, places[7]),
+            self.second_at(offset, places[8]),
+            self.second_at(offset, places[9]),
+            self.second_at(offset, places[10]),
+            self.second_at(offset, places[11]),
+            self.second_at(offset, places[12]),
+            self.second_at(offset, places[13]),
         ]
     }
 
-    /// The same in the year.
+    /// The same where so many days of the year come before the day.
     #[inline(always)]
-    fn second_in(&self, offset: i32, year: i32) -> i64
+    fn second_at(&self, offset: i32, place: u32) -> i64
         requires time { IsWithinWeek self.now.time }
         requires offset { IsWithinDay offset }
-        ensures { result ≡ second_in self.now offset year }
+        ensures { result ≡ second_at self.now offset place }
     {
-        self.moment(offset, year) - 86_400 * year_start(year)
+        86_400 * place as i64 + (self.time as i64 - offset as i64)
     }
 }
 
