@@ -169,7 +169,7 @@ one_all firsts lasts margin year u first last beside (other, from, before) =
 pub le_false : (a b : ℤ) → b <ℤ a → int_le a b ≡ false
 le_false a b h = grind (arith, ints)
 
-le_is : (a b : ℤ) → int_le a b ≡ true → a ≤ℤ b
+pub le_is : (a b : ℤ) → int_le a b ≡ true → a ≤ℤ b
 le_is a b h = grind (arith, ints)
 
 lt_is : (a b : ℤ) → int_le a b ≡ false → b <ℤ a

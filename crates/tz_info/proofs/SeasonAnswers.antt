@@ -1,5 +1,5 @@
 -- The answer of two seconds at which a season's moments decide.
-use Rattle.std.proofs.Common.{arith, ◌≡◌, sym, refl, Bool, true, false, cond, not, ◌+◌, length, ℤ, ◌-ℤ◌, ◌<ℤ◌, inl, inr, ⊎_elim, Some, FitsSigned}
+use Rattle.std.proofs.Common.{int_le, ◌&&◌, ◌≤ℤ◌, arith, ◌≡◌, sym, refl, Bool, true, false, cond, not, ◌+◌, length, ℤ, ◌-ℤ◌, ◌<ℤ◌, inl, inr, ⊎_elim, Some, FitsSigned}
 use Rattle.std.specs.Int.{w64}
 use Rattle.std.proofs.lemmas.Int.{ints}
 use Rattle.naive_base.specs.Range.{IsWide}
@@ -13,10 +13,14 @@ use Rattle.tz_info.specs.Rules.{Alternate as AlternateRule}
 use Rattle.tz_info.specs.RuleTypes.{RuleAt}
 use Rattle.tz_info.specs.Segments.{segment_of}
 use Rattle.tz_info.specs.Steps.Answers.{joined, shown_if}
-use Rattle.tz_info.specs.Steps.Walk.{TypeIn, IsShownIn, IsAskedLast}
+use Rattle.tz_info.specs.Steps.Seasons.{IsDecidedIn}
+use Rattle.tz_info.specs.Steps.Walk.{TypeIn, IsShownIn, IsAskedLast, IsAmidSeason}
+use Rattle.tz_info.specs.declared.rule.alternate.Season.{Season}
 use Rattle.tz_info.specs.Zones.{Zone, IsValid}
 use Rattle.tz_info.specs.declared.rule.transition_rule.TransitionRule.{TransitionRule}
 use Rattle.tz_info.specs.declared.rule.transition_rule.TransitionRule.TheVariants.{Alternate}
+use Rattle.tz_info.proofs.ListLaws.{and_parts}
+use Rattle.tz_info.proofs.Neighbours.{le_is}
 use Rattle.tz_info.proofs.WallSegments.{near_of}
 use Rattle.tz_info.proofs.WalkLaws.{one_of_both, asked_both, asked_there, asked_other}
 
@@ -89,3 +93,9 @@ std_first z l a b c before valid is less differ std dst at_std at_dst seen =
     (one_of_both z l a valid is)
     (asked_if z l (Alternate a) (not b) a.std a.dst before valid is std.near std.behind std.fits (λ e. differ (sym e)) (std_shown a (l -ℤ a.std.offset) b at_std))
     (asked_if z l (Alternate a) c a.dst a.std one valid is dst.near dst.behind dst.fits differ (dst_shown a (l -ℤ a.dst.offset) c at_dst)) seen)
+
+-- the test of one second
+pub amid_by : (z : Zone) (s : Season) (u from : ℤ) (decides : Bool) → (decides ≡ true → IsDecidedIn s u) → (from ≤ℤ u → segment_of z u ≡ length z.transitions) → (int_le from u && decides) ≡ true → IsAmidSeason z s u
+amid_by z s u from decides decided behind t =
+    let both = and_parts (int_le from u) decides t in
+    record { decided = decided both.1; behind = behind (le_is from u both.0) }

@@ -131,10 +131,7 @@ impl TimeZone {
     {
         let _types = self.local_time_types();
         let second = local - offset as i64;
-        if second < self.index.rule_from() {
-            return false;
-        }
-        season.decides(second)
+        (self.index.rule_from() <= second) & season.decides(second)
     }
 
     /// Whether that holds at both offsets.
@@ -144,7 +141,7 @@ impl TimeZone {
         ensures { IsTrue result → IsAmidSeason self.now season (local -ℤ standard)
             × IsAmidSeason self.now season (local -ℤ daylight) }
     {
-        self.is_amid(season, local, standard) && self.is_amid(season, local, daylight)
+        self.is_amid(season, local, standard) & self.is_amid(season, local, daylight)
     }
 
     /// Asks the rule of two types for the two seconds that could show the local time, where the

@@ -4,6 +4,7 @@ use Rattle.std.proofs.lemmas.Int.{ints}
 use Rattle.tz_info.specs.Leaps.{IsNear}
 use Rattle.tz_info.specs.WallPieces.{IsStart}
 use Rattle.tz_info.proofs.WallSegments.{rule_begun}
+use Rattle.tz_info.proofs.SeasonAnswers.{amid_by}
 use Rattle.tz_info.proofs.zone.time_zone.TimeZone.is_amid.Goals as goal
 
 pub returns : goal.returns
@@ -19,7 +20,5 @@ returns c =
     let low = c.requires.0 in let high = c.requires.1 in
     let near : IsNear (c.args.local -ℤ c.args.offset) = (omega (arith, ints), omega (arith, ints)) in
     let decides = simp to_z-of_z at c.decides.ensures in
-    λ (t : c.decides.result ≡ true). record {
-      decided = decides.0 t;
-      behind = (rule_begun c.args.self.now (c.args.local -ℤ c.args.offset) c.self.inside.index.rule_from valid near begun).1 (omega (arith, ints));
-    }
+    let begins = (rule_begun c.args.self.now (c.args.local -ℤ c.args.offset) c.self.inside.index.rule_from valid near begun).1 in
+    simp to_z-of_z (amid_by c.args.self.now c.args.season (c.args.local -ℤ c.args.offset) c.rule_from.result c.decides.result decides.0 (λ h. begins (rw from at h)))
