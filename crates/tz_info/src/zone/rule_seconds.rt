@@ -122,8 +122,8 @@ impl TimeZone {
         local - (offset as i64) < self.index.rule_from()
     }
 
-    /// Whether the rule is asked at the second at which a clock at that offset shows the local time,
-    /// and the season's moments decide there.
+    /// Whether the rule is asked at the second at which a clock at that offset shows the local
+    /// time, and the season's moments decide there.
     #[inline(always)]
     fn is_amid(&self, season: Season, local: i64, offset: i32) -> bool
         requires { IsWide local }
