@@ -11,7 +11,7 @@ use Rattle.tz_info.specs.RuleDayOf.{rule_day}
 use Rattle.tz_info.specs.Rules.{Alternate, IsAlternateRule}
 use Rattle.tz_info.specs.Moments.{moment, start_in, end_in}
 use Rattle.tz_info.specs.Steps.Kinds.{kind_place, second_in, seconds_by_kind, is_inside, is_calm, is_calm_kind, are_calm, margin_of, second_at}
-use Rattle.tz_info.specs.Steps.RuleDays.{julian_place, weekday_place, closed_day}
+use Rattle.tz_info.specs.Steps.RuleDays.{weekday_place, closed_day}
 use Rattle.tz_info.specs.Steps.KindPlaces.{place_by}
 use Rattle.tz_info.specs.declared.rule.day.DayTime.{DayTime}
 use Rattle.tz_info.specs.declared.rule.day.DayForm.{DayForm}

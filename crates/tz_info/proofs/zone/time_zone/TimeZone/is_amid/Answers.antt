@@ -1,4 +1,4 @@
-use Rattle.std.proofs.Common.{arith, ◌≡◌, true, ◌-ℤ◌, length, w64, rules, to_z-of_z}
+use Rattle.std.proofs.Common.{arith, ◌-ℤ◌, length, w64, rules, to_z-of_z}
 use mir.Val.{SFits}
 use Rattle.std.proofs.lemmas.Int.{ints}
 use Rattle.tz_info.specs.Leaps.{IsNear}
