@@ -121,7 +121,7 @@ impl TimeZone {
     /// # Errors
     ///
     /// [`Error::TimeZone`] if the lists are otherwise; [`Error::OutOfMemory`] if there is no memory
-    /// for the zone's index.
+    /// for the zone's index and hints.
     pub fn new(
         alloc: Global,
         transitions: Vec<Transition>,
