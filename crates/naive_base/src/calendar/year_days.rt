@@ -8,7 +8,7 @@ ghost use Rattle.naive_base.specs.Year.{is_leap, year_start, IsDay};
 use super::years::{days_since_january, place_of};
 
 /// A day in its year.
-#[derive(Clone, Copy, Debug, PartialEq, Eq)]
+#[derive(Clone, Copy, Debug)]
 pub struct YearDay {
     /// How many days of the year come before the day, from 0.
     pub day_of_year: u32,
