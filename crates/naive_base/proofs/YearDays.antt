@@ -1,7 +1,7 @@
 -- What tells a year's calendar, by centuries and years behind a January.
 use Rattle.std.proofs.Common.{◌≡◌, ◌∙◌, sym, refl, ℕ, ◌+◌, ◌*◌, ◌/◌, ◌%◌, ◌<◌, arith, ◌==◌, Bool, true, false, not, ◌&&◌, ◌||◌, inl, inr, ℤ, pos, ◌+ℤ◌, ◌-ℤ◌}
 use Rattle.std.proofs.lemmas.Bool.Decides.{eqb_tells}
-use Rattle.naive_base.specs.Year.{is_leap, floor_mod, year_start, LiesIn}
+use Rattle.naive_base.specs.Year.{is_leap, floor_mod, year_start}
 use Rattle.naive_base.specs.DateOf.{year_of}
 use Rattle.naive_base.specs.Steps.Cycle.{days_of_years}
 use Rattle.naive_base.specs.Weekday.{weekday_of}

@@ -9,6 +9,7 @@ ghost use Rattle.naive_base.specs.declared.months_days.Months.{Months as AnyMont
 ghost use Rattle.naive_base.specs.declared.months_days.Days.{Days as AnyDays};
 ghost use Rattle.naive_base.specs.declared.weekday.Weekday.{Weekday as AnyWeekday};
 ghost use Rattle.naive_base.specs.declared.iso_week.IsoWeek.{IsoWeek as AnyWeek};
+ghost use Rattle.naive_base.specs.declared.calendar.year_days.YearDay.{YearDay as AnyYearDay};
 ghost use Rattle.naive_base.specs.Reading.{IsEarlier, IsEarlierTime};
 ghost use Rattle.naive_base.specs.NaiveDate.{day_of};
 ghost use Rattle.naive_base.specs.NaiveTime.{second_of, fraction_of};
@@ -17,6 +18,7 @@ ghost use Rattle.naive_base.specs.Months.{months_of, days_of};
 ghost use Rattle.naive_base.specs.Weekday.{weekday_number};
 ghost use Rattle.naive_base.specs.IsoWeek.{iso_year, iso_number};
 
+use crate::calendar::YearDay;
 use crate::{Days, IsoWeek, Months, NaiveDate, NaiveDateTime, NaiveTime, Weekday};
 use std::hash::Hash;
 
@@ -102,4 +104,9 @@ pub fn iso_weeks()
     ensures hashed { (a : AnyWeek) → ⟦<IsoWeek as Hash>⟧.hash_input a
         ≡ fed.i32 (iso_year a) ++ fed.u32 (iso_number a) }
     ensures cloned { (a b : AnyWeek) → ⟦<IsoWeek as Clone>⟧.is_clone a b ↔ (a ≡ b) }
+{}
+
+/// A clone of a day's place in its year is that place.
+pub fn year_days()
+    ensures { (a b : AnyYearDay) → ⟦<YearDay as Clone>⟧.is_clone a b ↔ (a ≡ b) }
 {}

@@ -1,4 +1,4 @@
-use Rattle.std.proofs.Common.{arith, to_z-of_z, ◌∙◌, sym, ◌+◌, ◌*◌}
+use Rattle.std.proofs.Common.{arith, ◌∙◌, sym, ◌+◌, ◌*◌}
 use Rattle.naive_base.specs.DateOf.{year_of}
 use Rattle.naive_base.proofs.Floor.{floors}
 use Rattle.naive_base.proofs.Dates.{place_found}
