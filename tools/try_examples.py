@@ -1,23 +1,32 @@
 #!/usr/bin/env python3
-"""Builds the programs of examples/ over the static library, runs them, and compares what they print with Python's zoneinfo.
+"""Tries the calls for C: the programs of examples/ over the static library, and the header beside it.
 
 usage: tools/try_examples.py [ZONEINFO]
 
 ZONEINFO is a tz database (/usr/share/zoneinfo). It needs crates/zoned_ffi/out/libzoned_ffi.a, which `rt lib` builds in
-crates/zoned_ffi, and gcc, rustc and python3. A program is built and run by the two lines in its head. It takes a few seconds,
-and is no part of the gate. Ends with status 1 where a program prints anything else.
+crates/zoned_ffi, and gcc, rustc and python3. Three things are tried:
+
+- each program of examples/ is built and run by the two lines in its head, and what it prints is compared with Python's
+  zoneinfo: zones.c, zones.rs and zones.py on files, rule.c on TZ texts;
+- each call that the header declares is called by a program of examples/, and defined in the archive;
+- tools/header_pins.c, which pins the header's sizes, places and numbers, compiles, and finds them in the archive's answers.
+
+It takes a few seconds. The gate runs it. Ends with status 1 where anything differs.
 """
 
+import re
+import struct
 import subprocess
 import sys
 import tempfile
 from datetime import datetime, timedelta
+from io import BytesIO
 from pathlib import Path
 from zoneinfo import ZoneInfo
 
 TOP = Path(__file__).resolve().parent.parent
 # Each program, and what the line in its head makes.
-BUILT = {"zones.c": "./zones_c", "zones.rs": "./zones_rs", "zones.py": "./libzoned_ffi.so"}
+BUILT = {"zones.c": "./zones_c", "zones.rs": "./zones_rs", "zones.py": "./libzoned_ffi.so", "rule.c": "./rule_c"}
 ZONES = ["America/New_York", "Europe/London", "Asia/Tehran", "America/Sao_Paulo", "Pacific/Apia", "Antarctica/Troll"]
 EPOCH = datetime(1970, 1, 1)
 DAY = 86_400
@@ -26,6 +35,11 @@ TRANSITIONS = [1_615_705_200, 1_636_264_800, 1_616_893_200, 1_325_239_200]
 SECONDS = [second + 1800 * half_hours for second in TRANSITIONS for half_hours in range(-30, 31)]
 SECONDS += [97 * DAY * step + 7 * step for step in range(-200, 200)]
 REFUSED = [(b"TZif", 7), (b"not a file", 5)]
+TEXTS = ["EST5EDT,M3.2.0,M11.1.0", "<-03>3", "LHST-10:30LHDT-11,M10.1.0,M4.1.0", "IST-1GMT0,M10.5.0,M3.5.0/1", "UTC0"]
+REFUSED_TEXTS = [("EST5EDT", 15), ("FOO25", 6), ("5", 3)]
+HEADER = TOP / "crates/zoned_ffi/include/zoned_ffi.h"
+ARCHIVE = TOP / "crates/zoned_ffi/out/libzoned_ffi.a"
+PINS = TOP / "tools/header_pins.c"
 
 
 def recipe(name):
@@ -61,45 +75,117 @@ def expected(zone):
         yield f"wall clock {second}: {words.format(*told)}"
 
 
+def told_by_rule(line):
+    """A line of what zones.c prints as rule.c prints it: offsets alone."""
+    line = re.sub(r"at -?\d+ \((-?\d+)\)", r"by \1", line)
+    return line
+
+
+def zone_of_text(text):
+    """The zone of a TZ text for zoneinfo: a TZif file of version 2 without transitions, whose footer is the text."""
+    counts = struct.pack(">6L", 0, 0, 0, 0, 1, 4)
+    block = b"TZif2" + bytes(15) + counts + struct.pack(">lBB", 0, 0, 0) + b"UTC\0"
+    return ZoneInfo.from_file(BytesIO(block + block + b"\n" + text.encode() + b"\n"))
+
+
 def run(command):
     return subprocess.run(command, cwd=TOP, capture_output=True, text=True)
 
 
-def complaints(name, database, folder):
+def built(name, folder):
+    """The words that start a program of examples/, once the lines in its head have built it and run it; or a complaint."""
     build, line = (each.replace(BUILT[name], str(folder / name)) for each in recipe(name))
-    built = run(["sh", "-c", build])
-    if built.returncode:
-        yield f"{name} is not built: {built.stderr}"
-        return
-    start = [word for word in line.split() if "zoneinfo" not in word and not word.isdigit()]
+    made = run(["sh", "-c", build])
+    if made.returncode:
+        return None, f"{name} is not built: {made.stderr}"
     ran = run(["sh", "-c", line])
     if ran.returncode:
-        yield f"{name}: the line in its head ends with status {ran.returncode}: {ran.stderr}"
+        return None, f"{name}: the line in its head ends with status {ran.returncode}: {ran.stderr}"
+    given = ("/usr/share/zoneinfo", *TEXTS)
+    return [word for word in line.split() if not word.startswith(given) and not word.isdigit()], None
+
+
+def differences(name, what, command, lines):
+    printed = run(command).stdout.splitlines()
+    for ours, theirs in zip(printed, lines):
+        if ours != theirs:
+            yield f"{name}, {what}: {ours}, and zoneinfo: {theirs}"
+    if len(printed) != len(lines):
+        yield f"{name}, {what}: {len(printed)} lines of {len(lines)}"
+
+
+def unrefused(name, what, command, number):
+    ended = run(command)
+    if ended.returncode != 1 or f"is refused: {number}" not in ended.stderr:
+        yield f"{name}: {what} ends with {ended.returncode}: {ended.stderr}"
+
+
+def complaints_of_files(name, database, folder):
+    start, complaint = built(name, folder)
+    if complaint:
+        yield complaint
+        return
     for zone in ZONES:
         path = database / zone
         with path.open("rb") as file:
             lines = list(expected(ZoneInfo.from_file(file)))
-        printed = run([*start, str(path), *map(str, SECONDS)]).stdout.splitlines()
-        for ours, theirs in zip(printed, lines):
-            if ours != theirs:
-                yield f"{name}, {zone}: {ours}, and zoneinfo: {theirs}"
-        if len(printed) != len(lines):
-            yield f"{name}, {zone}: {len(printed)} lines of {len(lines)}"
+        yield from differences(name, zone, [*start, str(path), *map(str, SECONDS)], lines)
     for bytes_, number in REFUSED:
         (folder / "refused").write_bytes(bytes_)
-        ended = run([*start, str(folder / "refused"), "0"])
-        if ended.returncode != 1 or f"is refused: {number}" not in ended.stderr:
-            yield f"{name}: {bytes_} ends with {ended.returncode}: {ended.stderr}"
+        yield from unrefused(name, bytes_, [*start, str(folder / "refused"), "0"], number)
+
+
+def complaints_of_texts(name, folder):
+    start, complaint = built(name, folder)
+    if complaint:
+        yield complaint
+        return
+    for text in TEXTS:
+        lines = [told_by_rule(line) for line in expected(zone_of_text(text))]
+        yield from differences(name, text, [*start, text, *map(str, SECONDS)], lines)
+    for text, number in REFUSED_TEXTS:
+        yield from unrefused(name, text, [*start, text, "0"], number)
+
+
+def complaints_of_header(folder):
+    """What is amiss between the header, the archive and the programs."""
+    text = re.sub(r"/\*.*?\*/", "", HEADER.read_text(), flags=re.S)
+    declared = set(re.findall(r"^uint32_t (\w+)\(", text, re.M))
+    defined = set(re.findall(r" T (zoned_\w+)$", run(["nm", str(ARCHIVE)]).stdout, re.M))
+    called = {call for name in BUILT for call in re.findall(r"\bzoned_\w+(?=\()", (TOP / "examples" / name).read_text())}
+    if not declared:
+        yield f"{HEADER.name} declares no call"
+    for call in sorted(declared - defined):
+        yield f"{call} is declared in the header, and the archive has no such call"
+    for call in sorted(defined - declared):
+        yield f"{call} is in the archive, and the header doesn't declare it"
+    for call in sorted(declared - called):
+        yield f"{call} is called by no program of examples/"
+    kit = Path(run(["rt", "doc"]).stdout.strip()).parent
+    pins = folder / "pins"
+    libraries = [str(ARCHIVE), str(kit / "c/liblibc_c.a")]
+    made = run(["gcc", "-O2", "-Wall", "-Wextra", "-Werror", "-o", str(pins), str(PINS), *libraries])
+    if made.returncode:
+        yield f"{PINS.name} is not built: {made.stderr}"
+        return
+    ended = run([str(pins)])
+    if ended.returncode:
+        yield f"{PINS.name} ends with {ended.returncode}: {ended.stderr}"
 
 
 def main():
     database = Path(sys.argv[1] if len(sys.argv) > 1 else "/usr/share/zoneinfo")
     failed = False
     with tempfile.TemporaryDirectory() as folder:
-        for name in BUILT:
-            found = list(complaints(name, database, Path(folder)))
+        room = Path(folder)
+        tried = [(f"{name}: {len(ZONES) * len(SECONDS)} questions of each kind", complaints_of_files(name, database, room))
+                 for name in BUILT if name != "rule.c"]
+        tried.append((f"rule.c: {len(TEXTS) * len(SECONDS)} questions of each kind", complaints_of_texts("rule.c", room)))
+        tried.append(("the header and its pins", complaints_of_header(room)))
+        for what, complaints in tried:
+            found = list(complaints)
             failed = failed or bool(found)
-            print(f"{name}: {len(ZONES) * len(SECONDS)} questions of each kind, {len(found)} differences")
+            print(f"{what}: {len(found)} differences")
             for each in found[:10]:
                 print("  " + each)
     sys.exit(failed)

@@ -11,7 +11,7 @@ use std::alloc::{AllocError, Global};
 use std::test::Fail;
 use zoned_vectors::vectors::{GUAYAQUIL, HONOLULU, JERUSALEM};
 
-/// What comes of the file when that byte stands in each place in turn.
+// What comes of the file when that byte stands in each place in turn.
 fn answers(alloc: Global, file: &[u8], other: u8) -> Result<String, AllocError> {
     let mut answers = String::new(alloc);
     for place in 0..file.len() {

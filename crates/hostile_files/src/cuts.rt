@@ -6,7 +6,7 @@ use std::process::Abort;
 use std::test::Fail;
 use zoned_vectors::vectors::{GUAYAQUIL, HONOLULU, JERUSALEM};
 
-/// The first so many bytes of the file are refused with that number; 0 says that they are a zone's.
+// The first so many bytes of the file are refused with that number; 0 says that they are a zone's.
 fn cut(rt: &impl Abort, alloc: Global, file: &[u8], len: usize, number: u8) {
     match file.get(..len) {
         Some(beginning) => assert_eq!(rt; refusal(alloc, beginning), number, "{len} bytes"),
@@ -26,7 +26,7 @@ fn beginnings_of_version_1(rt: HostRuntime) -> Result<(), Fail> {
     Ok(())
 }
 
-/// The footer may be a newline alone: then there is no rule.
+// The footer may be a newline alone: then there is no rule.
 #[test]
 fn beginnings_of_version_2(rt: HostRuntime) -> Result<(), Fail> {
     let alloc = rt.alloc();

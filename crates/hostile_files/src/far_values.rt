@@ -8,7 +8,7 @@ use std::process::Abort;
 use std::test::Fail;
 use tz_info::{Error, LeapSecond, LocalTimeType, TimeZone, Transition};
 
-/// The zone of those transitions, types of those offsets and leap seconds, without a rule.
+// The zone of those transitions, types of those offsets and leap seconds, without a rule.
 fn zone(
     alloc: Global,
     transitions: &[Transition],
@@ -23,7 +23,7 @@ fn zone(
     TimeZone::new(alloc, transitions, types, leaps, None)
 }
 
-/// The offset in force at a Unix time.
+// The offset in force at a Unix time.
 fn at(rt: &impl Abort, zone: &TimeZone, unix_time: i64) -> i32 {
     match zone.find_local_time_type(unix_time) {
         Ok(local_type) => local_type.offset(),
@@ -31,7 +31,7 @@ fn at(rt: &impl Abort, zone: &TimeZone, unix_time: i64) -> i32 {
     }
 }
 
-/// The offsets at which the clocks show a reading.
+// The offsets at which the clocks show a reading.
 fn wall(rt: &impl Abort, zone: &TimeZone, local: NaiveDateTime) -> LocalResult<i32> {
     match zone.find_local_time_type_from_local(local) {
         Ok(types) => types.map(|local_type| local_type.offset()),
@@ -39,7 +39,7 @@ fn wall(rt: &impl Abort, zone: &TimeZone, local: NaiveDateTime) -> LocalResult<i
     }
 }
 
-/// So many seconds after 1970 began.
+// So many seconds after 1970 began.
 fn second(rt: &impl Abort, seconds: i64) -> NaiveDateTime {
     let Some(length) = TimeDelta::try_seconds(seconds) else {
         panic!(rt; "no length {seconds}");
@@ -50,13 +50,13 @@ fn second(rt: &impl Abort, seconds: i64) -> NaiveDateTime {
     }
 }
 
-/// The clocks show that second at these offsets.
+// The clocks show that second at these offsets.
 fn shown(rt: &impl Abort, zone: &TimeZone, seconds: i64, answer: LocalResult<i32>) {
     let local = second(rt, seconds);
     assert_eq!(rt; wall(rt, zone, local), answer, "{seconds}");
 }
 
-/// 68 years east, and then 68 years west: all that lies between is shown twice.
+// 68 years east, and then 68 years west: all that lies between is shown twice.
 #[test]
 fn the_farthest_offsets(rt: HostRuntime) -> Result<(), Fail> {
     let (east, west) = (i32::MAX, -i32::MAX);
@@ -101,8 +101,8 @@ fn transitions_at_the_ends_of_time(rt: HostRuntime) -> Result<(), Fail> {
     Ok(())
 }
 
-/// A leap second is taken away: 78796799 and 78796800 have one leap time, and the change comes a
-/// second later.
+// A leap second is taken away: 78796799 and 78796800 have one leap time, and the change comes a
+// second later.
 #[test]
 fn a_leap_second_taken_away(rt: HostRuntime) -> Result<(), Fail> {
     let change = Transition::new(78_796_800, 1);
@@ -117,7 +117,7 @@ fn a_leap_second_taken_away(rt: HostRuntime) -> Result<(), Fail> {
     Ok(())
 }
 
-/// So many zeros, and a five.
+// So many zeros, and a five.
 fn five(alloc: Global, zeros: usize) -> Result<String, AllocError> {
     let mut text = String::new(alloc);
     for _ in 0..zeros {

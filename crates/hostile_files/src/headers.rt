@@ -8,8 +8,8 @@ use std::test::Fail;
 
 const MOST: u32 = u32::MAX;
 
-/// A header of version 1 with those counts: of UT and of standard time indicators, leap seconds,
-/// transitions, types and bytes of designations.
+// A header of version 1 with those counts: of UT and of standard time indicators, leap seconds,
+// transitions, types and bytes of designations.
 fn header(alloc: Global, counts: [u32; 6]) -> Result<Vec<u8>, AllocError> {
     let mut header = b"TZif\0\0\0\0\0\0\0\0\0\0\0\0\0\0\0\0".to_vec(alloc)?;
     for count in counts {
@@ -18,7 +18,7 @@ fn header(alloc: Global, counts: [u32; 6]) -> Result<Vec<u8>, AllocError> {
     Ok(header)
 }
 
-/// The header with those counts and nothing behind it is refused with that number.
+// The header with those counts and nothing after it is refused with that number.
 fn alone(rt: &impl Abort, alloc: Global, counts: [u32; 6], number: u8) -> Result<(), AllocError> {
     let header = header(alloc, counts)?;
     assert_eq!(rt; header.len(), 44);

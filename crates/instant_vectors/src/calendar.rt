@@ -95,7 +95,7 @@ fn years_by_what_clocks_show(rt: HostRuntime) {
     assert_eq!(rt; whole_years(&rt, &zone, 1_636_265_400, 1_636_263_000), None);
 }
 
-/// An instant with the offset that the zone has at another one, and another minute.
+// An instant with the offset that the zone has at another one, and another minute.
 fn astray_at_minute<Tz: TimeZone>(
     rt: &impl Abort,
     zone: &Tz,

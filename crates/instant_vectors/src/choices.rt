@@ -19,7 +19,7 @@ fn clock(rt: &impl Abort, date: (i32, u32, u32), hour: u32, minute: u32) -> Naiv
     date.and_hms_opt(hour, minute, 0).expect(rt, "a time")
 }
 
-/// The Unix time and the offset of the instant that is taken, or the number of the refusal.
+// The Unix time and the offset of the instant that is taken, or the number of the refusal.
 fn taken<Tz: TimeZone>(
     zone: &Tz,
     local: &NaiveDateTime,
@@ -32,7 +32,7 @@ fn taken<Tz: TimeZone>(
     }
 }
 
-/// The Unix time of an item, or the number of the refusal.
+// The Unix time of an item, or the number of the refusal.
 fn item<Tz: TimeZone>(item: Result<DateTime<Tz>, SeriesError>) -> Result<i64, u8> {
     match item {
         Ok(instant) => Ok(instant.timestamp()),
@@ -77,7 +77,7 @@ fn a_fold_in_new_york(rt: HostRuntime) {
     assert_eq!(rt; refused, Err(22));
 }
 
-/// Start and end change their order at the new year of UTC, where the clocks are set forward.
+// Start and end change their order at the new year of UTC, where the clocks are set forward.
 #[test]
 fn a_gap_at_a_new_year(rt: HostRuntime) {
     let text = "AAA0BBB,M1.1.0/0,J4/0";
@@ -98,7 +98,7 @@ fn local_type(rt: &impl Abort, offset: i32) -> LocalTimeType {
     }
 }
 
-/// Two changes a leap second apart come at one Unix second, and their gaps are one.
+// Two changes a leap second apart come at one Unix second, and their gaps are one.
 #[test]
 fn a_gap_at_a_leap_second(rt: HostRuntime) -> Result<(), Fail> {
     let alloc = rt.alloc();
@@ -123,8 +123,8 @@ fn a_gap_at_a_leap_second(rt: HostRuntime) -> Result<(), Fail> {
     Ok(())
 }
 
-/// Set back by an hour twice within half an hour: three instants show the time, and the first and
-/// the last can be taken.
+// Set back by an hour twice within half an hour: three instants show the time, and the first and
+// the last can be taken.
 #[test]
 fn three_instants(rt: HostRuntime) -> Result<(), Fail> {
     let alloc = rt.alloc();
@@ -226,8 +226,26 @@ fn days_one_after_another(rt: HostRuntime) {
     assert_eq!(rt; item(back.next().expect(&rt, "a day")), Ok(0));
 }
 
-/// The odd zone shows no odd second of the day: an odd second shifted forward is that second of
-/// UTC, shown one later.
+// So many days as are wanted, be it none or some years of them.
+#[test]
+fn days_of_any_number(rt: HostRuntime) {
+    let utc = FixedOffset::east(0);
+    let series = series(&rt, utc, (2021, 1, 1), (0, 0, 0), FoldChoice::Refuse);
+    for (count, last) in [
+        (0, None),
+        (1, Some(1_609_459_200)),
+        (2_000, Some(1_782_172_800)),
+    ] {
+        let mut days = series.days(count);
+        assert_eq!(rt; days.len(), count as usize);
+        assert_eq!(rt; days.size_hint(), (count as usize, Some(count as usize)));
+        let shown = days.next_back().map(|day| item(day));
+        assert_eq!(rt; shown, last.map(|second| Ok(second)));
+    }
+}
+
+// The odd zone shows no odd second of the day: an odd second shifted forward is that second of
+// UTC, shown one later.
 #[test]
 fn gaps_of_the_odd_zone(rt: HostRuntime) {
     let local = NaiveDateTime::from_timestamp_opt(1, 0).expect(&rt, "a reading");

@@ -16,7 +16,7 @@ fn first() -> DateTime<FixedOffset> {
 }
 
 #[test]
-fn fields_behind_the_last_year(rt: HostRuntime) -> Result<(), Fail> {
+fn fields_after_the_last_year(rt: HostRuntime) -> Result<(), Fail> {
     let last = last();
     assert_eq!(rt;
         format!(in rt.alloc(); "{last}")?.as_str(),

@@ -8,7 +8,7 @@ use std::time::Duration;
 use zoned_ref::TimeZoneRef;
 use zoned_time::{DateTime, TimeZone, Utc};
 
-/// The instant moved by the operators, where the checked call answers.
+// The instant moved by the operators, where the checked call answers.
 fn by_operators<Tz: TimeZone>(instant: DateTime<Tz>, by: TimeDelta) -> Option<[(i64, i32); 2]> {
     if instant.checked_add_signed(by).is_none() {
         return None;
@@ -67,7 +67,7 @@ fn operators_move_alike(rt: HostRuntime) {
     );
 }
 
-/// By a duration of the standard library, where it is in range.
+// By a duration of the standard library, where it is in range.
 fn by_duration<Tz: TimeZone>(instant: DateTime<Tz>, by: Duration) -> Option<(i64, i32)> {
     let length = TimeDelta::from_std(by)?;
     if instant.checked_add_signed(length).is_none() {
@@ -87,7 +87,7 @@ fn durations_move_too(rt: HostRuntime) {
     assert_eq!(rt; by_duration(instant, Duration::from_secs(u64::MAX)), None);
 }
 
-/// An instant with the offset that the zone has at another one.
+// An instant with the offset that the zone has at another one.
 fn astray<Tz: TimeZone>(rt: &impl Abort, zone: &Tz, second: i64, of: i64) -> DateTime<Tz> {
     let utc = at(rt, zone, second).naive_utc();
     assert!(rt; utc.is_in_range());

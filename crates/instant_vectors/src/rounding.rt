@@ -13,7 +13,7 @@ use zoned_ref::TimeZoneRef;
 use zoned_round::{DurationRound, RoundingError};
 use zoned_time::{DateTime, TimeZone, Utc};
 
-/// What an instant rounded down prints as.
+// What an instant rounded down prints as.
 fn text_down_to<Tz: TimeZone>(
     rt: &impl Abort,
     alloc: Global,
@@ -27,8 +27,8 @@ where
     format!(in alloc; "{down}")
 }
 
-/// The reading is a multiple of a day, and the instant moved by as much lies before the clocks were
-/// set forward.
+// The reading is a multiple of a day, and the instant moved by as much lies before the clocks were
+// set forward.
 #[test]
 fn a_day_in_new_york(rt: HostRuntime) -> Result<(), Fail> {
     let parsed = new_york(&rt, rt.alloc());
@@ -49,7 +49,7 @@ fn ten_seconds_in_the_odd_zone(rt: HostRuntime) -> Result<(), Fail> {
     Ok(())
 }
 
-/// No days later is the instant itself, though its clocks show the reading twice.
+// No days later is the instant itself, though its clocks show the reading twice.
 #[test]
 fn no_days_later_in_the_odd_zone(rt: HostRuntime) {
     let four = Odd.timestamp(4, 0);
@@ -58,7 +58,7 @@ fn no_days_later_in_the_odd_zone(rt: HostRuntime) {
     assert_eq!(rt; told(&four), (4, 0));
 }
 
-/// The length is looked at before the reading, which is out of range.
+// The length is looked at before the reading, which is out of range.
 #[test]
 fn the_first_instant_in_the_west(rt: HostRuntime) {
     let first = DateTime::<Utc>::MIN_UTC().with_timezone(&FixedOffset::west(3_600));

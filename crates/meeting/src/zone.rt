@@ -7,8 +7,8 @@ use std::alloc::Global;
 use zoned_ref::TimeZoneRef;
 use zoned_time::{DateTime, TimeZone};
 
-/// New York's clocks since 2007: set forward at 02:00 on the second Sunday of March, and back at
-/// 02:00 on the first of November.
+// New York's clocks since 2007: set forward at 02:00 on the second Sunday of March, and back at
+// 02:00 on the first of November.
 const NEW_YORK: &str = "EST5EDT,M3.2.0,M11.1.0";
 
 /// A date, and an hour and a minute of it.
@@ -57,15 +57,6 @@ fn instants_in(
 ) -> Result<LocalResult<DateTime<FixedOffset>>, MeetingError> {
     let zone = TimeZoneRef::new(parsed).ok_or(MeetingError::WideZone)?;
     let local = clock.reading().ok_or(MeetingError::NoSuchTime)?;
-    Ok(fixed_instants(&zone, &local))
-}
-
-// A function for all zones: the borrow checker of today covers closures over instants of a borrowed
-// zone only so.
-fn fixed_instants<Tz: TimeZone>(
-    zone: &Tz,
-    local: &NaiveDateTime,
-) -> LocalResult<DateTime<FixedOffset>> {
-    zone.from_local_datetime(local)
-        .map(|instant| instant.fixed_offset())
+    let instants = zone.from_local_datetime(&local);
+    Ok(instants.map(|instant| instant.fixed_offset()))
 }

@@ -1,4 +1,4 @@
--- Days counted from 1 March of the base year -2147484000, a multiple of 400, or from the 1 January 306 days behind it.
+-- Days counted from 1 March of the base year -2147484000, a multiple of 400, or from the 1 January 306 days after it.
 use Rattle.std.proofs.Common.{◌≡◌, ℕ, suc, ◌+◌, ◌<◌, ◌≤◌, arith, ℤ, pos, ◌+ℤ◌, ◌-ℤ◌}
 use Rattle.naive_base.specs.Year.{is_leap, days_in_year, year_start, LiesIn}
 use Rattle.naive_base.specs.Date.{day_number}
@@ -40,7 +40,7 @@ january_start y n e =
     let same : (y -ℤ pos 1) +ℤ pos 1 ≡ y = omega (arith, floors) in
     rw same at (next_start (y -ℤ pos 1) n (omega (arith, floors)))
 
--- a day that whole years and some days behind that January lie before it, fewer than a year more, lies in the next year
+-- a day that whole years and some days after that January lie before it, fewer than a year more, lies in the next year
 pub year_found : (day y : ℤ) (n passed k : ℕ) → day +ℤ pos 784_353_144_032 ≡ pos k → days_of_years n + passed ≡ k
     → k < days_of_years (n + 1) → y +ℤ pos 2_147_484_000 ≡ pos (n + 1) → LiesIn day y
 year_found day y n passed k e f below g =

@@ -1,6 +1,6 @@
 -- Each day has one date, and each date is one day.
 use Rattle.std.proofs.Common.{◌≡◌, ℕ, zero, suc, ◌+◌, ◌-◌, ◌*◌, ◌/◌, ◌%◌, ◌<◌, ◌≤◌, inl, inr, Bool, arith, refl, ℤ, pos, ◌+ℤ◌, ◌-ℤ◌, ◌≤ℤ◌, ◌<ℤ◌}
-use Rattle.std.proofs.lemmas.Bool.{cases_lt, cases_order}
+use Rattle.std.proofs.lemmas.Bool.{cases_order}
 use Rattle.naive_base.specs.Year.{is_leap, days_in_year, year_start, LiesIn, IsYear, IsDay}
 use Rattle.naive_base.specs.Month.{days_in_month, days_of_months}
 use Rattle.naive_base.specs.Date.{IsDate, day_number}
@@ -10,7 +10,7 @@ use Rattle.naive_base.specs.Steps.Dates.{in_year}
 use Rattle.naive_base.proofs.Floor.{floors}
 use Rattle.naive_base.proofs.Years.{year_step, lies_in, one_year, starts_rise, day_of_years}
 use Rattle.naive_base.specs.Steps.Cycle.{days_of_years}
-use Rattle.naive_base.proofs.Cycle.{days_with_leap, january_start, year_found}
+use Rattle.naive_base.proofs.Cycle.{january_start, year_found}
 use Rattle.naive_base.proofs.MonthDays.{leap_day, leap_at_most, months_early, months_late, march_place, late_day, first_months}
 
 -- Later months begin later.
@@ -118,25 +118,6 @@ place_found day n passed k e f below =
 pub number_at : (y : ℤ) (m d : ℕ) → 1 ≤ d → day_number y m d ≡ day_number y m 1 +ℤ pos (d - 1)
 unfolding day_number
 number_at y m d first = omega (arith, floors)
-
--- a year later the first of a month comes 365 or 366 days later
-pub month_year_later : (y : ℤ) (m : ℕ) → 1 ≤ m → m ≤ 12
-    → ((day_number y m 1 +ℤ pos 365) ≤ℤ day_number (y +ℤ pos 1) m 1)
-    × (day_number (y +ℤ pos 1) m 1 ≤ℤ (day_number y m 1 +ℤ pos 366))
-unfolding day_number
-month_year_later y m low high =
-    let step = year_step y in let days = days_with_leap y in
-    let here = leap_at_most (is_leap y) in let there = leap_at_most (is_leap (y +ℤ pos 1)) in
-    elim (cases_lt m 3) [
-      | inl early ↦
-          let a = months_early (is_leap y) m low (omega arith) in
-          let b = months_early (is_leap (y +ℤ pos 1)) m low (omega arith) in
-          (omega (arith, floors), omega (arith, floors))
-      | inr late ↦
-          let a = months_late (is_leap y) m late (omega arith) in
-          let b = months_late (is_leap (y +ℤ pos 1)) m late (omega arith) in
-          (omega (arith, floors), omega (arith, floors))
-    ]
 
 -- a place in the year, as the code finds it before March and from March on
 pub place_early : (y : ℤ) (k : ℕ) → k < 59 + leap_day (is_leap y)

@@ -12,4 +12,5 @@ pub mod Readings
 pub mod Alike
 pub mod Values
 pub mod Orders
+pub mod IsoWeeks
 pub mod ForCallers

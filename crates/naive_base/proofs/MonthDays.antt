@@ -38,7 +38,7 @@ from_march b (suc (suc (suc (suc (suc (suc (suc (suc (suc zero))))))))) h = grin
 from_march b (suc (suc (suc (suc (suc (suc (suc (suc (suc (suc zero)))))))))) h = grind arith
 from_march b (suc (suc (suc (suc (suc (suc (suc (suc (suc (suc (suc n))))))))))) h = absurd (omega arith)
 
--- the months from March on lie behind a January and a February
+-- the months from March on lie after a January and a February
 pub months_late : (b : Bool) (m : ℕ) → 3 ≤ m → m ≤ 13 → days_of_months b (m - 1) ≡ march_months m + 59 + leap_day b
 months_late b m low high =
     let before : m - 1 ≡ suc (suc (m - 3)) = omega arith in

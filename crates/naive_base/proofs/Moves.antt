@@ -1,5 +1,6 @@
 -- The cases of a move.
-use Rattle.std.proofs.Common.{◌≡◌, ◌∙◌, ap, ℕ, ◌<◌, ◌≤◌, ℤ, neg_ℤ, pos, ◌+ℤ◌, ◌-ℤ◌, ◌*ℤ◌, ◌≤ℤ◌, ◌<ℤ◌, unsigned_abs, refl, arith}
+use Rattle.std.proofs.Common.{◌≡◌, ◌∙◌, inl, inr, ap, ℕ, ◌<◌, ◌≤◌, ℤ, neg_ℤ, pos, ◌+ℤ◌, ◌-ℤ◌, ◌*ℤ◌, ◌≤ℤ◌, ◌<ℤ◌, unsigned_abs, refl, arith}
+use Rattle.std.proofs.lemmas.Bool.{cases_lt}
 use Rattle.std.proofs.lemmas.Bool.Decides.{nat_tests}
 use Rattle.std.proofs.lemmas.Int.{ints}
 use Rattle.naive_base.specs.Year.{floor_div, floor_mod}
@@ -72,3 +73,22 @@ taken_away m n d e = omega (arith, floors)
 pub difference-moved : (r : Reading) (d : ℤ) → r.f < 1_000_000_000 → difference (moved r d) r ≡ d
 difference-moved r d h =
     taken_away (difference (moved r d) r) (total r) d (difference-plain (moved r d) r (moved-plain_again r d h) h ∙ total-moved r d h)
+
+-- A reading and itself.
+
+leap_between-itself : (r : Reading) → leap_between r r ≡ pos 0
+leap_between-itself r = grind (arith, nat_tests)
+
+pub difference-itself : (r : Reading) → difference r r ≡ pos 0
+difference-itself r = rw (leap_between-itself r) (omega (arith, floors))
+
+no_more : (n : ℤ) → n +ℤ pos 0 ≡ n
+no_more n = omega (arith, floors)
+
+-- by a move of no length a reading stays
+pub moved-none : (r : Reading) → r.f < 2_000_000_000 → moved r (pos 0) ≡ r
+moved-none r h =
+    elim (cases_lt r.f 1_000_000_000) [
+      | inl plain ↦ moved-plain r (pos 0) plain ∙ ap of_total (no_more (total r)) ∙ of_total-total-reading r plain
+      | inr leap ↦ moved-leap r (pos 0) leap ∙ ap (moved_leap r.s) (no_more (pos r.f)) ∙ moved_leap-within r.s (pos r.f) (omega (arith, floors)) (omega (arith, floors))
+    ]

@@ -4,7 +4,7 @@ use Rattle.std.proofs.lemmas.Int.{by_lt_z}
 use Rattle.naive_base.specs.Year.{year_start, days_in_year}
 use Rattle.naive_base.specs.Date.{IsDate, day_number}
 use Rattle.naive_base.specs.DateOf.{year_of}
-use Rattle.naive_base.specs.Range.{IsInRange, IsYearInRange, IsInnerYear, IsDayInRange, IsWideDay, IsWideYear}
+use Rattle.naive_base.specs.Range.{IsInRange, IsYearInRange, IsInnerYear, IsDayInRange, IsInnerDay, IsWideDay, IsWideYear}
 use Rattle.naive_base.proofs.Floor.{floors}
 use Rattle.naive_base.proofs.Years.{lies_in, starts_rise, year_step}
 use Rattle.naive_base.proofs.Dates.{date_between}
@@ -36,6 +36,26 @@ pub inner_date : (y : ℤ) (m d : ℕ) → IsInnerYear y → IsDate y m d
 inner_date y m d fits date =
     let between = date_between (neg_ℤ (pos 262_142)) (pos 262_141) y m d fits.0 fits.1 date in
     ((omega (arith, floors, second_year), omega (arith, floors, last_year_start)), (omega (arith, floors, second_year), omega (arith, floors, last_year_start)))
+
+-- the days of the inner years are those between
+pub inner_day : (y : ℤ) (m d : ℕ) → IsInnerYear y → IsDate y m d → IsInnerDay (day_number y m d)
+inner_day y m d fits date =
+    let between = date_between (neg_ℤ (pos 262_142)) (pos 262_141) y m d fits.0 fits.1 date in
+    (omega (arith, floors, second_year), omega (arith, floors, last_year_start))
+
+pub inner_years : (day : ℤ) → IsInnerDay day → IsInnerYear (year_of day)
+inner_years day within =
+    let y = year_of day in let lies = lies_in day in (
+      by_lt_z y (neg_ℤ (pos 262_142)) (λ less. let rise = starts_rise (y +ℤ pos 1) (neg_ℤ (pos 262_142)) (omega (arith, floors)) in absurd (omega (arith, floors, second_year))) (λ more. more),
+      by_lt_z (pos 262_141) y (λ less. let rise = starts_rise (pos 262_141 +ℤ pos 1) y (omega (arith, floors)) in absurd (omega (arith, floors, last_year_start))) (λ more. more),
+    )
+
+pub inner_days : (day : ℤ) → IsInnerYear (year_of day) → IsInnerDay day
+inner_days day fits =
+    let y = year_of day in let lies = lies_in day in
+    let low = starts_rise (neg_ℤ (pos 262_142)) y fits.0 in
+    let high = starts_rise (y +ℤ pos 1) (pos 262_141 +ℤ pos 1) (omega (arith, floors)) in
+    (omega (arith, floors, second_year), omega (arith, floors, last_year_start))
 
 first_wide : year_start (neg_ℤ (pos 262_144)) ≡ neg_ℤ (pos 96_465_658)
 unfolding year_start

@@ -3,7 +3,7 @@ use Rattle.std.proofs.Common.{◌≡◌, ℕ, ◌<◌, ◌⊎◌, inl, inr, arit
 use Rattle.std.proofs.lemmas.Int.{by_lt_z}
 use Rattle.naive_base.specs.Year.{floor_div, floor_mod}
 use Rattle.naive_base.specs.Reading.{Reading, reading_at, day_at, second_at, IsEarlier, IsEarlierByDay}
-use Rattle.naive_base.specs.Range.{IsInRange, IsDayInRange, IsWide, IsWideDay}
+use Rattle.naive_base.specs.Range.{IsInRange, IsDayInRange, IsInner, IsInnerDay, IsWide, IsWideDay}
 use Rattle.naive_base.proofs.Floor.{floors}
 use Rattle.naive_base.proofs.Years.{floor_mod_parts}
 
@@ -68,6 +68,12 @@ seconds_in_range s h = (omega (arith, floors), omega (arith, floors))
 
 pub seconds_of_range : (s : ℤ) → IsDayInRange (floor_div s 86_400) → IsInRange s
 seconds_of_range s h = (omega (arith, floors), omega (arith, floors))
+
+pub seconds_in_inner : (s : ℤ) → IsInner s → IsInnerDay (floor_div s 86_400)
+seconds_in_inner s h = (omega (arith, floors), omega (arith, floors))
+
+pub seconds_of_inner : (s : ℤ) → IsInnerDay (floor_div s 86_400) → IsInner s
+seconds_of_inner s h = (omega (arith, floors), omega (arith, floors))
 
 pub seconds_in_wide : (s : ℤ) → IsWide s → IsWideDay (floor_div s 86_400)
 seconds_in_wide s h = (omega (arith, floors), omega (arith, floors))

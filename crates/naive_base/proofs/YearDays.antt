@@ -1,4 +1,4 @@
--- What tells a year's calendar, by centuries and years behind a January.
+-- What tells a year's calendar, by centuries and years after a January.
 use Rattle.std.proofs.Common.{◌≡◌, ◌∙◌, sym, refl, ℕ, ◌+◌, ◌*◌, ◌/◌, ◌%◌, ◌<◌, arith, ◌==◌, Bool, true, false, not, ◌&&◌, ◌||◌, inl, inr, ℤ, pos, ◌+ℤ◌, ◌-ℤ◌}
 use Rattle.std.proofs.lemmas.Bool.Decides.{eqb_tells}
 use Rattle.naive_base.specs.Year.{is_leap, floor_mod, year_start}

@@ -19,6 +19,6 @@ minute_hand second = second / 60 % 60
 abbrev pub second_hand : ℕ → ℕ
 second_hand second = second % 60
 
--- the nanoseconds of a new time: a leap second comes only behind the last second of a minute
+-- the nanoseconds of a new time: a leap second comes only after the last second of a minute
 abbrev pub IsFraction : ℕ → ℕ → Type 0
 IsFraction second f = (f < 2_000_000_000) × (1_000_000_000 ≤ f → second % 60 ≡ 59)

@@ -1,4 +1,4 @@
--- The year and the date of a day, as functions of it. Each is told by what it is alone: some year that the day lies in, some
+-- The year and the date of a day, as functions of it. Each is specified by what it is alone: some year that the day lies in, some
 -- date that has its number. `years_law` and `dates_law` prove that there is no other.
 use Rattle.std.specs.Prelude.{ℕ, ℤ, ◌-ℤ◌, unsigned_abs}
 use Rattle.naive_base.specs.Year.{year_start, LiesIn}
@@ -10,6 +10,7 @@ use Rattle.naive_base.specs.Steps.Dates.{some_date}
 pub year_with : (day : ℤ) → (y : ℤ) × LiesIn day y
 year_with day = some_year day
 
+-- the year that the day lies in
 unfoldable pub year_of : ℤ → ℤ
 year_of day = (year_with day).0
 
@@ -21,8 +22,10 @@ day_of_year day = unsigned_abs (day -ℤ year_start (year_of day))
 pub date_with : (day : ℤ) → HasDate day
 date_with day = some_date day
 
+-- the month of that date
 unfoldable pub month_of : ℤ → ℕ
 month_of day = (date_with day).month
 
+-- the day of the month of that date
 unfoldable pub day_of_month : ℤ → ℕ
 day_of_month day = (date_with day).day

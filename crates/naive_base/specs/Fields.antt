@@ -9,7 +9,7 @@ use Rattle.naive_base.specs.Clock.{clock_second, hour_hand, minute_hand, second_
 use Rattle.naive_base.specs.Reading.{Reading, reading_at, second_at}
 use Rattle.naive_base.specs.Range.{IsYearInRange, IsDayInRange}
 
--- The answer of a call that gives a value something else to show: v, exactly where p holds, and else nothing. `gives` says
+-- The answer of a call that gives a value something else to show: v, if and only if p holds, and else nothing. `gives` says
 -- what comes of that, and what comes of it shows it.
 pub record IsGiven {T V : Type 0} (shows : T → V) (gives : Option V → Option T → Type 0) (p : Type 0) (v : V) (answer : Option T) : Type 0 where
   pub value : Option V
@@ -29,6 +29,7 @@ IsDateGiven shows gives old y m d answer = IsGiven shows gives (MayShow old y m 
 abbrev pub MayShowOrdinal : ℤ → ℤ → ℕ → Type 0
 MayShowOrdinal old y n = (1 ≤ n) × (n ≤ days_in_year y) × (IsYearInRange y ⊎ (year_start y +ℤ pos (n - 1) ≡ old))
 
+-- the answer where it gives way to the n-th day of a year
 abbrev pub IsOrdinalGiven : {T : Type 0} → (T → ℤ) → (Option ℤ → Option T → Type 0) → ℤ → ℤ → ℕ → Option T → Type 0
 IsOrdinalGiven shows gives old y n answer = IsGiven shows gives (MayShowOrdinal old y n) (year_start y +ℤ pos (n - 1)) answer
 
@@ -77,5 +78,6 @@ with_fraction t nano = record { second = t.second; fraction = nano }
 abbrev pub reading_on : ℤ → TimeOfDay → Reading
 reading_on day t = reading_at day t.second t.fraction
 
+-- the time of day of a reading
 abbrev pub time_at : Reading → TimeOfDay
 time_at r = record { second = second_at r; fraction = r.f }

@@ -10,12 +10,12 @@ use Rattle.naive_base.specs.declared.date.NaiveDate.{NaiveDate}
 abbrev pub day_of : NaiveDate → ℤ
 day_of date = date.day
 
--- the date of that year, month and day, exactly where the calendar has it and the year is in range
+-- the date of that year, month and day, if and only if the calendar has it and the year is in range
 abbrev pub IsDateOf : ℤ → ℕ → ℕ → Option NaiveDate → Type 0
 IsDateOf y m d (Some date) = IsYearInRange y × IsDate y m d × (day_of date ≡ day_number y m d)
 IsDateOf y m d None = IsYearInRange y → IsDate y m d → ⊥
 
--- the date of that day number, exactly where it is in range
+-- the date of that day number, if and only if it is in range
 abbrev pub IsDateOfDay : ℤ → Option NaiveDate → Type 0
 IsDateOfDay day (Some date) = IsDayInRange day × (day_of date ≡ day)
 IsDateOfDay day None = IsDayInRange day → ⊥

@@ -7,15 +7,16 @@ use Rattle.naive_base.specs.Fields.{TimeOfDay, reading_on}
 use Rattle.naive_base.specs.Text.{reading_text}
 use Rattle.naive_base.specs.declared.datetime.NaiveDateTime.{NaiveDateTime}
 
+-- the reading that a `NaiveDateTime` shows
 abbrev pub reading : NaiveDateTime → Reading
 reading datetime = record { s = datetime.secs; f = datetime.frac }
 
--- that reading, exactly where it is in range
+-- that reading, if and only if it is in range
 abbrev pub IsReadingOf : Reading → Option NaiveDateTime → Type 0
 IsReadingOf r (Some datetime) = IsInRange r.s × (reading datetime ≡ r)
 IsReadingOf r None = IsInRange r.s → ⊥
 
--- the reading of that day, at that second of the day and those nanoseconds, exactly where the clock has the second and a
+-- the reading of that day, at that second of the day and those nanoseconds, if and only if the clock has the second and a
 -- new time may have the nanoseconds
 abbrev pub IsReadingOn : ℤ → Type 0 → ℕ → ℕ → Option NaiveDateTime → Type 0
 IsReadingOn day on_clock second f (Some datetime) =

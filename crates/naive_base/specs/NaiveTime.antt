@@ -13,7 +13,7 @@ second_of time = time.secs
 abbrev pub fraction_of : NaiveTime → ℕ
 fraction_of time = time.frac
 
--- the time at that second of the day and those nanoseconds, exactly where the clock has the second and a new time may
+-- the time at that second of the day and those nanoseconds, if and only if the clock has the second and a new time may
 -- have the nanoseconds
 abbrev pub IsTimeOf : Type 0 → ℕ → ℕ → Option NaiveTime → Type 0
 IsTimeOf on_clock second f (Some time) = on_clock × IsFraction second f × (second_of time ≡ second) × (fraction_of time ≡ f)

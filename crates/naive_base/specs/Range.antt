@@ -35,6 +35,10 @@ IsInnerYear y = (neg_ℤ (pos 262_142) ≤ℤ y) × (y ≤ℤ pos 262_141)
 abbrev pub IsDayInRange : ℤ → Type 0
 IsDayInRange day = (first_day ≤ℤ day) × (day ≤ℤ last_day)
 
+-- the days of the inner years: a year away from these a day is still in range
+abbrev pub IsInnerDay : ℤ → Type 0
+IsInnerDay day = (neg_ℤ (pos 96_464_927) ≤ℤ day) × (day ≤ℤ pos 95_025_871)
+
 -- with the years of the buffer days
 abbrev pub IsWideYear : ℤ → Type 0
 IsWideYear y = (neg_ℤ (pos 262_144) ≤ℤ y) × (y ≤ℤ pos 262_143)
@@ -46,6 +50,10 @@ IsWideDay day = (neg_ℤ (pos 96_465_293) ≤ℤ day) × (day ≤ℤ pos 95_026_
 -- the seconds of the days in range
 abbrev pub IsInRange : ℤ → Type 0
 IsInRange s = (first_second ≤ℤ s) × (s ≤ℤ last_second)
+
+-- the seconds of the days of the inner years
+abbrev pub IsInner : ℤ → Type 0
+IsInner s = (neg_ℤ (pos 8_334_569_692_800) ≤ℤ s) × (s ≤ℤ pos 8_210_235_340_799)
 
 -- the seconds in range or on a buffer day
 abbrev pub IsWide : ℤ → Type 0
@@ -67,5 +75,6 @@ epoch = record { s = pos 0; f = 0 }
 abbrev pub first_reading : Reading
 first_reading = record { s = first_second; f = 0 }
 
+-- the last reading in range that is no leap second
 abbrev pub last_reading : Reading
 last_reading = record { s = last_second; f = 999_999_999 }

@@ -3,6 +3,7 @@
 use Rattle.std.specs.Prelude.{ℕ, ◌≡◌, ◌<◌, ◌⊎◌, ◌&&◌, nat_lt, nat_le, if◌then◌else◌, ℤ, pos, neg_ℤ, ◌<ℤ◌, ◌+ℤ◌, ◌-ℤ◌, ◌*ℤ◌, unsigned_abs, int_lt}
 use Rattle.naive_base.specs.Year.{floor_div, floor_mod}
 
+-- a reading: its second s, and its nanoseconds f
 pub record Reading : Type 0 where
   pub s : ℤ
   pub f : ℕ
@@ -34,7 +35,7 @@ abbrev pub of_total : ℤ → Reading
 of_total n = record { s = floor_div n 1_000_000_000; f = floor_mod n 1_000_000_000 }
 
 -- a leap-second reading moved, where p counts the nanoseconds from its second's start: it is the same leap second, or
--- lies before that second, or behind the leap second
+-- lies before that second, or after the leap second
 abbrev pub moved_leap : ℤ → ℤ → Reading
 moved_leap s p =
     if int_lt p (pos 0) then of_total (s *ℤ pos 1_000_000_000 +ℤ p)

@@ -8,7 +8,7 @@ use Rattle.naive_base.specs.Reading.{Reading}
 abbrev pub of_secs : ℤ → ℕ → Reading
 of_secs secs nanos = record { s = secs; f = nanos }
 
--- nanoseconds that a stamp may have beside its second: from 10^9 on, those of a leap second, only behind the last second
+-- nanoseconds that a stamp may have beside its second: from 10^9 on, those of a leap second, only after the last second
 -- of a minute
 abbrev pub IsSubsecond : ℤ → ℕ → Type 0
 IsSubsecond s f = (f < 2_000_000_000) × (1_000_000_000 ≤ f → floor_mod s 60 ≡ 59)

@@ -1,5 +1,5 @@
 -- The weekday of a day.
-use Rattle.std.specs.Prelude.{ℕ, ℤ, pos, ◌+ℤ◌}
+use Rattle.std.specs.Prelude.{ℕ, ◌+◌, ◌%◌, ℤ, pos, ◌+ℤ◌}
 use Rattle.naive_base.specs.Year.{floor_mod}
 use Rattle.naive_base.specs.declared.weekday.Weekday.{Weekday}
 use Rattle.naive_base.specs.declared.weekday.Weekday.TheVariants.{Mon, Tue, Wed, Thu, Fri, Sat, Sun}
@@ -17,3 +17,7 @@ weekday_number Wed = 3
 weekday_number Thu = 4
 weekday_number Fri = 5
 weekday_number Sat = 6
+
+-- the days from the Monday of its week to a weekday
+abbrev pub days_from_monday : Weekday → ℕ
+days_from_monday weekday = (weekday_number weekday + 6) % 7

@@ -14,6 +14,7 @@ floor_mod z n = unsigned_abs (int_rem_euclid z (pos n))
 abbrev pub is_leap : ℤ → Bool
 is_leap y = (floor_mod y 4 == 0) && (not (floor_mod y 100 == 0) || (floor_mod y 400 == 0))
 
+-- 365 days, and one more in a leap year
 abbrev pub days_in_year : ℤ → ℕ
 days_in_year y = if is_leap y then 366 else 365
 

@@ -2,7 +2,8 @@
 //!
 //! A day number counts days from 1970-01-01, which is day 0. Years are astronomical: the year 0 is
 //! a leap year and comes before the year 1. Nothing here runs over years or months: each call is a
-//! few multiplications.
+//! few multiplications. Calls take the years of an `i32`, and the days from [`FIRST_DAY`] to
+//! [`LAST_DAY`], which are theirs ([`is_day`]); the laws speak of all years.
 //!
 //! Inside, days and years are counted from a year far before every `i32`, so that all sums are of
 //! unsigned numbers. A date is found by years that begin in March, where the leap day is the last

@@ -3,7 +3,7 @@ ghost use Rattle.std.specs.Prelude.{◌≡◌, ◌↔◌, IsTrue, IfSome, ◌+�
 ghost use Rattle.naive_base.specs.Year.{floor_div};
 ghost use Rattle.naive_base.specs.Date.{IsDate, day_number};
 ghost use Rattle.naive_base.specs.DateOf.{year_of, month_of, day_of_month};
-ghost use Rattle.naive_base.specs.Range.{IsYearInRange, IsWideYear, IsDayInRange, IsInRange, IsWideDay, IsWide};
+ghost use Rattle.naive_base.specs.Range.{IsYearInRange, IsInnerYear, IsWideYear, IsDayInRange, IsInnerDay, IsInRange, IsInner, IsWideDay, IsWide};
 ghost use Rattle.naive_base.specs.Clock.{IsClock, clock_second};
 ghost use Rattle.naive_base.specs.Reading.{reading_at, day_at, second_at};
 
@@ -11,15 +11,15 @@ mod fields;
 mod moves;
 
 use crate::calendar::{self, YearMonthDay};
-use crate::range::{FIRST_DAY, FIRST_YEAR, LAST_DAY, LAST_YEAR};
+use crate::range::{FIRST_DAY_IN_RANGE, FIRST_YEAR, LAST_DAY_IN_RANGE, LAST_YEAR};
 use crate::{NaiveDateTime, NaiveTime};
 
 /// A day of the proleptic Gregorian calendar, in the years -262143 to 262142.
 ///
 /// The date of a [`NaiveDateTime`] on a buffer day is the one day before those years, or the one
-/// behind them. Dates compare and hash by their days. A date prints as `2012-03-04`, and a year
-/// before 0 or after 9999 with its sign, as `-0001-12-31` or `+12345-01-01`, whatever width, fill
-/// or flags the formatter has.
+/// after them. Dates compare and hash by their days. A date prints as `2012-03-04`, and a year
+/// before 0 or after 9999 with its sign, such as `-0001-12-31` or `+12345-01-01`, whatever width,
+/// fill or flags the formatter has. `{:?}` prints the same.
 #[derive(Clone, Copy, PartialEq, Eq, PartialOrd, Ord, Hash)]
 pub struct NaiveDate {
     day: i32,
@@ -48,6 +48,7 @@ impl NaiveDate {
     pub fn from_ymd_opt(year: i32, month: u32, day: u32) -> Option<NaiveDate>
         ensures value { IsDateOf year month day result }
         ensures in_range { IfSome result (λ d. IsDayInRange (day_of d)) }
+        ensures inner { IsInnerYear year → IfSome result (λ d. IsInnerDay (day_of d)) }
     {
         if year < FIRST_YEAR || year > LAST_YEAR {
             return None;
@@ -76,7 +77,7 @@ impl NaiveDate {
         ensures { IsDateOfDay (days -ℤ pos 719_163) result }
     {
         let day = days as i64 - EPOCH_FROM_CE;
-        if day < FIRST_DAY as i64 || day > LAST_DAY as i64 {
+        if day < FIRST_DAY_IN_RANGE as i64 || day > LAST_DAY_IN_RANGE as i64 {
             return None;
         }
         Some(NaiveDate { day: day as i32 })
@@ -106,6 +107,8 @@ impl NaiveDate {
             (clock_second hour min sec) 0 result }
         ensures in_range { IsDayInRange (day_of self.now) → IfSome result
             (λ r. IsInRange (reading r).s) }
+        ensures inner { IsInnerDay (day_of self.now) → IfSome result
+            (λ r. IsInner (reading r).s) }
     {
         let time = NaiveTime::from_hms_opt(hour, min, sec)?;
         Some(self.and_time(time))
@@ -124,6 +127,8 @@ impl NaiveDate {
             (clock_second hour min sec) (milli * 1_000_000) result }
         ensures in_range { IsDayInRange (day_of self.now) → IfSome result
             (λ r. IsInRange (reading r).s) }
+        ensures inner { IsInnerDay (day_of self.now) → IfSome result
+            (λ r. IsInner (reading r).s) }
     {
         let time = NaiveTime::from_hms_milli_opt(hour, min, sec, milli)?;
         Some(self.and_time(time))
@@ -142,6 +147,8 @@ impl NaiveDate {
             (clock_second hour min sec) (micro * 1_000) result }
         ensures in_range { IsDayInRange (day_of self.now) → IfSome result
             (λ r. IsInRange (reading r).s) }
+        ensures inner { IsInnerDay (day_of self.now) → IfSome result
+            (λ r. IsInner (reading r).s) }
     {
         let time = NaiveTime::from_hms_micro_opt(hour, min, sec, micro)?;
         Some(self.and_time(time))
@@ -160,6 +167,8 @@ impl NaiveDate {
             (clock_second hour min sec) nano result }
         ensures in_range { IsDayInRange (day_of self.now) → IfSome result
             (λ r. IsInRange (reading r).s) }
+        ensures inner { IsInnerDay (day_of self.now) → IfSome result
+            (λ r. IsInner (reading r).s) }
     {
         let time = NaiveTime::from_hms_nano_opt(hour, min, sec, nano)?;
         Some(self.and_time(time))

@@ -1,5 +1,5 @@
 //! Values that show a date.
-ghost use Rattle.std.specs.Prelude.{◌≡◌, ◌+◌, ℤ, Option};
+ghost use Rattle.std.specs.Prelude.{◌≡◌, ◌+◌, ◌<◌, ◌≤◌, ℤ, Option};
 ghost use Rattle.naive_base.specs.DateOf.{year_of, day_of_year, month_of, day_of_month};
 ghost use Rattle.naive_base.specs.Weekday.{weekday_of, weekday_number};
 ghost use Rattle.naive_base.specs.IsoWeek.{IsWeekOf};
@@ -31,29 +31,35 @@ pub trait Datelike: Sized {
     fn year(&self) -> i32
         ensures { result ≡ year_of (day_shown self.now) };
 
-    /// The month, from 1.
+    /// The month, from 1 to 12.
     fn month(&self) -> u32
-        ensures { result ≡ month_of (day_shown self.now) };
+        ensures value { result ≡ month_of (day_shown self.now) }
+        ensures bound { (1 ≤ result) × (result ≤ 12) };
 
-    /// The month, from 0.
+    /// The month, from 0 to 11.
     fn month0(&self) -> u32
-        ensures { result + 1 ≡ month_of (day_shown self.now) };
+        ensures value { result + 1 ≡ month_of (day_shown self.now) }
+        ensures bound { result < 12 };
 
-    /// The day of the month, from 1.
+    /// The day of the month, from 1 to 31.
     fn day(&self) -> u32
-        ensures { result ≡ day_of_month (day_shown self.now) };
+        ensures value { result ≡ day_of_month (day_shown self.now) }
+        ensures bound { (1 ≤ result) × (result ≤ 31) };
 
-    /// The day of the month, from 0.
+    /// The day of the month, from 0 to 30.
     fn day0(&self) -> u32
-        ensures { result + 1 ≡ day_of_month (day_shown self.now) };
+        ensures value { result + 1 ≡ day_of_month (day_shown self.now) }
+        ensures bound { result < 31 };
 
-    /// The day of the year, from 1.
+    /// The day of the year, from 1 to 366.
     fn ordinal(&self) -> u32
-        ensures { result ≡ day_of_year (day_shown self.now) + 1 };
+        ensures value { result ≡ day_of_year (day_shown self.now) + 1 }
+        ensures bound { (1 ≤ result) × (result ≤ 366) };
 
-    /// The day of the year, from 0.
+    /// The day of the year, from 0 to 365.
     fn ordinal0(&self) -> u32
-        ensures { result ≡ day_of_year (day_shown self.now) };
+        ensures value { result ≡ day_of_year (day_shown self.now) }
+        ensures bound { result < 366 };
 
     /// The day of the week.
     fn weekday(&self) -> Weekday

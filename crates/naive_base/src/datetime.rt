@@ -16,9 +16,9 @@ use offset_core::FixedOffset;
 /// as 86,400, and nanoseconds, which from 10^9 on are those of a leap second after that second.
 ///
 /// A reading is in range in the years -262143 to 262142, or it is on a buffer day, the one before
-/// or the one behind them: that is where a clock's offset may bring it. Readings compare and hash
-/// by the seconds, then the nanoseconds. A reading prints as its date, a space and its time, and by
-/// `{:?}` with a `T` between them, whatever width, fill or flags the formatter has.
+/// or the one after them: that is where a clock's offset may bring it. Readings compare and hash by
+/// the seconds, then the nanoseconds. A reading prints as its date, a space and its time, whatever
+/// width, fill or flags the formatter has, and by `{:?}` with a `T` between them.
 #[derive(Clone, Copy, PartialEq, Eq, PartialOrd, Ord, Hash)]
 pub struct NaiveDateTime {
     secs: i64,
@@ -55,6 +55,12 @@ impl NaiveDateTime {
     /// The reading so many seconds after 1970-01-01 00:00:00, or before it for a negative number,
     /// and so many nanoseconds. `None` where that isn't in range, or the nanoseconds are 2*10^9 or
     /// more, or, being 10^9 or more, don't follow the last second of a minute.
+    ///
+    /// ```text
+    /// from_timestamp_opt(-1, 5)                         Some(1969-12-31T23:59:59.000000005)
+    /// from_timestamp_opt(1_483_228_799, 1_500_000_000)  Some(2016-12-31T23:59:60.500)
+    /// from_timestamp_opt(0, 1_000_000_000)              None
+    /// ```
     pub fn from_timestamp_opt(secs: i64, nsecs: u32) -> Option<NaiveDateTime>
         ensures { let r = of_secs secs nsecs in SomeIff (option_map reading result) (IsStamp r) r }
     {
@@ -118,8 +124,8 @@ impl NaiveDateTime {
         NaiveDateTime::at_second(self.second_behind(offset), self.frac)
     }
 
-    /// What a clock shows that is ahead of this one by an offset, be it on a buffer day. This
-    /// reading is in range.
+    /// What a clock shows that is ahead of this one by an offset, be it on a buffer day. Requires:
+    /// this reading is in range.
     ///
     /// `NaiveDateTime::MAX` an hour ahead shows 00:59:59.999999999 on 262143-01-01, which is a
     /// buffer day.

@@ -1,13 +1,17 @@
-//! Theorems: each function is empty, its contract is proved; never called.
+//! Theorems: the contract of each function is proved, and none is called. Each is empty, except one
+//! that names constants.
 ghost use Rattle.std.specs.Prelude.{◌≡◌, ◌↔◌, IsTrue, ◌<◌, ◌<ℤ◌, ℕ, ℤ, pos, neg_ℤ};
 ghost use Rattle.naive_base.specs.Year.{floor_div};
+ghost use Rattle.naive_base.specs.Date.{day_number};
 ghost use Rattle.naive_base.specs.DateOf.{year_of};
-ghost use Rattle.naive_base.specs.Range.{IsYearInRange, IsWideYear, IsDayInRange, IsWideDay, IsInRange, IsWide, first_reading, last_reading};
+ghost use Rattle.naive_base.specs.IsoWeek.{IsWeekOf, iso_year, iso_number};
+ghost use Rattle.naive_base.specs.Range.{IsYearInRange, IsInnerYear, IsWideYear, IsDayInRange, IsInnerDay, IsWideDay, IsInRange, IsInner, IsWide, first_reading, last_reading};
 ghost use Rattle.naive_base.specs.Reading.{Reading, reading_at, day_at, second_at, moved, difference, IsEarlier, IsEarlierTime, IsEarlierByDay};
 ghost use Rattle.naive_base.specs.NaiveDate.{day_of, printed_date};
 ghost use Rattle.naive_base.specs.NaiveTime.{second_of, fraction_of, printed_time};
 ghost use Rattle.naive_base.specs.NaiveDateTime.{reading, printed_reading, debug_reading};
 ghost use Rattle.naive_base.specs.declared.date.NaiveDate.{NaiveDate as AnyDate};
+ghost use Rattle.naive_base.specs.declared.iso_week.IsoWeek.{IsoWeek as AnyWeek};
 ghost use Rattle.naive_base.specs.declared.time.NaiveTime.{NaiveTime as AnyTime};
 ghost use Rattle.naive_base.specs.declared.datetime.NaiveDateTime.{NaiveDateTime as AnyReading};
 
@@ -16,10 +20,12 @@ use crate::{NaiveDateTime, NaiveTime};
 pub mod comparisons;
 
 /// The range is that of the years -262143 to 262142, by days as by seconds, and the buffer days lie
-/// in the years beside it.
+/// in the years beside it. The inner years are all but the first and the last.
 pub fn range_law()
     ensures days { (day : ℤ) → IsDayInRange day ↔ IsYearInRange (year_of day) }
     ensures seconds { (s : ℤ) → IsInRange s ↔ IsDayInRange (floor_div s 86_400) }
+    ensures inner_days { (day : ℤ) → IsInnerDay day ↔ IsInnerYear (year_of day) }
+    ensures inner_seconds { (s : ℤ) → IsInner s ↔ IsInnerDay (floor_div s 86_400) }
     ensures wide_days { (day : ℤ) → IsWideDay day → IsWideYear (year_of day) }
     ensures wide_seconds { (s : ℤ) → IsWide s ↔ IsWideDay (floor_div s 86_400) }
 {}
@@ -47,16 +53,26 @@ pub fn order_law()
 {}
 
 /// Away from leap seconds a move is undone by its opposite, and the difference says how far it
-/// went.
+/// went. Every reading, also one of a leap second, stays where it is by a move of no length, and is
+/// no time away from itself.
 pub fn moves_law()
     ensures back { (r : Reading) (d : ℤ) → r.f < 1_000_000_000
         → ((moved r d).f < 1_000_000_000) × (moved (moved r d) (neg_ℤ d) ≡ r) }
     ensures difference { (r : Reading) (d : ℤ) → r.f < 1_000_000_000 → difference (moved r d) r
         ≡ d }
+    ensures stays { (r : Reading) → r.f < 2_000_000_000 → moved r (pos 0) ≡ r }
+    ensures itself { (r : Reading) → difference r r ≡ pos 0 }
 {}
 
-/// What prints alike is equal, leap seconds aside: `23:59:60` follows any second 59 that prints as
-/// `23:59:59`.
+/// Each day lies in one ISO week, and in each year 4 January lies in the first.
+pub fn iso_weeks_law()
+    ensures first { (y : ℤ) (week : AnyWeek) → IsWeekOf (day_number y 1 4) week
+        → (iso_year week ≡ y) × (iso_number week ≡ 1) }
+    ensures once { (day : ℤ) (a b : AnyWeek) → IsWeekOf day a → IsWeekOf day b → a ≡ b }
+{}
+
+/// What prints alike is equal, leap seconds aside: 12:00:30 with 1,500,000,000 nanoseconds prints
+/// as 12:00:31.500 does.
 pub fn print_law()
     ensures dates { (a b : AnyDate) → printed_date a ≡ printed_date b → a ≡ b }
     ensures times { (a b : AnyTime) → fraction_of a < 1_000_000_000 → fraction_of b < 1_000_000_000

@@ -140,7 +140,7 @@ fn push_short(number: u32, text: &mut ShortText)
     text.push_two_digits(number);
 }
 
-// A leap second prints as the second behind the one that it follows.
+// A leap second prints as the second after the one that it follows.
 fn push_time(time: NaiveTime, text: &mut ShortText)
     requires { length text.old + 18 ≤ 32 }
     ensures { text.new ≡ text.old ++ printed_time time }

@@ -9,6 +9,8 @@ use crate::{NaiveDate, NaiveDateTime, NaiveTime, Timelike};
 use offset_core::{FixedOffset, TimeDelta};
 use std::process::Abort;
 
+mod clients;
+mod debug;
 mod fields;
 mod moved_dates;
 

@@ -10,8 +10,8 @@ mod fields;
 /// second.
 ///
 /// Times compare and hash by the second, then the nanoseconds. A time prints as `23:59:59`, with a
-/// point and 3, 6 or 9 digits behind it where the nanoseconds take them, and a leap second as
-/// `23:59:60`, whatever width, fill or flags the formatter has.
+/// point and 3, 6 or 9 digits after it where the nanoseconds take them, and a leap second as
+/// `23:59:60`, whatever width, fill or flags the formatter has. `{:?}` prints the same.
 #[derive(Clone, Copy, PartialEq, Eq, PartialOrd, Ord, Hash)]
 pub struct NaiveTime {
     secs: u32,
@@ -32,7 +32,11 @@ impl NaiveTime {
         NaiveTime::from_hms_nano_opt(hour, min, sec, 0)
     }
 
-    pub(crate) fn from_hms_milli_opt(hour: u32, min: u32, sec: u32, milli: u32) -> Option<NaiveTime>
+    /// The time at an hour, a minute and a second, and so many milliseconds: below 1000, or, for a
+    /// leap second after a second 59, below 2000. `None` for any other.
+    ///
+    /// `from_hms_milli_opt(23, 59, 59, 1_500)` is half a second into the leap second `23:59:60`.
+    pub fn from_hms_milli_opt(hour: u32, min: u32, sec: u32, milli: u32) -> Option<NaiveTime>
         ensures { IsTimeOf (IsClock hour min sec) (clock_second hour min sec)
             (milli * 1_000_000) result }
     {
@@ -40,7 +44,9 @@ impl NaiveTime {
         NaiveTime::from_hms_nano_opt(hour, min, sec, nano)
     }
 
-    pub(crate) fn from_hms_micro_opt(hour: u32, min: u32, sec: u32, micro: u32) -> Option<NaiveTime>
+    /// The time at an hour, a minute and a second, and so many microseconds: below 10^6, or, for a
+    /// leap second after a second 59, below 2*10^6. `None` for any other.
+    pub fn from_hms_micro_opt(hour: u32, min: u32, sec: u32, micro: u32) -> Option<NaiveTime>
         ensures { IsTimeOf (IsClock hour min sec) (clock_second hour min sec)
             (micro * 1_000) result }
     {
@@ -48,7 +54,9 @@ impl NaiveTime {
         NaiveTime::from_hms_nano_opt(hour, min, sec, nano)
     }
 
-    pub(crate) fn from_hms_nano_opt(hour: u32, min: u32, sec: u32, nano: u32) -> Option<NaiveTime>
+    /// The time at an hour, a minute and a second, and so many nanoseconds: below 10^9, or, for a
+    /// leap second after a second 59, below 2*10^9. `None` for any other.
+    pub fn from_hms_nano_opt(hour: u32, min: u32, sec: u32, nano: u32) -> Option<NaiveTime>
         ensures { IsTimeOf (IsClock hour min sec) (clock_second hour min sec) nano result }
     {
         if hour > 23 || min > 59 || sec > 59 {

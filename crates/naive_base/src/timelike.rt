@@ -5,7 +5,9 @@ ghost use Rattle.naive_base.specs.Fields.{TimeOfDay, IsGiven, with_hour, with_mi
 
 /// A value that shows a time of day.
 ///
-/// A field is changed where the clock has its new value; all else that the value shows stays.
+/// A field is changed where its new value is in the range that the call names; all else that the
+/// value shows stays. Nanoseconds aren't checked against the second: from 10^9 on they may follow
+/// any. An instant is answered only where it is the only one that shows the new time.
 ///
 /// ```text
 /// let time = NaiveTime::from_hms_opt(23, 56, 4)?;
@@ -23,20 +25,24 @@ pub trait Timelike: Sized {
 
     /// The hour, from 0 to 23.
     fn hour(&self) -> u32
-        ensures { result ≡ hour_hand (time_shown self.now).second };
+        ensures value { result ≡ hour_hand (time_shown self.now).second }
+        ensures bound { result < 24 };
 
     /// The minute, from 0 to 59.
     fn minute(&self) -> u32
-        ensures { result ≡ minute_hand (time_shown self.now).second };
+        ensures value { result ≡ minute_hand (time_shown self.now).second }
+        ensures bound { result < 60 };
 
     /// The second of the minute, from 0 to 59, a leap second counted as the one before it.
     fn second(&self) -> u32
-        ensures { result ≡ second_hand (time_shown self.now).second };
+        ensures value { result ≡ second_hand (time_shown self.now).second }
+        ensures bound { result < 60 };
 
     /// The nanoseconds from the start of that second, from 10^9 on those of the leap second after
     /// it.
     fn nanosecond(&self) -> u32
-        ensures { result ≡ (time_shown self.now).fraction };
+        ensures value { result ≡ (time_shown self.now).fraction }
+        ensures bound { result < 2_000_000_000 };
 
     /// The same with another hour, from 0 to 23.
     fn with_hour(&self, hour: u32) -> Option<Self>

@@ -7,7 +7,7 @@ ghost use Rattle.zoned_time.specs.Zone.{Shows};
 ghost use Rattle.odd_zone.specs.Odd.{odd_offset};
 ghost use Rattle.odd_zone.specs.declared.offset.OddOffset.{OddOffset as AnyOffset};
 
-use crate::OddOffset;
+use crate::{Odd, OddOffset};
 
 /// The clocks of the odd zone show no odd second, and each even one twice: first with the offset 1,
 /// then with 0.
@@ -17,8 +17,15 @@ pub fn odd_seconds_are_gaps_and_even_ones_folds()
         → IsShownBetween (Shows odd_offset l) (pos 1) (pos 0) }
 {}
 
-/// Offsets are equal exactly where they are the same one, and a clone is the offset.
+/// Offsets are equal if and only if they are the same one, and a clone is the offset.
 pub fn offsets()
     ensures equal { (a b : AnyOffset) → IsTrue (⟦<OddOffset as PartialEq>⟧.eq a b) ↔ (a ≡ b) }
     ensures cloned { (a b : AnyOffset) → ⟦<OddOffset as Clone>⟧.is_clone a b ↔ (a ≡ b) }
+    ensures infallible { (a : AnyOffset) → ⟦<OddOffset as Clone>⟧.is_infallible a }
+{}
+
+/// There is one odd zone, and making a clone of it never fails.
+pub fn one_odd_zone(a: &Odd, b: &Odd)
+    ensures one { a.now ≡ b.now }
+    ensures infallible { ⟦<Odd as Clone>⟧.is_infallible a.now }
 {}

@@ -33,8 +33,10 @@ impl fmt::Display for OddOffset {
 
     ghost output = { λ offset. Some (offset_text (ahead_of offset)) };
 
+    ghost styled_output = { λ offset _. Some (offset_text (ahead_of offset)) };
+
     fn fmt<W: fmt::Write>(&self, f: &mut fmt::Formatter<W>) -> fmt::Result {
-        write!(f, "{}", self.fix())
+        fmt::Display::fmt(&self.fix(), f)
     }
 }
 

@@ -34,7 +34,7 @@ in_digits_once (suc k) m n a b e =
 
 -- A number's digits from the first on.
 
--- the last two digits come behind the others
+-- the last two digits come after the others
 pub in_digits-two_more : (j n : ℕ) → in_digits (suc (suc j)) n ≡ in_digits j (n / 100) ++ in_digits 2 (n % 100)
 unfolding in_digits
 in_digits-two_more j n =
@@ -55,7 +55,7 @@ three_digits n low =
     let hundreds : n / 100 % 10 ≡ n / 100 = omega arith in
     in_digits-two_more 1 n ∙ rw hundreds refl
 
--- the last three digits come behind the others
+-- the last three digits come after the others
 pub in_digits-three_more : (j n : ℕ) → in_digits (suc (suc (suc j))) n ≡ in_digits j (n / 1_000) ++ in_digits 3 (n % 1_000)
 unfolding in_digits
 in_digits-three_more j n =

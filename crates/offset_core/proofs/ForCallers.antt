@@ -6,7 +6,7 @@ use Rattle.offset_core.specs.declared.local_result.LocalResult.TheVariants.{Sing
 use Rattle.offset_core.specs.LocalResult.{map_of, all_or_none, IsAndThen}
 pub use Rattle.offset_core.proofs.Digits.{split_left, split_right, length-in_digits, in_digits_once, two_digits, in_digits-two_more, in_digits-three_more}
 pub use Rattle.offset_core.proofs.FixedOffsets.{one_offset}
-pub use Rattle.offset_core.proofs.WallAnswers.{IsWallAnswer-map_of, one_wall_answer}
+pub use Rattle.offset_core.proofs.WallAnswers.{HasOneValue, IsWallAnswer-map_of, one_wall_answer}
 
 -- the values that are there, shown, are the shown ones that are there
 pub map_all : {D Z : Type 0} (show : D → Z) (x : LocalResult (Option D))
@@ -18,7 +18,7 @@ map_all show (Ambiguous (Some d) (Some e)) = refl
 map_all show (Ambiguous (Some d) None) = refl
 map_all show (Ambiguous None b) = refl
 
--- what a closure gave for each value, where each of its calls keeps K, and gives v exactly where p holds
+-- what a closure gave for each value, where each of its calls keeps K, and gives v if and only if p holds
 pub and_then_told : {F O D Z : Type 0} (show : D → Z) (p : O → Type 0) (v : O → Z) (step : F → O → Option D → F → Type 0)
     (f : F) (K : F → Type 0) (offsets : LocalResult O) (result : LocalResult D) → K f
     → ((e g : F) (o : O) (d : Option D) → K e → step e o d g → K g × SomeIff (option_map show d) (p o) (v o))

@@ -17,17 +17,17 @@ clock_text-more : (n : ℕ) → 0 < n % 60
     → clock_text n ≡ in_digits 2 (n / 3600) ++ (58 ∷ (in_digits 2 (n / 60 % 60) ++ (58 ∷ in_digits 2 (n % 60))))
 clock_text-more n more = grind (arith, nat_tests)
 
--- two digits, and what is behind them
+-- two digits, and what comes after them
 same_pair : (m n : ℕ) (s t : List ℕ) → m < 100 → n < 100 → in_digits 2 m ++ s ≡ in_digits 2 n ++ t → (m ≡ n) × (s ≡ t)
 same_pair m n s t low high e =
     let both : length (in_digits 2 m) ≡ length (in_digits 2 n) = length-in_digits 2 m ∙ sym (length-in_digits 2 n) in
     let parts = split_left (in_digits 2 m) (in_digits 2 n) s t both e in
     (in_digits_once 2 m n low high parts.0, parts.1)
 
--- what stands behind the hours, where two clocks print alike
-behind_hours : (m n : ℕ) (s t : List ℕ) → m < 86_400 → n < 86_400
+-- what stands after the hours, where two clocks print alike
+after_hours : (m n : ℕ) (s t : List ℕ) → m < 86_400 → n < 86_400
     → in_digits 2 (m / 3600) ++ (58 ∷ s) ≡ in_digits 2 (n / 3600) ++ (58 ∷ t) → (m / 3600 ≡ n / 3600) × (s ≡ t)
-behind_hours m n s t low high e =
+after_hours m n s t low high e =
     let parts = same_pair (m / 3600) (n / 3600) (58 ∷ s) (58 ∷ t) (omega arith) (omega arith) e in
     (parts.0, cc (parts.1))
 
@@ -39,17 +39,17 @@ not_alike m n e =
 
 whole_once : (m n : ℕ) → m < 86_400 → n < 86_400 → m % 60 ≡ 0 → n % 60 ≡ 0 → clock_text m ≡ clock_text n → m ≡ n
 whole_once m n low high a b e =
-    let parts = behind_hours m n _ _ low high (sym (clock_text-whole m a) ∙ e ∙ clock_text-whole n b) in
+    let parts = after_hours m n _ _ low high (sym (clock_text-whole m a) ∙ e ∙ clock_text-whole n b) in
     let minutes = in_digits_once 2 (m / 60 % 60) (n / 60 % 60) (omega arith) (omega arith) parts.1 in
     omega (arith, parts.0, minutes)
 
 mixed_never : (m n : ℕ) → m < 86_400 → n < 86_400 → m % 60 ≡ 0 → 0 < n % 60 → clock_text m ≡ clock_text n → ⊥
 mixed_never m n low high a b e =
-    not_alike m n (behind_hours m n _ _ low high (sym (clock_text-whole m a) ∙ e ∙ clock_text-more n b)).1
+    not_alike m n (after_hours m n _ _ low high (sym (clock_text-whole m a) ∙ e ∙ clock_text-more n b)).1
 
 more_once : (m n : ℕ) → m < 86_400 → n < 86_400 → 0 < m % 60 → 0 < n % 60 → clock_text m ≡ clock_text n → m ≡ n
 more_once m n low high a b e =
-    let parts = behind_hours m n _ _ low high (sym (clock_text-more m a) ∙ e ∙ clock_text-more n b) in
+    let parts = after_hours m n _ _ low high (sym (clock_text-more m a) ∙ e ∙ clock_text-more n b) in
     let minutes = same_pair (m / 60 % 60) (n / 60 % 60) (58 ∷ _) (58 ∷ _) (omega arith) (omega arith) parts.1 in
     let seconds = in_digits_once 2 (m % 60) (n % 60) (omega arith) (omega arith) (cc (minutes.1)) in
     omega (arith, parts.0, minutes.0, seconds)

@@ -4,7 +4,11 @@ use Rattle.std.proofs.lemmas.Int.{ints}
 use Rattle.offset_core.specs.declared.local_result.LocalResult.{LocalResult}
 use Rattle.offset_core.specs.declared.local_result.LocalResult.TheVariants.{Single, Ambiguous, None}
 use Rattle.offset_core.specs.LocalResult.{map_of}
-use Rattle.offset_core.specs.WallAnswer.{IsShownOnce, IsShownBetween, IsNeverShown, IsWallAnswer, HasOneValue}
+use Rattle.offset_core.specs.WallAnswer.{IsShownOnce, IsShownBetween, IsNeverShown, IsWallAnswer}
+
+-- a second has at most one value
+abbrev pub HasOneValue : {T : Type 0} → (ℤ → T → Type 0) → Type 0
+HasOneValue {T} shows = (u : ℤ) (a b : T) → shows u a → shows u b → a ≡ b
 
 -- the three cases exclude each other
 pub never_or_once : {T : Type 0} (shows : ℤ → T → Type 0) (a : T) → IsNeverShown shows → IsShownOnce shows a → ⊥

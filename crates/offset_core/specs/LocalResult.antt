@@ -1,6 +1,7 @@
 -- What a `LocalResult` holds, and what comes of asking a function for its values.
-use Rattle.std.specs.Prelude.{◌≡◌, ⊤, Option}
+use Rattle.std.specs.Prelude.{◌≡◌, ⊤, ◌++◌, pos, Option}
 use Rattle.std.specs.Prelude.{Some as some, None as none}
+use Rattle.std.specs.Hash.{HashWrites, isize}
 use Rattle.offset_core.specs.declared.local_result.LocalResult.{LocalResult}
 use Rattle.offset_core.specs.declared.local_result.LocalResult.TheVariants.{Single, Ambiguous, None}
 
@@ -33,6 +34,18 @@ AreAlike R (Ambiguous a b) (Single c) = ⊥
 AreAlike R (Ambiguous a b) None = ⊥
 AreAlike R None (Single c) = ⊥
 AreAlike R None (Ambiguous c d) = ⊥
+
+-- each value has the property
+abbrev pub HoldsOfEach : {T : Type 0} → (T → Type 0) → LocalResult T → Type 0
+HoldsOfEach P (Single value) = P value
+HoldsOfEach P (Ambiguous first last) = P first × P last
+HoldsOfEach P None = ⊤
+
+-- what a hash looks at: the place of the variant among the three, and then each value in turn
+abbrev pub fed_of : {T : Type 0} → (T → HashWrites) → LocalResult T → HashWrites
+fed_of fed (Single value) = isize (pos 0) ++ fed value
+fed_of fed (Ambiguous first last) = isize (pos 1) ++ (fed first ++ fed last)
+fed_of fed None = isize (pos 2)
 
 -- each value replaced by its image
 abbrev pub map_of : {T U : Type 0} → (T → U) → LocalResult T → LocalResult U

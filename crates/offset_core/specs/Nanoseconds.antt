@@ -7,6 +7,7 @@ FitsTimeDelta nanos =
     (neg_ℤ (pos 9_223_372_036_854_775_807_000_000) ≤ℤ nanos)
     × (nanos ≤ℤ pos 9_223_372_036_854_775_807_000_000)
 
+-- how many nanoseconds a microsecond lasts, a millisecond, and so on
 abbrev pub nanos_per_microsecond : ℤ
 nanos_per_microsecond = pos 1_000
 
@@ -26,5 +27,6 @@ nanos_per_hour = pos 3_600_000_000_000
 abbrev pub nanos_per_day : ℤ
 nanos_per_day = pos 86_400_000_000_000
 
+-- a week of seven such days
 abbrev pub nanos_per_week : ℤ
 nanos_per_week = pos 604_800_000_000_000

@@ -7,12 +7,12 @@ use Rattle.offset_core.specs.Nanoseconds.{FitsTimeDelta, nanos_per_second}
 abbrev pub nanos_of : TimeDelta → ℤ
 nanos_of delta = delta.nanos
 
--- the length of so many nanoseconds, exactly where that is in range
+-- the length of so many nanoseconds, if and only if that is in range
 abbrev pub IsDeltaOf : ℤ → Option TimeDelta → Type 0
 IsDeltaOf nanos (Some delta) = FitsTimeDelta nanos × (nanos_of delta ≡ nanos)
 IsDeltaOf nanos None = FitsTimeDelta nanos → ⊥
 
--- the length of so many seconds and nanoseconds, exactly where these are less than a second and the whole is in range
+-- the length of so many seconds and nanoseconds, if and only if these are less than a second and the whole is in range
 abbrev pub IsDeltaOfParts : ℤ → ℕ → Option TimeDelta → Type 0
 IsDeltaOfParts secs nanos (Some delta) =
     (nanos < 1_000_000_000) × FitsTimeDelta (secs *ℤ nanos_per_second +ℤ pos nanos)

@@ -25,11 +25,8 @@ pub record IsShownBetween {T : Type 0} (shows : ℤ → T → Type 0) (a b : T) 
 abbrev pub IsNeverShown : {T : Type 0} → (ℤ → T → Type 0) → Type 0
 IsNeverShown {T} shows = (u : ℤ) (a : T) → shows u a → ⊥
 
+-- the answer of a wall clock is right: none, one or several seconds show the time
 abbrev pub IsWallAnswer : {T : Type 0} → (ℤ → T → Type 0) → LocalResult T → Type 0
 IsWallAnswer shows None = IsNeverShown shows
 IsWallAnswer shows (Single a) = IsShownOnce shows a
 IsWallAnswer shows (Ambiguous a b) = IsShownBetween shows a b
-
--- a second has at most one value
-abbrev pub HasOneValue : {T : Type 0} → (ℤ → T → Type 0) → Type 0
-HasOneValue {T} shows = (u : ℤ) (a b : T) → shows u a → shows u b → a ≡ b

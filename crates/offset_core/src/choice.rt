@@ -32,3 +32,6 @@ pub struct Choice {
     pub gap: GapChoice,
     pub fold: FoldChoice,
 }
+
+#[cfg(test)]
+mod tests;

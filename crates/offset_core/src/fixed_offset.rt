@@ -8,8 +8,8 @@ use std::fmt;
 /// How many seconds a clock is ahead of UTC: a whole number, strictly between a day behind and a
 /// day ahead.
 ///
-/// It prints as `+HH:MM` or `-HH:MM`, with `:SS` behind it where it isn't a whole number of
-/// minutes, whatever width, fill or flags the formatter has:
+/// It prints as `+HH:MM` or `-HH:MM`, and `:SS` after it where it isn't a whole number of minutes,
+/// whatever width, fill or flags the formatter has. `{:?}` prints the same:
 ///
 /// ```text
 /// FixedOffset::east_opt(19_800)  Some(+05:30)
@@ -49,7 +49,8 @@ impl FixedOffset {
         FixedOffset::east_opt(secs.checked_neg()?)
     }
 
-    /// The offset of a clock so many seconds ahead of UTC, where [`FixedOffset::east_opt`] answers.
+    /// The offset of a clock so many seconds ahead of UTC. Requires: less than a day either way, so
+    /// that [`FixedOffset::east_opt`] has an answer.
     pub fn east(secs: i32) -> FixedOffset
         requires { IsWithinDay secs }
         ensures { seconds_of result ≡ secs }
@@ -59,7 +60,8 @@ impl FixedOffset {
         }
     }
 
-    /// The offset of a clock so many seconds behind UTC, where [`FixedOffset::west_opt`] answers.
+    /// The offset of a clock so many seconds behind UTC. Requires: less than a day either way, so
+    /// that [`FixedOffset::west_opt`] has an answer.
     pub fn west(secs: i32) -> FixedOffset
         requires { IsWithinDay secs }
         ensures { seconds_of result ≡ neg_ℤ secs }

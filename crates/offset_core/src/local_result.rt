@@ -68,7 +68,7 @@ impl<T> LocalResult<T> {
         }
     }
 
-    /// What `f` gives for each value. It is asked for the first one first.
+    /// What `f` gives for each value. It is called with the first one first.
     pub fn map<U, F: FnMut(T) -> U>(self, mut f: F) -> LocalResult<U>
         requires { IsCallableOnEach F.pre F.step f self }
         ensures { IsMapped F.step f self result }
@@ -84,8 +84,8 @@ impl<T> LocalResult<T> {
         }
     }
 
-    /// What `f` gives for each value, or `None` where it gives `None` for one of them. It is asked
-    /// for the first one first, and for the last one also where it gave `None` for the first.
+    /// What `f` gives for each value, or `None` where it gives `None` for one of them. It is called
+    /// with the first one first, and with the last one also where it gave `None` for the first.
     pub fn and_then<U, F: FnMut(T) -> Option<U>>(self, f: F) -> LocalResult<U>
     where
         U: Drop,
@@ -95,7 +95,7 @@ impl<T> LocalResult<T> {
         self.map(f).all_or_none()
     }
 
-    /// The value of a `Single`. Whether this is one, [`LocalResult::single`] tells.
+    /// The value of a `Single`. Requires: this is one, as [`LocalResult::single`] says.
     pub fn unwrap(self) -> T
         requires { IsSome (single_of self) }
         ensures { self ≡ LocalResult.Single result }

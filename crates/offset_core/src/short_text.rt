@@ -36,7 +36,7 @@ impl ShortText {
         }
     }
 
-    /// Puts a byte behind the text.
+    /// Appends an ASCII byte. Requires: the text has less than 32 bytes.
     pub fn push(&mut self, byte: u8)
         requires ascii { byte < 128 }
         requires room { length self.old < 32 }
@@ -47,7 +47,7 @@ impl ShortText {
         self.len += 1;
     }
 
-    /// Puts two digits behind the text.
+    /// Appends a number below 100 in two digits. Requires: there is room for them within 32 bytes.
     pub fn push_two_digits(&mut self, number: u32)
         requires number { number < 100 }
         requires room { length self.old + 2 ≤ 32 }
@@ -58,7 +58,8 @@ impl ShortText {
         self.push(b'0' + (number % 10) as u8);
     }
 
-    /// Puts three digits behind the text.
+    /// Appends a number below 1000 in three digits. Requires: there is room for them within 32
+    /// bytes.
     pub fn push_three_digits(&mut self, number: u32)
         requires number { number < 1_000 }
         requires room { length self.old + 3 ≤ 32 }
@@ -69,7 +70,8 @@ impl ShortText {
         self.push_two_digits(number % 100);
     }
 
-    /// Puts four digits behind the text.
+    /// Appends a number below 10,000 in four digits. Requires: there is room for them within 32
+    /// bytes.
     pub fn push_four_digits(&mut self, number: u32)
         requires number { number < 10_000 }
         requires room { length self.old + 4 ≤ 32 }

@@ -1,8 +1,10 @@
 //! Lengths of time.
-ghost use Rattle.std.specs.Prelude.{◌≡◌, pos, ◌+ℤ◌, ◌*ℤ◌, FitsSigned, SomeIff, int_div, int_rem};
-ghost use Rattle.std.specs.Int.{w64};
+ghost use Rattle.std.specs.Prelude.{◌≡◌, pos, ◌*ℤ◌};
 ghost use Rattle.std.specs.Duration.{as_nanos};
 ghost use Rattle.offset_core.specs.Nanoseconds.{FitsTimeDelta, nanos_per_microsecond, nanos_per_millisecond, nanos_per_second, nanos_per_minute, nanos_per_hour, nanos_per_day, nanos_per_week};
+
+mod arithmetic;
+mod units;
 
 use std::time::Duration;
 
@@ -92,7 +94,7 @@ impl TimeDelta {
         TimeDelta::of_nanos(millis as i128 * NANOS_PER_MILLISECOND)
     }
 
-    /// So many milliseconds, where [`TimeDelta::try_milliseconds`] answers.
+    /// So many milliseconds. Requires: [`TimeDelta::try_milliseconds`] has an answer.
     pub fn milliseconds(millis: i64) -> TimeDelta
         requires { FitsTimeDelta (millis *ℤ nanos_per_millisecond) }
         ensures { nanos_of result ≡ millis *ℤ nanos_per_millisecond }
@@ -107,7 +109,7 @@ impl TimeDelta {
         TimeDelta::of_nanos(secs as i128 * NANOS_PER_SECOND)
     }
 
-    /// So many seconds, where [`TimeDelta::try_seconds`] answers.
+    /// So many seconds. Requires: [`TimeDelta::try_seconds`] has an answer.
     pub fn seconds(secs: i64) -> TimeDelta
         requires { FitsTimeDelta (secs *ℤ nanos_per_second) }
         ensures { nanos_of result ≡ secs *ℤ nanos_per_second }
@@ -122,7 +124,7 @@ impl TimeDelta {
         TimeDelta::of_nanos(minutes as i128 * NANOS_PER_MINUTE)
     }
 
-    /// So many minutes, where [`TimeDelta::try_minutes`] answers.
+    /// So many minutes. Requires: [`TimeDelta::try_minutes`] has an answer.
     pub fn minutes(minutes: i64) -> TimeDelta
         requires { FitsTimeDelta (minutes *ℤ nanos_per_minute) }
         ensures { nanos_of result ≡ minutes *ℤ nanos_per_minute }
@@ -137,7 +139,7 @@ impl TimeDelta {
         TimeDelta::of_nanos(hours as i128 * NANOS_PER_HOUR)
     }
 
-    /// So many hours, where [`TimeDelta::try_hours`] answers.
+    /// So many hours. Requires: [`TimeDelta::try_hours`] has an answer.
     pub fn hours(hours: i64) -> TimeDelta
         requires { FitsTimeDelta (hours *ℤ nanos_per_hour) }
         ensures { nanos_of result ≡ hours *ℤ nanos_per_hour }
@@ -152,7 +154,7 @@ impl TimeDelta {
         TimeDelta::of_nanos(days as i128 * NANOS_PER_DAY)
     }
 
-    /// So many days, where [`TimeDelta::try_days`] answers.
+    /// So many days. Requires: [`TimeDelta::try_days`] has an answer.
     pub fn days(days: i64) -> TimeDelta
         requires { FitsTimeDelta (days *ℤ nanos_per_day) }
         ensures { nanos_of result ≡ days *ℤ nanos_per_day }
@@ -167,7 +169,7 @@ impl TimeDelta {
         TimeDelta::of_nanos(weeks as i128 * NANOS_PER_WEEK)
     }
 
-    /// So many weeks, where [`TimeDelta::try_weeks`] answers.
+    /// So many weeks. Requires: [`TimeDelta::try_weeks`] has an answer.
     pub fn weeks(weeks: i64) -> TimeDelta
         requires { FitsTimeDelta (weeks *ℤ nanos_per_week) }
         ensures { nanos_of result ≡ weeks *ℤ nanos_per_week }
@@ -180,41 +182,6 @@ impl TimeDelta {
         ensures { IsDeltaOf (pos (as_nanos duration)) result }
     {
         TimeDelta::of_nanos(duration.as_nanos() as i128)
-    }
-
-    /// The whole seconds of this length, a part of a second left away on either side of zero.
-    pub fn num_seconds(&self) -> i64
-        ensures { result ≡ int_div (nanos_of self.now) nanos_per_second }
-    {
-        (self.nanos / NANOS_PER_SECOND) as i64
-    }
-
-    /// The nanoseconds beside the whole seconds, with the sign of the length.
-    pub fn subsec_nanos(&self) -> i32
-        ensures { result ≡ int_rem (nanos_of self.now) nanos_per_second }
-    {
-        (self.nanos % NANOS_PER_SECOND) as i32
-    }
-
-    /// All of this length in nanoseconds, or `None` where that leaves an `i64`.
-    pub fn num_nanoseconds(&self) -> Option<i64>
-        ensures { SomeIff result (FitsSigned w64 (nanos_of self.now)) (nanos_of self.now) }
-    {
-        i64::try_from(self.nanos).ok()
-    }
-
-    /// All of this length in nanoseconds.
-    pub fn whole_nanoseconds(&self) -> i128
-        ensures { result ≡ nanos_of self.now }
-    {
-        self.nanos
-    }
-
-    /// The sum of two lengths, or `None` where that is out of range.
-    pub fn checked_add(&self, other: &TimeDelta) -> Option<TimeDelta>
-        ensures { IsDeltaOf (nanos_of self.now +ℤ nanos_of other.now) result }
-    {
-        TimeDelta::of_nanos(self.nanos + other.nanos)
     }
 }
 

@@ -23,7 +23,7 @@ fn print_answer(rt: &HostRuntime, name: &str, counts: [u32; 6]) -> io::Result<()
     }
 }
 
-/// A header of version 1 with those counts.
+// A header of version 1 with those counts.
 fn header(counts: [u32; 6]) -> [u8; 44] {
     let mut header = [0; 44];
     header[..4].copy_from_slice(b"TZif");

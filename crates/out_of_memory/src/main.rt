@@ -23,7 +23,7 @@ fn main(rt: HostRuntime) -> ExitCode {
     }
 }
 
-/// Whether there was memory for every zone.
+// Whether there was memory for every zone.
 fn try_all(rt: &HostRuntime) -> io::Result<bool> {
     headers::print_answers(rt)?;
     zones::print_zones(rt)

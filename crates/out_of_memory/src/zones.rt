@@ -5,7 +5,7 @@ use std::io;
 use tz_info::{Error, LocalTimeType, TimeZone, Transition};
 use zoned_vectors::vectors::{GUAYAQUIL, HONOLULU, JERUSALEM};
 
-/// 2038-07-01 00:00:00 UTC.
+// 2038-07-01 00:00:00 UTC.
 const SUMMER: i64 = 2_161_555_200;
 
 /// Prints a line for each zone; whether there was memory for all of them.
@@ -33,7 +33,7 @@ pub fn print_zones(rt: &HostRuntime) -> io::Result<bool> {
     Ok(answers.iter().all(|had_memory| *had_memory))
 }
 
-/// Prints what the zone is; whether there was memory for it.
+// Prints what the zone is; whether there was memory for it.
 fn print_zone(rt: &HostRuntime, name: &str, answer: Result<TimeZone, Error>) -> io::Result<bool> {
     match answer {
         Ok(zone) => {

@@ -28,7 +28,7 @@ fn numbers(rt: HostRuntime) {
     assert_eq!(rt; cursor.remaining(), b"z".as_slice());
 }
 
-/// A refused call leaves the cursor where it began.
+// A refused call leaves the cursor where it began.
 #[test]
 fn refusals(rt: HostRuntime) {
     let mut cursor = Cursor::new(b"13a");

@@ -2,7 +2,7 @@
 
 use tz_info::TimeZoneName;
 
-/// Whether the bytes are a name that gives them back, or the number of the refusal.
+// Whether the bytes are a name that gives them back, or the number of the refusal.
 fn kept(bytes: &[u8]) -> Result<bool, u8> {
     match TimeZoneName::new(bytes) {
         Ok(name) => Ok(name.as_bytes() == bytes),

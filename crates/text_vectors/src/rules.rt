@@ -4,7 +4,7 @@ use crate::values::{alternate, julian_0, julian_1, month_weekday, nameless};
 use std::process::Abort;
 use tz_info::{RuleDay, TransitionRule};
 
-/// The rule of two offsets, each with the day and the day time at which its type ends.
+// The rule of two offsets, each with the day and the day time at which its type ends.
 fn rule_of(
     rt: &impl Abort,
     std_offset: i32,
@@ -17,7 +17,7 @@ fn rule_of(
     alternate(rt, std, dst, start, end)
 }
 
-/// The offset at the second and whether it is daylight saving time, or the number of the refusal.
+// The offset at the second and whether it is daylight saving time, or the number of the refusal.
 fn type_at(rule: &TransitionRule, unix_time: i64) -> Result<(i32, bool), u8> {
     match rule.find_local_time_type(unix_time) {
         Ok(local) => Ok((local.offset(), local.is_dst())),
@@ -122,8 +122,8 @@ fn an_order_that_turns_over_at_the_new_year(rt: HostRuntime) {
     assert_eq!(rt; type_at(&rule, 1_704_067_200), Ok((3600, true)));
 }
 
-/// The rule whose daylight saving time starts on the last day of a year and ends on the first, with
-/// one offset.
+// The rule whose daylight saving time starts on the last day of a year and ends on the first, with
+// one offset.
 fn new_year_rule(rt: &impl Abort, offset: i32) -> TransitionRule {
     rule_of(
         rt,

@@ -4,7 +4,7 @@ use std::alloc::Global;
 use std::process::Abort;
 use tz_info::TimeZone;
 
-/// The text's zone has so many types, and a rule or none.
+// The text's zone has so many types, and a rule or none.
 fn zone_of(rt: &impl Abort, alloc: Global, text: &str, types: usize, has_rule: bool) {
     match TimeZone::from_posix_tz(alloc, text) {
         Ok(zone) => {
@@ -15,7 +15,7 @@ fn zone_of(rt: &impl Abort, alloc: Global, text: &str, types: usize, has_rule: b
     }
 }
 
-/// The text is refused with that number.
+// The text is refused with that number.
 fn refused(rt: &impl Abort, alloc: Global, text: &str, number: u8) {
     match TimeZone::from_posix_tz(alloc, text) {
         Ok(_) => panic!(rt; "a zone of {text}"),

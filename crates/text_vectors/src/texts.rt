@@ -5,7 +5,7 @@ use std::alloc::AllocError;
 use std::process::Abort;
 use tz_info::{RuleDay, TransitionRule};
 
-/// The rule of the text, or the number of the refusal.
+// The rule of the text, or the number of the refusal.
 fn read(text: &[u8], extended: bool) -> Result<TransitionRule, u8> {
     match TransitionRule::from_tz_string(text, extended) {
         Ok(rule) => Ok(rule),
@@ -13,12 +13,12 @@ fn read(text: &[u8], extended: bool) -> Result<TransitionRule, u8> {
     }
 }
 
-/// The text has a rule.
+// The text has a rule.
 fn accepted(rt: &impl Abort, text: &str, extended: bool) {
     assert!(rt; read(text.as_bytes(), extended).is_ok(), "{text}");
 }
 
-/// The text is refused with that number.
+// The text is refused with that number.
 fn refused(rt: &impl Abort, text: &str, extended: bool, number: u8) {
     assert_eq!(rt; read(text.as_bytes(), extended), Err(number), "{text}");
 }
@@ -27,8 +27,8 @@ fn fixed(rt: &impl Abort, ut_offset: i32, name: &str) -> TransitionRule {
     TransitionRule::from(named(rt, ut_offset, false, name))
 }
 
-/// The rule of a standard and a daylight saving offset with their names, and the days and day times
-/// at which they end.
+// The rule of a standard and a daylight saving offset with their names, and the days and day times
+// at which they end.
 fn turning(
     rt: &impl Abort,
     std: (i32, &str),
@@ -131,7 +131,7 @@ fn extensions(rt: HostRuntime) {
     );
 }
 
-/// Which fault of several is named.
+// Which fault of several is named.
 #[test]
 fn first_faults(rt: HostRuntime) {
     refused(&rt, "", false, 10);

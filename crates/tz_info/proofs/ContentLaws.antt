@@ -1,6 +1,6 @@
 -- Transitions, leap seconds and indicators: what is read is spelled, and what is spelled is read.
 use Rattle.std.proofs.Common.{◌≡◌, ◌≢◌, ℕ, zero, suc, ◌+◌, ◌*◌, ◌<◌, ◌==◌, List, ◌++◌, length, get_or, slice_index, take, drop, map, Ok, Err, Bool, true, false, not, ◌&&◌, refl, sym, ap, ◌∙◌, subst, arith, inl, inr}
-use Rattle.std.proofs.lemmas.Bool.{cases_lt}
+use Rattle.std.proofs.lemmas.Bool.{and_parts, cases_lt}
 use Rattle.std.proofs.lemmas.Bool.Decides.{nat_tests}
 use Rattle.std.proofs.lemmas.List.{length-take, length-map, get_or-map, take-append-drop}
 use Rattle.std.proofs.lemmas.Grind.{same_number_lists}
@@ -11,7 +11,7 @@ use Rattle.tz_info.specs.Steps.ContentReading.{record_at, values_below, transiti
 use Rattle.tz_info.specs.Steps.Below.{all_below}
 use Rattle.tz_info.specs.declared.zone.transition.Transition.{Transition}
 use Rattle.tz_info.specs.declared.zone.leap_second.LeapSecond.{LeapSecond}
-use Rattle.tz_info.proofs.ReadLaws.{ok_same, guard_ok, guard_err, and_true, drop_front}
+use Rattle.tz_info.proofs.ReadLaws.{ok_same, guard_ok, guard_err, drop_front}
 use Rattle.tz_info.proofs.RecordLaws.{each_is, each_again, records_from, records_length, records_each, record_size, same_factor}
 
 -- ---- transitions
@@ -77,7 +77,7 @@ leap_seconds_again n w part leaps p l h =
 -- ---- indicators
 below_is : (n : ℕ) (test : ℕ → Bool) → all_below n test ≡ true → (k : ℕ) → k < n → test k ≡ true
 below_is zero test h k l = absurd (omega arith)
-below_is (suc n) test h k l = let p = and_true (all_below n test) (test n) h in elim (cases_lt k n) as (λ _. test k ≡ true) [
+below_is (suc n) test h k l = let p = and_parts (all_below n test) (test n) h in elim (cases_lt k n) as (λ _. test k ≡ true) [
   | inl m ↦ below_is n test p.0 k m
   | inr m ↦ let same : k ≡ n = omega arith in ap test same ∙ p.1
 ]

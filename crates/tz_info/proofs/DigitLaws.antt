@@ -1,6 +1,5 @@
 -- A number has one binary digit more than its half.
-use Rattle.std.proofs.Common.{◌≡◌, ℕ, zero, suc, ◌+◌, ◌/◌, ◌^◌, ◌<◌, ◌≤◌, arith, refl, ap}
-use Rattle.std.proofs.Math.Nat.{pow-suc}
+use Rattle.std.proofs.Common.{◌≡◌, ℕ, zero, suc, ◌+◌, ◌/◌, ◌<◌, ◌≤◌, arith, refl, ap}
 use Rattle.tz_info.specs.Digits.{digits, digits_within}
 
 -- more fuel than enough changes nothing
@@ -40,14 +39,3 @@ within-le (suc f) (suc m) = let h = within-le f (suc m / 2) in omega arith
 pub digits-le : (m : ℕ) → digits m ≤ m
 unfolding digits
 digits-le m = within-le m m
-
-digits-zero : digits 0 ≡ 0
-unfolding digits
-digits-zero = refl
-
--- what is below 2 ^ k has at most k digits
-pub digits-below : (k n : ℕ) → n < 2 ^ k → digits n ≤ k
-digits-below zero zero h = rw digits-zero (omega arith)
-digits-below zero (suc n) h = absurd (omega arith)
-digits-below (suc k) zero h = rw digits-zero (omega arith)
-digits-below (suc k) (suc n) h = let e = digits-half n in let p = rw pow-suc at h in let r = digits-below k (suc n / 2) (omega arith) in omega arith

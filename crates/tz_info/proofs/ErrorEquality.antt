@@ -1,4 +1,4 @@
--- Errors are equal by `==` exactly where they are equal.
+-- Errors are equal by `==` if and only if they are equal.
 use Rattle.std.proofs.Common.{rules, ◌≡◌, ◌↔◌, IsTrue, refl, ap}
 use Rattle.tz_info.specs.contracts.error.ErrorPartialEq.TheImpl.{eq-value as error_eq}
 use Rattle.tz_info.specs.contracts.error.ExpectedPartialEq.TheImpl.{eq-value as expected_eq}

@@ -1,5 +1,6 @@
 -- Footers: what is read is spelled, what is spelled is read, and where it is refused its fault stands.
 use Rattle.std.proofs.Common.{◌≡◌, ◌≢◌, ℕ, ◌-◌, ◌==◌, List, [], ◌∷◌, ◌++◌, length, slice_index, Result, Ok, Err, Option, Some, None, Bool, true, false, cond, ◌&&◌, ◌||◌, refl, sym, ap, ◌∙◌, subst, arith, inl, inr}
+use Rattle.std.proofs.lemmas.Bool.{and_parts}
 use Rattle.std.proofs.lemmas.Bool.Decides.{nat_tests}
 use Rattle.std.proofs.lemmas.List.{length-append}
 use Rattle.std.proofs.lemmas.Str.{is_utf8-from_IsUtf8, IsUtf8-from_is_utf8}
@@ -7,7 +8,8 @@ use Rattle.std.specs.Bool.{nat_eq}
 use Rattle.std.specs.List.{list_any, starts_with, ends_with}
 use Rattle.std.specs.Str.{is_utf8}
 use Rattle.tz_info.specs.Fronts.{Gives}
-use Rattle.tz_info.specs.FileContents.{is_zero, HasNoZero}
+use Rattle.tz_info.specs.FileContents.{HasNoZero}
+use Rattle.tz_info.specs.Steps.ContentReading.{is_zero}
 use Rattle.tz_info.specs.TzTexts.{IsTzText}
 use Rattle.tz_info.specs.TzFaults.{IsTextFault}
 use Rattle.tz_info.specs.Steps.Readings.{text_at}
@@ -17,7 +19,7 @@ use Rattle.tz_info.specs.declared.error.Error.{Error}
 use Rattle.tz_info.specs.declared.rule.transition_rule.TransitionRule.{TransitionRule}
 use Rattle.tz_info.proofs.TextLaws.{text_law}
 use Rattle.tz_info.proofs.TrimLaws.{trim_again, trim_is}
-use Rattle.tz_info.proofs.ReadLaws.{bind_ok, bind_err, ok_same, err_same, choose, test_ok, test_err, and_true, false_unless, drop_front}
+use Rattle.tz_info.proofs.ReadLaws.{bind_ok, bind_err, ok_same, err_same, choose, test_ok, test_err, false_unless, drop_front}
 
 -- ---- newlines
 last_of : (b : ℕ) (bs : List ℕ) → (front : List ℕ) × (last : ℕ) × (b ∷ bs ≡ front ++ (last ∷ []))
@@ -28,12 +30,12 @@ ends_last : (front : List ℕ) (last : ℕ) → ends_with nat_eq (front ++ (last
 ends_last front last = let at : length (front ++ (last ∷ [])) - 1 ≡ length front = omega (arith, length-append front (last ∷ [])) in rw (at, drop_front front (last ∷ [])) refl
 
 is_ten : (b : ℕ) → ((10 == b) && true) ≡ true → b ≡ 10
-is_ten b h = let e = (and_true (10 == b) true h).0 in grind (arith, nat_tests)
+is_ten b h = let e = (and_parts (10 == b) true h).0 in grind (arith, nat_tests)
 
 between_is : (bytes : List ℕ) → is_between_newlines bytes ≡ true → IsBetweenNewlines bytes
 between_is [] h = cc
 between_is (b ∷ bs) h =
-    let p = and_true (starts_with nat_eq (b ∷ bs) (10 ∷ [])) (ends_with nat_eq (b ∷ bs) (10 ∷ [])) h in
+    let p = and_parts (starts_with nat_eq (b ∷ bs) (10 ∷ [])) (ends_with nat_eq (b ∷ bs) (10 ∷ [])) h in
     let r = last_of b bs in
     let ends : ends_with nat_eq (r.0 ++ (r.1 ∷ [])) (10 ∷ []) ≡ true = subst (λ (s : List ℕ). ends_with nat_eq s (10 ∷ []) ≡ true) r.2 p.1 in
     record {

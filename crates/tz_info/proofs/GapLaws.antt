@@ -10,7 +10,8 @@ use Rattle.tz_info.specs.Gaps.{ShowsMore, IsBeforeGap}
 use Rattle.tz_info.specs.Leaps.{IsNear}
 use Rattle.tz_info.specs.LocalTypes.{LocalType}
 use Rattle.tz_info.specs.Rules.{Alternate as AlternateRule}
-use Rattle.tz_info.specs.Segments.{index_of, segment_of}
+use Rattle.tz_info.specs.Segments.{segment_of}
+use Rattle.tz_info.specs.Steps.Segments.{index_of}
 use Rattle.tz_info.specs.Steps.Gaps.{AreLess, AreLessInto, IsReach, Starts, IsLesserOf}
 use Rattle.tz_info.specs.Steps.Starts.{IsReachedFrom}
 use Rattle.tz_info.specs.WallClocks.{Shows}

@@ -1,11 +1,13 @@
 -- Headers: what is read is spelled, what is spelled is read, and where it is refused its fault stands.
-use Rattle.std.proofs.Common.{◌≡◌, ◌≢◌, ℕ, ◌+◌, ◌<◌, Result, ◌==◌, arith, refl, ap, ◌∙◌, sym, subst, List, [], ◌∷◌, ◌++◌, length, slice_index, true, false, not, ◌||◌, Ok, Err, inl, inr, ◌⊎◌}
+use Rattle.std.proofs.Common.{◌≡◌, ◌≢◌, ℕ, ◌+◌, ◌<◌, Result, ◌==◌, arith, refl, ap, ◌∙◌, sym, subst, List, [], ◌∷◌, ◌++◌, length, take, slice_index, true, false, not, ◌||◌, Ok, Err, inl, inr, ◌⊎◌}
+use Rattle.std.proofs.lemmas.Bool.{and_parts}
 use Rattle.std.proofs.lemmas.Bool.Decides.{nat_tests}
-use Rattle.std.proofs.lemmas.List.{length-append}
+use Rattle.std.proofs.lemmas.List.{length-append, nil_from_length}
+use Rattle.std.proofs.Math.Seq.{take-append_seam}
 use Rattle.std.specs.Bool.{nat_eq}
 use Rattle.std.specs.Cmp.Lexicographic.{pointwise}
 use Rattle.tz_info.specs.Fronts.{exact_at, ◌>>=◌}
-use Rattle.tz_info.specs.FileHeaders.{magic, StandsFor, MayStand, AreCounts, CountsAgree, IsHeader, HeaderFault, No_magic, Other_magic, No_version, First_version, Other_version, Too_short, Counts_disagree}
+use Rattle.tz_info.specs.FileHeaders.{magic, HasOtherMagic, StandsFor, MayStand, AreCounts, CountsAgree, IsHeader, HeaderFault, No_magic, Other_magic, No_version, First_version, Other_version, Too_short, Counts_disagree}
 use Rattle.tz_info.specs.Steps.FileReading.{is_magic, magic_at, first_version_at, version_of, version_at, counts_at, is_none_or_all, counts_agree, header_at}
 use Rattle.tz_info.specs.declared.file.header.Place.{Place}
 use Rattle.tz_info.specs.declared.file.header.Place.TheVariants.{First, Second}
@@ -13,7 +15,7 @@ use Rattle.tz_info.specs.declared.file.header.Version.{Version}
 use Rattle.tz_info.specs.declared.file.header.Version.TheVariants.{One, Two, Three}
 use Rattle.tz_info.specs.declared.file.header.Counts.{Counts}
 use Rattle.tz_info.specs.declared.file.header.Header.{Header}
-use Rattle.tz_info.proofs.ReadLaws.{bind_ok, bind_err, ok_same, err_same, choose, guard_ok, guard_err, and_true, exact_takes, exact_again, exact_fails, exact_short, false_unless}
+use Rattle.tz_info.proofs.ReadLaws.{bind_ok, bind_err, ok_same, err_same, choose, guard_ok, guard_err, exact_takes, exact_again, exact_fails, exact_short, false_unless}
 use Rattle.tz_info.proofs.SizedLaws.{SizedLaw, short_within, then_sized, made_sized, like_sized, exact_law, number_law}
 
 -- ---- the magic bytes
@@ -22,7 +24,7 @@ same_bytes [] [] h = refl
 same_bytes [] (y ∷ ys) h = cc
 same_bytes (x ∷ xs) [] h = cc
 same_bytes (x ∷ xs) (y ∷ ys) h =
-    let p = and_true (x == y) (pointwise nat_eq xs ys) h in
+    let p = and_parts (x == y) (pointwise nat_eq xs ys) h in
     let first = p.0 in let e : x ≡ y = grind (arith, nat_tests) in
     rw e (ap (λ zs. y ∷ zs) (same_bytes xs ys p.1))
 
@@ -49,10 +51,17 @@ magic_fails place bytes e h = elim (bind_err (exact_at 4 bytes) _ e h) [
       subst (λ n. HeaderFault place bytes n) (sym g.1) (Other_magic k.0.0 k.0.1 t.0 t.1 (λ q. let m = ap is_magic q in let w = g.0 in cc))
 ]
 
--- ---- the version
-Stands : Place → ℕ → Version → Type 0
-Stands place byte v = StandsFor byte v × MayStand place v
+-- four other bytes are at the front
+pub not_short : (bytes : List ℕ) (e : ℕ) → HasOtherMagic bytes → exact_at 4 bytes ≡ Err e → ⊥
+not_short bytes e h k = let p = exact_fails 4 bytes e k in let l = p.1 in let m = h.0 in absurd (omega arith)
 
+pub not_magic : (bytes : List ℕ) (x : List ℕ × List ℕ) → HasOtherMagic bytes → exact_at 4 bytes ≡ Ok x → is_magic x.0 ≡ true → ⊥
+not_magic bytes x h k m =
+    let t = exact_takes 4 bytes x k in
+    let front : take 4 bytes ≡ x.0 = ap (λ b. take 4 b) t.0 ∙ (ap (λ n. take n (x.0 ++ x.1)) (sym t.1) ∙ take-append_seam x.0 x.1) in
+    h.1 (front ∙ magic_is x.0 m)
+
+-- ---- the version
 two_may : (place : Place) → MayStand place Two
 two_may First = tt
 two_may Second = λ q. cc
@@ -132,7 +141,7 @@ unfolding version_at
 version_fails place bytes after e w h = elim (bind_err (exact_at 1 after) _ e h) [
   | inl k ↦
       let p = exact_fails 1 after e k in let l : length after ≡ 0 = omega (arith, p.1) in
-      subst (λ n. HeaderFault place bytes n) (sym p.0) (No_version (w ∙ ap (λ r. magic ++ r) (none_is after l)))
+      subst (λ n. HeaderFault place bytes n) (sym p.0) (No_version (w ∙ ap (λ r. magic ++ r) (nil_from_length after l)))
   | inr k ↦
       let t = exact_takes 1 after k.0 k.1 in
       let shape : bytes ≡ magic ++ (slice_index k.0.0 0 ∷ k.0.1) = w ∙ ap (λ r. magic ++ r) (t.0 ∙ ap (λ z. z ++ k.0.1) (one_is k.0.0 t.1)) in
@@ -143,10 +152,7 @@ version_fails place bytes after e w h = elim (bind_err (exact_at 1 after) _ e h)
         ]
         | inr f ↦ let q = f.2 in cc
       ]
-] where
-  none_is : (xs : List ℕ) → length xs ≡ 0 → xs ≡ []
-  none_is [] l = refl
-  none_is (x ∷ xs) l = absurd (omega arith)
+]
 
 -- ---- the counts
 counts_sized : SizedLaw Counts 24 counts_at AreCounts
@@ -215,7 +221,7 @@ none_or_all_again types n h = grind (arith, nat_tests)
 
 agree_is : (c : Counts) → counts_agree c ≡ true → CountsAgree c
 agree_is c h =
-    let p = and_true _ _ h in let q = and_true _ _ p.0 in let r = and_true _ _ q.0 in
+    let p = and_parts _ _ h in let q = and_parts _ _ p.0 in let r = and_parts _ _ q.0 in
     record { types = not_is c.types r.0; designations = not_is c.designations r.1; ut_local = none_or_all_is c.types c.ut_local q.1; standard_wall = none_or_all_is c.types c.standard_wall p.1 }
 
 is_not : (n : ℕ) → n ≢ 0 → not (n == 0) ≡ true

@@ -1,5 +1,5 @@
 -- What hints say of a search.
-use Rattle.std.proofs.Common.{◌≡◌, ℕ, zero, suc, ℤ, ◌+◌, ◌-◌, ◌*◌, ◌/◌, ◌^◌, ◌<◌, ◌≤◌, arith, refl, ap, ◌∙◌, sym, pos, nat_abs, List, length, ◌+ℤ◌, ◌-ℤ◌, ◌≤ℤ◌, ◌<ℤ◌, inl, inr, negsuc, set, max, replicate, ◌≢◌, ◌⊎◌, [], div-mul-le_self, div-lt_iff_lt-mul, lt-suc_self, mul-le-mul_right}
+use Rattle.std.proofs.Common.{◌≡◌, ℕ, zero, suc, ℤ, ◌+◌, ◌-◌, ◌*◌, ◌/◌, ◌^◌, ◌<◌, ◌≤◌, arith, refl, ap, ◌∙◌, sym, pos, nat_abs, List, length, ◌+ℤ◌, ◌-ℤ◌, ◌≤ℤ◌, ◌<ℤ◌, inl, inr, negsuc, set, max, replicate, ◌≢◌, ◌⊎◌, div-mul-le_self, div-lt_iff_lt-mul, lt-suc_self, mul-le-mul_right}
 use Rattle.std.specs.Prelude.{slice_index}
 use Rattle.std.specs.Ordering.{ord_max, nat_cmp}
 use Rattle.std.proofs.Math.Pow.{shr_mono}
@@ -48,14 +48,6 @@ near_hinted times v hints ends seconds near ordered fits some are h from is posi
       ];
       behind = λ k l n. let c = high.behind k (omega arith) n in let f = before_next seconds m positive in omega (arith, ints);
     }
-
--- and they are at most half of all
-pub near_narrow : (times : List ℤ) (hints : Hints) (stretch : ℕ) (near : Near) → AreHints times hints → IsHinted hints.places.items stretch near → 2 * near.count ≤ length times
-near_narrow times hints stretch near h hinted =
-    let n = h.narrow stretch hinted.within in
-    let p = hinted.first in
-    let q = hinted.last in
-    omega arith
 
 -- how many seconds one time comes after another
 size_of : (z : ℤ) → pos 0 ≤ℤ z → pos (nat_abs z) ≡ z
@@ -127,9 +119,6 @@ zeros zero b = refl
 zeros (suc n) zero = refl
 zeros (suc n) (suc b) = zeros n b
 
-pub marked_none : (times : List ℤ) (first : ℤ) (shift : ℕ) (places : List ℕ) → ((b : ℕ) → slice_index places b ≡ 0) → AreMarked times first shift 0 places
-marked_none times first shift places none = record { of_item = λ b h. inl (none b); latest = λ k h. absurd (omega arith) }
-
 -- one item more is noted
 pub marked_more : (times : List ℤ) (first : ℤ) (shift n stretch : ℕ) (places : List ℕ) → AreMarked times first shift n places → stretch ≡ stretch_of first (time_at times n) shift → stretch + 1 < length places → AreMarked times first shift (n + 1) (set places (stretch + 1) n)
 marked_more times first shift n stretch places m e h =
@@ -165,14 +154,6 @@ max_is a b = elim (cases_lt b a) [
   | inl h ↦ grind (arith, h)
   | inr h ↦ grind (arith, h)
 ]
-
-pub raising_none : (numbers : List ℕ) → Raising numbers numbers 0 0 0
-raising_none numbers = record {
-  raised = record { count = refl; above = λ b j h l. absurd (omega arith); some = λ b h. absurd (omega arith); steps = λ b h. absurd (omega arith) };
-  rest = λ b h. refl;
-  up_to = λ j h. absurd (omega arith);
-  is = inl (refl, refl);
-}
 
 pub raising_more : (before after : List ℕ) (most most_after greatest n here : ℕ) → Raising before after most greatest n → n < length before → here ≡ ord_max nat_cmp greatest (slice_index after n) → most_after ≡ ord_max nat_cmp most (here - greatest) → Raising before (set after n here) most_after here (n + 1)
 raising_more before after most most_after greatest n here r h is_here is_most =
@@ -246,16 +227,4 @@ hints_made times hints first span most before ordered many shift from is long fi
           (omega arith) filled.are_marked r (omega arith));
       some = λ h. many;
       narrow = λ b h. let s = r.steps b (omega arith) in omega arith;
-    }
-
--- where there are none
-pub none_hinted : (times : List ℤ) (hints : Hints) → hints.shift ≡ 0 → hints.places.items ≡ [] → AreHints times hints
-none_hinted times hints shift none =
-    let long : length hints.places.items ≡ 0 = ap length none in
-    record {
-      shift = omega arith;
-      rising = λ b h. absurd (omega arith);
-      places = λ b h. absurd (omega arith);
-      some = λ h. absurd (omega arith);
-      narrow = λ b h. absurd (omega arith);
     }

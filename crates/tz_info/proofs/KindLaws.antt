@@ -1,6 +1,7 @@
 -- A rule's moments, counted from the first second of their year, depend on the year's kind alone.
+use Rattle.std.proofs.lemmas.Bool.{and_parts}
 use Rattle.std.proofs.lemmas.Int.{by_lt_z, ints}
-use Rattle.std.proofs.Common.{◌⊎◌, inl, inr, int_le, int_lt, ◌&&◌, ◌<ℤ◌, ◌≡◌, ℕ, zero, suc, ◌+◌, ◌-◌, ◌%◌, ◌<◌, Bool, true, false, cond, arith, refl, sym, ap, ◌∙◌, ℤ, pos, ◌+ℤ◌, ◌-ℤ◌, ◌*ℤ◌, ◌≤ℤ◌, neg_ℤ, List, get_or, length}
+use Rattle.std.proofs.Common.{◌⊎◌, inl, inr, int_le, int_lt, ◌&&◌, ◌<ℤ◌, ◌≡◌, ℕ, zero, suc, ◌+◌, ◌-◌, ◌%◌, ◌<◌, Bool, true, false, cond, arith, refl, sym, ap, ◌∙◌, ℤ, pos, ◌+ℤ◌, ◌-ℤ◌, ◌*ℤ◌, ◌≤ℤ◌, neg_ℤ, List, get_or}
 use Rattle.naive_base.specs.Year.{is_leap, year_start}
 use Rattle.naive_base.specs.Month.{days_in_month, days_of_months}
 use Rattle.naive_base.specs.Date.{day_number}
@@ -17,9 +18,9 @@ use Rattle.tz_info.specs.declared.rule.day.DayTime.{DayTime}
 use Rattle.tz_info.specs.declared.rule.day.DayForm.{DayForm}
 use Rattle.tz_info.specs.declared.rule.day.DayForm.TheVariants.{Julian1, Julian0, MonthWeekday}
 use Rattle.tz_info.proofs.RuleDays.{rule_day_closed}
-use Rattle.tz_info.proofs.ListLaws.{and_parts, one_true}
-use Rattle.tz_info.proofs.Prefixes.{le_true}
-use Rattle.tz_info.proofs.Neighbours.{IsNear, KeepsMargin, starts_near, ends_near, near_margin, le_false}
+use Rattle.tz_info.proofs.ListLaws.{one_true}
+use Rattle.tz_info.proofs.Prefixes.{le_true, le_false}
+use Rattle.tz_info.proofs.Neighbours.{IsNear, KeepsMargin, starts_near, ends_near, near_margin}
 
 first_of_month : (year : ℤ) (month : ℕ) → day_number year month 1 ≡ year_start year +ℤ pos (days_of_months (is_leap year) (month - 1))
 unfolding day_number
@@ -79,10 +80,6 @@ kind_at t offset leap (suc (suc (suc (suc (suc (suc (suc n))))))) d fits h = abs
 pub kind_found : (t : DayTime) (offset year d : ℤ) → IsRuleDay t.day → get_or (seconds_by_kind t offset) (kind_place year) d ≡ second_in t offset year
 kind_found t offset year d fits =
     kind_at t offset (is_leap year) (weekday_of (year_start year)) d fits (weekday_below (year_start year)) ∙ sym (second_is t offset year fits)
-
-pub kinds_length : (t : DayTime) (offset : ℤ) → length (seconds_by_kind t offset) ≡ 14
-unfolding seconds_by_kind
-kinds_length t offset = refl
 
 -- the second at the place of the year's kind makes the year's moment, and lies near the year
 abbrev pub IsKept : ℤ → ℤ → ℤ → Type 0

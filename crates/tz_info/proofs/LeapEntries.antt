@@ -1,5 +1,5 @@
 -- What follows for leap seconds from their being valid: the thresholds rise, so the passed entries are the first ones.
-use Rattle.std.proofs.Common.{◌≡◌, ℕ, zero, suc, ◌+◌, ◌<◌, ◌≤◌, arith, refl, ap, add-one, List, [], ◌∷◌, length, get_or, take, ℤ, pos, ◌+ℤ◌, ◌-ℤ◌, ◌≤ℤ◌, ◌<ℤ◌, int_le, int_lt, inl, inr, w64}
+use Rattle.std.proofs.Common.{◌≡◌, ℕ, zero, suc, ◌+◌, ◌<◌, ◌≤◌, arith, refl, sym, ap, add-one, List, [], ◌∷◌, length, get_or, take, ℤ, pos, ◌+ℤ◌, ◌-ℤ◌, ◌≤ℤ◌, ◌<ℤ◌, int_le, int_lt, inl, inr, w64}
 use Rattle.std.proofs.lemmas.Int.{ints}
 use Rattle.std.proofs.lemmas.List.{get_or_default}
 use borrow.Author.Count.{below_more}
@@ -117,3 +117,20 @@ before_found es i d x v valid h p stops =
     let g = ap (λ (e : LeapSecond). e.unix_leap_time) (get_or_default es i f d (omega arith)) in
     lt_false (get_or es k f).unix_leap_time x (omega (arith, ints))) in
     rw e p.value
+
+-- the correction before the first entry's own time, and before a later one's
+pub before_first : (es : List LeapSecond) (d : LeapSecond) → AreLeapSeconds es → 0 < length es → correction_before es (get_or es 0 d).unix_leap_time ≡ pos 0
+before_first es d valid h =
+    sym (before_found es 0 d (get_or es 0 d).unix_leap_time (pos 0) valid (omega arith) (record { value = refl; before = λ k f l. absurd (omega arith) }) (λ _. omega (arith, ints)))
+
+pub before_later : (es : List LeapSecond) (k : ℕ) (d : LeapSecond) → AreLeapSeconds es → k + 1 < length es → correction_before es (get_or es (k + 1) d).unix_leap_time ≡ (get_or es k d).correction
+before_later es k d valid h =
+    let x : ℤ = (get_or es (k + 1) d).unix_leap_time in
+    sym (before_found es (k + 1) d x (get_or es k d).correction valid (omega arith) (record {
+      value = rw (add-one, last_taken (λ (e : LeapSecond). e.correction) (pos 0) es k d (omega arith)) refl;
+      before = λ j f l.
+          let r = rises (λ i. (get_or es i d).unix_leap_time) (length es) (λ i b. let t = ((follow es valid).next i d (omega arith)).later in omega (arith, ints)) j k (omega arith) (omega arith) in
+          let n = (valid.next k d (omega arith)).later in
+          let g = ap (λ (e : LeapSecond). e.unix_leap_time) (get_or_default es j f d (omega arith)) in
+          omega (arith, ints);
+    }) (λ _. omega (arith, ints)))

@@ -1,5 +1,5 @@
 -- The first second at which a leap time has come.
-use Rattle.std.proofs.Common.{◌≡◌, ℕ, zero, suc, ◌-◌, ◌<◌, ◌≤◌, arith, List, [], ◌∷◌, length, get_or, take, true, false, ℤ, pos, neg_ℤ, ◌+ℤ◌, ◌-ℤ◌, ◌≤ℤ◌, ◌<ℤ◌, int_le, inl, inr, ◌↔◌, w64}
+use Rattle.std.proofs.Common.{◌≡◌, ℕ, zero, suc, ◌-◌, ◌<◌, ◌≤◌, arith, List, [], ◌∷◌, length, get_or, take, true, ℤ, pos, neg_ℤ, ◌+ℤ◌, ◌-ℤ◌, ◌≤ℤ◌, ◌<ℤ◌, int_le, inl, inr, ◌↔◌, w64}
 use Rattle.std.specs.Int.{saturate_signed}
 use Rattle.std.specs.List.Sorted.{IsPartitionedBy}
 use Rattle.std.proofs.lemmas.Int.{ints, by_lt_z}
@@ -9,7 +9,7 @@ use Rattle.tz_info.specs.Lists.{last_else}
 use Rattle.tz_info.specs.Leaps.{IsOneStep, AreLeapSeconds, corrections, thresholds, passed_count, IsLeapTime, IsNear}
 use Rattle.tz_info.specs.Steps.Starts.{HaveCome}
 use Rattle.tz_info.specs.declared.zone.leap_second.LeapSecond.{LeapSecond}
-use Rattle.tz_info.proofs.Prefixes.{last_taken, rises, le_true}
+use Rattle.tz_info.proofs.Prefixes.{last_taken, rises}
 use Rattle.tz_info.proofs.LeapEntries.{follow, threshold, threshold_at, threshold_count}
 use Rattle.tz_info.proofs.LeapOrder.{split}
 
@@ -114,12 +114,6 @@ pub parted : (es : List LeapSecond) (x : ℤ) → AreLeapSeconds es → IsPartit
 parted es x valid i j d h l t = let r = times_rise es i j d valid h l in at_least (get_or es i d).unix_leap_time (get_or es j d).unix_leap_time x r t where
   at_least : (a b x : ℤ) → a ≤ℤ b → int_le b x ≡ true → int_le a x ≡ true
   at_least a b x h t = grind (arith, ints)
-
-pub le_is : (a x : ℤ) → int_le a x ≡ true → a ≤ℤ x
-le_is a x h = grind (arith, ints)
-
-pub le_is_not : (a x : ℤ) → int_le a x ≡ false → ¬ (a ≤ℤ x)
-le_is_not a x h l = let t = le_true a x l in cc
 
 -- where entries have come, the leap time is reached from two seconds on
 pub reached_behind : (es : List LeapSecond) (x u y passed led : ℤ) (n : ℕ) (d : LeapSecond) → AreLeapSeconds es → HaveCome es x n → 0 < n

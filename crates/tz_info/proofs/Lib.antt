@@ -2,6 +2,7 @@ pub mod NameLaws
 pub mod RuleDays
 pub mod Neighbours
 pub mod RuleLaws
+pub mod RuleTurns
 pub mod KindLaws
 pub mod SeasonLaws
 pub mod Prefixes
@@ -26,6 +27,7 @@ pub mod FaultNumbers
 pub mod PosixLaws
 pub mod TextFits
 pub mod SpanLaws
+pub mod TriedTypes
 pub mod Candidates
 pub mod WallLaws
 pub mod SegmentLaws
@@ -35,7 +37,9 @@ pub mod WallPieces
 pub mod WallSegments
 pub mod OnePass
 pub mod ExtremeLaws
+pub mod LastType
 pub mod WalkLaws
+pub mod QuestionLaws
 pub mod SeasonAnswers
 pub mod WindowLaws
 pub mod GapLaws

@@ -1,6 +1,6 @@
 -- Values by places.
-use Rattle.std.proofs.Common.{◌≡◌, ℕ, zero, suc, ◌<◌, List, Result, Ok, Err, refl, sym, arith, inl, inr, Bool, true, false, ◌&&◌}
-use Rattle.std.proofs.lemmas.Bool.{cases_lt}
+use Rattle.std.proofs.Common.{◌≡◌, ℕ, zero, suc, ◌<◌, List, Result, Ok, Err, refl, sym, arith, inl, inr, Bool, true, false}
+use Rattle.std.proofs.lemmas.Bool.{and_parts, and_right, cases_lt}
 use Rattle.tz_info.specs.Steps.Below.{all_below}
 use Rattle.tz_info.specs.Steps.ContentReading.{values_below}
 
@@ -15,22 +15,14 @@ first_refusal {X = X} (suc n) i read xs e l p q = elim (cases_lt i n) as (λ _. 
       let q' : read n ≡ Err e = rw (sym same) q in rw (p', q') refl
 ]
 
-and_false : (b : Bool) → (b && false) ≡ false
-and_false true = refl
-and_false false = refl
-
 pub one_false : (n i : ℕ) (test : ℕ → Bool) → i < n → test i ≡ false → all_below n test ≡ false
 one_false zero i test l q = absurd (omega arith)
 one_false (suc n) i test l q = elim (cases_lt i n) as (λ _. all_below (suc n) test ≡ false) [
   | inl h ↦ rw (one_false n i test h q) refl
   | inr h ↦
       let same : i ≡ n = omega arith in
-      let q' : test n ≡ false = rw (sym same) q in rw q' (and_false (all_below n test))
+      let q' : test n ≡ false = rw (sym same) q in and_right (all_below n test) (test n) q'
 ]
-
-pub and_parts : (a b : Bool) → (a && b) ≡ true → (a ≡ true) × (b ≡ true)
-and_parts true b h = (refl, h)
-and_parts false b h = cc
 
 pub one_true : (n i : ℕ) (test : ℕ → Bool) → i < n → all_below n test ≡ true → test i ≡ true
 one_true zero i test l q = absurd (omega arith)

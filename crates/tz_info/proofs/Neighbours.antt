@@ -1,5 +1,6 @@
 -- Only a year's own moments and those of its two neighbours can enclose a second of the year.
 use Rattle.std.proofs.Common.{◌≡◌, arith, ℤ, pos, neg_ℤ, Bool, true, false, not, cond, ◌||◌, ◌+ℤ◌, ◌-ℤ◌, ◌≤ℤ◌, ◌<ℤ◌, ◌*ℤ◌, refl, inl, inr, ◌⊎◌, ⊎_elim, int_le, sym, ◌∙◌, ap}
+use Rattle.std.proofs.lemmas.Bool.{not-false}
 use Rattle.std.proofs.lemmas.Int.{by_lt_z, ints}
 use Rattle.naive_base.specs.Year.{year_start}
 use Rattle.naive_base.proofs.ForCallers.{floors, year_step, days_at_least, starts_rise}
@@ -9,6 +10,7 @@ use Rattle.tz_info.specs.Rules.{Alternate, IsAlternateRule, IsWithinWeek}
 use Rattle.tz_info.specs.Moments.{moment, IsYearOf, IsInSomeYear, IsDstAt, start_in, end_in}
 use Rattle.tz_info.specs.Steps.Turns.{is_between, is_dst_by_one, is_in_three}
 use Rattle.tz_info.specs.declared.rule.day.DayTime.{DayTime}
+use Rattle.tz_info.proofs.Prefixes.{le_false, le_is}
 use Rattle.tz_info.proofs.RuleDays.{day_within}
 
 -- the moments of each year lie less than eight days outside of it
@@ -135,20 +137,16 @@ own_year firsts lasts margin year u other first last beside from before =
     (λ not_more. omega (arith, floors)))
 
 -- a test that finds what some year has, with the start first or the end first
-not_false : (b : Bool) → not b ≡ false → b ≡ true
-not_false true h = refl
-not_false false h = cc
-
-by_start : (starts ends : ℤ → ℤ) (year u : ℤ) (dst : Bool) → starts year ≤ℤ ends year → (dst ≡ true → IsInSomeYear starts ends u) → (IsInSomeYear starts ends u → dst ≡ true) → IsDstAt starts ends year u dst
+pub by_start : (starts ends : ℤ → ℤ) (year u : ℤ) (dst : Bool) → starts year ≤ℤ ends year → (dst ≡ true → IsInSomeYear starts ends u) → (IsInSomeYear starts ends u → dst ≡ true) → IsDstAt starts ends year u dst
 by_start starts ends year u dst order found all = record {
   start_first = λ _. (found, all);
   end_first = λ less. absurd (omega (arith, ints));
 }
 
-by_end : (starts ends : ℤ → ℤ) (year u : ℤ) (dst std : Bool) → ends year <ℤ starts year → dst ≡ not std → (std ≡ true → IsInSomeYear ends starts u) → (IsInSomeYear ends starts u → std ≡ true) → IsDstAt starts ends year u dst
+pub by_end : (starts ends : ℤ → ℤ) (year u : ℤ) (dst std : Bool) → ends year <ℤ starts year → dst ≡ not std → (std ≡ true → IsInSomeYear ends starts u) → (IsInSomeYear ends starts u → std ≡ true) → IsDstAt starts ends year u dst
 by_end starts ends year u dst std order is found all = record {
   start_first = λ less. absurd (omega (arith, ints));
-  end_first = λ _. rw is (λ t. found (not_false std t), λ some. ap not (all some));
+  end_first = λ _. rw is (λ t. found (not-false std t), λ some. ap not (all some));
 }
 
 pub start_first_by_three : (starts ends : ℤ → ℤ) (year u : ℤ) (dst : Bool) → IsNear starts → IsNear ends → IsYearOf u year → starts year ≤ℤ ends year → dst ≡ is_in_three starts ends year u → IsDstAt starts ends year u dst
@@ -165,12 +163,6 @@ one_found firsts lasts year u h = let b = between_is (firsts year) (lasts year) 
 one_all : (firsts lasts : ℤ → ℤ) (margin year u : ℤ) → KeepsMargin firsts margin → KeepsMargin lasts margin → IsBeside margin year u → IsInSomeYear firsts lasts u → is_between (firsts year) (lasts year) u ≡ true
 one_all firsts lasts margin year u first last beside (other, from, before) =
     rw (← own_year firsts lasts margin year u other first last beside from before) (between_true (firsts other) (lasts other) u from before)
-
-pub le_false : (a b : ℤ) → b <ℤ a → int_le a b ≡ false
-le_false a b h = grind (arith, ints)
-
-pub le_is : (a b : ℤ) → int_le a b ≡ true → a ≤ℤ b
-le_is a b h = grind (arith, ints)
 
 lt_is : (a b : ℤ) → int_le a b ≡ false → b <ℤ a
 lt_is a b h = grind (arith, ints)

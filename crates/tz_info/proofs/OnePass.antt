@@ -8,7 +8,8 @@ use Rattle.std.proofs.lemmas.List.Quantifiers.{all_pairs_push}
 use Rattle.offset_core.specs.declared.local_result.LocalResult.TheVariants.{None, Single, Ambiguous}
 use Rattle.tz_info.specs.Leaps.{AreLeapSeconds, least_time}
 use Rattle.tz_info.specs.LocalTypes.{LocalType, IsUtOffset}
-use Rattle.tz_info.specs.Segments.{index_of, table_count, table_count_by}
+use Rattle.tz_info.specs.Segments.{table_count, table_count_by}
+use Rattle.tz_info.specs.Steps.Segments.{index_of}
 use Rattle.tz_info.specs.Steps.Answers.{joined}
 use Rattle.tz_info.specs.Steps.Merging.{IsMerged}
 use Rattle.tz_info.specs.Steps.Pieces.{ArePieces, ArePiecesAt, IsGap, IsFold, IsCutAt, AreCutsCrossed, IsSegment}

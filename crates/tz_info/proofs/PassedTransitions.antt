@@ -22,13 +22,6 @@ latest_index z x n d p h =
     let f : passed z.transitions x ≡ take (suc (n - 1)) z.transitions = p.first ∙ ap (λ k. take k z.transitions) e in
     rw f (last_taken (λ (t : Transition). t.type_index) 0 z.transitions (n - 1) d (omega arith))
 
--- none has come
-pub at_first : (z : Zone) (u x : ℤ) (t : LocalType) → ArePassed z.transitions x 0 → 0 < length z.transitions → HasType z 0 t → TypeAtLeapTime z u x t
-at_first z u x t p some h = record {
-  before_last = λ _. rw p.first h;
-  from_last = λ l. let n = passed_length z.transitions x 0 p in absurd (omega arith);
-}
-
 -- some have come, and some not
 pub at_middle : (z : Zone) (u x : ℤ) (n : ℕ) (d : Transition) (t : LocalType) → ArePassed z.transitions x n → 0 < n → n < length z.transitions → HasType z (get_or z.transitions (n - 1) d).type_index t → TypeAtLeapTime z u x t
 at_middle z u x n d t p some h k = record {

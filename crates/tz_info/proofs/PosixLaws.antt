@@ -22,11 +22,6 @@ one_zone text y z p q = elim p [
   | inr a ↦ elim q [ inl b ↦ absurd (a.some b.0) | inr b ↦ a.zone ∙ ap posix_zone (same_rule text y z a b) ∙ sym b.zone ]
 ]
 
--- what the answer for an empty text says
-pub empty_found : (text : List ℕ) (r : Result Zone Error) → text ≡ [] → MatchResult r (λ z. z ≡ plain_zone (pos 0)) (λ e. number_of e ≡ 17) → IfOk r (λ z. IsPosixZone text z)
-empty_found text (Ok z) e h = inl (e, h)
-empty_found text (Err x) e h = tt
-
 pub zone_found : (text trimmed : List ℕ) (rule : TransitionRule) (r : Result Zone Error) → text ≢ [] → IsTrimmed text trimmed → IsTzText false trimmed rule → MatchResult r (λ z. z ≡ posix_zone rule) (λ e. number_of e ≡ 17) → IfOk r (λ z. IsPosixZone text z)
 zone_found text trimmed rule (Ok z) some trims spells h = inr (record { some = some; trimmed = trimmed; rule = rule; trims = trims; spells = spells; zone = h })
 zone_found text trimmed rule (Err x) some trims spells h = tt

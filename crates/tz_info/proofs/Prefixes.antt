@@ -62,6 +62,12 @@ le_true a b h = grind (arith, ints)
 pub le_false : (a b : ℤ) → b <ℤ a → int_le a b ≡ false
 le_false a b h = grind (arith, ints)
 
+pub le_is : (a b : ℤ) → int_le a b ≡ true → a ≤ℤ b
+le_is a b h = grind (arith, ints)
+
+pub le_is_not : (a b : ℤ) → int_le a b ≡ false → ¬ (a ≤ℤ b)
+le_is_not a b h l = let t = le_true a b l in cc
+
 pub lt_true : (a b : ℤ) → a <ℤ b → int_lt a b ≡ true
 lt_true a b h = grind (arith, ints)
 

@@ -1,5 +1,5 @@
 -- Steps of a reading, and what is read of bytes and numbers at the front.
-use Rattle.std.proofs.Common.{◌≡◌, ℕ, ◌<◌, ◌≤◌, arith, refl, sym, subst, List, [], ◌∷◌, ◌++◌, length, take, drop, Bool, true, false, cond, nat_lt, ◌&&◌, Ok, Err, Result, inl, inr, ◌⊎◌}
+use Rattle.std.proofs.Common.{◌≡◌, ℕ, ◌<◌, ◌≤◌, arith, refl, sym, subst, List, [], ◌∷◌, ◌++◌, length, take, drop, Bool, true, false, cond, nat_lt, Ok, Err, Result, inl, inr, ◌⊎◌}
 use Rattle.std.proofs.lemmas.Bool.Decides.{nat_tests}
 use Rattle.std.proofs.lemmas.List.{take-append-drop, length-take, length-append}
 use Rattle.std.proofs.Math.Seq.{take-append_seam}
@@ -34,10 +34,6 @@ test_ok false r y e h = cc
 pub test_err : {A : Type 0} (b : Bool) (r : Result A ℕ) (n e : ℕ) → cond b r (Err n) ≡ Err e → ((b ≡ false) × (e ≡ n)) ⊎ ((b ≡ true) × (r ≡ Err e))
 test_err true r n e h = inr (refl, h)
 test_err false r n e h = inl (refl, cc)
-
-pub and_true : (a b : Bool) → (a && b) ≡ true → (a ≡ true) × (b ≡ true)
-and_true true b h = (refl, h)
-and_true false b h = cc
 
 -- ---- bytes
 short_ok : {A : Type 0} (b : Bool) (x y : A) (e : ℕ) → cond b (Err e) (Ok x) ≡ Ok y → (b ≡ false) × (x ≡ y)

@@ -1,7 +1,7 @@
 -- Values read at places, and the records that spell them.
 use Rattle.std.proofs.Common.{◌≡◌, ℕ, zero, suc, ◌+◌, ◌*◌, ◌<◌, ◌≤◌, List, [], ◌∷◌, ◌++◌, length, get_or, take, drop, Result, Ok, Err, refl, sym, ap, ◌∙◌, subst, arith, inl, inr}
 use Rattle.std.proofs.lemmas.Bool.{cases_lt}
-use Rattle.std.proofs.lemmas.List.{length-append, get_or_append_left, take_more, length-take, length-drop, drop-drop, take-append-drop}
+use Rattle.std.proofs.lemmas.List.{length-append, nil_from_length, get_or_append_left, take_more, length-take, length-drop, drop-drop, take-append-drop}
 use Rattle.std.proofs.Math.Seq.{get_or-append_seam, take-length, take-append_seam}
 use Rattle.tz_info.specs.FileContents.{AreRecords}
 use Rattle.tz_info.specs.Steps.ContentReading.{record_at, values_below}
@@ -54,10 +54,6 @@ refused_at (suc n) read e h = elim (bind_err (values_below n read) _ e h) [
 ]
 
 -- ---- records end to end
-none_is : (xs : List ℕ) → length xs ≡ 0 → xs ≡ []
-none_is [] l = refl
-none_is (x ∷ xs) l = absurd (omega arith)
-
 first_record : (size : ℕ) (part : List ℕ) → record_at size part 0 ≡ take size part
 first_record size part = let z : 0 * size ≡ 0 = omega arith in ap (λ n. take size (drop n part)) z
 
@@ -68,7 +64,7 @@ next_record size part k =
 
 pub records_from : {X : Type 0} (size : ℕ) (Spells : List ℕ → X → Type 0) (part : List ℕ) (xs : List X) → length part ≡ length xs * size
     → ((k : ℕ) (d : X) → k < length xs → Spells (record_at size part k) (get_or xs k d)) → AreRecords size Spells part xs
-records_from size Spells part [] l each = none_is part (omega arith)
+records_from size Spells part [] l each = nil_from_length part (omega arith)
 records_from size Spells part (x ∷ xs) l each =
     let l' : length part ≡ size + length xs * size = omega arith in (
       take size part,

@@ -2,16 +2,7 @@
 use Rattle.std.proofs.Common.{◌≡◌, ℕ, suc, ◌+◌, ◌-◌, ◌*◌, ◌<◌, ◌≤◌, arith, refl, ap, sym, List, [], ◌∷◌, ◌++◌, length, get_or, drop, drop-cons, add-one, Bool, true, false, Ok, Err, Result}
 use Rattle.std.proofs.lemmas.Bool.Decides.{nat_tests}
 use Rattle.tz_info.specs.Fronts.{is_digit, run_of, after_run, value_from, number_within, int_at, ◌>>=◌}
-use Rattle.tz_info.specs.Pieces.{AllOf, AllDigits}
-
-pub digit_range : (d : ℕ) → is_digit d ≡ true → (48 ≤ d) × (d ≤ 57)
-digit_range d h = grind (arith, nat_tests)
-
-pub next_digit : (ds : List ℕ) (i : ℕ) → i < length ds → AllDigits (drop i ds) → (48 ≤ get_or ds i 0) × (get_or ds i 0 ≤ 57) × AllDigits (drop (i + 1) ds)
-next_digit ds i h all =
-    let here = rw (drop-cons ds i 0) at all in
-    let range = digit_range (get_or ds i 0) here.0 in
-    (range.0, range.1, rw add-one here.1)
+use Rattle.tz_info.specs.Pieces.{AllOf}
 
 pub next_value : (ds : List ℕ) (i n : ℕ) → i < length ds → value_from n (drop i ds) ≡ value_from (10 * n + (get_or ds i 0 - 48)) (drop (i + 1) ds)
 next_value ds i n h = rw (add-one, drop-cons ds i 0) refl

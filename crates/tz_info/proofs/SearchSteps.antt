@@ -1,17 +1,39 @@
 -- What each step of a search among items in order of time keeps.
-use Rattle.std.proofs.Common.{◌≡◌, ℕ, zero, suc, ℤ, ◌+◌, ◌-◌, ◌*◌, ◌/◌, ◌^◌, ◌<◌, ◌≤◌, arith, refl, ap, ◌∙◌, sym, pos, List, length, get_or, map, ◌≤ℤ◌, ◌<ℤ◌, inl, inr}
+use Rattle.std.proofs.Common.{◌≡◌, ℕ, zero, suc, ℤ, ◌+◌, ◌-◌, ◌*◌, ◌/◌, ◌^◌, ◌<◌, ◌≤◌, arith, refl, ap, ◌∙◌, sym, pos, List, length, get_or, map, take, ◌≤ℤ◌, ◌<ℤ◌, int_le, inl, inr}
+use Rattle.std.specs.List.{filter}
 use Rattle.std.proofs.lemmas.Bool.{cases_lt}
 use Rattle.std.proofs.lemmas.Int.{ints}
+use Rattle.std.proofs.lemmas.List.{length-map}
 use Rattle.tz_info.specs.Digits.{digits}
 use Rattle.tz_info.specs.Steps.Search.{AreEnds, AreOrdered, ArePassed, IsLeft, IsNear, time_at}
 use Rattle.tz_info.specs.declared.zone.hints.Near.{Near}
 use Rattle.tz_info.specs.declared.zone.timeline.Ends.{Ends}
 use Rattle.tz_info.proofs.DigitLaws.{digits-half, digits-less, digits-more}
-use Rattle.tz_info.proofs.Prefixes.{mapped_at}
+use Rattle.tz_info.proofs.Prefixes.{filter_first, le_true, le_false, mapped_at}
 
 -- the time of an item that was read
 pub time_read : {A : Type 0} (time : A → ℤ) (items : List A) (place : ℕ) (x : A) → place < length items → x ≡ get_or items place x → time x ≡ time_at (map time items) place
 time_read time items place x h e = ap time e ∙ sym (mapped_at time items place x (pos 0) h)
+
+-- the times of items in order come in order
+pub times_ordered : {A : Type 0} (time : A → ℤ) (items : List A) (x : A)
+    → ((i j : ℕ) → i < j → j < length items → time (get_or items i x) ≤ℤ time (get_or items j x)) → AreOrdered (map time items)
+times_ordered time items x order i j d h l =
+    let same = length-map items time in
+    let o = order i j h (omega arith) in
+    let first = mapped_at time items i x d (omega arith) in
+    let last = mapped_at time items j x d (omega arith) in
+    omega (arith, ints)
+
+-- the items that have come are the first so many
+pub first_come : {A : Type 0} (time : A → ℤ) (items : List A) (v : ℤ) (n : ℕ) → ArePassed (map time items) v n
+    → filter (λ (x : A). int_le (time x) v) items ≡ take n items
+first_come {A = A} time items v n come =
+    let same = length-map items time in
+    let w = come.within in
+    filter_first (λ (x : A). int_le (time x) v) items n (omega arith)
+    (λ k d l. let e = mapped_at time items k d (pos 0) (omega arith) in le_true _ v (rw e at (come.before k l)))
+    (λ k d l m. let e = mapped_at time items k d (pos 0) m in le_false _ v (rw e at (come.behind k l (omega arith))))
 
 -- no time comes before an earlier one
 pub not_before : (times : List ℤ) (i k : ℕ) → AreOrdered times → i ≤ k → k < length times → time_at times i ≤ℤ time_at times k
@@ -39,17 +61,6 @@ none_passed times v ends ordered some are lt =
       before = λ k h. absurd (omega arith);
       behind = λ k h l. let m = not_before times 0 k ordered (omega arith) l in omega (arith, ints);
     }
-
--- between the first and the last there are two at least
-pub two_at_least : (times : List ℤ) (v : ℤ) (ends : Ends) → 0 < length times → AreEnds times ends → ends.first ≤ℤ v → v <ℤ ends.last → 1 < length times
-two_at_least times v ends some are from lt = elim (cases_lt 1 (length times)) [
-  | inl h ↦ h
-  | inr g ↦
-      let one : length times - 1 ≡ 0 = omega arith in
-      let first = are.first some in
-      let last = rw one at (are.last some) in
-      absurd (omega (arith, ints))
-]
 
 -- there all but the last are left
 pub all_left : (times : List ℤ) (v : ℤ) (ends : Ends) → AreOrdered times → length times < 2 ^ 64 → 0 < length times → AreEnds times ends → v <ℤ ends.last → IsLeft times v 0 (length times - 1)
@@ -84,14 +95,6 @@ left_earlier times v first middle high left h l lt = let w = left.within in reco
   fits = omega (arith, left.fits);
   before = left.before;
   behind = λ k m n. let o = not_before times middle k left.ordered m n in omega (arith, ints);
-}
-
--- where none is left the search is over
-pub left_none : (times : List ℤ) (v : ℤ) (first high : ℕ) → high ≤ first → IsLeft times v first high → ArePassed times v first
-left_none times v first high h left = let w = left.within in let r = left.rising in record {
-  within = omega arith;
-  before = left.before;
-  behind = λ k l m. left.behind k (omega arith) m;
 }
 
 -- the same among neighbours, the first of which has come

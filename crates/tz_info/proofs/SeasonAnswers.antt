@@ -1,6 +1,7 @@
 -- The answer of two seconds at which a season's moments decide.
 use Rattle.std.proofs.Common.{int_le, ◌&&◌, ◌≤ℤ◌, arith, ◌≡◌, sym, refl, Bool, true, false, cond, not, ◌+◌, length, ℤ, ◌-ℤ◌, ◌<ℤ◌, inl, inr, ⊎_elim, Some, FitsSigned}
 use Rattle.std.specs.Int.{w64}
+use Rattle.std.proofs.lemmas.Bool.{and_parts}
 use Rattle.std.proofs.lemmas.Int.{ints}
 use Rattle.naive_base.specs.Range.{IsWide}
 use Rattle.offset_core.specs.WallAnswer.{IsWallAnswer}
@@ -19,8 +20,7 @@ use Rattle.tz_info.specs.declared.rule.alternate.Season.{Season}
 use Rattle.tz_info.specs.Zones.{Zone, IsValid}
 use Rattle.tz_info.specs.declared.rule.transition_rule.TransitionRule.{TransitionRule}
 use Rattle.tz_info.specs.declared.rule.transition_rule.TransitionRule.TheVariants.{Alternate}
-use Rattle.tz_info.proofs.ListLaws.{and_parts}
-use Rattle.tz_info.proofs.Neighbours.{le_is}
+use Rattle.tz_info.proofs.Prefixes.{le_is}
 use Rattle.tz_info.proofs.WallSegments.{near_of}
 use Rattle.tz_info.proofs.WalkLaws.{one_of_both, asked_both, asked_there, asked_other}
 

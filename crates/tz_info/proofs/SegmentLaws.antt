@@ -4,7 +4,8 @@ use Rattle.std.proofs.lemmas.Int.{ints, by_lt_z}
 use Rattle.std.proofs.lemmas.Bool.{cases_lt}
 use Rattle.tz_info.specs.Leaps.{AreLeapSeconds, IsLeapTime, correction_at, least_time}
 use Rattle.tz_info.specs.LocalTypes.{LocalType}
-use Rattle.tz_info.specs.Segments.{begin_of, index_of, segment_of}
+use Rattle.tz_info.specs.Segments.{segment_of}
+use Rattle.tz_info.specs.Steps.Segments.{begin_of, index_of}
 use Rattle.tz_info.specs.Steps.Walk.{TypeIn}
 use Rattle.tz_info.specs.Transitions.{AreRising, passed}
 use Rattle.tz_info.specs.Zones.{Zone, HasType, RuleOrType, IsBeforeLast, IsFromLast, IsValid, TypeAt}

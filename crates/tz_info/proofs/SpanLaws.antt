@@ -54,10 +54,6 @@ ask_other at l o span t once n = inl (refl, λ f s. n (ap (λ (x : LocalType). x
 pub ask_refused : (at : ℤ → LocalType → Type 0) (l o : ℤ) (span : Option Span) → ((f : LocalType) → at (l -ℤ o) f → ⊥) → IsAsked at l o span span
 ask_refused at l o span none = inl (refl, λ f s. none f s.type)
 
-pub equal_span : (p q : ℤ → LocalType → Type 0) (span : Option Span) → ((u : ℤ) (t : LocalType) → p u t → q u t) → ((u : ℤ) (t : LocalType) → q u t → p u t) → IsSpan p span → IsSpan q span
-equal_span p q None to from s = λ u t k. s u t (from u t k)
-equal_span p q (Some x) to from s = (to _ _ s.0, to _ _ s.1, λ u t k. s.2 u t (from u t k))
-
 -- a second that shows the local time, and was taken by p or is the candidate
 pub record AskedOf (at : ℤ → LocalType → Type 0) (l o : ℤ) (p : ℤ → LocalType → Type 0) (u : ℤ) (t : LocalType) : Type 0 where
   pub shows : Shows at l u t

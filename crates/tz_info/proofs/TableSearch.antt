@@ -2,11 +2,12 @@
 use Rattle.std.proofs.Common.{◌≡◌, ℕ, ℤ, ◌+◌, ◌-◌, ◌<◌, ◌≤◌, arith, List, length, get_or, map, pos, take, ◌≤ℤ◌, ◌<ℤ◌, inl, inr, int_le}
 use Rattle.std.proofs.lemmas.Bool.{cases_lt}
 use Rattle.std.proofs.lemmas.Int.{ints}
-use Rattle.std.proofs.lemmas.List.{length-map}
 use Rattle.tz_info.specs.Steps.Search.{AreOrdered, ArePassed}
-use Rattle.tz_info.specs.Transitions.{passed, AreRising, Stands}
+use Rattle.tz_info.specs.Transitions.{passed, AreRising}
+use Rattle.tz_info.specs.Steps.Validity.{Stands}
 use Rattle.tz_info.specs.declared.zone.transition.Transition.{Transition}
-use Rattle.tz_info.proofs.Prefixes.{filter_first, le_true, le_false, mapped_at}
+use Rattle.tz_info.proofs.Prefixes.{filter_first, le_true, le_false}
+use Rattle.tz_info.proofs.SearchSteps.{first_come, times_ordered}
 
 -- the transitions below `low` come at or before v, those from `high` on after it
 pub record Between (xs : List Transition) (v : ℤ) (low high : ℕ) : Type 0 where
@@ -27,23 +28,13 @@ search_found xs v low high h b =
 
 -- the transitions that have come are the first so many
 pub first_passed : (xs : List Transition) (v : ℤ) (n : ℕ) → ArePassed (map (λ (t : Transition). t.unix_leap_time) xs) v n → passed xs v ≡ take n xs
-first_passed xs v n come =
-    let same = length-map xs (λ (t : Transition). t.unix_leap_time) in
-    let w = come.within in
-    filter_first (λ (t : Transition). int_le t.unix_leap_time v) xs n (omega arith)
-    (λ k d l. let e = mapped_at (λ (t : Transition). t.unix_leap_time) xs k d (pos 0) (omega arith) in le_true _ v (rw e at (come.before k l)))
-    (λ k d l m. let e = mapped_at (λ (t : Transition). t.unix_leap_time) xs k d (pos 0) m in le_false _ v (rw e at (come.behind k l (omega arith))))
+first_passed xs v n come = first_come (λ (t : Transition). t.unix_leap_time) xs v n come
 
 -- transitions whose times rise come in order
 pub in_order : (xs : List Transition) → AreRising xs → AreOrdered (map (λ (t : Transition). t.unix_leap_time) xs)
-in_order xs rising i j d h l =
-    let same = length-map xs (λ (t : Transition). t.unix_leap_time) in
-    let r = rising i j none h (omega arith) in
-    let first = mapped_at (λ (t : Transition). t.unix_leap_time) xs i none d (omega arith) in
-    let last = mapped_at (λ (t : Transition). t.unix_leap_time) xs j none d (omega arith) in
-    omega (arith, ints) where
-      none : Transition
-      none = record { unix_leap_time = pos 0; type_index = 0 }
+in_order xs rising = times_ordered (λ (t : Transition). t.unix_leap_time) xs none (λ i j h l. let r = rising i j none h l in omega (arith, ints)) where
+  none : Transition
+  none = record { unix_leap_time = pos 0; type_index = 0 }
 
 -- transitions that stand so far rise so far
 pub record StandUntil (types : ℕ) (xs : List Transition) (n : ℕ) : Type 0 where

@@ -1,5 +1,6 @@
 -- Local time types: what is read is spelled, what is spelled is read, and where it is refused its fault stands.
 use Rattle.std.proofs.Common.{◌≡◌, ◌≢◌, ℕ, ℤ, pos, zero, suc, ◌+◌, ◌-◌, ◌*◌, ◌<◌, ◌≤◌, ◌<ℤ◌, ◌≤ℤ◌, List, [], ◌∷◌, ◌++◌, length, get_or, drop, take, slice_index, Bool, true, false, cond, nat_lt, int_lt, ◌==◌, ◌&&◌, arith, refl, sym, ap, ◌∙◌, subst, Result, Ok, Err, Option, Some, None, ◌⊎◌, inl, inr, MatchResult}
+use Rattle.std.proofs.lemmas.Bool.{and_parts}
 use Rattle.std.proofs.lemmas.Bool.Decides.{nat_tests}
 use Rattle.std.proofs.lemmas.Int.{ints}
 use Rattle.std.proofs.lemmas.List.{take-append-drop, length-take, length-drop, length-append, get_or-drop}
@@ -9,12 +10,12 @@ use Rattle.tz_info.specs.Errors.{number_of}
 use Rattle.tz_info.specs.LocalTypes.{LocalType, IsUtOffset}
 use Rattle.tz_info.specs.Names.{IsNameOrNone}
 use Rattle.tz_info.specs.Fronts.{Gives}
-use Rattle.tz_info.specs.FileContents.{is_zero, HasNoZero, StandsAt, designation_of, IsMark, offset_in, mark_in, place_in, least_offset, SpellsType, SpellTypes, TypeFault, Other_mark, Place_behind, No_end, Least_offset, Other_name, HasTypeFault}
-use Rattle.tz_info.specs.Steps.ContentReading.{record_at, values_below, is_name_or_none, type_of, mark_of, front_of, text_before_zero, designation_at, type_of_record, with_next_type, type_in}
+use Rattle.tz_info.specs.FileContents.{HasNoZero, StandsAt, designation_of, IsMark, offset_in, mark_in, place_in, least_offset, SpellsType, SpellTypes, TypeFault, Other_mark, Place_behind, No_end, Least_offset, Other_name, HasTypeFault}
+use Rattle.tz_info.specs.Steps.ContentReading.{record_at, values_below, is_name_or_none, type_of, mark_of, front_of, text_before_zero, designation_at, type_of_record, with_next_type, type_in, is_zero}
 use Rattle.tz_info.specs.declared.error.Error.{Error}
 use Rattle.tz_info.specs.declared.error.Error.TheVariants.{OutOfMemory}
 use Rattle.tz_info.proofs.NamedTypes.{name_from, name_to}
-use Rattle.tz_info.proofs.ReadLaws.{bind_ok, bind_err, ok_same, err_same, choose, guard_ok, guard_err, test_ok, test_err, and_true, drop_front}
+use Rattle.tz_info.proofs.ReadLaws.{bind_ok, bind_err, ok_same, err_same, choose, guard_ok, guard_err, test_ok, test_err, drop_front}
 use Rattle.tz_info.proofs.ListLaws.{first_refusal}
 use Rattle.tz_info.proofs.RecordLaws.{each_is, each_again, refused_at, records_from, records_length, records_each, record_size, same_factor}
 
@@ -130,7 +131,7 @@ type_takes names bytes t h =
     let d = bind_ok (mark_of (mark_in bytes)) _ t h in
     let x = bind_ok (designation_at names (place_in bytes)) _ t d.2 in
     let g = guard_ok (int_lt least_offset (offset_in bytes) && is_name_or_none (designation_of x.0)) (record { offset = offset_in bytes; dst = d.0; name = designation_of x.0 }) t 3 x.2 in
-    let both = and_true (int_lt least_offset (offset_in bytes)) (is_name_or_none (designation_of x.0)) g.0 in
+    let both = and_parts (int_lt least_offset (offset_in bytes)) (is_name_or_none (designation_of x.0)) g.0 in
     subst (λ y. SpellsType names bytes y) g.1 (record {
       text = x.0;
       offset = refl;
@@ -216,7 +217,7 @@ type_answers offset dst text name (Ok t) low high same h =
 type_answers offset dst text name (Err e) low high same h =
     elim (int_lt least_offset offset && is_name_or_none (designation_of text)) as (λ b. (int_lt least_offset offset && is_name_or_none (designation_of text)) ≡ b → type_of offset dst text ≡ Err (number_of e)) [
       | true ↦ λ k.
-          let p = and_true (int_lt least_offset offset) (is_name_or_none (designation_of text)) k in
+          let p = and_parts (int_lt least_offset offset) (is_name_or_none (designation_of text)) k in
           let a = above offset p.0 in
           absurd (h.1 ((grind (arith, ints), high), subst IsNameOrNone (sym same) (named_is (designation_of text) p.1)))
       | false ↦ λ k. rw (k, h.0) refl

@@ -14,7 +14,8 @@ use Rattle.tz_info.specs.Leaps.{IsLeapTime, IsNear, least_time}
 use Rattle.tz_info.specs.LocalTypes.{LocalType}
 use Rattle.tz_info.specs.Rules.{Alternate as AlternateRule}
 use Rattle.tz_info.specs.RuleTypes.{RuleAt}
-use Rattle.tz_info.specs.Segments.{begin_of, index_of, segment_of}
+use Rattle.tz_info.specs.Segments.{segment_of}
+use Rattle.tz_info.specs.Steps.Segments.{begin_of, index_of}
 use Rattle.tz_info.specs.Steps.Answers.{joined}
 use Rattle.tz_info.specs.Steps.Walk.{TypeIn, IsShownIn, IsTried, IsAskedLast}
 use Rattle.tz_info.specs.Transitions.{AreRising}

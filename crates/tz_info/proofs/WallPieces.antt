@@ -1,20 +1,21 @@
 -- Pieces of the wall-clock axis: one piece more, and two runs of pieces together.
-use Rattle.std.proofs.Common.{◌≡◌, ℕ, zero, suc, ◌+◌, ◌-◌, ◌<◌, ◌≤◌, arith, refl, sym, ap, ◌∙◌, List, [], ◌∷◌, ◌++◌, length, get_or, map, take, pos, ℤ, ◌≤ℤ◌, ◌<ℤ◌, int_le, inl, inr}
+use Rattle.std.proofs.Common.{◌≡◌, ℕ, zero, suc, ◌+◌, ◌-◌, ◌<◌, ◌≤◌, arith, refl, sym, ap, ◌∙◌, List, [], ◌∷◌, ◌++◌, length, get_or, map, take, pos, ℤ, ◌≤ℤ◌, ◌<ℤ◌, inl, inr}
 use Rattle.std.proofs.lemmas.Int.{ints, by_lt_z}
 use Rattle.std.proofs.lemmas.Bool.{cases_lt}
-use Rattle.std.proofs.lemmas.List.{take_more, length_push, take_all, length-map}
+use Rattle.std.proofs.lemmas.List.{take_more, length_push, length-map}
 use Rattle.std.proofs.lemmas.List.Elements.{All-push}
 use Rattle.std.proofs.lemmas.List.Quantifiers.{all_pairs_push}
 use Rattle.offset_core.specs.declared.local_result.LocalResult.{LocalResult}
 use Rattle.offset_core.specs.declared.local_result.LocalResult.TheVariants.{None}
 use Rattle.tz_info.specs.Steps.Answers.{joined}
-use Rattle.tz_info.specs.Steps.Merging.{IsMerged, IsNext, IsStep}
+use Rattle.tz_info.specs.Steps.Merging.{IsNext, IsStep}
 use Rattle.std.proofs.lemmas.Option.{none-some}
 use Rattle.std.specs.Prelude.{Option, Some as some, None as none, unwrap_or}
 use Rattle.tz_info.specs.Steps.Search.{AreOrdered, ArePassed, IsLastOf}
 use Rattle.tz_info.specs.WallPieces.{answer_before, answer_at, AreInOrder}
 use Rattle.tz_info.specs.declared.zone.pieces.Piece.{Piece}
-use Rattle.tz_info.proofs.Prefixes.{le_true, le_false, filter_first, last_taken, mapped_at}
+use Rattle.tz_info.proofs.Prefixes.{le_true, le_false, last_taken}
+use Rattle.tz_info.proofs.SearchSteps.{first_come, times_ordered}
 
 abbrev pub Answer : Type 0
 Answer = LocalResult ℕ
@@ -130,35 +131,15 @@ pub step_count : (xs ys : List Piece) (i j i_after j_after : ℕ) (start : ℤ) 
 step_count xs ys i j i_after j_after start (inl s) = let p = s.passed in let q = s.stays in omega arith
 step_count xs ys i j i_after j_after start (inr s) = let p = s.passed in let q = s.stays in omega arith
 
--- all pieces are merged
-pub all_merged : (bx : Answer) (xs : List Piece) (by : Answer) (ys out : List Piece) (i j : ℕ) → Merging bx xs by ys out i j → length xs + length ys ≤ i + j → IsMerged bx xs by ys out
-all_merged bx xs by ys out i j m h =
-    let a = m.in_x in let b = m.in_y in let c = m.count in
-    record {
-      ordered = m.ordered;
-      count = omega arith;
-      answers = λ l. m.answers l ∙ rw (take_all i xs (omega arith), take_all j ys (omega arith)) refl;
-    }
-
 -- pieces in order, by the list of their starts
 pub starts_in_order : (ps : List Piece) → AreInOrder ps → AreOrdered (map (λ (p : Piece). p.start) ps)
-starts_in_order ps order i j d h l =
-    let same = length-map ps (λ (p : Piece). p.start) in
-    let o = order i j blank h (omega arith) in
-    let first = mapped_at (λ (p : Piece). p.start) ps i blank d (omega arith) in
-    let last = mapped_at (λ (p : Piece). p.start) ps j blank d (omega arith) in
-    omega (arith, ints) where
-      blank : Piece
-      blank = record { start = pos 0; answer = None }
+starts_in_order ps order = times_ordered (λ (p : Piece). p.start) ps blank (λ i j h l. order i j blank h l) where
+  blank : Piece
+  blank = record { start = pos 0; answer = None }
 
 -- the last of the pieces that have started answers, and where none has, what stands before them
 started : (b : Answer) (ps : List Piece) (l : ℤ) (n : ℕ) → ArePassed (map (λ (p : Piece). p.start) ps) l n → answer_at b ps l ≡ answer_before b (take n ps)
-started b ps l n passed =
-    let same = length-map ps (λ (p : Piece). p.start) in
-    let w = passed.within in
-    ap (answer_before b) (filter_first (λ (p : Piece). int_le p.start l) ps n (omega arith)
-    (λ k d m. let e = mapped_at (λ (p : Piece). p.start) ps k d (pos 0) (omega arith) in le_true _ l (rw e at (passed.before k m)))
-    (λ k d m n. let e = mapped_at (λ (p : Piece). p.start) ps k d (pos 0) n in le_false _ l (rw e at (passed.behind k m (omega arith)))))
+started b ps l n passed = ap (answer_before b) (first_come (λ (p : Piece). p.start) ps l n passed)
 
 pub none_answers : (b : Answer) (ps : List Piece) (l : ℤ) (n : ℕ) → ArePassed (map (λ (p : Piece). p.start) ps) l n → IsLastOf ps n none → b ≡ answer_at b ps l
 none_answers b ps l n passed latest = elim (cases_lt 0 n) [

@@ -10,7 +10,8 @@ use Rattle.offset_core.specs.declared.local_result.LocalResult.{LocalResult}
 use Rattle.offset_core.specs.declared.local_result.LocalResult.TheVariants.{None, Single, Ambiguous}
 use Rattle.tz_info.specs.Leaps.{IsLeapTime, IsNear}
 use Rattle.tz_info.specs.LocalTypes.{LocalType, IsUtOffset}
-use Rattle.tz_info.specs.Segments.{index_of, segment_of, table_count, table_count_by}
+use Rattle.tz_info.specs.Segments.{segment_of, table_count, table_count_by}
+use Rattle.tz_info.specs.Steps.Segments.{index_of}
 use Rattle.tz_info.specs.Steps.Answers.{joined}
 use Rattle.tz_info.specs.Steps.Merging.{IsMerged}
 use Rattle.tz_info.specs.Steps.Pieces.{AreBelow, AreListed, closing, ArePieces}
@@ -302,6 +303,7 @@ pub no_pieces_by_rule : (z : Zone) (rule : TransitionRule) → length z.transiti
 no_pieces_by_rule z rule n e = record {
   most = omega arith;
   some = λ k. absurd (omega arith);
+  order = none_ordered;
   answers = λ l wide. let r : table_count z ≡ 0 = rw e n in rw r (no_table z l);
   rule_from = none_index z (neg_ℤ (pos 9_223_372_036_854_775_808)) n (omega (arith, ints));
 }
@@ -313,6 +315,7 @@ no_pieces_by_type z i t valid n e of has offset =
     record {
       most = omega arith;
       some = λ k. absurd (omega arith);
+      order = none_ordered;
       answers = λ l wide. rw r (p.answers l wide);
       rule_from = none_index z (neg_ℤ (pos 9_223_372_036_854_775_808)) n (omega (arith, ints));
     }

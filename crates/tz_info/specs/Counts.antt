@@ -13,10 +13,6 @@ pub record HasRoom (c : Counts) : Type 0 where
   pub rule_questions : c.rule_questions < 2 ^ 120
   pub piece_reads : c.piece_reads < 2 ^ 120
 
--- the count can rise by that much more within 128 bits
-abbrev pub HasRoomFor : ℕ → ℕ → Type 0
-HasRoomFor more count = count + more < 2 ^ 128
-
 -- the counts rose by at most so many reads and rule questions, and no piece was looked at
 pub record RoseWithin (before after : Counts) (reads rule_questions : ℕ) : Type 0 where
   pub reads_kept : before.reads ≤ after.reads

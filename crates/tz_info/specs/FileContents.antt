@@ -38,9 +38,6 @@ abbrev pub SpellLeapSeconds : ℕ → List ℕ → List LeapSecond → Type 0
 SpellLeapSeconds time_size bytes leaps = AreRecords (time_size + 4) (SpellsLeapSecond time_size) bytes leaps
 
 -- ---- local time types
-abbrev pub is_zero : ℕ → Bool
-is_zero byte = byte == 0
-
 abbrev pub HasNoZero : List ℕ → Type 0
 HasNoZero [] = Unit {0}
 HasNoZero (b ∷ bs) = (b ≢ 0) × HasNoZero bs

@@ -1,5 +1,5 @@
 -- The headers of a TZif file (RFC 8536 section 3.1).
-use Rattle.std.specs.Prelude.{ℕ, ◌≡◌, ◌≢◌, ◌<◌, List, [], ◌∷◌, ◌++◌, length, ◌⊎◌}
+use Rattle.std.specs.Prelude.{ℕ, ◌≡◌, ◌≢◌, ◌<◌, ◌≤◌, List, [], ◌∷◌, ◌++◌, length, take, ◌⊎◌}
 use Rattle.std.specs.Int.{w32, from_be_bytes}
 use Rattle.tz_info.specs.declared.file.header.Place.{Place}
 use Rattle.tz_info.specs.declared.file.header.Place.TheVariants.{First, Second}
@@ -11,6 +11,10 @@ use Rattle.tz_info.specs.declared.file.header.Header.{Header}
 -- `TZif`
 abbrev pub magic : List ℕ
 magic = 84 ∷ 90 ∷ 105 ∷ 102 ∷ []
+
+-- four other bytes stand at the front
+abbrev pub HasOtherMagic : List ℕ → Type 0
+HasOtherMagic bytes = (4 ≤ length bytes) × (take 4 bytes ≢ magic)
 
 -- a 0 byte is version 1, the digits 2 and 3 are versions 2 and 3
 abbrev pub StandsFor : ℕ → Version → Type 0

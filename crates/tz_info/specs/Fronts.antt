@@ -1,4 +1,4 @@
--- What stands at the front of bytes: a value with the bytes behind it, or the number of a refusal.
+-- What stands at the front of bytes: a value with the bytes after it, or the number of a refusal.
 use Rattle.std.specs.Prelude.{ℕ, ◌+◌, ◌*◌, ◌-◌, nat_eq, nat_lt, nat_le, Bool, true, false, ◌&&◌, if◌then◌else◌, List, [], ◌∷◌, length, take, drop, Result, Ok, Err, ◌≡◌}
 use Rattle.std.specs.List.{starts_with}
 use Rattle.std.specs.Int.{w32, from_be_bytes}
@@ -29,11 +29,11 @@ tag_at tag bytes =
     if nat_lt (length bytes) (length tag) then Err 7 else
     (if starts_with nat_eq bytes tag then Ok (tt, drop (length tag) bytes) else Err 8)
 
--- whether the tag stands there, and the bytes behind it if so
+-- whether the tag stands there, and the bytes after it if so
 unfoldable pub optional_tag_at : List ℕ → List ℕ → Bool × List ℕ
 optional_tag_at tag bytes = if starts_with nat_eq bytes tag then (true, drop (length tag) bytes) else (false, bytes)
 
--- the longest run of bytes that pass, and the bytes behind it
+-- the longest run of bytes that pass, and the bytes after it
 abbrev pub run_of : (ℕ → Bool) → List ℕ → List ℕ
 run_of p [] = []
 run_of p (b ∷ bs) = if p b then b ∷ run_of p bs else []
@@ -46,7 +46,7 @@ after_run p (b ∷ bs) = if p b then after_run p bs else b ∷ bs
 abbrev pub is_digit : ℕ → Bool
 is_digit b = nat_le 48 b && nat_le b 57
 
--- what digits stand for, behind those of n
+-- what digits stand for, after those of n
 abbrev pub value_from : ℕ → List ℕ → ℕ
 value_from n [] = n
 value_from n (d ∷ ds) = value_from (10 * n + (d - 48)) ds

@@ -28,7 +28,7 @@ pub record AreLeapSeconds (entries : List LeapSecond) : Type 0 where
 abbrev pub corrections : List LeapSecond → List ℤ
 corrections entries = map (λ e. e.correction) entries
 
--- the Unix times from which on the entries stand, behind an entry of that correction: each entry's time less the
+-- the Unix times from which on the entries stand, after an entry of that correction: each entry's time less the
 -- correction before it
 abbrev pub thresholds : ℤ → List LeapSecond → List ℤ
 thresholds before [] = []
@@ -71,6 +71,7 @@ pub record IsUnixTime (entries : List LeapSecond) (x u : ℤ) : Type 0 where
   pub difference : u ≡ x -ℤ correction_before entries x
   pub fits : FitsSigned w64 u
 
+-- the leap time x has no Unix time of 64 bits
 abbrev pub IsUnixTimeRefused : List LeapSecond → ℤ → Type 0
 IsUnixTimeRefused entries x = (x ≡ least_time) ⊎ (¬ (FitsSigned w64 (x -ℤ correction_before entries x)))
 

@@ -17,6 +17,7 @@ pub mod WallClocks
 pub mod Gaps
 pub mod Windows
 pub mod Looks
+pub mod Questions
 pub mod Segments
 pub mod WallPieces
 pub mod ZoneEquality

@@ -1,5 +1,5 @@
 -- The moments at which a rule changes the clock, and the type in force between them (POSIX.1 section 8.3).
-use Rattle.std.specs.Prelude.{◌≡◌, Bool, if◌then◌else◌, IsTrue, IsFalse, ◌↔◌, ℤ, pos, neg_ℤ, ◌+ℤ◌, ◌-ℤ◌, ◌*ℤ◌, ◌≤ℤ◌, ◌<ℤ◌}
+use Rattle.std.specs.Prelude.{◌≡◌, Bool, if◌then◌else◌, IsTrue, IsFalse, ◌↔◌, ℤ, pos, neg_ℤ, ◌+ℤ◌, ◌-ℤ◌, ◌*ℤ◌, ◌≤ℤ◌, ◌<ℤ◌, ◌⊎◌}
 use Rattle.naive_base.specs.Year.{floor_div, LiesIn}
 use Rattle.tz_info.specs.LocalTypes.{LocalType}
 use Rattle.tz_info.specs.RuleDayOf.{rule_day}
@@ -26,14 +26,14 @@ IsYearOf u year = LiesIn (floor_div u 86_400) year
 abbrev pub IsInSomeYear : (ℤ → ℤ) → (ℤ → ℤ) → ℤ → Type 0
 IsInSomeYear firsts lasts u = (year : ℤ) × (firsts year ≤ℤ u) × (u <ℤ lasts year)
 
--- whether it is daylight saving time at the second u of the year: where the start comes first in that year, exactly in
--- what lies from some year's start to its end; where the end comes first, not exactly in what lies from some year's end
--- to its start
+-- whether it is daylight saving time at the second u of the year: where the start comes first in that year, if and only if
+-- u lies from some year's start to its end; where the end comes first, if and only if u does not lie from some year's end to
+-- its start
 pub record IsDstAt (starts ends : ℤ → ℤ) (year u : ℤ) (dst : Bool) : Type 0 where
   pub start_first : starts year ≤ℤ ends year → IsTrue dst ↔ IsInSomeYear starts ends u
   pub end_first : ends year <ℤ starts year → IsFalse dst ↔ IsInSomeYear ends starts u
 
--- the years that a rule answers in: those of 32 bits but for two at each end
+-- the years that a rule answers in: those of 32 bits except two at each end
 abbrev pub IsRuleYear : ℤ → Type 0
 IsRuleYear year = (neg_ℤ (pos 2_147_483_646) ≤ℤ year) × (year ≤ℤ pos 2_147_483_645)
 
@@ -56,3 +56,10 @@ pub record AlternateAt (a : Alternate) (u : ℤ) (t : LocalType) : Type 0 where
 -- the year of the second u is none that a rule answers in
 abbrev pub IsAlternateRefused : ℤ → Type 0
 IsAlternateRefused u = (year : ℤ) → IsYearOf u year → ¬ (IsRuleYear year)
+
+-- in that year the moment comes between the other moments before and after it: those of the year before and of that year,
+-- or those of that year and of the next
+abbrev pub IsBetween : (ℤ → ℤ) → (ℤ → ℤ) → ℤ → Type 0
+IsBetween others moments year =
+    ((others (year -ℤ pos 1) <ℤ moments year) × (moments year <ℤ others year))
+    ⊎ ((others year <ℤ moments year) × (moments year <ℤ others (year +ℤ pos 1)))

@@ -11,6 +11,7 @@ is_name_byte b = (nat_le 65 b && nat_le b 90) || (nat_le 97 b && nat_le b 122) |
 abbrev pub IsName : List ℕ → Type 0
 IsName text = (3 ≤ length text) × (length text ≤ 7) × ((i : ℕ) → i < length text → is_name_byte (slice_index text i) ≡ true)
 
+-- a name, or none
 abbrev pub IsNameOrNone : Option (List ℕ) → Type 0
 IsNameOrNone (Some text) = IsName text
 IsNameOrNone None = Unit {0}

@@ -1,5 +1,5 @@
 -- The pieces of a TZ text, laid end to end (POSIX.1 section 8.3, "TZ"; RFC 8536 section 3.3.1). A piece is a relation
--- `Piece bytes x rest`: the bytes begin with what spells x, and rest is what stands behind it.
+-- `Piece bytes x rest`: the bytes begin with what spells x, and rest is what stands after it.
 use Rattle.std.specs.Prelude.{ℕ, ℤ, pos, neg_ℤ, ◌+ℤ◌, ◌≤ℤ◌, ◌+◌, ◌*◌, ◌≡◌, ◌≢◌, ◌<◌, ◌≤◌, ◌==◌, nat_le, ◌⊎◌, Bool, true, false, not, ◌&&◌, ◌||◌, if◌then◌else◌, List, [], ◌∷◌, ◌++◌, length}
 use Rattle.tz_info.specs.Fronts.{is_digit, value_from}
 use Rattle.tz_info.specs.RuleDays.{IsRuleDay}
@@ -67,11 +67,11 @@ Without tag (b ∷ bs) = b ≢ tag
 abbrev pub Nothing : {X : Type 0} → X → List ℕ → X → List ℕ → Type 0
 Nothing v bytes x rest = (x ≡ v) × (bytes ≡ rest)
 
--- where the byte stands at the front, the first piece behind it; where it does not, the second
+-- where the byte stands at the front, the first piece after it; where it does not, the second
 abbrev pub Marked : {X : Type 0} → ℕ → (List ℕ → X → List ℕ → Type 0) → (List ℕ → X → List ℕ → Type 0) → List ℕ → X → List ℕ → Type 0
 Marked tag P Q bytes x rest = ((after : List ℕ) × (bytes ≡ tag ∷ after) × P after x rest) ⊎ (Without tag bytes × Q bytes x rest)
 
--- the byte and the piece behind it, or nothing, which stands for that value
+-- the byte and the piece after it, or nothing, which stands for that value
 abbrev pub Optional : {X : Type 0} → ℕ → X → (List ℕ → X → List ℕ → Type 0) → List ℕ → X → List ℕ → Type 0
 Optional tag v P = Marked tag P (Nothing v)
 
@@ -145,7 +145,7 @@ TimeSign false = Nothing false
 abbrev pub time_limit : Bool → ℕ
 time_limit extended = if extended then 167 else 24
 
--- a time of day, in seconds behind midnight
+-- a time of day, in seconds after midnight
 pub record Time (extended : Bool) (bytes : List ℕ) (z : ℤ) (rest : List ℕ) : Type 0 where
   pub is_minus : Bool
   pub unsigned : List ℕ
@@ -153,7 +153,7 @@ pub record Time (extended : Bool) (bytes : List ℕ) (z : ℤ) (rest : List ℕ)
   pub duration : Duration (time_limit extended) is_minus unsigned z rest
 
 -- ---- names
--- behind `<`: the bytes up to the first `>`
+-- after `<`: the bytes up to the first `>`
 pub record Quoted (bytes text rest : List ℕ) : Type 0 where
   pub whole : bytes ≡ text ++ greater ∷ rest
   pub first : AllOf is_not_greater text
@@ -168,7 +168,7 @@ abbrev pub Name : List ℕ → List ℕ → List ℕ → Type 0
 Name = Marked less Quoted Letters
 
 -- ---- dates
--- behind `M`: month, week and weekday
+-- after `M`: month, week and weekday
 pub record MonthDate (bytes : List ℕ) (form : DayForm) (rest : List ℕ) : Type 0 where
   pub month : ℕ
   pub week : ℕ
@@ -181,14 +181,14 @@ pub record MonthDate (bytes : List ℕ) (form : DayForm) (rest : List ℕ) : Typ
   pub value : form ≡ MonthWeekday month week weekday
   pub fits : IsRuleDay form
 
--- behind `J`: the day of a common year
+-- after `J`: the day of a common year
 pub record JulianDate (bytes : List ℕ) (form : DayForm) (rest : List ℕ) : Type 0 where
   pub n : ℕ
   pub spelled : Number day_max bytes n rest
   pub value : form ≡ Julian1 n
   pub fits : IsRuleDay form
 
--- the days behind 1 January
+-- the days after 1 January
 pub record DayNumber (bytes : List ℕ) (form : DayForm) (rest : List ℕ) : Type 0 where
   pub n : ℕ
   pub spelled : Number day_max bytes n rest
@@ -198,7 +198,7 @@ pub record DayNumber (bytes : List ℕ) (form : DayForm) (rest : List ℕ) : Typ
 abbrev pub Date : List ℕ → DayForm → List ℕ → Type 0
 Date = Marked letter_M MonthDate (Marked letter_J JulianDate DayNumber)
 
--- a date, and behind a `/` the time, which is 2 o'clock where it is left out
+-- a date, and after a `/` the time, which is 2 o'clock where it is left out
 pub record Day (extended : Bool) (bytes : List ℕ) (day : DayTime) (rest : List ℕ) : Type 0 where
   pub after_date : List ℕ
   pub date : Date bytes day.day after_date
@@ -211,6 +211,6 @@ pub record NextHour (std : ℤ) (bytes : List ℕ) (east : ℤ) (rest : List ℕ
   pub limit : east ≤ℤ pos 86_399
   pub whole : bytes ≡ rest
 
--- the offset of daylight saving time, and the comma behind it
+-- the offset of daylight saving time, and the comma after it
 abbrev pub DstOffset : ℤ → List ℕ → ℤ → List ℕ → Type 0
 DstOffset std = Marked comma (NextHour std) (λ bytes east rest. Offset bytes east (comma ∷ rest))

@@ -9,5 +9,6 @@ use Rattle.tz_info.specs.declared.rule.day.DayForm.{DayForm}
 pub rule_day_with : (form : DayForm) (year : ℤ) → (number : ℤ) × (IsRuleDay form → IsDayOf form year number)
 rule_day_with form year = some_day form year
 
+-- the rule's day in that year, as a function
 unfoldable pub rule_day : DayForm → ℤ → ℤ
 rule_day form year = (rule_day_with form year).0

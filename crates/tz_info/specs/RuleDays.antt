@@ -32,7 +32,7 @@ IsDayOf (Julian0 n) year number = number ≡ day_number year 1 1 +ℤ pos n
 IsDayOf (MonthWeekday month week weekday) year number =
     (day : ℕ) × IsWeekdayOfMonth year month week weekday day × (number ≡ day_number year month day)
 
--- the month and the day of the month of a day number in that year; the day behind 31 December is written as the 32nd
+-- the month and the day of the month of a day number in that year; the day after 31 December is written as the 32nd
 abbrev pub IsWrittenDate : ℤ → ℤ → ℕ → ℤ → Type 0
 IsWrittenDate number year month day =
     (place : ℕ) × (day ≡ pos place) × (IsDate year month place ⊎ ((month ≡ 12) × (place ≡ 32))) × (day_number year month place ≡ number)

@@ -16,6 +16,7 @@ pub record Alternate : Type 0 where
 abbrev pub IsWithinWeek : ℤ → Type 0
 IsWithinWeek time = (neg_ℤ (pos 604_800) <ℤ time) × (time <ℤ pos 604_800)
 
+-- the offsets and the day times of an alternate rule are within their limits
 pub record IsAlternate (a : Alternate) : Type 0 where
   pub std_offset : IsWithinDay a.std.offset
   pub dst_offset : IsWithinDay a.dst.offset

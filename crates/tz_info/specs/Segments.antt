@@ -1,19 +1,9 @@
--- Segments: from one transition to the next one type is in force. Segment i comes behind the first i transitions.
-use Rattle.std.specs.Prelude.{ℕ, suc, List, length, map, take, ℤ, ◌+ℤ◌, Option, Some, None}
-use Rattle.tz_info.specs.Leaps.{correction_at, least_time}
-use Rattle.tz_info.specs.Lists.{last_else}
+-- Segments: from one transition to the next one type is in force. Segment i comes after the first i transitions.
+use Rattle.std.specs.Prelude.{ℕ, suc, length, ℤ, ◌+ℤ◌, Option, Some, None}
+use Rattle.tz_info.specs.Leaps.{correction_at}
 use Rattle.tz_info.specs.Transitions.{passed}
 use Rattle.tz_info.specs.Zones.{Zone}
 use Rattle.tz_info.specs.declared.rule.transition_rule.TransitionRule.{TransitionRule}
-use Rattle.tz_info.specs.declared.zone.transition.Transition.{Transition}
-
--- the leap time at which segment i begins; the first begins with time
-abbrev pub begin_of : List Transition → ℕ → ℤ
-begin_of transitions i = last_else least_time (map (λ t. t.unix_leap_time) (take i transitions))
-
--- the index of the type in segment i
-abbrev pub index_of : List Transition → ℕ → ℕ
-index_of transitions i = last_else 0 (map (λ t. t.type_index) (take i transitions))
 
 -- the segment of the second u: how many transitions have come by then
 unfoldable pub segment_of : Zone → ℤ → ℕ

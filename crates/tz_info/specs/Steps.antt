@@ -1,9 +1,12 @@
--- Steps of the proofs: what private functions ensure. No public contract cites a page of this folder.
+-- Steps of the proofs: what private functions ensure, and what private fields keep. No contract of a public function cites a
+-- page of this folder.
 pub mod Extremes
 pub mod Below
 pub mod Turns
 pub mod Seasons
 pub mod Answers
+pub mod Segments
+pub mod Validity
 pub mod Walk
 pub mod Merging
 pub mod Starts

@@ -1,5 +1,5 @@
 -- Transitions (RFC 8536 section 3.2, "transition times" and "transition types").
-use Rattle.std.specs.Prelude.{ℕ, ◌<◌, ◌-◌, List, All, AllPairs, filter, slice_index_or, ℤ, ◌<ℤ◌, int_le}
+use Rattle.std.specs.Prelude.{ℕ, ◌<◌, List, All, AllPairs, filter, ℤ, ◌<ℤ◌, int_le}
 use Rattle.tz_info.specs.declared.zone.transition.Transition.{Transition}
 
 -- each comes later than those before it
@@ -14,8 +14,3 @@ pub record AreTransitions (types : ℕ) (transitions : List Transition) : Type 0
 -- those at or before the leap time x
 abbrev pub passed : List Transition → ℤ → List Transition
 passed transitions x = filter (λ t. int_le t.unix_leap_time x) transitions
-
--- the transition at that place names one of so many types, and comes later than the one before it
-pub record Stands (types : ℕ) (transitions : List Transition) (place : ℕ) : Type 0 where
-  pub index : (d : Transition) → (slice_index_or transitions place d).type_index < types
-  pub later : (d : Transition) → 0 < place → (slice_index_or transitions (place - 1) d).unix_leap_time <ℤ (slice_index_or transitions place d).unix_leap_time

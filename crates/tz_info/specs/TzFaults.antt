@@ -9,11 +9,11 @@ use Rattle.tz_info.specs.declared.rule.day.DayForm.{DayForm}
 use Rattle.tz_info.specs.declared.rule.day.DayForm.TheVariants.{Julian1, Julian0, MonthWeekday}
 use Rattle.tz_info.specs.declared.rule.day.DayTime.{DayTime}
 
--- ---- faults of choices and of pieces one behind the other
+-- ---- faults of choices and of pieces one after the other
 abbrev pub NoFault : List ℕ → ℕ → Type 0
 NoFault bytes n = ⊥
 
--- a fault of the first piece, or of the next one behind it
+-- a fault of the first piece, or of the next one after it
 abbrev pub ThenFault : {X : Type 0} → (List ℕ → X → List ℕ → Type 0) → (List ℕ → ℕ → Type 0) → (X → List ℕ → ℕ → Type 0) → List ℕ → ℕ → Type 0
 ThenFault {X} P F G bytes n = F bytes n ⊎ ((x : X) × (behind : List ℕ) × P bytes x behind × G x behind n)
 
@@ -64,7 +64,7 @@ abbrev pub TimeFault : Bool → List ℕ → ℕ → Type 0
 TimeFault extended = ThenFault (TimeSign extended) NoFault (λ _. DurationFault (time_limit extended))
 
 -- ---- names
--- 7: no `>` behind a `<`
+-- 7: no `>` after a `<`
 abbrev pub NameFault : List ℕ → ℕ → Type 0
 NameFault = MarkedFault less (λ bytes n. AllOf is_not_greater bytes × (n ≡ 7)) NoFault
 
@@ -106,7 +106,7 @@ DaysFault extended = ThenFault (Day extended) (DayFault extended) (λ _. ThenFau
 abbrev pub NextHourFault : ℤ → List ℕ → ℕ → Type 0
 NextHourFault std _ n = (pos 86_399 <ℤ (std +ℤ pos 3_600)) × (n ≡ 6)
 
--- 15: the text ends before the offset or behind it
+-- 15: the text ends before the offset or after it
 abbrev pub EndsFault : List ℕ → ℕ → Type 0
 EndsFault bytes n = (bytes ≡ []) × (n ≡ 15)
 
@@ -134,5 +134,6 @@ TurnsFault extended std_name std_offset =
 abbrev pub RuleFault : Bool → List ℕ → ℤ → List ℕ → ℕ → Type 0
 RuleFault extended name offset bytes n = ((bytes ≡ []) × IsBadName name n) ⊎ ((bytes ≢ []) × TurnsFault extended name offset bytes n)
 
+-- what is wrong with a TZ text, by the number of the error
 abbrev pub IsTextFault : Bool → List ℕ → ℕ → Type 0
 IsTextFault extended = ThenFault Name NameFault (λ name. ThenFault Offset OffsetFault (λ offset. RuleFault extended name offset))

@@ -14,7 +14,7 @@ pub record IsNamed (name : List ℕ) (dst : Bool) (t : LocalType) : Type 0 where
   pub named : t.name ≡ Some name
   pub mark : t.dst ≡ dst
 
--- a name and an offset, and nothing behind them
+-- a name and an offset, and nothing after them
 pub record IsFixedText (bytes : List ℕ) (t : LocalType) : Type 0 where
   pub name : List ℕ
   pub after_name : List ℕ

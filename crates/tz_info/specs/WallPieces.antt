@@ -38,7 +38,7 @@ pub record ListedAmong (z : Zone) (low high : ℕ) (local u : ℤ) (index : ℕ)
   pub shown : ShownAmong z low high local u local_type
   pub listed : HasType z index local_type
 
--- of the seconds near now, `count` transitions have come exactly from the second `start` on
+-- of the seconds near now, `count` transitions have come if and only if the second is `start` or later
 abbrev pub IsStart : List Transition → List LeapSecond → ℕ → ℤ → Type 0
 IsStart transitions leaps count start = (u x : ℤ) → IsNear u → IsLeapTime leaps u x → (count ≤ length (passed transitions x)) ↔ (start ≤ℤ u)
 
@@ -48,10 +48,11 @@ pub record WallIndex : Type 0 where
   pub pieces : List Piece
   pub rule_from : ℤ
 
--- the index is that of the zone: at each local time the pieces answer for all seconds of the table, which are those before
+-- the index is that of the zone: its pieces stand in the order of their starts, at each local time they answer for all seconds of the table, which are those before
 -- the last transition, or without a rule all; and the rule is asked from the last transition on
 pub record IsIndex (z : Zone) (i : WallIndex) : Type 0 where
   pub most : length i.pieces ≤ 2 * length z.transitions
   pub some : 0 < length z.transitions → 0 < length i.pieces
+  pub order : AreInOrder i.pieces
   pub answers : (local : ℤ) → IsWide local → IsWallAnswer (ListedAmong z 0 (table_count z) local) (answer_at i.before i.pieces local)
   pub rule_from : IsStart z.transitions z.leaps (length z.transitions) i.rule_from

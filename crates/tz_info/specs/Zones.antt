@@ -28,6 +28,7 @@ pub record Agrees (types : List LocalType) (leaps : List LeapSecond) (rule : Tra
   pub of_rule : RuleAt rule unix_time type
   pub listed : slice_get types last.type_index ≡ Some type
 
+-- the last transition
 abbrev pub last_transition : List Transition → Option Transition
 last_transition transitions = slice_get transitions (length transitions - 1)
 

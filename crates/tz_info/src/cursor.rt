@@ -175,7 +175,7 @@ impl<'a> Cursor<'a> {
     }
 }
 
-/// What the digits stand for.
+// What the digits stand for.
 fn number(digits: &[u8], max: u32) -> Result<u32, Error>
     requires { AllDigits digits.now }
     ensures value { Gives (λ n. n) result (number_within max digits.now) }

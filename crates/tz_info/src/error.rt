@@ -1,4 +1,4 @@
-//! Why bytes, values or instants are refused.
+//! Why bytes, values or instants give an error.
 
 ghost use Rattle.std.specs.Prelude.{◌≡◌};
 ghost use Rattle.tz_info.specs.Errors.{number_of};
@@ -43,7 +43,7 @@ pub enum Expected {
     ZeroOrOneAsIsDst,
     /// A name within the designations.
     NameWithinDesignations,
-    /// A 0 byte behind a name.
+    /// A 0 byte after a name.
     ZeroByteBehindName,
     /// An offset above i32::MIN.
     OffsetAboveI32Min,
@@ -75,7 +75,7 @@ pub enum Expected {
     OffsetOfDaylightSavingTimeWithinDay,
     /// Days when daylight saving time starts and ends.
     DaysWhenDaylightSavingTimeStartsAndEnds,
-    /// Nothing behind the text.
+    /// Nothing after the text.
     NothingBehindText,
     /// A leap time of 64 bits.
     LeapTimeOf64Bits,
@@ -162,7 +162,7 @@ pub enum Error {
     /// A time or an offset of a TZ text out of its limits, or bytes left over after it.
     #[error("invalid TZ text: expected {0}")]
     InvalidTzString(Expected),
-    /// Fewer bytes than are asked for.
+    /// Fewer bytes than are required.
     #[error("unexpected end: expected {0}")]
     UnexpectedEnd(Expected),
     /// Another byte than the one that must come.

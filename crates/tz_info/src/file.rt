@@ -1,11 +1,14 @@
 //! Time zone files (TZif, RFC 8536): the zone that the bytes of a file spell.
 
 ghost use Rattle.std.specs.Prelude.{◌≡◌, IfOk, IfErr, MatchResult};
+ghost use Rattle.std.specs.Result.{IsErrAnd};
 ghost use Rattle.tz_info.specs.Errors.{number_of};
+ghost use Rattle.tz_info.specs.FileHeaders.{HasOtherMagic};
 ghost use Rattle.tz_info.specs.FilePieces.{FilePieces, HasPieces};
 ghost use Rattle.tz_info.specs.TzFiles.{IsTzFile, IsZoneFault};
 ghost use Rattle.tz_info.specs.Zones.{Zone, IsValid};
-ghost use Rattle.tz_info.specs.declared.error.Error.TheVariants.{OutOfMemory};
+ghost use Rattle.tz_info.specs.declared.error.Error.TheVariants.{InvalidTzFile, OutOfMemory};
+ghost use Rattle.tz_info.specs.declared.error.Expected.TheVariants.{TZifAtFrontOfHeader};
 
 mod block;
 mod contents;
@@ -26,16 +29,23 @@ impl TimeZone {
     /// of the first one only the header and the length count. In version 3 that text may have the
     /// extensions of RFC 8536 section 3.3.1.
     ///
-    /// Want of memory is answered only where every block is there.
+    /// Running out of memory is answered only where every block is there.
+    ///
+    /// ```text
+    /// let zone = TimeZone::from_tz_data(alloc, &bytes)?;    // of /usr/share/zoneinfo/Europe/Paris
+    /// let local = zone.find_local_time_type(1_625_097_600)?;
+    /// let seconds = local.offset();                         // 7200
+    /// ```
     ///
     /// # Errors
     ///
-    /// The first of these that is met from the front on: [`Error::UnexpectedEnd`] where bytes are
-    /// wanting; [`Error::UnsupportedTzFile`] for another version; [`Error::InvalidTzFile`] for any
-    /// other fault of the file's form, as bytes behind a file of version 1. Then, once both blocks
-    /// are there: [`Error::InvalidTzFile`] and [`Error::LocalTimeType`] for a type, one after the
-    /// other; [`Error::InvalidTzFile`] for indicators that say UT where they do not say standard
-    /// time; [`Error::Utf8`] and [`Error::InvalidTzFile`] for a footer, and the errors of
+    /// Of several faults the first of these, from the front on; that order is tested, not proved.
+    /// [`Error::UnexpectedEnd`] where bytes are missing; [`Error::UnsupportedTzFile`] for another
+    /// version; [`Error::InvalidTzFile`] for any other fault of the file's form, such as bytes
+    /// after a file of version 1. Then, once both blocks are there: [`Error::InvalidTzFile`] and
+    /// [`Error::LocalTimeType`] for a type, one after the other; [`Error::InvalidTzFile`] for a
+    /// standard/wall indicator of 0 beside a UT/local indicator of 1, and for no other pair;
+    /// [`Error::Utf8`] and [`Error::InvalidTzFile`] for a footer, and the errors of
     /// [`TransitionRule::from_tz_string`](crate::TransitionRule::from_tz_string) for its text; last
     /// [`Error::TimeZone`] for lists that [`TimeZone::new`] does not take. [`Error::OutOfMemory`]
     /// if there is no memory for the lists.
@@ -45,11 +55,14 @@ impl TimeZone {
         // A file that has a valid zone gives it, unless memory runs out.
         ensures only { (z : Zone) → IsTzFile bytes.now z → IsValid z
             → MatchResult result (λ y. y ≡ z) (λ e. e ≡ OutOfMemory) }
-        // Where it is refused, what the number says stands in the file.
+        // An error names a fault that is in the file, or that memory ran out.
         ensures fault { IfErr result (λ e. IsZoneFault bytes.now (number_of e)) }
-        // Want of memory is answered only where every piece of the file is there.
+        // Running out of memory is answered only where every piece of the file is there.
         ensures memory { IfErr result
             (λ e. e ≡ OutOfMemory → (p : FilePieces) × HasPieces bytes.now p) }
+        // Of bytes that do not begin with `TZif` that is what was expected.
+        ensures magic { HasOtherMagic bytes.now
+            → IsErrAnd result (λ e. e ≡ InvalidTzFile TZifAtFrontOfHeader) }
     {
         let lists = read_lists(alloc, bytes)?;
         lists.into_zone(alloc)

@@ -6,17 +6,20 @@ pub mod files;
 pub mod texts;
 pub mod wall_clocks;
 
-ghost use Rattle.std.specs.Prelude.{◌≡◌, ℕ, ◌<◌, length, List, ℤ, pos, neg_ℤ, ◌+ℤ◌, ◌*ℤ◌, ◌≤ℤ◌, ◌<ℤ◌, ◌⊎◌, ◌↔◌};
+ghost use Rattle.std.specs.Prelude.{◌≡◌, ℕ, ◌+◌, ◌<◌, length, slice_index_or, List, ℤ, pos, neg_ℤ, ◌+ℤ◌, ◌-ℤ◌, ◌*ℤ◌, ◌≤ℤ◌, ◌<ℤ◌, ◌⊎◌, ◌↔◌, Some};
 ghost use Rattle.tz_info.specs.Leaps.{AreLeapSeconds, AreCounted, IsLeapTime, IsLeapTimeRefused, IsUnixTime};
 ghost use Rattle.tz_info.specs.LocalTypes.{LocalType};
 ghost use Rattle.tz_info.specs.RuleDays.{IsRuleDay, IsDayOf};
 ghost use Rattle.tz_info.specs.RuleDayOf.{rule_day};
-ghost use Rattle.tz_info.specs.Moments.{IsYearOf, IsRuleYear, IsRuleTime};
+ghost use Rattle.tz_info.specs.Moments.{IsYearOf, IsRuleYear, IsRuleTime, IsBetween, start_in, end_in};
+ghost use Rattle.tz_info.specs.Rules.{Alternate as AlternateRule, IsAlternateRule};
 ghost use Rattle.tz_info.specs.RuleTypes.{RuleAt, IsRuleRefused, IsRule};
-ghost use Rattle.tz_info.specs.Zones.{Zone, IsValid, HasType, TypeAt, IsTypeRefused, IsRuleOrNone, IsTypeOf};
+ghost use Rattle.tz_info.specs.Zones.{Zone, IsValid, last_transition, HasType, TypeAt, IsTypeRefused, IsRuleOrNone, IsTypeOf};
 ghost use Rattle.tz_info.specs.declared.rule.day.DayForm.{DayForm};
 ghost use Rattle.tz_info.specs.declared.rule.transition_rule.TransitionRule.{TransitionRule};
+ghost use Rattle.tz_info.specs.declared.rule.transition_rule.TransitionRule.TheVariants.{Alternate};
 ghost use Rattle.tz_info.specs.declared.zone.leap_second.LeapSecond.{LeapSecond};
+ghost use Rattle.tz_info.specs.declared.zone.transition.Transition.{Transition};
 
 /// A rule has one day in each year, and its moments at a fixed time of day come later in a later
 /// year.
@@ -29,7 +32,7 @@ pub fn rule_days_law()
         → (pos 86_400 *ℤ rule_day form a +ℤ time) <ℤ (pos 86_400 *ℤ rule_day form b +ℤ time) }
 {}
 
-/// At each second a rule has one type, or it is refused.
+/// At each second a rule has one type, or it returns an error.
 pub fn rule_types_law()
     ensures once { (rule : TransitionRule) (u : ℤ) (s t : LocalType) → RuleAt rule u s
         → RuleAt rule u t → s ≡ t }
@@ -40,9 +43,29 @@ pub fn rule_types_law()
     ensures times { (u year : ℤ) → IsYearOf u year → IsRuleYear year ↔ IsRuleTime u }
 {}
 
-/// Leap times rise weakly with Unix times, and within 10^13 seconds of 1970 none is refused. Where
-/// the corrections are 1, 2, 3 and so on, the Unix time of a Unix time's leap time is that Unix
-/// time.
+/// The second at which a clock shows the day and the time of a rule's moment, in a year in which
+/// that moment comes between two of the other ones: at the start daylight saving time is in force,
+/// and a second before it standard time; at the end standard time, and a second before it daylight
+/// saving time. The second is to lie in the moment's year also in UTC.
+pub fn rule_moments_law()
+    ensures starts { (a : AlternateRule) (year day u : ℤ) → IsAlternateRule a → IsRuleYear year
+        → IsDayOf a.start.day year day
+        → (u +ℤ a.std.offset) ≡ (pos 86_400 *ℤ day +ℤ a.start.time)
+        → IsBetween (end_in a) (start_in a) year
+        → (IsYearOf u year → RuleAt (Alternate a) u a.dst)
+        × (IsYearOf (u -ℤ pos 1) year → RuleAt (Alternate a) (u -ℤ pos 1) a.std) }
+    ensures ends { (a : AlternateRule) (year day u : ℤ) → IsAlternateRule a → IsRuleYear year
+        → IsDayOf a.end.day year day
+        → (u +ℤ a.dst.offset) ≡ (pos 86_400 *ℤ day +ℤ a.end.time)
+        → IsBetween (start_in a) (end_in a) year
+        → (IsYearOf u year → RuleAt (Alternate a) u a.std)
+        × (IsYearOf (u -ℤ pos 1) year → RuleAt (Alternate a) (u -ℤ pos 1) a.dst) }
+{}
+
+/// Leap times rise weakly with Unix times, and within 10^13 seconds of 1970 each second has one.
+/// Where the corrections are 1, 2, 3 and so on, the Unix time of a Unix time's leap time is that
+/// Unix time. At the first entry's own leap time the Unix time is equal to it, and at a later one's
+/// it is less by the correction of the entry before.
 pub fn leap_times_law()
     ensures rise { (leaps : List LeapSecond) (u v x y : ℤ) → AreLeapSeconds leaps → u ≤ℤ v
         → IsLeapTime leaps u x → IsLeapTime leaps v y → x ≤ℤ y }
@@ -53,9 +76,20 @@ pub fn leap_times_law()
         → ¬ (IsLeapTimeRefused leaps u) }
     ensures undone { (leaps : List LeapSecond) (u x v : ℤ) → AreLeapSeconds leaps → AreCounted leaps
         → IsLeapTime leaps u x → IsUnixTime leaps x v → v ≡ u }
+    ensures first { (leaps : List LeapSecond) (d : LeapSecond) (u : ℤ) → AreLeapSeconds leaps
+        → 0 < length leaps → IsUnixTime leaps (slice_index_or leaps 0 d).unix_leap_time u
+        → u ≡ (slice_index_or leaps 0 d).unix_leap_time }
+    ensures later { (leaps : List LeapSecond) (k : ℕ) (d : LeapSecond) (u : ℤ)
+        → AreLeapSeconds leaps → k + 1 < length leaps
+        → IsUnixTime leaps (slice_index_or leaps (k + 1) d).unix_leap_time u
+        → u ≡ (slice_index_or leaps (k + 1) d).unix_leap_time
+        -ℤ (slice_index_or leaps k d).correction }
 {}
 
-/// At each second a zone has one type, which stands in its list or is its rule's, or it is refused.
+/// At each second a zone has one type, which stands in its list or is its rule's, or it has none.
+/// At the last transition's second the transition's type is in force, with a rule or without one,
+/// unless the second's leap time is before the transition: that is so where a leap second is left
+/// out at the transition.
 pub fn zone_types_law()
     ensures once { (z : Zone) (u : ℤ) (s t : LocalType) → TypeAt z u s → TypeAt z u t → s ≡ t }
     ensures apart { (z : Zone) (u : ℤ) (t : LocalType) → TypeAt z u t → ¬ (IsTypeRefused z u) }
@@ -63,4 +97,8 @@ pub fn zone_types_law()
         → ((t : LocalType) × TypeAt z u t) ⊎ IsTypeRefused z u }
     ensures listed { (z : Zone) (u : ℤ) (t : LocalType) → TypeAt z u t
         → ((k : ℕ) × (k < length z.types) × HasType z k t) ⊎ IsTypeOf z.rule u t }
+    ensures last { (z : Zone) (last : Transition) (u x : ℤ) (t : LocalType) → IsValid z
+        → last_transition z.transitions ≡ Some last → IsUnixTime z.leaps last.unix_leap_time u
+        → IsLeapTime z.leaps u x → last.unix_leap_time ≤ℤ x → HasType z last.type_index t
+        → TypeAt z u t }
 {}

@@ -9,7 +9,6 @@ mod local_time_type;
 mod name;
 mod rule;
 mod span;
-pub mod wall_laws;
 mod zone;
 
 pub use cursor::Cursor;

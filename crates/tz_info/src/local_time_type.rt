@@ -3,7 +3,7 @@
 ghost use Rattle.std.specs.Prelude.{◌≡◌, ℤ, pos, neg_ℤ, ◌≤ℤ◌, MatchResult, option_map};
 ghost use Rattle.tz_info.specs.LocalTypes.{LocalType, IsUtOffset, plain_type};
 ghost use Rattle.tz_info.specs.Names.{IsNameOrNone};
-ghost use Rattle.tz_info.specs.Errors.{number_of};
+ghost use Rattle.tz_info.specs.Errors.{IsLocalTimeTypeError};
 
 use crate::error::{Error, Expected};
 use crate::name::TimeZoneName;
@@ -31,8 +31,13 @@ impl Model for LocalTimeType {
 }
 
 impl LocalTimeType {
-    /// The type of that offset, in seconds east of UTC, with that mark and that name, if one is
+    /// The type of that offset, in seconds east of UTC, with that DST flag and that name, if one is
     /// given.
+    ///
+    /// ```text
+    /// let summer = LocalTimeType::new(7_200, true, Some(b"CEST".as_slice()))?;
+    /// let seconds = summer.offset();    // 7200
+    /// ```
     ///
     /// # Errors
     ///
@@ -43,7 +48,7 @@ impl LocalTimeType {
             MatchResult result
             (λ t. IsUtOffset ut_offset × IsNameOrNone bytes
             × (t ≡ record { offset = ut_offset; dst = is_dst; name = bytes }))
-            (λ e. (number_of e ≡ 3) × ¬ (IsUtOffset ut_offset × IsNameOrNone bytes)) }
+            (λ e. IsLocalTimeTypeError e × ¬ (IsUtOffset ut_offset × IsNameOrNone bytes)) }
     {
         if ut_offset == i32::MIN {
             return Err(Error::LocalTimeType(Expected::OffsetAboveI32Min));
@@ -67,7 +72,7 @@ impl LocalTimeType {
     /// [`Error::LocalTimeType`] if the offset is `i32::MIN`.
     pub fn with_offset(ut_offset: i32) -> Result<LocalTimeType, Error>
         ensures { MatchResult result (λ t. IsUtOffset ut_offset × (t ≡ plain_type ut_offset))
-            (λ e. (number_of e ≡ 3) × ¬ (IsUtOffset ut_offset)) }
+            (λ e. IsLocalTimeTypeError e × ¬ (IsUtOffset ut_offset)) }
     {
         if ut_offset == i32::MIN {
             return Err(Error::LocalTimeType(Expected::OffsetAboveI32Min));

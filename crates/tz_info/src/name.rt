@@ -5,7 +5,7 @@ ghost use Rattle.std.specs.Bool.{nat_eq};
 ghost use Rattle.std.specs.Cmp.{partial_equiv_from_equiv};
 ghost use Rattle.std.specs.Cmp.Lexicographic.{pointwise, nat_list_eq_equiv};
 ghost use Rattle.tz_info.specs.Names.{IsName, is_name_byte};
-ghost use Rattle.tz_info.specs.Errors.{number_of};
+ghost use Rattle.tz_info.specs.Errors.{IsLocalTimeTypeError};
 
 use crate::error::{Error, Expected};
 use std::fmt;
@@ -16,7 +16,7 @@ use std::marker::Model;
 #[derive(Clone, Copy)]
 pub struct TimeZoneName {
     buffer: [u8; 7],
-    len: usize,
+    len: u8,
 }
 
 impl Model for TimeZoneName {
@@ -49,7 +49,7 @@ impl TimeZoneName {
     /// is none of `A` to `Z`, `a` to `z`, `0` to `9`, `+` and `-`.
     pub fn new(name: &[u8]) -> Result<TimeZoneName, Error>
         ensures { MatchResult result (λ n. IsName name.now × (n ≡ name.now))
-            (λ e. (number_of e ≡ 3) × ¬ (IsName name.now)) }
+            (λ e. IsLocalTimeTypeError e × ¬ (IsName name.now)) }
     {
         let len = name.len();
         if len < 3 || len > 7 {
@@ -60,7 +60,10 @@ impl TimeZoneName {
         }
         let mut buffer = [0; 7];
         buffer[..len].copy_from_slice(name);
-        Ok(TimeZoneName { buffer, len })
+        Ok(TimeZoneName {
+            buffer,
+            len: len as u8,
+        })
     }
 
     /// The bytes of the name.
@@ -68,7 +71,7 @@ impl TimeZoneName {
         ensures bytes { result.now ≡ self.now }
         ensures name { IsName self.now }
     {
-        &self.buffer[..self.len]
+        &self.buffer[..self.len as usize]
     }
 
     /// The name as text.

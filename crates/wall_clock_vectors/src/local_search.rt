@@ -9,7 +9,7 @@ use std::process::Abort;
 use std::test::Fail;
 use tz_info::{LocalTimeType, Probes, TimeZone, Transition};
 
-/// A change every million seconds from 1970 on, to an hour east of UTC and back in turn.
+// A change every million seconds from 1970 on, to an hour east of UTC and back in turn.
 fn turning(rt: &impl Abort, alloc: Global, count: i64) -> Result<TimeZone, Fail> {
     let mut types = Vec::new(alloc);
     for offset in [0, 3600] {
@@ -30,7 +30,7 @@ fn turning(rt: &impl Abort, alloc: Global, count: i64) -> Result<TimeZone, Fail>
     Ok(TimeZone::new(alloc, changes, types, leaps, None)?)
 }
 
-/// So many seconds after 1970 began.
+// So many seconds after 1970 began.
 fn second(rt: &impl Abort, seconds: i64) -> NaiveDateTime {
     match TimeDelta::try_seconds(seconds) {
         Some(length) => match clock(rt, (1970, 1, 1), (0, 0, 0)).checked_add_signed(length) {
@@ -41,8 +41,8 @@ fn second(rt: &impl Abort, seconds: i64) -> NaiveDateTime {
     }
 }
 
-/// The clocks show it at these offsets, by so many looks at pieces of the index, and by so many
-/// looks at transitions where those are walked through.
+// The clocks show it at these offsets, by so many looks at pieces of the index, and by so many
+// looks at transitions where those are walked through.
 fn shown(
     rt: &impl Abort,
     zone: &TimeZone,
@@ -74,11 +74,11 @@ fn shown(
     assert_eq!(rt; walked.rule_questions(), 0);
 }
 
-/// No stretch of a hint has more than one change: a change comes each 1,000,000 seconds, and of the
-/// stretches there are more than one for each piece, and for each transition. So a search takes two
-/// looks at the pieces, or transitions, that the hints leave, and one at the latest. The walk takes
-/// one more at the transition before the window, one at that in the window if there is one, and one
-/// at the next.
+// No stretch of a hint has more than one change: a change comes each 1,000,000 seconds, and of the
+// stretches there are more than one for each piece, and for each transition. So a search takes two
+// looks at the pieces, or transitions, that the hints leave, and one at the latest. The walk takes
+// one more at the transition before the window, one at that in the window if there is one, and one
+// at the next.
 #[test]
 fn a_thousand_changes(rt: HostRuntime) -> Result<(), Fail> {
     let zone = turning(&rt, rt.alloc(), 1024)?;
@@ -107,8 +107,8 @@ fn a_thousand_changes(rt: HostRuntime) -> Result<(), Fail> {
     Ok(())
 }
 
-/// Lookups that read the table, or the pieces, from end to end would take some 5 * 10^11 looks
-/// here.
+// Lookups that read the table, or the pieces, from end to end would take some 5 * 10^11 looks
+// here.
 #[test]
 fn a_million_changes(rt: HostRuntime) -> Result<(), Fail> {
     let zone = turning(&rt, rt.alloc(), 1_048_576)?;

@@ -9,7 +9,7 @@ use std::test::Fail;
 use tz_info::{LeapSecond, LocalTimeType, Probes, TimeZone, Transition, TransitionRule};
 use zoned_vectors::vectors::{GUAYAQUIL, HONOLULU, JERUSALEM};
 
-/// The offsets that the zone answers, by its index and by the walk alike.
+// The offsets that the zone answers, by its index and by the walk alike.
 fn offsets(rt: &impl Abort, zone: &TimeZone, local: NaiveDateTime) -> LocalResult<i32> {
     let mut probes = Probes::new();
     let walked = match zone.find_local_time_type_from_local_by_walk(local, &mut probes) {
@@ -24,7 +24,7 @@ fn offsets(rt: &impl Abort, zone: &TimeZone, local: NaiveDateTime) -> LocalResul
     found.map(|local_type| local_type.offset())
 }
 
-/// At that date and time the zone's clocks have these offsets.
+// At that date and time the zone's clocks have these offsets.
 fn shown(
     rt: &impl Abort,
     zone: &TimeZone,
@@ -36,7 +36,7 @@ fn shown(
     assert_eq!(rt; offsets(rt, zone, local), answer, "{date:?} {time:?}");
 }
 
-/// The zone of those transitions, types of those offsets and leap seconds.
+// The zone of those transitions, types of those offsets and leap seconds.
 fn zone(
     rt: &impl Abort,
     alloc: Global,
@@ -365,7 +365,7 @@ fn counts_of_a_wall_clock(rt: HostRuntime) -> Result<(), Fail> {
     Ok(())
 }
 
-/// Looks at transitions, looks at pieces, questions to the rule.
+// Looks at transitions, looks at pieces, questions to the rule.
 fn counts(probes: &Probes) -> (u128, u128, u128) {
     (
         probes.reads(),

@@ -21,24 +21,11 @@ appends_kept (Some x) None c xs h k = absurd h
 appends_kept (Some x) (Some y) None xs h k = absurd k
 appends_kept (Some x) (Some y) (Some z) xs h k = k ∙ h
 
-pub appends_none : (a b : Option (List ℕ)) → Keeps a b → Appends a b []
-appends_none a b k = appends_kept a a b [] (appends_same a) k
-
 pub consumes_join : (a b c : Option (List ℕ)) (xs ys : List ℕ) → Consumes a b xs → Consumes b c ys → Consumes a c (xs ++ ys)
 consumes_join None b c xs ys h k = tt
 consumes_join (Some x) None c xs ys h k = absurd h
 consumes_join (Some x) (Some y) None xs ys h k = absurd k
 consumes_join (Some x) (Some y) (Some z) xs ys h k = h ∙ ap (λ w. xs ++ w) k ∙ sym (append_assoc xs ys z)
-
-pub consumes_kept : (a b c : Option (List ℕ)) (xs : List ℕ) → Consumes a b xs → Keeps b c → Consumes a c xs
-consumes_kept None b c xs h k = tt
-consumes_kept (Some x) None c xs h k = absurd h
-consumes_kept (Some x) (Some y) None xs h k = absurd k
-consumes_kept (Some x) (Some y) (Some z) xs h k = h ∙ ap (λ w. xs ++ w) (sym k)
-
-pub consumes_none : (a : Option (List ℕ)) → Consumes a a []
-consumes_none None = tt
-consumes_none (Some x) = refl
 
 -- a write of n more of the bytes
 pub appends_more : (a b c : Option (List ℕ)) (bytes : List ℕ) (i n : ℕ) → Appends a b (take i bytes) → Appends b c (take n (drop i bytes)) → Appends a c (take (i + n) bytes)

@@ -72,9 +72,6 @@ at_slash : (front : List ℕ) (choice : Choice) → front ++ (codes " " ++ choic
 at_slash front choice =
     sym (append_assoc front (codes " " ++ gap_text choice.gap) (codes "/" ++ fold_text choice.fold))
 
-pub choice_behind : (text rest front : List ℕ) (choice : Choice) → text ≡ rest ++ (codes "/" ++ fold_text choice.fold) → rest ≡ front ++ (codes " " ++ gap_text choice.gap) → text ≡ front ++ (codes " " ++ choice_text choice)
-choice_behind text rest front choice fold gap = fold ∙ ap (λ (r : List ℕ). r ++ (codes "/" ++ fold_text choice.fold)) gap ∙ sym (at_slash front choice)
-
 pub no_fold_behind : (text : List ℕ) → ((front : List ℕ) (fold : FoldChoice) → text ≢ front ++ (codes "/" ++ fold_text fold)) → (front : List ℕ) (choice : Choice) → text ≢ front ++ (codes " " ++ choice_text choice)
 no_fold_behind text none front choice e = none (front ++ (codes " " ++ gap_text choice.gap)) choice.fold (e ∙ at_slash front choice)
 
@@ -83,7 +80,7 @@ pub no_gap_behind : (text rest : List ℕ) (fold : FoldChoice) → text ≡ rest
 no_gap_behind text rest fold whole none front choice e =
     none front choice.gap (cut_once 47 rest (front ++ (codes " " ++ gap_text choice.gap)) (fold_text fold) (fold_text choice.fold) (no_slash_in_fold fold) (no_slash_in_fold choice.fold) (sym whole ∙ e ∙ at_slash front choice))
 
--- ---- a date and time with a choice behind it
+-- ---- a date and time with a choice after it
 -- what is before a choice is one text
 before_once : (a b : List ℕ) (c d : Choice) → a ++ (codes " " ++ choice_text c) ≡ b ++ (codes " " ++ choice_text d) → a ≡ b
 before_once a b c d e = cut_once 32 a b (choice_text c) (choice_text d) (no_space_in_choice c.gap c.fold) (no_space_in_choice d.gap d.fold) e

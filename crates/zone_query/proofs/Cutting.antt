@@ -6,7 +6,8 @@ use Rattle.std.proofs.lemmas.Bool.{cases_eq, cases_lt}
 use Rattle.std.proofs.lemmas.List.{append_cancel_left, drop_more}
 use Rattle.std.proofs.lemmas.List.Elements.{All-nil, All-cons, All-head, All-tail}
 use Rattle.zone_query.specs.Numerals.{IsNatural, IsInteger}
-use Rattle.zone_query.specs.Words.{HasNoSpace, IsWordEnd, IsNextNumber, AreNumbers}
+use Rattle.zone_query.specs.Steps.NextNumber.{IsNextNumber}
+use Rattle.zone_query.specs.Words.{HasNoSpace, IsWordEnd, AreNumbers}
 use Rattle.zone_query.proofs.Spelling.{begins, numeral}
 
 -- a text as its first word and the rest
@@ -72,9 +73,6 @@ numbers_behind text m n rest numbers h k =
 
 pub numbers_before : (text : List ℕ) (n : ℕ) (rest : List ℕ) (numbers : List ℕ) → IsNextNumber text n rest → AreNumbers rest numbers → AreNumbers text (n ∷ numbers)
 numbers_before text n rest numbers h k = (h.digits, rest, h.whole, h.spelled, h.fits, k)
-
-pub word_ends_at : (text : List ℕ) (i : ℕ) → i < length text → get_or text i 0 ≡ 32 → IsWordEnd (drop i text)
-word_ends_at text i h e = subst IsWordEnd (sym (drop_more text i 0 h)) e
 
 pub next_in : (text behind word rest : List ℕ) (n : ℕ) → text ≡ codes " " ++ behind → IsSplit behind word rest → IsNatural word n → n < 2 ^ 32 → IsNextNumber text n rest
 next_in text behind word rest n e split spelled fits = record { digits = word; whole = e ∙ ap (λ w. codes " " ++ w) split.whole; spelled = spelled; fits = fits; ended = split.ended }

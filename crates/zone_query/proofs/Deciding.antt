@@ -21,7 +21,7 @@ use Rattle.zone_query.proofs.Spelling.{begins, spelled_in_64_bits}
 abbrev IsDecided : {X : Type 0} → (X → Type 0) → Type 0
 IsDecided {X} p = ((x : X) × p x) ⊎ ((x : X) → p x → ⊥)
 
--- whether a line is a word and what may stand behind it
+-- whether a line is a word and what may stand after it
 word_and : {X : Type 0} → (says : List ℕ → X → Type 0) → ((rest : List ℕ) → IsDecided (says rest)) → (word line : List ℕ)
     → ((x : X) × (rest : List ℕ) × (line ≡ word ++ rest) × says rest x) ⊎ ((x : X) (rest : List ℕ) → line ≡ word ++ rest → says rest x → ⊥)
 word_and says decide word line = elim (begins word line) [
@@ -78,7 +78,7 @@ asks_or_bad line = elim (word_and (λ (rest text : List ℕ). (rest ≡ text) ×
   ]
 ]
 
--- ---- a word with something else behind it
+-- ---- a word with something else after it
 -- a line begins with one byte
 apart : (line : List ℕ) (c d : ℕ) (a b : List ℕ) → (c ≡ d → ⊥) → line ≡ c ∷ a → line ≡ d ∷ b → ⊥
 apart line c d a b other h k = let same : c ≡ d = cc in other same

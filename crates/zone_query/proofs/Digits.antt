@@ -8,23 +8,11 @@ pub digits_grow : (n : ℕ) (digits : List ℕ) → n ≤ digits_value_after 10 
 digits_grow n [] = omega arith
 digits_grow n (c ∷ cs) = omega (arith, digits_grow (n * 10 + digit_value c) cs)
 
--- the digits from i on, behind the number that those before them spell
+-- the digits from i on, after the number that those before them spell
 pub record ReadTo (digits : List ℕ) (i n : ℕ) : Type 0 where
   pub value : digits_value_after 10 n (drop i digits) ≡ digits_value 10 digits
   pub to : AllDigits 10 digits → AllDigits 10 (drop i digits)
   pub from : AllDigits 10 (drop i digits) → AllDigits 10 digits
-
-pub read_none : (digits : List ℕ) → ReadTo digits 0 0
-read_none digits = record { value = refl; to = λ h. h; from = λ h. h }
-
-pub read_more : (digits : List ℕ) (i n m : ℕ) → i < length digits → ReadTo digits i n → (digit_value (get_or digits i 0) < 10) × (m ≡ n * 10 + digit_value (get_or digits i 0)) → ReadTo digits (i + 1) m
-read_more digits i n m h r p =
-    let e = drop_more digits i 0 h in
-    record {
-      value = rw p.1 (rw e at r.value);
-      to = λ all. (subst (AllDigits 10) e (r.to all)).1;
-      from = λ all. r.from (subst (AllDigits 10) (sym e) (p.0, all));
-    }
 
 pub read_stops : (digits : List ℕ) (i n limit : ℕ) → i < length digits → ReadTo digits i n → ((digit_value (get_or digits i 0) < 10) × (n * 10 + digit_value (get_or digits i 0) ≤ limit) → ⊥) → IsNumeral 10 digits × (digits_value 10 digits ≤ limit) → ⊥
 read_stops digits i n limit h r refused p =
@@ -32,9 +20,3 @@ read_stops digits i n limit h r refused p =
     let all = subst (AllDigits 10) e (r.to p.0.1) in
     let value = rw e at r.value in
     refused (all.0, omega (arith, value, p.1, digits_grow (n * 10 + digit_value (get_or digits i 0)) (drop (i + 1) digits)))
-
-pub read_all : (digits : List ℕ) (i n limit : ℕ) → length digits ≤ i → 0 < length digits → n ≤ limit → ReadTo digits i n → (IsNumeral 10 digits × (digits_value 10 digits ≤ limit)) × (n ≡ digits_value 10 digits)
-read_all digits i n limit h p fits r =
-    let e = drop_all i digits h in
-    let value = rw e at r.value in
-    (((p, r.from (subst (AllDigits 10) (sym e) tt)), omega (arith, value)), value)

@@ -74,7 +74,7 @@ wordless_bad line front same nt nd others (Resolve l choice) h = no_word (codes 
 wordless_bad line front same nt nd others (Show seconds nanos) h = no_word (codes "show ") (take 0) (λ rest. refl) line front same others.2 h.0 h.1
 
 -- ---- with and without a carriage return
--- a line that goes on from a front has its bytes; but for the last ones, which may be a choice and a carriage return
+-- a line that goes on from a front has its bytes; except for the last ones, which may be a choice and a carriage return
 record GoesOn (front line : List ℕ) : Type 0 where
   begins : take 5 line ≡ take 5 front
   has : (i : ℕ) → i + 17 < length front → IsForeign (get_or front i 0) → (i + 16 < length line) × IsForeign (get_or line i 0)
@@ -129,30 +129,4 @@ more_hopeless front more h = record {
   some = let l = length-append front more in omega (arith, l, h.some);
   whole = λ rest. subst IsBadLine (sym (append_assoc front more rest)) (h.whole (more ++ rest));
   ended = λ rest. subst (λ (l : List ℕ). IsBadLine (without_return l)) (sym (append_assoc front more rest)) (h.ended (more ++ rest));
-}
-
--- ---- the byte that is kept for a hopeless line
-heads : (c d : ℕ) (a b : List ℕ) → c ∷ a ≡ d ∷ b → c ≡ d
-heads c d a b e = cc
-
-marked_bad : (rest : List ℕ) → IsBadLine (63 ∷ rest)
-marked_bad rest (Text text) h = let e = heads 63 116 rest _ h.0 in absurd (omega (arith, e))
-marked_bad rest (Data bytes) h = let e = heads 63 100 rest _ h.1 in absurd (omega (arith, e))
-marked_bad rest (At seconds) h = let e = heads 63 97 rest _ h.1 in absurd (omega (arith, e))
-marked_bad rest (Wall local) h = let e = heads 63 119 rest _ h.1 in absurd (omega (arith, e))
-marked_bad rest (Resolve l choice) h = let e = heads 63 119 rest _ h.1 in absurd (omega (arith, e))
-marked_bad rest (Show seconds nanos) h = let e = heads 63 115 rest _ h.1 in absurd (omega (arith, e))
-
-marked_cut : (rest : List ℕ) → slice_index (63 ∷ rest) (length (63 ∷ rest) - 1) ≡ 13 → IsBadLine (take (length (63 ∷ rest) - 1) (63 ∷ rest))
-marked_cut [] h = let e : 63 ≡ 13 = h in absurd (omega (arith, e))
-marked_cut (c ∷ rest) h = let e : length (63 ∷ c ∷ rest) - 1 ≡ suc (length rest) = omega arith in rw e (marked_bad (take (length rest) (c ∷ rest)))
-
-pub mark_hopeless : IsHopeless (63 ∷ [])
-mark_hopeless = record {
-  some = omega arith;
-  whole = λ more. marked_bad more;
-  ended = λ more. elim (cut_or_whole (63 ∷ more)) [
-    | inl cut ↦ subst IsBadLine (sym cut.1) (marked_cut more cut.0)
-    | inr whole ↦ subst IsBadLine (sym whole) (marked_bad more)
-  ];
 }

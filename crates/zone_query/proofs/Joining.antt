@@ -81,7 +81,7 @@ hopeless_rest : (r front k ys k' : List ℕ) → IsHopeless k → IsHopeless k' 
 hopeless_rest r front k ys k' h h' e (inl same) = inr (more_hopeless k' ys h', subst IsHopeless (sym e ∙ same) (more_hopeless k ys h))
 hopeless_rest r front k ys k' h h' e (inr both) = inr (more_hopeless k' ys h', both.1)
 
--- the answers to some bytes behind a hopeless beginning are those behind each other
+-- the answers to some bytes after a hopeless beginning are those after each other
 rebased_hopeless : (m : Option Zone) (k k' ys p : List ℕ) (a : Option Zone) (r : List ℕ) (pieces : List (List ℕ)) (front : List ℕ) → IsHopeless k → IsHopeless k' → HasNoNewline k → HasNoNewline k'
     → IsCut (k ++ ys) pieces front → IsKeptFor r front → HasNoNewline r → AnswersLines m (ended_lines pieces) p a → Answered m k' ys p a r
 rebased_hopeless m k k' ys p a r [] front h h' n n' cut kept lone answered = record {

@@ -17,11 +17,12 @@ use Rattle.naive_base.specs.Year.{is_leap}
 use Rattle.naive_base.proofs.ForCallers.{date_in_years}
 use Rattle.zone_query.specs.Numerals.{IsInteger}
 use Rattle.zone_query.specs.Questions.{Exists, IsLocalTime}
-use Rattle.zone_query.specs.Words.{IsNextNumber, AreNumbers}
+use Rattle.zone_query.specs.Steps.NextNumber.{IsNextNumber}
+use Rattle.zone_query.specs.Words.{AreNumbers}
 use Rattle.zone_query.proofs.Spelling.{spelled, spelled_once}
 use Rattle.zone_query.proofs.Cutting.{IsSplit, word_once, word_of, no_space_in_integer, numbers_end_word, next_of, next_number, numbers_behind, numbers_before}
 
--- a year, and some numbers behind it, that are a date and a time
+-- a year, and some numbers after it, that are a date and a time
 pub record AreFields (word rest : List ℕ) (local : ℤ) : Type 0 where
   pub y : ℤ
   pub m : ℕ
@@ -142,7 +143,7 @@ moved x y m₁ d₁ h₁ min₁ s₁ m d h min s years same k =
     let es : s₁ ≡ s = cc in
     rw (← years, ← em, ← ed, ← eh, ← emin, ← es) k
 
--- a text whose words don't spell a year, or behind it not five numbers, is no date and time
+-- a text whose words don't spell a year, or after it not five numbers, is no date and time
 pub no_year : (text word rest : List ℕ) → IsSplit text word rest → ((y : ℤ) → IsInteger word y → FitsSigned w32 y → ⊥) → (local : ℤ) → IsLocalTime text local → ⊥
 no_year text word rest split none local l = let f = fields_of text word rest local split l in none f.y f.year f.year_fits
 

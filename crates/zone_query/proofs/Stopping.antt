@@ -69,7 +69,7 @@ line_stops f a b' c z b block done output m k rest piece more errors.Memory e s 
 line_stops f a b' c z b block done output m k rest piece more errors.Read e s h cut wrote stop = stop
 line_stops f a b' c z b block done output m k rest piece more errors.TooLong e s h cut wrote stop = stop
 
--- what is behind the last newline of a block is kept, or stood for
+-- what is after the last newline of a block is kept, or stood for
 pub rest_kept : (z : Option Zone) (b block done output : List ℕ) (m : Option Zone) (k rest : List ℕ) (m' : Option Zone) (k' : List ℕ) → block ≡ done ++ rest → Answered z b done output m k → HasNoNewline rest → m' ≡ m → IsKeptFor k' (k ++ rest) → HasNoNewline k' → Answered z b block output m' k'
 rest_kept z b block done output m k rest m' k' e s h same kept lone =
     rw (e, same) (rw append-nil at (answered_join z b done output m k rest [] m k' s (answered_more m k rest k' s.lone h kept lone)))

@@ -15,7 +15,7 @@ abbrev Sets : Option Zone → Result TimeZone Error → List ℕ → Option Zone
 Sets before read answer after =
     MatchResult read (λ found. (answer ≡ zone_text found) × (after ≡ Some found)) (λ fault. (answer ≡ refusal_text (number_of fault)) × (after ≡ before))
 
--- a fault other than want of memory leaves no zone
+-- a fault other than running out of memory leaves no zone
 told : (is_zone : Zone → Type 0) (is_fault : ℕ → Type 0) → ((n : ℕ) → is_fault n → n ≢ 17 → (z : Zone) → ¬ (is_zone z)) → (n : ℕ)
     → (n ≡ 17) ⊎ is_fault n → (n ≡ 17) ⊎ (is_fault n × ((z : Zone) → ¬ (is_zone z)))
 told is_zone is_fault apart n (inl memory) = inl memory

@@ -59,7 +59,7 @@ zone_text zone =
 abbrev pub refusal_text : ℕ → List ℕ
 refusal_text number = codes "refused " ++ decimal number
 
--- a zone is read, which is the zone from here on; or it is refused, and the earlier zone stays: for want of memory (17), or
+-- a zone is read, which is the zone from here on; or it is refused, and the earlier zone stays: for running out of memory (17), or
 -- by a fault that stands in what was to be read, and then no zone is spelled there
 abbrev pub AnswersRead : (Zone → Type 0) → (ℕ → Type 0) → Option Zone → List ℕ → Option Zone → Type 0
 AnswersRead is_zone is_fault zone answer after =

@@ -6,7 +6,7 @@ use Rattle.std.specs.Str.Parse.{IsNumeral, digits_value}
 abbrev pub IsNatural : List ℕ → ℕ → Type 0
 IsNatural digits n = IsNumeral 10 digits × (digits_value 10 digits ≡ n)
 
--- the text spells the number: decimal digits, behind one minus sign or none
+-- the text spells the number: decimal digits, after one minus sign or none
 abbrev pub IsInteger : List ℕ → ℤ → Type 0
 IsInteger text z =
     ((n : ℕ) × IsNatural text n × (z ≡ pos n))

@@ -28,7 +28,7 @@ pub data Query : Type 0 where
 abbrev pub Exists : ℤ → (m d h min s : ℕ) → Type 0
 Exists y m d h min s = IsYearInRange y × IsDate y m d × IsClock h min s
 
--- the text is a year, a month, a day, an hour, a minute and a second, each behind one space but for the year; and the
+-- the text is a year, a month, a day, an hour, a minute and a second, each after one space except for the year; and the
 -- date and the time exist, and are this local time
 pub record IsLocalTime (text : List ℕ) (local : ℤ) : Type 0 where
   pub year : List ℕ
@@ -46,14 +46,14 @@ pub record IsLocalTime (text : List ℕ) (local : ℤ) : Type 0 where
   pub exists : Exists y m d h min s
   pub shown : local ≡ (reading_at (day_number y m d) (clock_second h min s) 0).s
 
--- the text is that of a local time and, behind one space, a choice; the reading is this local time, a whole second
+-- the text is that of a local time and, after one space, a choice; the reading is this local time, a whole second
 pub record IsChosenTime (text : List ℕ) (l : Reading) (choice : Choice) : Type 0 where
   pub time : List ℕ
   pub whole : text ≡ time ++ (codes " " ++ choice_text choice)
   pub local : IsLocalTime time l.s
   pub no_fraction : l.f ≡ 0
 
--- the text is seconds of 64 bits and, behind one space, nanoseconds of 32 bits
+-- the text is seconds of 64 bits and, after one space, nanoseconds of 32 bits
 pub record IsTimestamp (text : List ℕ) (seconds : ℤ) (nanos : ℕ) : Type 0 where
   pub first : List ℕ
   pub others : List ℕ

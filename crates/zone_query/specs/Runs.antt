@@ -29,7 +29,7 @@ AnswersBefore input output =
     (pieces : List (List ℕ)) × (done : List ℕ) × (failed : List ℕ) × (after : Option Zone)
     × (input ≡ done ++ failed) × (0 < length failed) × IsCut done pieces [] × AnswersLines None (ended_lines pieces) output after
 
--- why a run stopped: by the one end that failed, by want of memory, or by a count of reads that can't go on; and what it
+-- why a run stopped: by the one end that failed, by running out of memory, or by a count of reads that can't go on; and what it
 -- has written for what it has read
 abbrev pub StopsWith : (reader_failed writer_failed : Bool) → (reads : ℕ) → RunError → List ℕ → List ℕ → Type 0
 StopsWith r w n errors.Read input output = (r ≡ true) × (w ≡ false) × AnswersEnded input output

@@ -1,4 +1,4 @@
--- Numbers in a row, each behind one space.
+-- Numbers in a row, each after one space.
 use Rattle.std.specs.Prelude.{◌≡◌, ◌≢◌, ◌<◌, ◌^◌, ℕ, List, [], ◌∷◌, ◌++◌, All, codes}
 use Rattle.zone_query.specs.Numerals.{IsNatural}
 
@@ -10,15 +10,7 @@ abbrev pub IsWordEnd : List ℕ → Type 0
 IsWordEnd [] = Unit {0}
 IsWordEnd (b ∷ bytes) = b ≡ 32
 
--- the text is one space, a number of 32 bits, and the rest
-pub record IsNextNumber (text : List ℕ) (n : ℕ) (rest : List ℕ) : Type 0 where
-  pub digits : List ℕ
-  pub whole : text ≡ codes " " ++ digits ++ rest
-  pub spelled : IsNatural digits n
-  pub fits : n < 2 ^ 32
-  pub ended : IsWordEnd rest
-
--- the text is these numbers of 32 bits, each behind one space
+-- the text is these numbers of 32 bits, each after one space
 abbrev pub AreNumbers : List ℕ → List ℕ → Type 0
 AreNumbers text [] = text ≡ []
 AreNumbers text (n ∷ numbers) =

@@ -21,7 +21,7 @@ use tz_info::{Error, LocalTimeType, TimeZone, TransitionRule};
 use zoned_ref::TimeZoneRef;
 use zoned_time::{DateTime, TimeZone as Zone};
 
-/// Puts the answer to a line in place of what `out` holds, with a newline behind it. A text or a
+/// Puts the answer to a line in place of what `out` holds, with a newline after it. A text or a
 /// file that is accepted sets the zone.
 pub fn answer(
     alloc: Global,
@@ -85,7 +85,7 @@ fn read_file(alloc: Global, digits: &[u8]) -> Result<TimeZone, Error>
 {
     match hex::decode(alloc, digits) {
         Ok(bytes) => TimeZone::from_tz_data(alloc, bytes.as_slice()),
-        // A line whose digits spell no bytes asks nothing, so there was no memory.
+        // A line whose digits spell no bytes asks nothing, so memory ran out.
         Err(_) => Err(Error::OutOfMemory),
     }
 }
@@ -192,8 +192,7 @@ fn tell_instant(
     }
 }
 
-// Writes an instant as its zone's clocks show it. Every zone will do: the borrow checker does not
-// cover yet that an instant of a borrowed zone is formatted where that borrow is in sight.
+// Writes an instant of any zone as its clocks show it.
 fn write_instant<Tz: Zone>(instant: &DateTime<Tz>, out: &mut String) -> Result<(), AllocError>
 where
     Tz::Offset: fmt::Display,

@@ -8,7 +8,7 @@ ghost use Rattle.zone_query.specs.Choices.{choice_text, gap_text, fold_text};
 
 use offset_core::{Choice, FoldChoice, GapChoice};
 
-/// The choice that a text ends with, behind one space, and what stands before that space.
+/// The choice that a text ends with, after one space, and what stands before that space.
 pub fn strip_choice(text: &[u8]) -> Option<(&[u8], Choice)>
     ensures { MatchOption result
         ((front : List ℕ) (choice : AnyChoice)
@@ -20,7 +20,7 @@ pub fn strip_choice(text: &[u8]) -> Option<(&[u8], Choice)>
     Some((front, Choice { gap, fold }))
 }
 
-// What is taken in a gap, behind one space, and what stands before that space.
+// What is taken in a gap, after one space, and what stands before that space.
 fn strip_gap(text: &[u8]) -> Option<(&[u8], GapChoice)>
     ensures { MatchOption result
         ((front : List ℕ) (gap : AnyGap) → text.now ≢ front ++ (codes " " ++ gap_text gap))
@@ -35,7 +35,7 @@ fn strip_gap(text: &[u8]) -> Option<(&[u8], GapChoice)>
     None
 }
 
-// What is taken in a fold, behind a slash, and what stands before the slash.
+// What is taken in a fold, after a slash, and what stands before the slash.
 fn strip_fold(text: &[u8]) -> Option<(&[u8], FoldChoice)>
     ensures { MatchOption result
         ((front : List ℕ) (fold : AnyFold) → text.now ≢ front ++ (codes "/" ++ fold_text fold))

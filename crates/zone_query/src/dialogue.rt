@@ -43,7 +43,7 @@ impl Dialogue {
         }
     }
 
-    /// Answers the lines that end in a block, keeps what is behind them, and sends the answers on
+    /// Answers the lines that end in a block, keeps what is after them, and sends the answers on
     /// their way.
     pub fn take_block<W: Write>(
         &mut self,
@@ -64,7 +64,7 @@ impl Dialogue {
         send(writer, answered)
     }
 
-    // Answers the lines that end in a block, and keeps what is behind them.
+    // Answers the lines that end in a block, and keeps what is after them.
     fn answer_lines<W: Write>(
         &mut self,
         writer: &mut Watched<W>,

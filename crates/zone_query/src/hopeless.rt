@@ -3,7 +3,7 @@
 ghost use Rattle.std.specs.Prelude.{◌≡◌, ◌≢◌, ◌≤◌, ◌<◌, ◌++◌, ℕ, List, true, false, length, get_or, MatchBool, codes};
 ghost use Rattle.zone_query.specs.Steps.Hopeless.{IsHopeless, IsForeign};
 
-// How many bytes the longest word of a question has, with the space behind it.
+// How many bytes the longest word of a question has, with the space after it.
 const LONGEST_WORD: usize = 5;
 
 // How many bytes a choice for gaps and folds may add to a line: the space before it, its longest
@@ -13,7 +13,7 @@ const LONGEST_CHOICE: usize = 17;
 /// Whether a line that begins so may still ask something. Its first `judged` bytes were judged
 /// before.
 ///
-/// A beginning that is refused is behind hope; of one that isn't, nothing is said.
+/// Of a beginning that isn't hopeless nothing is said.
 pub fn may_ask(front: &[u8], judged: usize) -> bool
     requires { judged ≤ length front.now }
     ensures { result ≡ false → IsHopeless front.now }

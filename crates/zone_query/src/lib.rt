@@ -4,9 +4,9 @@
 //! takes the next line. A line `text T` sets the zone by a TZ text, and a line `data HEX` by the
 //! bytes of a TZif file. A line `at SECS` asks for the local time type in force at a Unix time, a
 //! line `wall Y M D h m s` for those in force when a clock shows a date and time, or with a choice
-//! `GAP/FOLD` behind it for the instant that the choice takes, and a line `show SECS NANOS` for
+//! `GAP/FOLD` after it for the instant that the choice takes, and a line `show SECS NANOS` for
 //! what the zone's clocks show at an instant. Any other line is answered `bad line`, so that no
-//! input stops a run but its end, a failed end, or want of memory.
+//! input stops a run but its end, a failed end, or running out of memory.
 #![tactic(auto)]
 
 mod answer;
@@ -14,7 +14,7 @@ mod choices;
 mod dialogue;
 mod hex_digits;
 mod hopeless;
-mod laws;
+pub mod laws;
 mod lines;
 mod numerals;
 mod output;

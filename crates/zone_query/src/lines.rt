@@ -3,7 +3,7 @@
 ghost use Rattle.std.specs.Prelude.{◌≡◌, ◌∷◌, ◌++◌, MatchOption};
 ghost use Rattle.zone_query.specs.Lines.{HasNoNewline, without_return};
 
-/// The bytes before the first newline and those behind it, if there is a newline.
+/// The bytes before the first newline and those after it, if there is a newline.
 pub fn split_line(bytes: &[u8]) -> Option<(&[u8], &[u8])>
     ensures { MatchOption result (HasNoNewline bytes.now)
         (λ p. HasNoNewline p.0.now × (bytes.now ≡ p.0.now ++ 10 ∷ p.1.now)) }

@@ -10,7 +10,7 @@ ghost use Rattle.zone_query.specs.Numerals.{IsInteger, IsNatural};
 // How far below zero an `i64` goes.
 const MOST_NEGATIVE: u64 = 1 << 63;
 
-/// The number that a text spells in decimal digits, behind one `-` or none, if it is an `i64`.
+/// The number that a text spells in decimal digits, after one `-` or none, if it is an `i64`.
 pub fn integer(text: &[u8]) -> Option<i64>
     ensures { MatchOption result
         ((z : ℤ) → IsInteger text.now z → ¬ (FitsSigned w64 z)) (λ z. IsInteger text.now z) }
@@ -69,7 +69,7 @@ fn natural(digits: &[u8], limit: u64) -> Option<u64>
     Some(value)
 }
 
-// The number with one more digit behind its own.
+// The number with one more digit after its own.
 #[inline]
 fn with_digit(value: u64, digit: u8, limit: u64) -> Option<u64>
     ensures { SomeIff result

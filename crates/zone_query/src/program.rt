@@ -15,6 +15,8 @@ use std::io::Write;
 /// An end that fails takes a beginning of that line, and the status is the same: there is nowhere
 /// left to say so.
 ///
+/// Requires: `errors` has not failed before.
+///
 /// ```
 /// let mut errors = Watched::new(Vec::new(alloc));
 /// report(Err(RunError::Read), &mut errors);

@@ -27,7 +27,7 @@ pub enum Question<'a> {
     /// `wall Y M D h m s GAP/FOLD`: for the instant that this choice takes for this date and time.
     Resolve(NaiveDateTime, Choice),
     /// `show SECS NANOS`: for what the zone's clocks show at this Unix time, so many nanoseconds
-    /// behind it.
+    /// after it.
     Show(i64, u32),
 }
 
@@ -39,7 +39,7 @@ impl<'a> Question<'a> {
     ///
     /// A text that isn't UTF-8 makes a bad line, and so do digits that are no hex digits or odd in
     /// number, a number that doesn't fit its type, a date or a time that doesn't exist, and a word
-    /// behind it that is no choice.
+    /// after it that is no choice.
     pub fn parse(line: &'a [u8]) -> Option<Question<'a>>
         ensures { MatchOption result
             (IsBadLine line.now) (λ question. Asks line.now (query_of question)) }

@@ -9,7 +9,7 @@ pub enum RunError {
     Read,
     /// The writer failed.
     Write,
-    /// There was no memory to hold a line, or to answer it.
+    /// Memory ran out for a line, or for its answer.
     Memory,
     /// The count of reads was used up.
     TooLong,

@@ -19,6 +19,8 @@ const BLOCK: usize = 16384;
 /// for more. A line ends with a newline, and one carriage return before it is no part of the line.
 /// What follows the last newline is a line if it is not empty.
 ///
+/// Requires: neither end has failed or ended before.
+///
 /// What was read and written is told by the ends: the contract speaks of the bytes that a reader
 /// has left and a writer holds, where their types tell them, as `&[u8]` and `Vec<u8>` do. Standard
 /// input and output tell none, so of a run over them the contract says only which end failed, that

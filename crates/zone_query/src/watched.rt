@@ -15,7 +15,7 @@ use std::marker::Model;
 /// one that writes none of some bytes. What was written is sent once a flush succeeds.
 ///
 /// The bytes that the contracts speak of are those that the end tells of itself. So an answer that
-/// the end did not give is refused where it gives or takes bytes, or claims the end of the input.
+/// the end did not give breaks them where it gives or takes bytes, or claims the end of the input.
 /// That an error came from the end, and a flush reached it, can't be said of every end: `Read` and
 /// `Write` have no word for a call that leaves the bytes as they are.
 #[derive(Drop)]

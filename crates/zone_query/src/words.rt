@@ -1,7 +1,8 @@
-//! Numbers in a row, each behind one space.
+//! Numbers in a row, each after one space.
 
 ghost use Rattle.std.specs.Prelude.{◌≡◌, ◌++◌, List, ℕ, MatchOption};
-ghost use Rattle.zone_query.specs.Words.{HasNoSpace, IsWordEnd, IsNextNumber};
+ghost use Rattle.zone_query.specs.Steps.NextNumber.{IsNextNumber};
+ghost use Rattle.zone_query.specs.Words.{HasNoSpace, IsWordEnd};
 
 use crate::numerals::small_natural;
 
@@ -19,7 +20,7 @@ pub fn split_word(text: &[u8]) -> (&[u8], &[u8])
     (text, b"")
 }
 
-/// The number behind the one space that a text begins with, and the rest.
+/// The number after the one space that a text begins with, and the rest.
 pub fn next_number(text: &[u8]) -> Option<(u32, &[u8])>
     ensures { MatchOption result
         ((n : ℕ) (rest : List ℕ) → IsNextNumber text.now n rest → ⊥)

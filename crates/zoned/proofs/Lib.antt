@@ -1,1 +1,2 @@
+mod Buckets
 pub mod ForCallers

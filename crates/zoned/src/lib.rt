@@ -1,7 +1,12 @@
 //! Zoned time, proved: the zoned-time layer of chrono 0.4.45, under chrono's names.
 //!
-//! This is the only library that a client names. It has no code of its own: it passes on what the
-//! libraries below it make.
+//! This is the only library that a client names. It passes on what the libraries below it make, and
+//! the words of their contracts. Its own are the theorems of [`headline`], which join those
+//! contracts, and those of [`client_laws`], for a client's own contracts.
+//!
+//! Each call answers what its contract says, and no call panics, overflows, reads out of bounds or
+//! loops for ever. What a call requires, such as a range, its caller proves; for a literal the check
+//! mostly finds it by itself.
 //!
 //! # The types
 //!
@@ -14,6 +19,7 @@
 //! | [`Utc`] | UTC as a zone |
 //! | [`tz_info::TimeZone`] | a zone from the bytes of a TZif file or from a TZ text, as a value |
 //! | [`TimeZoneRef`] | such a zone, borrowed, as the zone of `DateTime`s |
+//! | [`KeptZone`] | such a zone, kept until the program ends: a zone of `DateTime`s without a lifetime |
 //! | [`TimeZone`], [`Offset`] | the traits that each zone, and each zone's offset, implements |
 //! | [`LocalResult`] | what a lookup by wall clock answers: `None`, `Single` or `Ambiguous` |
 //! | [`Choice`] | what to take in gaps and in folds |
@@ -36,7 +42,7 @@
 //! new_york.with_ymd_and_hms(2021, 7, 1, 12, 0, 0) // Single(12:00 -04:00)
 //! ```
 //!
-//! [`TimeZone::resolve`] gives one instant, by a choice, or says why there is none. There are six
+//! [`TimeZone::resolve`] gives one instant, by a choice, or says why there is none. There are seven
 //! outcomes:
 //!
 //! | reading | shown | choice | answer |
@@ -47,6 +53,7 @@
 //! | 2021-11-07 01:30 | twice | fold: `Earliest` | 2021-11-07 01:30:00 -04:00 |
 //! | 2021-11-07 01:30 | twice | fold: `Latest` | 2021-11-07 01:30:00 -05:00 |
 //! | 2021-07-01 12:00 | once | any | 2021-07-01 12:00:00 -04:00 |
+//! | +262142-12-31 23:00, on the last day of the range | once, when it is the next day in UTC | any | [`ResolveError::OutOfRange`], number 23 |
 //!
 //! ```
 //! let choice = Choice { gap: GapChoice::ShiftForward, fold: FoldChoice::Earliest };
@@ -58,22 +65,15 @@
 //! # A meeting on each day
 //!
 //! Each day of a [`DailySeries`] stands for itself, so the meeting goes back to its time on the day
-//! behind a change.
+//! after a change.
 //!
 //! ```
 //! let half_past_two = NaiveTime::from_hms_opt(2, 30, 0).ok_or(MyError::NoSuchTime)?;
 //! let first = NaiveDate::from_ymd_opt(2021, 3, 13).ok_or(MyError::NoSuchTime)?;
-//! lines(alloc, &DailySeries::new(new_york, first, half_past_two, choice), 3)?;
-//!
-//! fn lines<Tz: TimeZone>(alloc: Global, series: &DailySeries<Tz>, days: u32) -> Result<Vec<String>, MyError>
-//! where
-//!     Tz::Offset: fmt::Display,
-//! {
-//!     let mut lines = Vec::new(alloc);
-//!     for instant in series.days(days) {
-//!         lines.push(line(alloc, &instant?)?)?;
-//!     }
-//!     Ok(lines)
+//! let mut lines = Vec::new(alloc);
+//! for instant in DailySeries::new(new_york, first, half_past_two, choice).days(3) {
+//!     let instant = instant?;
+//!     lines.push(format!(in alloc; "{instant}")?)?;
 //! }
 //! ```
 //!
@@ -89,14 +89,15 @@
 //! |---|---|---|
 //! | the bytes of a TZif file | a zone | [`tz_info::TimeZone::from_tz_data`] |
 //! | a TZ text | a zone | [`tz_info::TimeZone::from_posix_tz`] |
-//! | a parsed zone | a zone of `DateTime`s | [`TimeZoneRef::new`]: `None` where one of its offsets is a day or more |
+//! | a parsed zone | a zone of `DateTime`s | [`TimeZoneRef::new`]: `None` if one of its offsets is a day or more |
+//! | a parsed zone | one for the whole program, without a lifetime | [`KeptZone::keep`]: an error gives the zone back |
 //! | a wall clock | each instant that shows it | [`TimeZone::with_ymd_and_hms`], [`TimeZone::from_local_datetime`] |
 //! | a wall clock | one instant | [`TimeZone::resolve`] |
 //! | a Unix time | the instant | [`TimeZone::timestamp_opt`], [`DateTime::from_timestamp`] |
 //! | a reading of UTC | the instant | [`TimeZone::from_utc_datetime`], [`NaiveZoned::and_utc`] |
 //! | an instant | what clocks elsewhere show then | [`DateTime::with_timezone`] |
 //! | an instant | what its clock shows | [`DateTime::naive_local`], and the fields of [`Datelike`] and [`Timelike`] |
-//! | an instant of a parsed zone | its abbreviation | `instant.offset().name()`: [`ZoneOffset`] |
+//! | an instant of a parsed zone | its abbreviation | `instant.offset().name()`: [`ZoneOffset`], [`KeptOffset`] |
 //! | an instant of a parsed zone | if it is daylight saving time | `instant.offset().is_dst()` |
 //! | an instant of a parsed zone | one that borrows nothing | [`DateTime::fixed_offset`] |
 //! | an instant | one so much time later | [`DateTime::checked_add_signed`], `+` |
@@ -108,21 +109,43 @@
 //! | the bytes or a text, and a wall clock | types of local time and instants in one call | [`WallClock`] |
 //! | a zone that no file tells | it, as the zone of `DateTime`s | an implementation of [`TimeZone`] |
 //!
-//! # Borrowed instants
+//! # Zones that are borrowed, and zones that are kept
 //!
-//! A `DateTime<TimeZoneRef>` borrows the parsed zone. Keep and sort `DateTime<FixedOffset>`, which
-//! [`DateTime::fixed_offset`] gives: it prints alike. Print an instant of a parsed zone, or map a
-//! closure over such instants, in a function that is generic over the zone:
+//! A `DateTime<TimeZoneRef>` borrows the parsed zone, and can be used no longer than that zone. It
+//! prints, compares and sorts as any other, in any function, and is a key of maps and sets.
+//! [`DateTime::fixed_offset`] of it prints alike and borrows nothing.
+//!
+//! A [`KeptZone`] has no lifetime, nor have its instants: structs and lists hold them beside one
+//! another. Its memory is never given back, so keep the zones that live as long as the program.
 //!
 //! ```
-//! fn line<Tz: TimeZone>(alloc: Global, instant: &DateTime<Tz>) -> Result<String, AllocError>
-//! where
-//!     Tz::Offset: fmt::Display,
-//! {
-//!     format!(in alloc; "{instant}")
+//! let new_york = KeptZone::keep(alloc, tz_info::TimeZone::from_tz_data(alloc, bytes)?)?;
+//! let alarm = Alarm { zone: new_york, next: new_york.resolve(&local, choice)? };
+//!
+//! pub struct Alarm {
+//!     pub zone: KeptZone,
+//!     pub next: DateTime<KeptZone>,
 //! }
 //! ```
+//!
+//! # Where the checker doesn't reach
+//!
+//! What is written every day needs no contract, no lemma and no proof file: the repository's crate
+//! `idioms` has some fifty forms over each kind of zone. These aren't covered yet:
+//!
+//! | of | in place of | write |
+//! |---|---|---|
+//! | an instant of a borrowed or of a kept zone | a copy in place: `*instant`, `(instant, instant)`, `map.insert(*instant, ..)` | `iter().copied()`, `instant.clone()?`, or `copy_of(instant)` by `fn copy_of<T: Copy>(value: &T) -> T { *value }` |
+//! | instants of a borrowed zone | a closure that captures an instant, as `any(\|instant\| instant > than)`, or asks the zone, as `map(\|instant\| instant.hour())` | a `for`, or a kept zone |
+//! | instants of UTC | a guard with `<` over what its pattern takes: `Some(best) if now < best` | `max`, or an `if` in the arm |
+//! | a map keyed by instants or dates | `map.entry(key)` | `map.get` and `map.insert` |
+//! | loops | `while` | a `for` with a bound |
+//! | a struct over any zone | `#[derive(Clone, Copy)]` alone | a `where` line, `Tz::Offset: Copy`, beside it |
+//! | an error of your own | `#[from]` for what `write!` returns | `impl From<fmt::Error>`, by hand |
 #![tactic(auto)]
+
+pub mod client_laws;
+pub mod headline;
 
 pub use naive_base::{
     Datelike, Days, IsoWeek, Months, NaiveDate, NaiveDateTime, NaiveTime, Timelike, Weekday,
@@ -131,6 +154,7 @@ pub use offset_core::{
     Choice, FixedOffset, FoldChoice, GapChoice, LocalResult, MappedLocalTime, TimeDelta,
 };
 pub use tz_info;
+pub use zoned_kept::{KeepError, KeptOffset, KeptZone};
 pub use zoned_ref::{TimeZoneRef, WallClock, ZoneOffset};
 pub use zoned_round::{DurationRound, RoundingError, SubsecRound};
 pub use zoned_series::{DailyItems, DailySeries, SeriesError};

@@ -1,34 +1,29 @@
-//! What to do with instants of a borrowed zone.
+//! Instants of a borrowed zone.
 
 use std::alloc::{AllocError, Global};
-use std::fmt;
 use zoned::{DateTime, FixedOffset, LocalResult, NaiveDateTime, TimeZone, TimeZoneRef};
 
-/// What an instant prints, in any zone.
-pub fn line<Tz: TimeZone>(alloc: Global, instant: &DateTime<Tz>) -> Result<String, AllocError>
-where
-    Tz::Offset: fmt::Display,
-{
+/// What an instant prints.
+pub fn line(alloc: Global, instant: &DateTime<TimeZoneRef<'_>>) -> Result<String, AllocError> {
     format!(in alloc; "{instant}")
 }
 
-/// An instant to keep: it prints alike, and borrows nothing.
+/// An instant that prints alike, and borrows nothing.
 pub fn keep(instant: &DateTime<TimeZoneRef<'_>>) -> DateTime<FixedOffset> {
     instant.fixed_offset()
 }
 
 /// The instants, the earliest first.
-pub fn earliest_first(
-    mut instants: Vec<DateTime<FixedOffset>>,
-) -> Result<Vec<DateTime<FixedOffset>>, AllocError> {
+pub fn earliest_first<'a>(
+    mut instants: Vec<DateTime<TimeZoneRef<'a>>>,
+) -> Result<Vec<DateTime<TimeZoneRef<'a>>>, AllocError> {
     instants.sort()?;
     Ok(instants)
 }
 
-/// The instants at which the clocks of a zone show a reading, to keep: closures go over instants in
-/// a function for all zones.
-pub fn by_clock<Tz: TimeZone>(
-    zone: &Tz,
+/// The instants at which the clocks of a zone show a reading, as ones that borrow nothing.
+pub fn by_clock(
+    zone: &TimeZoneRef<'_>,
     local: &NaiveDateTime,
 ) -> LocalResult<DateTime<FixedOffset>> {
     zone.from_local_datetime(local)

@@ -2,7 +2,7 @@
 
 use std::alloc::{AllocError, AllocFailed};
 use thiserror::Error;
-use zoned::{ResolveError, SeriesError, tz_info};
+use zoned::{KeepError, ResolveError, SeriesError, tz_info};
 
 /// What can go wrong.
 #[derive(Clone, Copy, Debug, PartialEq, Eq, Error)]
@@ -31,5 +31,15 @@ impl From<AllocError> for MyError {
 impl<T: Drop> From<AllocFailed<T>> for MyError {
     fn from(_: AllocFailed<T>) -> MyError {
         MyError::OutOfMemory
+    }
+}
+
+// The zone that wasn't kept is let go.
+impl From<KeepError> for MyError {
+    fn from(refused: KeepError) -> MyError {
+        match refused {
+            KeepError::WideZone(_) => MyError::WideZone,
+            KeepError::OutOfMemory(_) => MyError::OutOfMemory,
+        }
     }
 }

@@ -1,10 +1,10 @@
 //! The examples of the library's front page.
 
-use crate::{MyError, line};
+use crate::MyError;
 use std::alloc::Global;
-use std::fmt;
 use zoned::{
-    Choice, DailySeries, NaiveDate, NaiveDateTime, NaiveTime, TimeZone, TimeZoneRef, tz_info,
+    Choice, DailySeries, DateTime, KeptZone, LocalResult, NaiveDate, NaiveDateTime, NaiveTime,
+    TimeZone, TimeZoneRef, tz_info,
 };
 
 /// What a clock shows on a day, at a time of that day.
@@ -13,6 +13,20 @@ pub fn reading(date: (i32, u32, u32), hour: u32, minute: u32) -> Result<NaiveDat
         .ok_or(MyError::NoSuchTime)?
         .and_hms_opt(hour, minute, 0)
         .ok_or(MyError::NoSuchTime)
+}
+
+/// The Unix times of the instants at which the clocks of a zone show a time.
+pub fn shown(
+    alloc: Global,
+    bytes: &[u8],
+    date: (i32, u32, u32),
+    hour: u32,
+    minute: u32,
+) -> Result<LocalResult<i64>, MyError> {
+    let parsed = tz_info::TimeZone::from_tz_data(alloc, bytes)?;
+    let new_york = TimeZoneRef::new(&parsed).ok_or(MyError::WideZone)?;
+    let instants = new_york.with_ymd_and_hms(date.0, date.1, date.2, hour, minute, 0);
+    Ok(instants.map(|instant| instant.timestamp()))
 }
 
 /// What the instant prints that a choice takes for a reading.
@@ -25,7 +39,7 @@ pub fn outcome(
     let parsed = tz_info::TimeZone::from_tz_data(alloc, bytes)?;
     let new_york = TimeZoneRef::new(&parsed).ok_or(MyError::WideZone)?;
     let instant = new_york.resolve(&local, choice)?;
-    Ok(line(alloc, &instant)?)
+    Ok(format!(in alloc; "{instant}")?)
 }
 
 /// What a meeting at a time of each day prints, a line a day.
@@ -39,25 +53,32 @@ pub fn daily(
 ) -> Result<Vec<String>, MyError> {
     let parsed = tz_info::TimeZone::from_tz_data(alloc, bytes)?;
     let new_york = TimeZoneRef::new(&parsed).ok_or(MyError::WideZone)?;
-    lines(
-        alloc,
-        &DailySeries::new(new_york, first, time, choice),
-        days,
-    )
-}
-
-// A function for all zones, since it prints.
-fn lines<Tz: TimeZone>(
-    alloc: Global,
-    series: &DailySeries<Tz>,
-    days: u32,
-) -> Result<Vec<String>, MyError>
-where
-    Tz::Offset: fmt::Display,
-{
     let mut lines = Vec::new(alloc);
-    for instant in series.days(days) {
-        lines.push(line(alloc, &instant?)?)?;
+    for instant in DailySeries::new(new_york, first, time, choice).days(days) {
+        let instant = instant?;
+        lines.push(format!(in alloc; "{instant}")?)?;
     }
     Ok(lines)
+}
+
+/// A zone that is kept, and an instant of it.
+#[derive(Clone, Copy)]
+pub struct Alarm {
+    pub zone: KeptZone,
+    pub next: DateTime<KeptZone>,
+}
+
+/// An alarm at what the clocks of a zone show.
+pub fn alarm_at(
+    alloc: Global,
+    bytes: &[u8],
+    local: NaiveDateTime,
+    choice: Choice,
+) -> Result<Alarm, MyError> {
+    let new_york = KeptZone::keep(alloc, tz_info::TimeZone::from_tz_data(alloc, bytes)?)?;
+    let next = new_york.resolve(&local, choice)?;
+    Ok(Alarm {
+        zone: new_york,
+        next,
+    })
 }

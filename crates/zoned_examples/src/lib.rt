@@ -1,12 +1,13 @@
 //! The examples of the documents, compiled, proved and tested. It names one library, `zoned`.
 //!
 //! `readme` and `front_page` have the examples of README.md and of the library's front page,
-//! `borrowed` what to do with the instants of a borrowed zone, and `own_zone` the zone of
-//! docs/OWN_ZONE.md.
+//! `borrowed` what is done with the instants of a borrowed zone, `own_zone` the zone of
+//! docs/OWN_ZONE.md, and `facts` contracts of a client's own.
 #![tactic(auto)]
 
 mod borrowed;
 mod error;
+mod facts;
 mod front_page;
 mod own_zone;
 mod readme;
@@ -15,6 +16,7 @@ mod tests;
 
 pub use borrowed::{by_clock, earliest_first, keep, line};
 pub use error::MyError;
-pub use front_page::{daily, outcome, reading};
+pub use facts::{abbreviation, bucket, elsewhere, fire, seconds, twice};
+pub use front_page::{Alarm, alarm_at, daily, outcome, reading, shown};
 pub use own_zone::Nepal;
-pub use readme::{FirstLines, first_lines};
+pub use readme::{FirstLines, half_past_two};

@@ -3,8 +3,8 @@
 use crate::MyError;
 use std::alloc::Global;
 use zoned::{
-    Choice, DateTime, FixedOffset, FoldChoice, GapChoice, LocalResult, NaiveDateTime, TimeZone,
-    TimeZoneRef, tz_info,
+    Choice, DateTime, FixedOffset, FoldChoice, GapChoice, KeptZone, LocalResult, NaiveDate,
+    TimeZone, tz_info,
 };
 
 /// What those lines make, to keep.
@@ -16,29 +16,21 @@ pub struct FirstLines {
     pub instant: DateTime<FixedOffset>,
 }
 
-/// README's first lines, by the bytes of New York's file; `local` is 02:30 on 14 March 2021.
-pub fn first_lines(
-    alloc: Global,
-    bytes: &[u8],
-    local: NaiveDateTime,
-) -> Result<FirstLines, MyError> {
-    let parsed = tz_info::TimeZone::from_tz_data(alloc, bytes)?;
-    let new_york = TimeZoneRef::new(&parsed).ok_or(MyError::WideZone)?;
+/// 02:30 on the day on which New York's clocks skipped it; `bytes` are those of its TZif file.
+pub fn half_past_two(alloc: Global, bytes: &[u8]) -> Result<FirstLines, MyError> {
+    let new_york = KeptZone::keep(alloc, tz_info::TimeZone::from_tz_data(alloc, bytes)?)?;
     let gap = new_york.with_ymd_and_hms(2021, 3, 14, 2, 30, 0);
     let fold = new_york.with_ymd_and_hms(2021, 11, 7, 1, 30, 0);
+    let day = NaiveDate::from_ymd_opt(2021, 3, 14).ok_or(MyError::NoSuchTime)?;
+    let local = day.and_hms_opt(2, 30, 0).ok_or(MyError::NoSuchTime)?;
     let choice = Choice {
         gap: GapChoice::ShiftForward,
         fold: FoldChoice::Earliest,
     };
     let instant = new_york.resolve(&local, choice)?;
     Ok(FirstLines {
-        gap: stamps(gap),
-        fold: stamps(fold),
+        gap: gap.map(|instant| instant.timestamp()),
+        fold: fold.map(|instant| instant.timestamp()),
         instant: instant.fixed_offset(),
     })
-}
-
-// The Unix times of instants.
-fn stamps<Tz: TimeZone>(instants: LocalResult<DateTime<Tz>>) -> LocalResult<i64> {
-    instants.map(|instant| instant.timestamp())
 }

@@ -2,15 +2,15 @@
 //! Python's `zoneinfo`.
 
 use crate::{
-    FirstLines, MyError, Nepal, by_clock, daily, earliest_first, first_lines, keep, line, outcome,
-    reading,
+    FirstLines, MyError, Nepal, abbreviation, alarm_at, bucket, by_clock, daily, earliest_first,
+    elsewhere, fire, half_past_two, keep, line, outcome, reading, seconds, shown, twice,
 };
 use std::alloc::Global;
 use std::process::Abort;
 use std::test::Fail;
 use zoned::{
-    Choice, DateTime, FixedOffset, FoldChoice, GapChoice, LocalResult, NaiveDate, NaiveDateTime,
-    NaiveTime, ResolveError, TimeZone, TimeZoneRef, Utc, tz_info,
+    Choice, DateTime, FixedOffset, FoldChoice, GapChoice, KeptZone, LocalResult, NaiveDate,
+    NaiveDateTime, NaiveTime, ResolveError, RoundingError, TimeZone, TimeZoneRef, Utc, tz_info,
 };
 
 /// New York since 2007, as a TZif file: the changes of that year, and the rule.
@@ -28,10 +28,7 @@ fn choice(gap: GapChoice, fold: FoldChoice) -> Choice {
 
 #[test]
 fn the_first_lines_of_the_readme(rt: HostRuntime) {
-    let told = match reading((2021, 3, 14), 2, 30) {
-        Ok(local) => first_lines(rt.alloc(), NEW_YORK, local),
-        Err(e) => Err(e),
-    };
+    let told = half_past_two(rt.alloc(), NEW_YORK);
     let instant = FixedOffset::west(14_400).timestamp(1_615_707_000, 0);
     assert_eq!(rt;
         told,
@@ -200,7 +197,7 @@ fn instants_to_keep(rt: HostRuntime) -> Result<(), Fail> {
         "2021-11-07 01:30:00 -05:00"
     );
     assert_eq!(rt;
-        line(rt.alloc(), &kept)?.as_str(),
+        format!(in rt.alloc(); "{kept}")?.as_str(),
         "2021-11-07 01:30:00 -05:00"
     );
     match instant.offset().name() {
@@ -218,23 +215,156 @@ fn instants_in_order(rt: HostRuntime) -> Result<(), Fail> {
         panic!(rt; "no zone");
     };
     let new_york = TimeZoneRef::new(&parsed).ok_or("a narrow zone")?;
-    let Ok(fold) = reading((2021, 11, 7), 1, 30) else {
-        panic!(rt; "no reading");
-    };
     let mut instants = Vec::new(rt.alloc());
-    match by_clock(&new_york, &fold) {
-        LocalResult::Ambiguous(first, last) => {
-            instants.push(last)?;
-            instants.push(first)?;
-        }
-        _ => panic!(rt; "not two instants"),
-    }
+    instants.push(new_york.timestamp(1_636_266_600, 0))?;
+    instants.push(new_york.timestamp(1_636_263_000, 0))?;
     let sorted = earliest_first(instants)?;
     let earliest = sorted.first().ok_or("an instant")?;
     assert_eq!(rt; earliest.timestamp(), 1_636_263_000);
-    let latest = sorted.last().ok_or("an instant")?;
-    assert_eq!(rt; latest.timestamp(), 1_636_266_600);
     Ok(())
+}
+
+#[test]
+fn instants_of_a_reading(rt: HostRuntime) -> Result<(), Fail> {
+    let Ok(parsed) = tz_info::TimeZone::from_tz_data(rt.alloc(), NEW_YORK) else {
+        panic!(rt; "no zone");
+    };
+    let new_york = TimeZoneRef::new(&parsed).ok_or("a narrow zone")?;
+    let Ok(fold) = reading((2021, 11, 7), 1, 30) else {
+        panic!(rt; "no reading");
+    };
+    match by_clock(&new_york, &fold) {
+        LocalResult::Ambiguous(first, last) => {
+            assert_eq!(rt; first.timestamp(), 1_636_263_000);
+            assert_eq!(rt; last.timestamp(), 1_636_266_600);
+        }
+        _ => panic!(rt; "not two instants"),
+    }
+    Ok(())
+}
+
+#[test]
+fn times_that_are_shown(rt: HostRuntime) {
+    let alloc = rt.alloc();
+    let gap = shown(alloc, NEW_YORK, (2021, 3, 14), 2, 30);
+    assert_eq!(rt; gap, Ok(LocalResult::None));
+    let fold = shown(alloc, NEW_YORK, (2021, 11, 7), 1, 30);
+    assert_eq!(rt;
+        fold,
+        Ok(LocalResult::Ambiguous(1_636_263_000, 1_636_266_600))
+    );
+    let summer = shown(alloc, NEW_YORK, (2021, 7, 1), 12, 0);
+    assert_eq!(rt; summer, Ok(LocalResult::Single(1_625_155_200)));
+}
+
+/// Five hours behind UTC the last day of the range ends at 19:00.
+#[test]
+fn a_reading_out_of_range(rt: HostRuntime) {
+    let Ok(local) = reading((262_142, 12, 31), 23, 0) else {
+        panic!(rt; "no reading");
+    };
+    let any = choice(GapChoice::ShiftForward, FoldChoice::Earliest);
+    answers(&rt, rt.alloc(), local, any, Err(23));
+}
+
+#[test]
+fn an_alarm_of_a_kept_zone(rt: HostRuntime) {
+    let Ok(local) = reading((2021, 3, 14), 2, 30) else {
+        panic!(rt; "no reading");
+    };
+    let choice = choice(GapChoice::ShiftForward, FoldChoice::Earliest);
+    match alarm_at(rt.alloc(), NEW_YORK, local, choice) {
+        Ok(alarm) => {
+            assert_eq!(rt; alarm.next.timestamp(), 1_615_707_000);
+            let same = alarm.zone.timestamp(1_615_707_000, 0);
+            assert!(rt; same == alarm.next);
+        }
+        Err(_) => panic!(rt; "no zone"),
+    }
+}
+
+#[test]
+fn a_fact_of_a_client(rt: HostRuntime) {
+    assert_eq!(rt; seconds(&Utc.timestamp(86_400, 0)), 86_400);
+}
+
+/// New York since 2007, kept, from its TZ text.
+fn new_york(rt: &impl Abort, alloc: Global) -> KeptZone {
+    let Ok(parsed) = tz_info::TimeZone::from_posix_tz(alloc, "EST5EDT,M3.2.0,M11.1.0") else {
+        panic!(rt; "no zone");
+    };
+    match KeptZone::keep(alloc, parsed) {
+        Ok(zone) => zone,
+        Err(_) => panic!(rt; "not kept"),
+    }
+}
+
+#[test]
+fn the_same_instant_elsewhere(rt: HostRuntime) -> Result<(), Fail> {
+    let zone = new_york(&rt, rt.alloc());
+    let there = elsewhere(&Utc.timestamp(1_636_264_800, 0), &zone);
+    assert_eq!(rt; there.timestamp(), 1_636_264_800);
+    assert_eq!(rt;
+        format!(in rt.alloc(); "{there}")?.as_str(),
+        "2021-11-07 01:00:00 -05:00"
+    );
+    Ok(())
+}
+
+/// On both days on which New York's clocks were set in 2021.
+#[test]
+fn a_job_at_nine(rt: HostRuntime) -> Result<(), Fail> {
+    let zone = new_york(&rt, rt.alloc());
+    for (month, day, expected) in [(3, 14, 1_615_726_800), (11, 7, 1_636_293_600)] {
+        let day = NaiveDate::from_ymd_opt(2021, month, day).ok_or("a date")?;
+        let instant = fire(&zone, &day).ok_or("an instant")?;
+        assert_eq!(rt; instant.timestamp(), expected);
+    }
+    Ok(())
+}
+
+#[test]
+fn a_fold_resolved_twice(rt: HostRuntime) {
+    let zone = new_york(&rt, rt.alloc());
+    let Ok(local) = reading((2021, 11, 7), 1, 30) else {
+        panic!(rt; "no reading");
+    };
+    for (fold, expected) in [
+        (FoldChoice::Earliest, 1_636_263_000),
+        (FoldChoice::Latest, 1_636_266_600),
+    ] {
+        match twice(&zone, &local, choice(GapChoice::Refuse, fold)) {
+            Ok((first, second)) => {
+                assert_eq!(rt; first.timestamp(), expected);
+                assert_eq!(rt; second.timestamp(), expected);
+            }
+            Err(_) => panic!(rt; "no instant"),
+        }
+    }
+}
+
+#[test]
+fn abbreviations_in_force(rt: HostRuntime) {
+    let zone = new_york(&rt, rt.alloc());
+    for (second, expected) in [(1_636_263_000, "EDT"), (1_636_266_600, "EST")] {
+        match abbreviation(&zone, &Utc.timestamp(second, 0).naive_utc()) {
+            Some(name) => assert_eq!(rt; name.as_str(), expected),
+            None => panic!(rt; "no name"),
+        }
+    }
+}
+
+/// 2021-07-01 16:03:59 and 16:00:00, and an instant whose nanoseconds an `i64` doesn't hold.
+#[test]
+fn the_start_of_five_minutes(rt: HostRuntime) {
+    let start = Utc.timestamp(1_625_155_200, 0);
+    assert_eq!(rt;
+        bucket(Utc.timestamp(1_625_155_439, 999_999_999)),
+        Ok(start)
+    );
+    assert_eq!(rt; bucket(start), Ok(start));
+    let late = Utc.timestamp(10_000_000_000, 0);
+    assert_eq!(rt; bucket(late), Err(RoundingError::TimestampExceedsLimit));
 }
 
 /// Kathmandu is 5 hours and 45 minutes ahead of UTC.
@@ -244,7 +374,7 @@ fn a_zone_of_ones_own(rt: HostRuntime) -> Result<(), Fail> {
         .ok_or("the epoch")?
         .with_timezone(&Nepal);
     assert_eq!(rt;
-        line(rt.alloc(), &there)?.as_str(),
+        format!(in rt.alloc(); "{there}")?.as_str(),
         "1970-01-01 05:45:00 +05:45"
     );
     let noon = Nepal.with_ymd_and_hms(2021, 1, 1, 12, 0, 0).single();

@@ -1,5 +1,5 @@
 -- What comes of reading, as a call tells it.
-use Rattle.std.proofs.Common.{◌≡◌, ◌⊎◌, ℕ, List, IfErr, Result, Ok, Err, subst, sym, inl, inr, arith}
+use Rattle.std.proofs.Common.{◌≡◌, ◌≢◌, ◌⊎◌, ◌↔◌, Bool, IsTrue, IsFalse, ℕ, List, IfErr, Result, Ok, Err, subst, sym, inl, inr, arith}
 use Rattle.tz_info.specs.Errors.{number_of}
 use Rattle.tz_info.specs.PosixZones.{IsPosixZone, IsPosixFault}
 use Rattle.tz_info.specs.Zones.{Zone}
@@ -36,7 +36,11 @@ reader_number (errors.UnsupportedTzString _) = (omega arith, omega arith)
 reader_number (errors.Utf8 _) = (omega arith, omega arith)
 reader_number errors.OutOfMemory = (omega arith, omega arith)
 
+-- answers that don't fit are wanted in another count than there is room for
+pub not_fitting : (fits : Bool) (wanted room : ℕ) → IsFalse fits → IsTrue fits ↔ wanted ≡ room → wanted ≢ room
+not_fitting fits wanted room is same equal = absurd (grind (arith, is, same.1 equal))
+
 -- bytes that are refused are why the call is
-pub not_read : (number : ℕ) (bytes : List ℕ) (wanted room : ℕ) (kind : Kind) (read : Result Zone Refusal) → number ≡ kind_number kind → wanted ≡ room → IfErr read (λ e. IsFault kind bytes (refusal_number e)) → IfErr read (λ e. IsReaderNumber (refusal_number e)) → IfErr read (λ e. IsRefusal number bytes wanted room (refusal_number e))
-not_read number bytes wanted room kind (Ok z) is fits fault reader = fault
-not_read number bytes wanted room kind (Err e) is fits fault reader = IsRefusal.Not_read kind (refusal_number e) is fits fault reader
+pub not_read : (number : ℕ) (bytes : List ℕ) (fits : Bool) (kind : Kind) (read : Result Zone Refusal) → number ≡ kind_number kind → IsTrue fits → IfErr read (λ e. IsFault kind bytes (refusal_number e)) → IfErr read (λ e. IsReaderNumber (refusal_number e)) → IfErr read (λ e. (wanted room : ℕ) → IsTrue fits ↔ wanted ≡ room → IsRefusal number bytes wanted room (refusal_number e))
+not_read number bytes fits kind (Ok z) is fit fault reader = tt
+not_read number bytes fits kind (Err e) is fit fault reader = λ wanted room same. IsRefusal.Not_read kind (refusal_number e) is (same.0 fit) fault reader

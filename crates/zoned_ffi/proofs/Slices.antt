@@ -14,7 +14,7 @@ zip_step R (x ∷ xs) (z ∷ zs) zero d y as_many within before this = (this, tt
 zip_step R (x ∷ xs) (z ∷ zs) (suc i) d y as_many within before this =
     (before.0, zip_step R xs zs i d y (omega (arith, as_many)) (omega (arith, within)) before.1 this)
 
--- the answer to the question at the place i is written behind those before it
+-- the answer to the question at the place i is written after those before it
 pub zip_more : {A B : Type 0} (R : A → B → Type 0) (xs : List A) (ys : List B) (i : ℕ) (d : A) (y : B) → length ys ≡ length xs → i < length xs → AllZip R (take i xs) (take i ys) → R (get_or xs i d) y → AllZip R (take (i + 1) xs) (take (i + 1) (slice_set ys i y))
 zip_more R xs ys i d y as_many within before this =
     let next : suc i ≡ i + 1 = omega arith in
@@ -49,7 +49,7 @@ third_of : (numbers : List ℤ) (p : ℕ) (a b c : ℤ) → p + 2 < length numbe
 third_of numbers p a b c within =
     get_or-set_same (slice_set (slice_set numbers p a) (p + 1) b) (p + 2) c (pos 0) (omega (arith, length-set numbers p a, length-set (slice_set numbers p a) (p + 1) b))
 
--- the three numbers of the local time at the place i are written behind those before it
+-- the three numbers of the local time at the place i are written after those before it
 pub triple_more : (z : Zone) (locals numbers : List ℤ) (i : ℕ) (w : WallClock) → length numbers ≡ 3 * length locals → i < length locals → ((k : ℕ) → k < i → IsTripleAt z (get_or locals k (pos 0)) numbers (3 * k)) → IsWallClockAt z (get_or locals i (pos 0)) w → (k : ℕ) → k < i + 1 → IsTripleAt z (get_or locals k (pos 0)) (with_triple numbers (3 * i) w.shown w.first_offset w.last_offset) (3 * k)
 triple_more z locals numbers i w as_many within before this k place = elim (cases_lt k i) [
   | inl earlier ↦

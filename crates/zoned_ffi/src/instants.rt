@@ -5,7 +5,7 @@ ghost use Rattle.zoned_ffi.specs.Instants.{AreOffsetsAt, IsOffsetAt};
 
 use tz_info::TimeZone;
 
-/// What is written of an instant at which the zone has no offset. It is no offset of a zone.
+// What is written of an instant at which the zone has no offset. It is no offset of a zone.
 const NO_OFFSET: i32 = i32::MIN;
 
 /// Writes the offset at each instant.
@@ -18,7 +18,7 @@ pub fn write_offsets(zone: &TimeZone, instants: &[i64], offsets: &mut [i32])
     }
 }
 
-/// The offset in force at the instant, in seconds east of UTC.
+// The offset in force at the instant, in seconds east of UTC.
 fn offset_at(zone: &TimeZone, instant: i64) -> i32
     ensures { IsOffsetAt zone.now instant result }
 {

@@ -1,6 +1,6 @@
 //! How bytes are read: as a TZif file, or as a TZ text.
 
-ghost use Rattle.std.specs.Prelude.{◌≡◌, IfOk, IfErr, MatchOption, MatchResult};
+ghost use Rattle.std.specs.Prelude.{◌≡◌, ◌↔◌, ℕ, IsTrue, IfOk, IfErr, MatchOption, MatchResult};
 ghost use Rattle.tz_info.specs.Zones.{Zone};
 ghost use Rattle.zoned_ffi.specs.Kinds.{IsKind, IsZoneOf, Spells, number_of};
 ghost use Rattle.zoned_ffi.specs.Refusals.{IsFault, IsReaderNumber, IsRefusal, refusal_number};
@@ -47,7 +47,7 @@ impl Kind {
     }
 }
 
-/// The zone of a TZif file.
+// The zone of a TZif file.
 fn read_file(alloc: Global, bytes: &[u8]) -> Result<TimeZone, Refusal>
     ensures found { IfOk result (λ z. Spells File bytes.now z) }
     ensures only { (z : Zone) → Spells File bytes.now z
@@ -61,7 +61,7 @@ fn read_file(alloc: Global, bytes: &[u8]) -> Result<TimeZone, Refusal>
     }
 }
 
-/// The zone of a TZ text.
+// The zone of a TZ text.
 fn read_text(alloc: Global, bytes: &[u8]) -> Result<TimeZone, Refusal>
     ensures found { IfOk result (λ z. Spells Text bytes.now z) }
     ensures only { (z : Zone) → Spells Text bytes.now z
@@ -78,24 +78,19 @@ fn read_text(alloc: Global, bytes: &[u8]) -> Result<TimeZone, Refusal>
     }
 }
 
-/// The zone of the bytes, which are read by the kind of that number, where there is room for the
-/// answers and for no more.
-pub fn read_zone(
-    alloc: Global,
-    number: u32,
-    bytes: &[u8],
-    wanted: usize,
-    room: usize,
-) -> Result<TimeZone, Refusal>
-    ensures found { IfOk result (λ z. IsZoneOf number bytes.now z × (wanted ≡ room)) }
-    ensures only { (z : Zone) → IsZoneOf number bytes.now z → wanted ≡ room
+/// The zone of the bytes, which are read by the kind of that number, where the answers fit: there
+/// is room for as many as are wanted, and for no more.
+pub fn read_zone(alloc: Global, number: u32, bytes: &[u8], fits: bool) -> Result<TimeZone, Refusal>
+    ensures found { IfOk result (λ z. IsZoneOf number bytes.now z × IsTrue fits) }
+    ensures only { (z : Zone) → IsZoneOf number bytes.now z → IsTrue fits
         → MatchResult result (λ y. y ≡ z) (λ e. refusal_number e ≡ 17) }
-    ensures fault { IfErr result (λ e. IsRefusal number bytes.now wanted room (refusal_number e)) }
+    ensures fault { IfErr result (λ e. (wanted room : ℕ) → (IsTrue fits ↔ (wanted ≡ room))
+        → IsRefusal number bytes.now wanted room (refusal_number e)) }
 {
     let Some(kind) = Kind::from_number(number) else {
         return Err(Refusal::UnknownKind);
     };
-    if wanted != room {
+    if !fits {
         return Err(Refusal::OtherSize);
     }
     kind.read(alloc, bytes)

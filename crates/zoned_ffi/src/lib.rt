@@ -20,7 +20,7 @@ use instants::write_offsets;
 use kind::read_zone;
 use std::alloc::Global;
 pub use wall_clock::WallClock;
-use wall_clock::{write_triples, write_wall_clocks};
+use wall_clock::{has_room_for_triples, write_triples, write_wall_clocks};
 
 /// Reads the zone, and answers nothing.
 #[unsafe(no_mangle)]
@@ -32,7 +32,7 @@ pub extern "C" fn zoned_parse(alloc: Global, kind: u32, zone: &[u8]) -> u32
     // The zone that is spelled is read, unless memory runs out.
     ensures only { (z : Zone) → IsZoneOf kind zone.now z → (result ≡ 0) ⊎ (result ≡ 17) }
 {
-    match read_zone(alloc, kind, zone, 0, 0) {
+    match read_zone(alloc, kind, zone, true) {
         Ok(_) => 0,
         Err(refusal) => refusal.number(),
     }
@@ -60,7 +60,7 @@ pub extern "C" fn zoned_at(
     ensures only { (z : Zone) → IsZoneOf kind zone.now z
         → length instants.now ≡ length offsets.old → (result ≡ 0) ⊎ (result ≡ 17) }
 {
-    match read_zone(alloc, kind, zone, instants.len(), offsets.len()) {
+    match read_zone(alloc, kind, zone, instants.len() == offsets.len()) {
         Ok(zone) => {
             write_offsets(&zone, instants, offsets);
             0
@@ -69,7 +69,7 @@ pub extern "C" fn zoned_at(
     }
 }
 
-/// Writes three numbers of each local time: those of [`WallClock`] but for the instants. `answers`
+/// Writes three numbers for each local time: those of [`WallClock`] without the instants. `answers`
 /// has room for three times as many numbers as there are local times.
 #[unsafe(no_mangle)]
 pub extern "C" fn zoned_wall(
@@ -90,7 +90,7 @@ pub extern "C" fn zoned_wall(
     ensures only { (z : Zone) → IsZoneOf kind zone.now z
         → 3 * length locals.now ≡ length answers.old → (result ≡ 0) ⊎ (result ≡ 17) }
 {
-    match read_zone(alloc, kind, zone, 3 * locals.len(), answers.len()) {
+    match read_zone(alloc, kind, zone, has_room_for_triples(locals, answers)) {
         Ok(zone) => {
             write_triples(&zone, locals, answers);
             0
@@ -119,7 +119,7 @@ pub extern "C" fn zoned_wall_instants(
     ensures only { (z : Zone) → IsZoneOf kind zone.now z
         → length locals.now ≡ length answers.old → (result ≡ 0) ⊎ (result ≡ 17) }
 {
-    match read_zone(alloc, kind, zone, locals.len(), answers.len()) {
+    match read_zone(alloc, kind, zone, locals.len() == answers.len()) {
         Ok(zone) => {
             write_wall_clocks(&zone, locals, answers);
             0

@@ -10,16 +10,16 @@ const FILE: u32 = 0;
 
 const TEXT: u32 = 1;
 
-/// America/Guayaquil, version 1: set forward from -05:14 to -05:00 at the end of 1930.
+// America/Guayaquil, version 1: set forward from -05:14 to -05:00 at the end of 1930.
 const GUAYAQUIL: &[u8] = b"TZif\x00\x00\x00\x00\x00\x00\x00\x00\x00\x00\x00\x00\x00\x00\x00\x00\
     \x00\x00\x00\x02\x00\x00\x00\x02\x00\x00\x00\x00\x00\x00\x00\x01\x00\x00\x00\x02\x00\x00\x00\x08\
     \xb6\xa4B\x18\x01\xff\xff\xb6h\x00\x00\xff\xff\xb9\xb0\x00\x04\
     QMT\x00ECT\x00\x00\x00\x00\x00";
 
-/// New York since 2007.
+// New York since 2007.
 const NEW_YORK: &[u8] = b"EST5EDT,M3.2.0,M11.1.0";
 
-/// What stands in a slice before a call.
+// What stands in a slice before a call.
 const UNTOUCHED: i32 = 77;
 
 const UNTOUCHED_CLOCK: WallClock = WallClock {
@@ -30,8 +30,8 @@ const UNTOUCHED_CLOCK: WallClock = WallClock {
     last: 77,
 };
 
-/// 2021-03-14 02:30:00, in a gap of New York; 2021-11-07 01:30:00, in a fold; noon of that day; and
-/// the first second behind the range of the calendar.
+// 2021-03-14 02:30:00, in a gap of New York; 2021-11-07 01:30:00, in a fold; noon of that day; and
+// the first second after the range of the calendar.
 const LOCALS: [i64; 4] = [
     1_615_689_000,
     1_636_248_600,
@@ -39,7 +39,7 @@ const LOCALS: [i64; 4] = [
     8_210_266_876_800,
 ];
 
-/// Each call with that kind and these bytes, the slices for the answers being of the right size.
+// Each call with that kind and these bytes, the slices for the answers being of the right size.
 fn expect_number(rt: &impl Abort, alloc: Global, kind: u32, zone: &[u8], number: u32) {
     let mut offsets = [UNTOUCHED; 1];
     let mut triple = [UNTOUCHED; 3];

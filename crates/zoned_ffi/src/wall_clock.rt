@@ -1,6 +1,6 @@
 //! When wall clocks show local times.
 
-ghost use Rattle.std.specs.Prelude.{◌≡◌, ◌*◌, ◌-ℤ◌, pos, length};
+ghost use Rattle.std.specs.Prelude.{◌≡◌, ◌↔◌, IsTrue, ◌*◌, ◌-ℤ◌, pos, length};
 ghost use Rattle.naive_base.specs.Range.{IsInRange};
 ghost use Rattle.zoned_ffi.specs.Steps.Told.{told_of};
 ghost use Rattle.zoned_ffi.specs.WallClocks.{AreTriples, AreWallClocks, IsWallClockAt, written};
@@ -9,16 +9,16 @@ use naive_base::NaiveDateTime;
 use offset_core::MappedLocalTime;
 use tz_info::{LocalTimeType, TimeZone};
 
-/// The number of seconds that show a local time, as [`WallClock::shown`] has it: none.
+// The number of seconds that show a local time, as [`WallClock::shown`] has it: none.
 const NEVER: i32 = 0;
 
-/// One.
+// One.
 const ONCE: i32 = 1;
 
-/// Two or more.
+// Two or more.
 const SEVERAL_TIMES: i32 = 2;
 
-/// Not known: the local time is outside the calendar's range.
+// Not known: the local time is outside the calendar's range.
 const OUT_OF_RANGE: i32 = 3;
 
 /// When the clocks of a zone show a local time.
@@ -40,8 +40,8 @@ pub struct WallClock {
 }
 
 impl WallClock {
-    /// When the zone's clocks show the local time: so many seconds after 1970-01-01 00:00:00 on a
-    /// clock, every day counted as 86,400.
+    // When the zone's clocks show the local time: so many seconds after 1970-01-01 00:00:00 on a
+    // clock, every day counted as 86,400.
     fn at(zone: &TimeZone, local: i64) -> WallClock
         ensures { IsWallClockAt zone.now local result }
     {
@@ -54,7 +54,7 @@ impl WallClock {
         }
     }
 
-    /// That of the types in force at the first and the last second that show it.
+    // That of the types in force at the first and the last second that show it.
     fn of_types(local: i64, types: MappedLocalTime<LocalTimeType>) -> WallClock
         requires { IsInRange local }
         ensures { result ≡ written (told_of local types) }
@@ -70,7 +70,7 @@ impl WallClock {
         }
     }
 
-    /// That of the offsets at these seconds: each second is the local time less its offset.
+    // That of the offsets at these seconds: each second is the local time less its offset.
     fn between(shown: i32, local: i64, first_offset: i32, last_offset: i32) -> WallClock
         requires { IsInRange local }
         ensures { result ≡ record {
@@ -90,7 +90,7 @@ impl WallClock {
         }
     }
 
-    /// That of no second, and the number that says why.
+    // That of no second, and the number that says why.
     fn nowhere(shown: i32) -> WallClock
         ensures { result ≡ record {
           shown = shown;
@@ -118,6 +118,14 @@ pub fn write_wall_clocks(zone: &TimeZone, locals: &[i64], clocks: &mut [WallCloc
     for (i, local) in locals.iter().enumerate() {
         clocks[i] = WallClock::at(zone, *local);
     }
+}
+
+/// Whether there is room for three numbers of each local time, and for no more. The count of local
+/// times comes from C, and may be wrong: no product of it is formed, which could wrap to the room.
+pub fn has_room_for_triples(locals: &[i64], numbers: &[i32]) -> bool
+    ensures { IsTrue result ↔ (3 * length locals.now ≡ length numbers.now) }
+{
+    numbers.len() % 3 == 0 && numbers.len() / 3 == locals.len()
 }
 
 /// Writes three numbers of each local time: how often it is shown, and the offsets at the first and

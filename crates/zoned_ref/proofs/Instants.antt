@@ -30,6 +30,3 @@ pub of_two : (l : Reading) (t s : LocalType) (a b : Option (Zoned ℤ))
     → SomeIff a (HasInstant (λ k. k) l t.offset) (instant_of (λ k. k) l t.offset) → SomeIff b (HasInstant (λ k. k) l s.offset) (instant_of (λ k. k) l s.offset)
     → AreInstantsAt l (Ambiguous t s) (all_or_none (Ambiguous a b))
 of_two l t s a b h k = record { answers = Ambiguous a b; asked = (a, b, tt, tt, h, k, refl); kept = refl }
-
-pub of_none : (l : Reading) → AreInstantsAt l none none
-of_none l = record { answers = none; asked = refl; kept = refl }

@@ -1,5 +1,5 @@
 -- A valid zone has one offset at each second that zones answer in.
-use Rattle.std.proofs.Common.{◌≡◌, ℕ, zero, suc, ℤ, Bool, true, false, List, [], ◌∷◌, All, slice_get, Option, Some, None, refl, ◌∙◌, subst, arith, inl, inr}
+use Rattle.std.proofs.Common.{◌≡◌, ℕ, zero, suc, ℤ, Bool, true, false, List, [], ◌∷◌, All, slice_get, Option, Some, None, refl, ◌∙◌, sym, subst, arith, inl, inr}
 use Rattle.std.proofs.Math.Logic.{∥∥₁_elim}
 use Rattle.std.proofs.lemmas.Int.{ints}
 use Rattle.std.specs.Coded.{Coded-set, coded_ℤ}
@@ -15,9 +15,9 @@ use Rattle.tz_info.specs.declared.rule.transition_rule.TransitionRule.{Transitio
 use Rattle.tz_info.specs.declared.rule.transition_rule.TransitionRule.TheVariants.{Fixed, Alternate}
 use Rattle.tz_info.proofs.ForCallers.{leap_times_answer, rule_year, type_decided, type_listed}
 use Rattle.zoned_time.specs.Zone.{IsZoneSecond}
-use Rattle.zoned_ref.specs.Offsets.{rule_types, IsNarrow, HasOffset, HasOffsets, AreOffsetsOf}
-use Rattle.zoned_ref.specs.OffsetAt.{offset_at}
-use Rattle.zoned_ref.specs.Steps.OffsetAt.{one_offset, the_offset_is}
+use Rattle.zoned_ref.specs.Offsets.{rule_types, IsNarrow, HasOneOffset, HasOffset, HasOffsets, AreOffsetsOf}
+use Rattle.zoned_ref.specs.OffsetAt.{offset_with, offset_at}
+use Rattle.zoned_ref.specs.Steps.OffsetAt.{one_offset}
 
 -- a rule answers in the years of the range
 rule_not_refused : (rule : Option TransitionRule) (u : ℤ) → IsZoneSecond u → IsRefusedBy rule u → ⊥
@@ -43,29 +43,38 @@ pub are_offsets : (z : Zone) (some : ∥ HasOffsets z ∥₁) → HasOffsets z �
 are_offsets z some has u inside =
     let k = has u inside in
     let same : offset_at z some u ≡ k.0 =
-    ∥∥₁_elim (the_offset_is z some u inside) (Coded-set coded_ℤ (offset_at z some u) k.0) (λ a. one_offset z u (offset_at z some u) k.0 a k.1) in
+    ∥∥₁_elim ((offset_with z some u).1 inside) (Coded-set coded_ℤ (offset_at z some u) k.0) (λ a. one_offset z u (offset_at z some u) k.0 a k.1) in
     record { type = k.1.type; in_force = k.1.in_force; offset = same ∙ k.1.offset }
 
--- ---- in a narrow zone it is within a day
+-- ---- what holds of each type that the zone lists, and of each of its rule, holds of the type in force
 all_listed : {X : Type 0} (P : X → Type 0) (xs : List X) (i : ℕ) (x : X) → slice_get xs i ≡ Some x → All P xs → P x
 all_listed P [] i x h all = cc
 all_listed P (y ∷ xs) zero x h all = let same : y ≡ x = cc in subst P same (all 0 y (omega arith))
 all_listed P (y ∷ xs) (suc i) x h all = all_listed P xs i x h (λ k d l. all (suc k) d (omega arith))
 
-turn_within : (a : AlternateRule) (dst : Bool) → All (λ (t : LocalType). IsWithinDay t.offset) (a.std ∷ a.dst ∷ []) → IsWithinDay (type_when a dst).offset
-turn_within a true all = all 1 a.dst (omega arith)
-turn_within a false all = all 0 a.std (omega arith)
+turn_has : (P : LocalType → Type 0) (a : AlternateRule) (dst : Bool) → All P (a.std ∷ a.dst ∷ []) → P (type_when a dst)
+turn_has P a true all = all 1 a.dst (omega arith)
+turn_has P a false all = all 0 a.std (omega arith)
 
-rule_within : (rule : Option TransitionRule) (u : ℤ) (t : LocalType) → All (λ (s : LocalType). IsWithinDay s.offset) (rule_types rule) → IsTypeOf rule u t → IsWithinDay t.offset
-rule_within (Some (Fixed f)) u t all h = rw h (all 0 f (omega arith))
-rule_within (Some (Alternate a)) u t all h = rw h.shown (turn_within a h.dst all)
-rule_within None u t all h = absurd h
+rule_has : (P : LocalType → Type 0) (rule : Option TransitionRule) (u : ℤ) (t : LocalType) → All P (rule_types rule) → IsTypeOf rule u t → P t
+rule_has P (Some (Fixed f)) u t all h = subst P (sym h) (all 0 f (omega arith))
+rule_has P (Some (Alternate a)) u t all h = subst P (sym h.shown) (turn_has P a h.dst all)
+rule_has P None u t all h = absurd h
 
-pub type_within : (z : Zone) (u : ℤ) (t : LocalType) → IsNarrow z → TypeAt z u t → IsWithinDay t.offset
-type_within z u t narrow h = elim (type_listed z u t h) [
-  | inl k ↦ all_listed (λ (s : LocalType). IsWithinDay s.offset) z.types k.0 t k.2 narrow.types
-  | inr rule ↦ rule_within z.rule u t narrow.rule rule
+type_has : (P : LocalType → Type 0) (z : Zone) (u : ℤ) (t : LocalType) → All P z.types → All P (rule_types z.rule) → TypeAt z u t → P t
+type_has P z u t types rule h = elim (type_listed z u t h) [
+  | inl k ↦ all_listed P z.types k.0 t k.2 types
+  | inr of_rule ↦ rule_has P z.rule u t rule of_rule
 ]
+
+-- in a narrow zone its offset is within a day
+pub type_within : (z : Zone) (u : ℤ) (t : LocalType) → IsNarrow z → TypeAt z u t → IsWithinDay t.offset
+type_within z u t narrow h = type_has (λ s. IsWithinDay s.offset) z u t narrow.types narrow.rule h
+
+-- and where all have one offset, it is that
+pub offset_alone : (z : Zone) (off : ℤ → ℤ) (k : ℤ) → AreOffsetsOf z off → HasOneOffset z k → (u : ℤ) → IsZoneSecond u → off u ≡ k
+offset_alone z off k of_zone one u inside =
+    let there = of_zone u inside in there.offset ∙ type_has (λ s. s.offset ≡ k) z u there.type one.types one.rule there.in_force
 
 pub offset_within : (z : Zone) (u k : ℤ) → IsNarrow z → HasOffset z u k → IsWithinDay k
 offset_within z u k narrow h = rw h.offset (type_within z u h.type narrow h.in_force)

@@ -17,6 +17,11 @@ pub record IsNarrow (z : Zone) : Type 0 where
   pub types : All (λ t. IsWithinDay t.offset) z.types
   pub rule : All (λ t. IsWithinDay t.offset) (rule_types z.rule)
 
+-- each type that the zone lists, and each of its rule, has the offset k
+pub record HasOneOffset (z : Zone) (k : ℤ) : Type 0 where
+  pub types : All (λ t. t.offset ≡ k) z.types
+  pub rule : All (λ t. t.offset ≡ k) (rule_types z.rule)
+
 -- at the second u a type is in force, and k is its offset
 pub record HasOffset (z : Zone) (u k : ℤ) : Type 0 where
   pub type : LocalType

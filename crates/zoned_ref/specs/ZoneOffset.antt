@@ -12,6 +12,7 @@ use Rattle.zoned_ref.specs.declared.zone_offset.ZoneOffset.{ZoneOffset}
 abbrev pub fixed_of : ZoneOffset → FixedOffset
 fixed_of o = o.fixed
 
+-- how many seconds clocks are ahead of UTC
 abbrev pub ahead_of : ZoneOffset → ℤ
 ahead_of o = seconds_of (fixed_of o)
 

@@ -4,10 +4,10 @@ ghost use Rattle.std.specs.Hash as fed;
 ghost use Rattle.zoned_ref.specs.ZoneOffset.{ahead_of, type_of};
 ghost use Rattle.zoned_ref.specs.declared.zone_offset.ZoneOffset.{ZoneOffset as AnyOffset};
 
-use crate::ZoneOffset;
+use crate::{TimeZoneRef, WallClock, ZoneOffset};
 use std::hash::Hash;
 
-/// Offsets are equal exactly where their types of local time are, a hash looks at the seconds, and
+/// Offsets are equal if and only if their types of local time are, a hash looks at the seconds, and
 /// a clone is the offset.
 pub fn zone_offsets<'a>()
     ensures equal { (a b : AnyOffset) → IsTrue (⟦<ZoneOffset<'a> as PartialEq>⟧.eq a b)
@@ -15,6 +15,19 @@ pub fn zone_offsets<'a>()
     ensures hashed { (a : AnyOffset) → ⟦<ZoneOffset<'a> as Hash>⟧.hash_input a
         ≡ fed.i32 (ahead_of a) }
     ensures cloned { (a b : AnyOffset) → ⟦<ZoneOffset<'a> as Clone>⟧.is_clone a b ↔ (b ≡ a) }
+    ensures infallible { (a : AnyOffset) → ⟦<ZoneOffset<'a> as Clone>⟧.is_infallible a }
 {
     tz_info::laws::equality::local_time_types();
 }
+
+/// A clone of a borrowed zone is that zone, and making it never fails.
+pub fn time_zone_refs<'a>(a: &TimeZoneRef<'a>, b: &TimeZoneRef<'a>)
+    ensures cloned { ⟦<TimeZoneRef<'a> as Clone>⟧.is_clone a.now b.now → b.now ≡ a.now }
+    ensures infallible { ⟦<TimeZoneRef<'a> as Clone>⟧.is_infallible a.now }
+{}
+
+/// A clone of what a wall clock tells is the same, and making it never fails.
+pub fn wall_clocks(a: &WallClock, b: &WallClock)
+    ensures cloned { ⟦<WallClock as Clone>⟧.is_clone a.now b.now → b.now ≡ a.now }
+    ensures infallible { ⟦<WallClock as Clone>⟧.is_infallible a.now }
+{}

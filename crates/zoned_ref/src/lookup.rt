@@ -39,7 +39,10 @@ impl<'a> TimeZone for TimeZoneRef<'a> {
         self.offset_at(utc.secs_since_epoch())
     }
 
-    fn offset_from_utc_date(&self, utc: &NaiveDate) -> ZoneOffset<'a> {
+    fn offset_from_utc_date(&self, utc: &NaiveDate) -> ZoneOffset<'a>
+        ensures offset { IsOffsetAt (law_of self.now) (midnight_of utc.now) result }
+        ensures local_type { TypeAt (zone_of self.now) (midnight_of utc.now) (type_of result) }
+    {
         self.offset_from_utc_datetime(&midnight(utc))
     }
 
@@ -63,7 +66,11 @@ impl<'a> TimeZone for TimeZoneRef<'a> {
         }
     }
 
-    fn offset_from_local_date(&self, local: &NaiveDate) -> LocalResult<ZoneOffset<'a>> {
+    fn offset_from_local_date(&self, local: &NaiveDate) -> LocalResult<ZoneOffset<'a>>
+        ensures offsets { AreOffsetsFor (law_of self.now) (midnight_of local.now) result }
+        ensures local_types { IsWallAnswer (Shows (TypeAt (zone_of self.now)) (midnight_of local.now))
+            (map_of type_of result) }
+    {
         self.offset_from_local_datetime(&midnight(local))
     }
 

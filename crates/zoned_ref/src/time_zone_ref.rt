@@ -1,9 +1,9 @@
 //! Parsed zones, borrowed.
 ghost use Rattle.std.specs.Prelude.{◌≡◌, ◌↔◌, IsTrue, IsSome, IfSome, All, ℤ};
 ghost use Rattle.offset_core.specs.Offset.{IsWithinDay};
-ghost use Rattle.zoned_time.specs.Zone.{IsZoneSecond};
+ghost use Rattle.zoned_time.specs.Zone.{IsFixed, IsZoneSecond};
 ghost use Rattle.zoned_ref.specs.OffsetAt.{offset_at};
-ghost use Rattle.zoned_ref.specs.Offsets.{IsNarrow, HasOffsets, AreOffsetsOf, rule_types};
+ghost use Rattle.zoned_ref.specs.Offsets.{IsNarrow, HasOneOffset, HasOffsets, AreOffsetsOf, rule_types};
 
 use offset_core::FixedOffset;
 use tz_info::{LocalTimeType, TransitionRule};
@@ -13,10 +13,10 @@ use tz_info::{LocalTimeType, TransitionRule};
 ///
 /// It borrows the parsed zone, and so does each instant that it gives: none of them can be used
 /// once that zone is gone. [`DateTime::fixed_offset`](zoned_time::DateTime::fixed_offset) gives an
-/// instant that prints alike and borrows nothing: that is the one to keep and to sort. Print an
-/// instant of a borrowed zone, or map a closure over such instants, in a function that is generic
-/// over the zone: in other code the checker doesn't cover `{instant}`, `==`, a copy or a closure of
-/// it yet.
+/// instant that prints alike and borrows nothing: that is the one to keep. Instants of a borrowed
+/// zone compare, sort and print as any other. What the checker doesn't cover of them yet is a copy
+/// in place (write `clone` or `iter().copied()`), a closure that asks the zone, and one that
+/// captures an instant: write such closures in a function that is generic over the zone.
 ///
 /// ```
 /// let parsed = tz_info::TimeZone::from_tz_data(alloc, bytes)?; // New York's file
@@ -39,6 +39,7 @@ pub struct TimeZoneRef<'a> {
 
 impl<'a> TimeZoneRef<'a> {
     ghost use Rattle.zoned_ref.specs.TimeZoneRef.{zone_of, off_of};
+    ghost use Rattle.zoned_ref.specs.ZoneOffset.{law_of};
 
     /// That zone, or `None` where a type that it lists, or a type of its rule, is a day (86,400
     /// seconds) or more away from UTC. A rule of one type may have one that the zone doesn't list.
@@ -47,6 +48,12 @@ impl<'a> TimeZoneRef<'a> {
         ensures zone { IfSome result (λ r. zone_of r ≡ zone.now) }
         // Its offsets are those of the types in force.
         ensures offsets { IfSome result (λ r. AreOffsetsOf zone.now (off_of r)) }
+        // Where each of its types has the offset k, that is its offset at each second,
+        ensures one_offset { IfSome result (λ r. (k : ℤ) → HasOneOffset zone.now k
+            → (u : ℤ) → IsZoneSecond u → off_of r u ≡ k) }
+        // and its clocks are never set.
+        ensures fixed { IfSome result (λ r. (k : ℤ) → HasOneOffset zone.now k
+            → IsFixed (law_of r)) }
     {
         has_offsets(zone);
         if is_narrow(zone) {
@@ -69,7 +76,7 @@ impl<'a> TimeZoneRef<'a> {
 }
 
 // Leap times that leave 64 bits, and years that no rule answers in, are far away from the seconds
-// that a zone of `DateTime`s is asked for. This does nothing: its contract is a law.
+// that a zone of `DateTime`s answers at. This does nothing: its contract is a law.
 fn has_offsets(zone: &tz_info::TimeZone)
     ensures { HasOffsets zone.now }
 {

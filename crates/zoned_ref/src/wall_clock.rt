@@ -47,6 +47,8 @@ impl WallClock {
     /// When the clocks of a TZif file's zone show a reading. Of the looks at the zone those that
     /// find the types are counted, as [`WallClock::in_zone`] says.
     ///
+    /// Requires: `probes` has room for more counts ([`Probes::has_room`]).
+    ///
     /// # Errors
     ///
     /// Those of [`TimeZone::from_tz_data`](tz_info::TimeZone::from_tz_data).
@@ -63,9 +65,9 @@ impl WallClock {
         // Of a file that has a valid zone it is told, unless memory runs out.
         ensures only { (z : Zone) → IsTzFile bytes.now z → IsValid z
             → MatchResult result (λ told. Tells z (reading local.now) told) (λ e. e ≡ OutOfMemory) }
-        // Where the file is refused, what the number says stands in it.
+        // Where the file has a fault, what the number says stands in it.
         ensures fault { IfErr result (λ e. IsZoneFault bytes.now (number_of e)) }
-        // Want of memory is answered only where every piece of the file is there.
+        // Memory runs out only where every piece of the file is there.
         ensures memory { IfErr result (λ e. e ≡ OutOfMemory
             → (p : FilePieces) × HasPieces bytes.now p) }
         ensures kept { IfErr result (λ _. probes.new ≡ probes.old) }
@@ -78,6 +80,8 @@ impl WallClock {
 
     /// When the clocks of a TZ text's zone show a reading. Of the looks at the zone those that find
     /// the types are counted, as [`WallClock::in_zone`] says.
+    ///
+    /// Requires: `probes` has room for more counts ([`Probes::has_room`]).
     ///
     /// # Errors
     ///
@@ -97,10 +101,10 @@ impl WallClock {
             → MatchResult result
             (λ told. Tells z (reading local.now) told)
             (λ e. number_of e ≡ 17) }
-        // Where the text is refused, what the number says stands in it, or there is no memory.
+        // Where the text has a fault, what the number says stands in it, or memory runs out.
         ensures fault { IfErr result
             (λ e. (number_of e ≡ 17) ⊎ IsPosixFault text.now (number_of e)) }
-        // Want of memory is answered only of a text that has a zone.
+        // Memory runs out only for a text that has a zone.
         ensures memory { IfErr result
             (λ e. number_of e ≡ 17 → (z : Zone) × IsPosixZone text.now z) }
         ensures kept { IfErr result (λ _. probes.new ≡ probes.old) }
@@ -114,6 +118,8 @@ impl WallClock {
     /// When the clocks of the zone show a reading. It takes at most 2 questions to the rule and,
     /// with `digits` for the number of binary digits, `digits(2 * transitions + 1)` looks at pieces
     /// of the zone's index, which `probes` counts.
+    ///
+    /// Requires: `probes` has room for more counts ([`Probes::has_room`]).
     pub fn in_zone(
         zone: &tz_info::TimeZone,
         local: &NaiveDateTime,

@@ -21,7 +21,7 @@ use zoned_time::Offset;
 /// the zone, and not to one that is fixed at this offset. It lives no longer than the parsed zone.
 ///
 /// It prints as its [`FixedOffset`]. Two are equal where their types of local time are: seconds,
-/// daylight saving mark and abbreviation. Their zones are not compared.
+/// DST flag and abbreviation. Their zones are not compared.
 ///
 /// ```
 /// let fold = new_york.with_ymd_and_hms(2021, 11, 7, 1, 30, 0).earliest()?;
@@ -61,7 +61,15 @@ impl<'a> ZoneOffset<'a> {
         self.zone
     }
 
-    /// The abbreviation of the type of local time, as `EST` or `-03`. `None` where the zone gives
+    /// The type of local time that it is the offset of.
+    pub fn local_type(&self) -> &LocalTimeType
+        ensures local_type { result.now ≡ type_of self.now }
+        ensures within_day { IsWithinDay result.now.offset }
+    {
+        &self.local_type
+    }
+
+    /// The abbreviation of the type of local time, such as `EST` or `-03`. `None` where the zone gives
     /// it none.
     pub fn name(&self) -> Option<&TimeZoneName>
         ensures { option_map (λ n. n.now) result ≡ (type_of self.now).name }
@@ -69,7 +77,7 @@ impl<'a> ZoneOffset<'a> {
         self.local_type.name()
     }
 
-    /// Whether the type of local time is daylight saving time, by the mark that the zone gives it.
+    /// Whether the type of local time is daylight saving time: its DST flag.
     pub fn is_dst(&self) -> bool
         ensures { result ≡ (type_of self.now).dst }
     {
@@ -126,8 +134,10 @@ impl fmt::Display for ZoneOffset<'_> {
 
     ghost output = { λ offset. Some (printed_offset (fixed_of offset)) };
 
+    ghost styled_output = { λ offset _. Some (printed_offset (fixed_of offset)) };
+
     fn fmt<W: fmt::Write>(&self, f: &mut fmt::Formatter<W>) -> fmt::Result {
-        write!(f, "{}", self.fixed)
+        fmt::Display::fmt(&self.fixed, f)
     }
 }
 

@@ -1,9 +1,12 @@
 -- Values that went some way, as instants.
-use Rattle.std.proofs.Common.{◌≡◌, ◌∙◌, ap, ◌<◌, arith, ℤ, pos, ◌+ℤ◌}
+use Rattle.std.proofs.Common.{◌≡◌, ◌∙◌, ap, sym, refl, ◌<◌, arith, ℤ, pos, ◌+ℤ◌}
 use Rattle.std.proofs.lemmas.Int.{by_lt_z}
 use Rattle.naive_base.specs.Reading.{Reading, total, moved}
 use Rattle.naive_base.proofs.ForCallers.{floors, total-moved}
+use Rattle.zoned_round.specs.declared.error.RoundingError.{RoundingError}
+use Rattle.zoned_round.specs.declared.error.RoundingError.TheVariants.{DurationExceedsTimestamp, DurationExceedsLimit, TimestampExceedsLimit}
 use Rattle.zoned_round.specs.Durations.{IsGone}
+use Rattle.zoned_round.specs.Errors.{IsRefusal}
 
 -- outside leap seconds a value is that much later
 pub total-gone : {T : Type 0} (instant : T → Reading) (IsMoved : ℤ → T → Type 0) (value answer : T) (way : ℤ)
@@ -21,3 +24,33 @@ total-gone instant IsMoved value answer way moves plain gone =
     (λ same. let none : way ≡ pos 0 = omega (arith, floors) in
     let stays : total (instant answer) ≡ total (instant value) = ap (λ v. total (instant v)) (gone.itself none) in
     omega (arith, floors)))
+
+-- and two values that went one way show one reading
+pub gone-once : {T : Type 0} (instant : T → Reading) (IsMoved : ℤ → T → Type 0) (value a b : T) (way : ℤ)
+    → ((d : ℤ) (new : T) → IsMoved d new → instant new ≡ moved (instant value) d)
+    → IsGone IsMoved way value a → IsGone IsMoved way value b → instant a ≡ instant b
+gone-once instant IsMoved value a b way moves h k =
+    let P : Type 0 = instant a ≡ instant b in
+    let off : (way ≡ pos 0 → ⊥) → P = λ some. moves way a (h.other some) ∙ sym (moves way b (k.other some)) in
+    by_lt_z {P = P} way (pos 0)
+    (λ early. off (λ none. absurd (omega (arith, floors))))
+    (λ late. by_lt_z {P = P} (pos 0) way
+    (λ after. off (λ none. absurd (omega (arith, floors))))
+    (λ same. let none : way ≡ pos 0 = omega (arith, floors) in
+    ap instant (h.itself none) ∙ sym (ap instant (k.itself none))))
+
+-- one reason at most
+pub refusal-once : (p q : Type 0) (e f : RoundingError) → IsRefusal p q e → IsRefusal p q f → e ≡ f
+refusal-once p q DurationExceedsLimit DurationExceedsLimit h k = refl
+refusal-once p q DurationExceedsLimit TimestampExceedsLimit h k = absurd (h k.0)
+refusal-once p q DurationExceedsLimit DurationExceedsTimestamp h k = absurd k
+refusal-once p q TimestampExceedsLimit DurationExceedsLimit h k = absurd (k h.0)
+refusal-once p q TimestampExceedsLimit TimestampExceedsLimit h k = refl
+refusal-once p q TimestampExceedsLimit DurationExceedsTimestamp h k = absurd k
+refusal-once p q DurationExceedsTimestamp f h k = absurd h
+
+-- and none where both fit
+pub not-refused : (p q : Type 0) (e : RoundingError) → p → q → IsRefusal p q e → ⊥
+not-refused p q DurationExceedsLimit x y h = h x
+not-refused p q TimestampExceedsLimit x y h = h.1 y
+not-refused p q DurationExceedsTimestamp x y h = h

@@ -9,6 +9,7 @@ IsRefusal span_fits stamp_fits DurationExceedsLimit = span_fits → ⊥
 IsRefusal span_fits stamp_fits TimestampExceedsLimit = span_fits × (stamp_fits → ⊥)
 IsRefusal span_fits stamp_fits DurationExceedsTimestamp = ⊥
 
+-- what each error prints
 abbrev pub message : RoundingError → List ℕ
 message DurationExceedsTimestamp = codes "duration in nanoseconds exceeds timestamp"
 message DurationExceedsLimit = codes "duration exceeds num_nanoseconds limit"

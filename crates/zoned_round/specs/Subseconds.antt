@@ -7,11 +7,11 @@ use Rattle.zoned_round.specs.Multiples.{nearest_multiple, IsItselfOr}
 abbrev pub nanos_per_digit : ℕ → ℕ
 nanos_per_digit digits = 10 ^ (9 - digits)
 
--- the nanoseconds behind the last digit, of a leap second too
+-- the nanoseconds after the last digit, of a leap second too
 abbrev pub nanos_behind : Reading → ℕ → ℕ
 nanos_behind r digits = r.f % nanos_per_digit digits
 
--- the same second, cut behind the last digit
+-- the same second, cut after the last digit
 abbrev pub cut : Reading → ℕ → Reading
 cut r digits = record { s = r.s; f = r.f - nanos_behind r digits }
 
@@ -23,10 +23,12 @@ rounded r digits = moved r (nearest_multiple (pos r.f) (nanos_per_digit digits) 
 abbrev pub MayRound : (Reading → Type 0) → Reading → ℕ → Type 0
 MayRound MayShow r digits = (nanos_behind r digits ≡ 0 → ⊥) → MayShow (rounded r digits)
 
+-- what comes of a value that shows r where it is rounded to so many digits
 abbrev pub IsRounded : {T : Type 0} → (Reading → T → Type 0) → Reading → ℕ → T → T → Type 0
 IsRounded IsShowing r digits value answer =
     IsItselfOr (nanos_behind r digits ≡ 0) (IsShowing (rounded r digits)) value answer
 
+-- what comes of a value that shows r where it is cut after so many digits
 abbrev pub IsCut : {T : Type 0} → (Reading → T → Type 0) → Reading → ℕ → T → T → Type 0
 IsCut IsShowing r digits value answer =
     IsItselfOr (nanos_behind r digits ≡ 0) (IsShowing (cut r digits)) value answer

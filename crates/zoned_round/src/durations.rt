@@ -23,8 +23,13 @@ use zoned_time::{DateTime, Offset, TimeZone};
 /// What a value's clock shows counts from 1970-01-01 00:00:00, whatever its offset: its stamp is
 /// all of that in nanoseconds, a leap second's included. The value moves by the time from its stamp
 /// to a multiple of the length, or stays as it is where the stamp is a multiple. A length that
-/// isn't positive, or leaves an `i64` of nanoseconds, is refused first, and then a stamp that
+/// isn't positive, or leaves an `i64` of nanoseconds, is an error first, and then a stamp that
 /// leaves one.
+///
+/// So its clock shows that multiple then, except in two cases. From a leap second the way counts
+/// that second: 00:00:60.900, rounded up to 7 seconds, is 00:01:02. And an instant may be moved
+/// across a change of offset: in New York 2021-03-14 03:30 -04:00, cut to a day, is
+/// 2021-03-13 23:00 -05:00.
 ///
 /// ```text
 /// // 2012-12-12 18:22:29.999
@@ -107,7 +112,8 @@ impl<Tz: TimeZone> DurationRound for DateTime<Tz> {
 
     ghost instant = { λ d. (zoned d).utc };
 
-    ghost IsMoved = { λ d way answer. IsAt (home_of d) (moved (zoned d).utc way) (zoned answer) };
+    ghost IsMoved = { λ d way answer.
+        IsAt (home_of Tz.meaning d) (moved (zoned d).utc way) (zoned answer) };
 
     ghost moves = { λ _ _ _ is. is.utc };
 
@@ -152,7 +158,7 @@ fn instant_after<Tz: TimeZone>(instant: DateTime<Tz>, way: TimeDelta) -> DateTim
     requires near { IsNear (zoned instant).utc }
     requires short { FitsSigned w64 (nanos_of way) }
     ensures { let utc = (zoned instant).utc in
-        IsGone (λ d answer. IsAt (home_of instant) (moved utc d) (zoned answer))
+        IsGone (λ d answer. IsAt (home_of Tz.meaning instant) (moved utc d) (zoned answer))
         (nanos_of way) instant result }
 {
     if way.whole_nanoseconds() == 0 {

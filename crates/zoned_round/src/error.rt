@@ -19,6 +19,8 @@ pub enum RoundingError {
 impl fmt::Display for RoundingError {
     ghost output = { λ error. Some (message error) };
 
+    ghost styled_output = { λ error _. Some (message error) };
+
     fn fmt<W: fmt::Write>(&self, f: &mut fmt::Formatter<W>) -> fmt::Result {
         f.write_str(match self {
             RoundingError::DurationExceedsTimestamp => "duration in nanoseconds exceeds timestamp",

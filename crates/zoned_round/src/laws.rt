@@ -1,14 +1,19 @@
 //! Theorems: each function is empty, its contract is proved; never called.
-ghost use Rattle.std.specs.Prelude.{◌≡◌, ◌↔◌, ◌⊎◌, IsTrue, ℕ, ◌<◌, ◌≤◌, ℤ, ◌≤ℤ◌, Ok, FitsSigned};
+ghost use Rattle.std.specs.Prelude.{◌≡◌, ◌↔◌, ◌⊎◌, IsTrue, ℕ, ◌<◌, ◌≤◌, ℤ, ◌≤ℤ◌, Ok, Err, FitsSigned};
 ghost use Rattle.std.specs.Int.{w64};
+ghost use Rattle.naive_base.specs.NaiveDateTime.{reading};
 ghost use Rattle.naive_base.specs.Range.{IsInRange};
 ghost use Rattle.naive_base.specs.Reading.{Reading, total};
 ghost use Rattle.zoned_round.specs.declared.error.RoundingError.{RoundingError as Fault};
 ghost use Rattle.zoned_round.specs.Durations.{IsRoundedTo};
 ghost use Rattle.zoned_round.specs.Laws.{IsMultiple, IsGreatest, IsLeast, apart, IsShortOf, IsWithinHalf};
 ghost use Rattle.zoned_round.specs.Multiples.{multiple_below, multiple_above, nearest_multiple};
+ghost use Rattle.zoned_round.specs.Subseconds.{MayRound};
+ghost use Rattle.zoned_time.specs.DateTime.{zoned, wall_of};
 
-use crate::{DurationRound, RoundingError};
+use crate::{DurationRound, RoundingError, SubsecRound};
+use naive_base::{NaiveDateTime, NaiveTime};
+use zoned_time::{DateTime, TimeZone};
 
 /// Outside leap seconds, `duration_trunc` gives an instant that isn't later than the value,
 /// `duration_round_up` one that isn't earlier, and each is less than the length away.
@@ -57,4 +62,35 @@ pub fn multiples()
 pub fn errors()
     ensures equal { (a b : Fault) → IsTrue (⟦<RoundingError as PartialEq>⟧.eq a b) ↔ (a ≡ b) }
     ensures cloned { (a b : Fault) → ⟦<RoundingError as Clone>⟧.is_clone a b ↔ (a ≡ b) }
+    ensures infallible { (a : Fault) → ⟦<RoundingError as Clone>⟧.is_infallible a }
+{}
+
+/// Of a value and a length there is one rounded reading, or one error, and never both.
+pub fn one_rounded_value<T: DurationRound>()
+    ensures rounded { (choose : ℤ → ℕ → ℤ) (value a b : T) (stamp span : ℤ)
+        → IsRoundedTo choose T.fault (T.IsMoved value) stamp span value (Ok a)
+        → IsRoundedTo choose T.fault (T.IsMoved value) stamp span value (Ok b)
+        → T.instant a ≡ T.instant b }
+    ensures refused { (choose : ℤ → ℕ → ℤ) (value : T) (e f : T.Err) (stamp span : ℤ)
+        → IsRoundedTo choose T.fault (T.IsMoved value) stamp span value (Err e)
+        → IsRoundedTo choose T.fault (T.IsMoved value) stamp span value (Err f)
+        → T.fault e ≡ T.fault f }
+    ensures not_both { (choose : ℤ → ℕ → ℤ) (value a : T) (e : T.Err) (stamp span : ℤ)
+        → IsRoundedTo choose T.fault (T.IsMoved value) stamp span value (Ok a)
+        → IsRoundedTo choose T.fault (T.IsMoved value) stamp span value (Err e) → ⊥ }
+{}
+
+/// Rounding counts by what a value's clock shows, and moves its reading of UTC. A time of day may
+/// always be rounded to digits.
+pub fn clocks_of_values<Tz: TimeZone>(
+    instant: &DateTime<Tz>,
+    local: &NaiveDateTime,
+    time: &NaiveTime,
+)
+    ensures clock { ⟦<DateTime<Tz> as DurationRound>⟧.clock instant.now ≡ wall_of instant.now }
+    ensures moves { ⟦<DateTime<Tz> as DurationRound>⟧.instant instant.now
+        ≡ (zoned instant.now).utc }
+    ensures reading { ⟦<NaiveDateTime as DurationRound>⟧.clock local.now ≡ reading local.now }
+    ensures time { (digits : ℕ) → MayRound (⟦<NaiveTime as SubsecRound>⟧.MayShow time.now)
+        (⟦<NaiveTime as SubsecRound>⟧.shown time.now) digits }
 {}

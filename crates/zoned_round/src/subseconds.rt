@@ -19,7 +19,7 @@ use zoned_time::{DateTime, TimeZone};
 ///
 /// A last digit counts 10^9 nanoseconds with no digits, a tenth of that with one, and so on; with
 /// nine digits and more it counts one, and the value stays as it is. It also stays where nothing is
-/// behind its last digit. A leap second's nanoseconds go from 10^9 on, below 2*10^9.
+/// after its last digit. A leap second's nanoseconds go from 10^9 on, below 2*10^9.
 ///
 /// ```text
 /// // 10:05:13.084660684
@@ -43,7 +43,7 @@ pub trait SubsecRound: Sized {
         requires { MayRound (MayShow self) (shown self) digits }
         ensures { IsRounded (IsShowing self) (shown self) digits self result };
 
-    /// Cut behind so many digits of its second.
+    /// Cut after so many digits of its second.
     fn trunc_subsecs(self, digits: u16) -> Self
         ensures { IsCut (IsShowing self) (shown self) digits self result };
 }
@@ -67,7 +67,7 @@ fn nanos_per_digit(digits: u16) -> u32
     }
 }
 
-// The nanoseconds behind the last digit.
+// The nanoseconds after the last digit.
 fn nanos_behind(nanos: u32, digits: u16) -> u32
     ensures { result ≡ nanos % nanos_per_digit digits }
 {
@@ -117,7 +117,7 @@ impl SubsecRound for NaiveDateTime {
 impl<Tz: TimeZone> SubsecRound for DateTime<Tz> {
     ghost shown = { λ d. (zoned d).utc };
 
-    ghost IsShowing = { λ d r answer. IsAt (home_of d) r (zoned answer) };
+    ghost IsShowing = { λ d r answer. IsAt (home_of Tz.meaning d) r (zoned answer) };
 
     ghost MayShow = { λ _ r. IsInRange r.s };
 
@@ -172,7 +172,7 @@ fn on_day_0(time: NaiveTime) -> NaiveDateTime
 fn instant_cut<Tz: TimeZone>(here: DateTime<Tz>, behind: u32) -> DateTime<Tz>
     requires { behind ≤ (zoned here).utc.f }
     ensures { let utc = (zoned here).utc in
-        IsAt (home_of here) (record { s = utc.s; f = utc.f - behind }) (zoned result) }
+        IsAt (home_of Tz.meaning here) (record { s = utc.s; f = utc.f - behind }) (zoned result) }
 {
     here.checked_sub_signed(TimeDelta::nanoseconds(behind as i64))
         .unwrap()

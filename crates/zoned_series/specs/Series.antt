@@ -18,7 +18,7 @@ pub record Series (Z : Type 0) : Type 0 where
   pub fraction : ℕ
   pub choice : Choice
 
--- that time on the day n days behind the first
+-- that time on the day n days after the first
 abbrev pub reading_of : {Z : Type 0} → Series Z → ℕ → Reading
 reading_of s n = reading_at (s.first +ℤ pos n) s.second s.fraction
 
@@ -43,7 +43,7 @@ pub record Items (Z : Type 0) : Type 0 where
   pub next : ℕ
   pub end : ℕ
 
--- a step gave the next item, or nothing exactly where none is left
+-- a step gave the next item, or nothing if and only if none is left
 abbrev pub Gives : {Z O D : Type 0} {m : Meaning O} → Law m → (D → Zoned O) → Items Z → Option (Result D SeriesError) → Items Z → Type 0
 Gives law zoned before answer after = MatchOption answer
     ((before.end ≤ before.next) × (after ≡ before))

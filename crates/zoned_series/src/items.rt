@@ -1,6 +1,7 @@
 //! The days of a series, one after another.
-ghost use Rattle.std.specs.Prelude.{◌≡◌, ◌-◌};
-ghost use Rattle.std.specs.Iterator.{at_most};
+ghost use Rattle.std.specs.Prelude.{◌≡◌, ◌-◌, Some, IfSome};
+ghost use Rattle.std.specs.Iterator.{at_most, UpTo};
+ghost use Rattle.std.specs.Iterator.SizeHint.{IsWithinCount};
 ghost use Rattle.zoned_series.specs.DailySeries.{series_of, items_of};
 ghost use Rattle.zoned_series.specs.Series.{Gives, GivesBack};
 ghost use Rattle.zoned_time.specs.DateTime.{zoned};
@@ -11,7 +12,7 @@ use zoned_time::{DateTime, TimeZone};
 
 /// The days of a series, one after another. From [`DailySeries::days`].
 ///
-/// A day without an instant is an `Err`, and the days behind it still come.
+/// A day without an instant is an `Err`, and the days after it still come.
 #[derive(Clone, Copy)]
 pub struct DailyItems<Tz> {
     series: DailySeries<Tz>,
@@ -34,7 +35,8 @@ impl<Tz: TimeZone> DailyItems<Tz> {
 impl<Tz: TimeZone> Iterator for DailyItems<Tz> {
     type Item = Result<DateTime<Tz>, SeriesError>;
 
-    ghost next_gives = { λ s r t. Gives (Tz.law s.series.zone) zoned (items_of s) r (items_of t) };
+    ghost next_gives = { λ s r t. Gives (Tz.law (items_of s).series.zone) zoned (items_of s) r
+        (items_of t) };
 
     ghost remaining = { λ s. at_most ((items_of s).end - (items_of s).next) };
 
@@ -47,15 +49,23 @@ impl<Tz: TimeZone> Iterator for DailyItems<Tz> {
         Some(item)
     }
 
-    fn size_hint(&self) -> (usize, Option<usize>) {
+    fn size_hint(&self) -> (usize, Option<usize>)
+        ensures lower { let i = items_of self.now in
+            IsWithinCount result.0 (at_most (i.end - i.next)) }
+        ensures upper { let i = items_of self.now in
+            IfSome result.1 (UpTo (at_most (i.end - i.next))) }
+        // Both bounds are what is left.
+        ensures exact { let i = items_of self.now in
+            result ≡ (i.end - i.next, Some (i.end - i.next)) }
+    {
         let len = self.len();
         (len, Some(len))
     }
 }
 
 impl<Tz: TimeZone> DoubleEndedIterator for DailyItems<Tz> {
-    ghost next_back_gives = { λ s r t. GivesBack (Tz.law s.series.zone) zoned (items_of s) r
-        (items_of t) };
+    ghost next_back_gives = { λ s r t. GivesBack (Tz.law (items_of s).series.zone) zoned
+        (items_of s) r (items_of t) };
 
     fn next_back(&mut self) -> Option<Result<DateTime<Tz>, SeriesError>> {
         if self.next >= self.end {

@@ -1,11 +1,53 @@
 //! Theorems: each function is empty, its contract is proved; never called.
-ghost use Rattle.std.specs.Prelude.{◌≡◌, ◌↔◌, IsTrue};
+ghost use Rattle.std.specs.Prelude.{◌≡◌, ◌↔◌, ◌-◌, ◌≤◌, IsTrue, ℕ, None};
+ghost use Rattle.std.specs.Iterator.{at_most};
+ghost use Rattle.zoned_series.specs.DailySeries.{series_of, items_of};
+ghost use Rattle.zoned_series.specs.Series.{Series, IsItem, IsMissing};
 ghost use Rattle.zoned_series.specs.declared.series_error.SeriesError.{SeriesError as Fault};
+ghost use Rattle.zoned_time.specs.Zoned.{Zoned, in_seconds};
 
-use crate::SeriesError;
+use crate::{DailyItems, DailySeries, SeriesError};
+use zoned_time::{Offset, TimeZone};
 
-/// Errors of a series are equal where they are the same, and a clone is the error.
+/// Errors of a series are equal if and only if they are the same, and a clone is the error.
 pub fn errors()
     ensures equal { (a b : Fault) → IsTrue (⟦<SeriesError as PartialEq>⟧.eq a b) ↔ (a ≡ b) }
     ensures cloned { (a b : Fault) → ⟦<SeriesError as Clone>⟧.is_clone a b ↔ (a ≡ b) }
+    ensures infallible { (a : Fault) → ⟦<SeriesError as Clone>⟧.is_infallible a }
+{}
+
+/// Of each day there is one instant, at one offset in seconds, or one error, and never both.
+pub fn one_item<Tz: TimeZone>()
+    ensures item { (zone : Tz) (s : Series Tz) (n : ℕ) (d e : Zoned Tz.Offset)
+        → IsItem (Tz.law zone) s n d → IsItem (Tz.law zone) s n e
+        → in_seconds Tz.Offset.seconds d ≡ in_seconds Tz.Offset.seconds e }
+    ensures missing { (zone : Tz) (s : Series Tz) (n : ℕ) (e f : Fault)
+        → IsMissing (Tz.law zone) s n e → IsMissing (Tz.law zone) s n f → e ≡ f }
+    ensures not_both { (zone : Tz) (s : Series Tz) (n : ℕ) (d : Zoned Tz.Offset) (e : Fault)
+        → IsItem (Tz.law zone) s n d → IsMissing (Tz.law zone) s n e → ⊥ }
+{}
+
+/// A clone of a series is that series except for a clone of its zone, and so is one of its items.
+pub fn clones<Tz: TimeZone>(
+    a: &DailySeries<Tz>,
+    b: &DailySeries<Tz>,
+    c: &DailyItems<Tz>,
+    d: &DailyItems<Tz>,
+)
+    ensures series { ⟦<DailySeries<Tz> as Clone>⟧.is_clone a.now b.now
+        → series_of b.now ≡ record (series_of a.now) { zone = (series_of b.now).zone } }
+    ensures items { ⟦<DailyItems<Tz> as Clone>⟧.is_clone c.now d.now
+        → ((items_of d.now).next ≡ (items_of c.now).next)
+        × ((items_of d.now).end ≡ (items_of c.now).end)
+        × ((items_of d.now).series
+        ≡ record (items_of c.now).series { zone = (items_of d.now).series.zone }) }
+{}
+
+/// As many items are left as lie between the next one and the end: a step gives none only
+/// past the end.
+pub fn items_left<Tz: TimeZone>(before: &DailyItems<Tz>, after: &DailyItems<Tz>)
+    ensures remaining { ⟦<DailyItems<Tz> as Iterator>⟧.remaining before.now
+        ≡ at_most ((items_of before.now).end - (items_of before.now).next) }
+    ensures none { ⟦<DailyItems<Tz> as Iterator>⟧.next_gives before.now None after.now
+        → (items_of before.now).end ≤ (items_of before.now).next }
 {}

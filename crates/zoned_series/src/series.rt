@@ -16,7 +16,7 @@ use zoned_time::{DateTime, TimeZone};
 ///
 /// Each day stands for itself: its instant is the one that the choice takes for that time on that
 /// day's clocks, and rests on no other day. So "every day at 02:30 in New York" is at 02:30 again
-/// on the day behind a gap or a fold.
+/// on the day after a gap or a fold.
 ///
 /// ```text
 /// let choice = Choice { gap: GapChoice::ShiftForward, fold: FoldChoice::Earliest };
@@ -33,7 +33,7 @@ pub struct DailySeries<Tz> {
 }
 
 impl<Tz: TimeZone> DailySeries<Tz> {
-    /// That time on the first day, and on each day behind it.
+    /// That time on the first day, and on each day after it.
     pub fn new(zone: Tz, first: NaiveDate, time: NaiveTime, choice: Choice) -> DailySeries<Tz>
         ensures { series_of result ≡ record {
           zone = zone;
@@ -51,7 +51,7 @@ impl<Tz: TimeZone> DailySeries<Tz> {
         }
     }
 
-    /// The instant on the day n days behind the first.
+    /// The instant on the day n days after the first.
     ///
     /// # Errors
     ///
@@ -59,8 +59,8 @@ impl<Tz: TimeZone> DailySeries<Tz> {
     /// a buffer day too; [`SeriesError::Resolve`] if the choice takes no instant there.
     pub fn at(&self, n: u32) -> Result<DateTime<Tz>, SeriesError>
         ensures { MatchResult result
-            (λ d. IsItem (Tz.law self.now.zone) (series_of self.now) n (zoned d))
-            (λ e. IsMissing (Tz.law self.now.zone) (series_of self.now) n e) }
+            (λ d. IsItem (Tz.law (series_of self.now).zone) (series_of self.now) n (zoned d))
+            (λ e. IsMissing (Tz.law (series_of self.now).zone) (series_of self.now) n e) }
     {
         let Some(date) = self.date(n) else {
             return Err(SeriesError::Date);
@@ -78,7 +78,7 @@ impl<Tz: TimeZone> DailySeries<Tz> {
         DailyItems::new(*self, count)
     }
 
-    // The day n days behind the first, where it is in range.
+    // The day n days after the first, where it is in range.
     fn date(&self, n: u32) -> Option<NaiveDate>
         ensures { IsDateOfDay ((series_of self.now).first +ℤ pos n) result }
     {

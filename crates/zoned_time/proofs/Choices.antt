@@ -6,7 +6,8 @@ use Rattle.naive_base.specs.Range.{IsInRange}
 use Rattle.naive_base.specs.Reading.{Reading, behind}
 use Rattle.zoned_time.specs.declared.resolve_error.ResolveError.{ResolveError}
 use Rattle.zoned_time.specs.declared.resolve_error.ResolveError.TheVariants.{OutOfRange}
-use Rattle.zoned_time.specs.Choice.{IsTaken, shifted, IsResolved, IsUnresolved, out_of_range, IsShifted, IsShiftOutOfRange}
+use Rattle.zoned_time.specs.Choice.{IsTaken, shifted, IsResolved, IsUnresolved, out_of_range}
+use Rattle.zoned_time.specs.Steps.Shifts.{IsShifted, IsShiftOutOfRange}
 use Rattle.zoned_time.specs.Relocal.{HasInstant, instant_of}
 use Rattle.zoned_time.specs.Zone.{Meaning, Law, SameOffsets, Shows}
 use Rattle.zoned_time.specs.Zoned.{Zoned, IsAt}

@@ -5,3 +5,4 @@ pub use Rattle.zoned_time.proofs.Instants.{told_in_seconds, relocal_once, given_
 pub use Rattle.zoned_time.proofs.Relocals.{relocal_shown}
 -- of a zone whose offset never changes: its wall clock's answer, and that it has no gap; and that midnights are in the range
 pub use Rattle.zoned_time.proofs.Walls.{constant_wall, constant_no_gap, midnight_wide}
+pub use Rattle.zoned_time.proofs.Once.{resolved_once, not_resolved, unresolved_once}

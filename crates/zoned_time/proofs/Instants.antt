@@ -5,8 +5,7 @@ use Rattle.std.specs.Option.{IsSome}
 use Rattle.offset_core.specs.declared.local_result.LocalResult.{LocalResult}
 use Rattle.offset_core.specs.declared.local_result.LocalResult.TheVariants.{Single, Ambiguous, None as none}
 use Rattle.offset_core.specs.LocalResult.{map_of, single_of, all_or_none}
-use Rattle.offset_core.specs.WallAnswer.{HasOneValue}
-use Rattle.offset_core.proofs.ForCallers.{map_all, one_wall_answer}
+use Rattle.offset_core.proofs.ForCallers.{HasOneValue, map_all, one_wall_answer}
 use Rattle.naive_base.specs.Fields.{IsGiven, IsMonthsLater}
 use Rattle.naive_base.specs.NaiveDateTime.{day_shown_by, IsReadingOnDay}
 use Rattle.naive_base.specs.Reading.{Reading, reading_at, day_at, second_at}
@@ -53,7 +52,7 @@ instants_once seconds l (Ambiguous o p) a b h k =
     let last = given_once h.asked.1 k.asked.1 _ _ h.asked.5 k.asked.5 in
     rw (h.kept, h.asked.6, k.kept, k.asked.6) (ap (λ x. all_or_none (Ambiguous x h.asked.1)) first ∙ ap (λ y. all_or_none (Ambiguous k.asked.0 y)) last)
 
-offsets_once : (off : ℤ → ℤ) (l : ℤ) → HasOneValue (Shows off l)
+pub offsets_once : (off : ℤ → ℤ) (l : ℤ) → HasOneValue (Shows off l)
 offsets_once off l u a b x y = x.offset ∙ sym y.offset
 
 -- what a zone gives for a wall clock is determined

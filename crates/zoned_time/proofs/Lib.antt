@@ -2,6 +2,7 @@ pub mod Answered
 pub mod ForCallers
 pub mod Homes
 pub mod Instants
+pub mod Once
 pub mod Relocals
 pub mod Walls
 mod Choices

@@ -13,7 +13,7 @@ use Rattle.naive_base.specs.Reading.{Reading}
 use Rattle.zoned_time.specs.declared.utc.Utc.{Utc}
 use Rattle.zoned_time.specs.Relocal.{IsRelocal, AreInstantsOf, HasInstant, instant_of, SingleIff}
 use Rattle.zoned_time.specs.Stamps.{in_utc}
-use Rattle.zoned_time.specs.Zone.{Meaning, Law, IsFixed, Shows, SameOffsets, IsOffsetAt, AreOffsetsFor, Each}
+use Rattle.zoned_time.specs.Zone.{Meaning, Law, IsFixed, IsZoneSecond, Shows, SameOffsets, IsOffsetAt, AreOffsetsFor, Each}
 use Rattle.zoned_time.specs.Zoned.{Zoned, local_of, IsAt}
 
 -- one offset gives one instant, or none
@@ -31,19 +31,20 @@ not_between : {O : Type 0} {m : Meaning O} (law : Law m) (l a b : ℤ) → IsFix
 not_between law l a b fixed between =
     let first : a ≡ law.off between.first = between.at_first.offset in
     let last : b ≡ law.off between.last = between.at_last.offset in
-    let same : law.off between.first ≡ law.off between.last = fixed between.first between.last in
+    let same : law.off between.first ≡ law.off between.last = fixed between.first between.last between.at_first.in_zone between.at_last.in_zone in
     let first_shown : between.first +ℤ a ≡ l = between.at_first.shown in
     let last_shown : between.last +ℤ b ≡ l = between.at_last.shown in
     omega (arith, ints, between.several)
 
+epoch_in_zone : IsZoneSecond (pos 0)
+epoch_in_zone = (omega (arith, ints), omega (arith, ints))
+
 -- and a second in range shows its reading
 shown_in_range : {O : Type 0} {m : Meaning O} (law : Law m) (l : ℤ) → IsFixed law → IsInRange (l -ℤ law.off (pos 0))
     → Shows law.off l (l -ℤ law.off (pos 0)) (law.off (pos 0))
-shown_in_range law l fixed range = record {
-  in_zone = (omega (arith, ints, range), omega (arith, ints, range));
-  offset = fixed (pos 0) (l -ℤ law.off (pos 0));
-  shown = omega (arith, ints);
-}
+shown_in_range law l fixed range =
+    let inside : IsZoneSecond (l -ℤ law.off (pos 0)) = (omega (arith, ints, range), omega (arith, ints, range)) in
+    record { in_zone = inside; offset = fixed (pos 0) (l -ℤ law.off (pos 0)) epoch_in_zone inside; shown = omega (arith, ints) }
 
 -- one offset's instant, where that is in range, or no offset, where none is
 abbrev GivenOnce : {O : Type 0} {m : Meaning O} → Law m → Reading → LocalResult (Zoned O) → Type 0
@@ -56,7 +57,7 @@ given_once : {O : Type 0} {m : Meaning O} (law : Law m) (l : Reading) (offsets :
 given_once law l none answer fixed wall instants =
     inr (λ range. wall (l.s -ℤ law.off (pos 0)) (law.off (pos 0)) (shown_in_range law l.s fixed range), rw (instants.kept, instants.asked) refl)
 given_once {m = m} law l (Single o) answer fixed wall instants =
-    inl (o, wall.shown.offset ∙ fixed wall.second (pos 0), single_instant m.seconds l o answer instants)
+    inl (o, wall.shown.offset ∙ fixed wall.second (pos 0) wall.shown.in_zone epoch_in_zone, single_instant m.seconds l o answer instants)
 given_once {m = m} law l (Ambiguous a b) answer fixed wall instants =
     absurd (not_between law l.s (m.seconds a) (m.seconds b) fixed wall)
 

@@ -45,15 +45,3 @@ pub data IsUnresolved (off : ℤ → ℤ) (l : ℤ) (choice : Choice) (e : Resol
   gap : IsNeverShown (Shows off l) → choice.gap ≡ RefuseGap → e ≡ Gap → IsUnresolved off l choice e
   fold : (first last : ℤ) → IsShownBetween (Shows off l) first last → choice.fold ≡ RefuseFold → e ≡ Fold → IsUnresolved off l choice e
   out_of_range : (k : ℤ) → IsTaken off l choice k → ¬ (IsInRange (l -ℤ k)) → e ≡ OutOfRange → IsUnresolved off l choice e
-
--- the instant of l by the offset before its gap, and that it is out of range
-pub record IsShifted {O : Type 0} {m : Meaning O} (law : Law m) (l : Reading) (d : Zoned O) : Type 0 where
-  pub offset : ℤ
-  pub before : IsBeforeGap law.off l.s offset
-  pub in_range : IsInRange (behind l offset).s
-  pub at : IsAt law (behind l offset) d
-
-pub record IsShiftOutOfRange (off : ℤ → ℤ) (l : ℤ) : Type 0 where
-  pub offset : ℤ
-  pub before : IsBeforeGap off l offset
-  pub out : ¬ (IsInRange (l -ℤ offset))

@@ -5,6 +5,7 @@ pub mod Order
 pub mod Relocal
 pub mod ResolveNumbers
 pub mod Stamps
+pub mod Steps
 pub mod Years
 pub mod Zone
 pub mod Zoned

@@ -27,7 +27,7 @@ pub record IsRelocal {O : Type 0} {m : Meaning O} (law : Law m) (l : Reading) (a
   pub wall : AreOffsetsFor law l.s offsets
   pub instants : AreInstantsOf m.seconds l offsets answer
 
--- the only value v exactly where p holds, and else none
+-- the only value v if p holds, and else none
 abbrev pub SingleIff : {T : Type 0} → LocalResult T → Type 0 → T → Type 0
 SingleIff (Single a) p v = p × (a ≡ v)
 SingleIff (Ambiguous a b) p v = ⊥

@@ -3,6 +3,7 @@ use Rattle.std.specs.Prelude.{ℕ}
 use Rattle.zoned_time.specs.declared.resolve_error.ResolveError.{ResolveError}
 use Rattle.zoned_time.specs.declared.resolve_error.ResolveError.TheVariants.{Gap, Fold, OutOfRange}
 
+-- the number of an error of a choice
 abbrev pub number_of : ResolveError → ℕ
 number_of Gap = 21
 number_of Fold = 22

@@ -11,7 +11,7 @@ IsEarlierInYear l m =
     × ((day_of_month (day_at l) < day_of_month (day_at m))
     ⊎ ((day_of_month (day_at l) ≡ day_of_month (day_at m)) × IsEarlierTime (second_at l) l.f (second_at m) m.f)))
 
--- n years have passed from m to l: the year n years behind m's is before l's, or it is l's and l isn't earlier in it. From
+-- n years have passed from m to l: the year n years after m's is before l's, or it is l's and l isn't earlier in it. From
 -- 29 February the first year has passed on 1 March.
 abbrev pub HaveYearsPassed : Reading → Reading → ℤ → Type 0
 HaveYearsPassed l m n =

@@ -30,11 +30,11 @@ pub record Law {O : Type 0} (meaning : Meaning O) : Type 0 where
 
 -- a zone whose clocks are never set
 abbrev pub IsFixed : {O : Type 0} {m : Meaning O} → Law m → Type 0
-IsFixed law = (u v : ℤ) → law.off u ≡ law.off v
+IsFixed law = (u v : ℤ) → IsZoneSecond u → IsZoneSecond v → law.off u ≡ law.off v
 
 -- a zone whose clocks are those of UTC
 abbrev pub IsUtc : {O : Type 0} {m : Meaning O} → Law m → Type 0
-IsUtc law = (u : ℤ) → law.off u ≡ pos 0
+IsUtc law = (u : ℤ) → IsZoneSecond u → law.off u ≡ pos 0
 
 -- an offset that the zone gives at second u
 pub record IsOffsetAt {O : Type 0} {m : Meaning O} (law : Law m) (u : ℤ) (offset : O) : Type 0 where

@@ -8,6 +8,7 @@ use Rattle.naive_base.specs.Range.{IsInRange}
 use Rattle.naive_base.specs.Reading.{Reading, ahead}
 use Rattle.zoned_time.specs.Zone.{Meaning, Law, IsOffsetAt}
 
+-- a reading of UTC, and an offset
 pub record Zoned (O : Type 0) : Type 0 where
   pub utc : Reading
   pub offset : O
@@ -29,7 +30,7 @@ pub record IsAt {O : Type 0} {m : Meaning O} (law : Law m) (r : Reading) (d : Zo
   pub utc : d.utc ≡ r
   pub offset : IsOffsetAt law r.s d.offset
 
--- that, exactly where r is in range
+-- that, if and only if r is in range
 abbrev pub IsAtInRange : {O : Type 0} {m : Meaning O} → Law m → Reading → Option (Zoned O) → Type 0
 IsAtInRange law r (Some d) = IsInRange r.s × IsAt law r d
 IsAtInRange law r None = IsInRange r.s → ⊥

@@ -14,7 +14,7 @@ mod parts;
 mod print;
 mod stamps;
 
-use crate::TimeZone;
+use crate::{Offset, TimeZone};
 pub use constants::{MAX_DATETIME, MIN_DATETIME};
 use naive_base::NaiveDateTime;
 use std::alloc::AllocError;
@@ -34,40 +34,33 @@ use std::marker::PhantomData;
 /// let here = there.with_timezone(&FixedOffset::west(5 * 3600)); // 2021-11-07 01:00:00 -05:00
 /// ```
 ///
-/// An instant of a borrowed zone, as `TimeZoneRef` of `zoned_ref`, can be used no longer than that
-/// zone. Keep and sort [`DateTime::fixed_offset`] of it, which prints alike. Print it, or map a
-/// closure over such instants, in a function for all zones:
+/// An instant of a borrowed zone, such as `TimeZoneRef` of `zoned_ref`, can be used no longer than that
+/// zone; [`DateTime::fixed_offset`] of it prints alike and borrows nothing. It compares, sorts and
+/// prints as any other. Three things the borrow checker of today doesn't cover there: a copy, for
+/// which `clone` or `iter().copied()` stands; a closure that asks the zone, such as
+/// `|instant| instant.hour()`; and one that captures another instant. Such closures stand in a
+/// function for all zones.
+pub type DateTime<Tz> = Instant<Tz, <Tz as TimeZone>::Offset>;
+
+/// What a [`DateTime`] is: an instant with the offset of a zone of type `Tz`.
 ///
-/// ```
-/// fn line<Tz: TimeZone>(alloc: Global, instant: &DateTime<Tz>) -> Result<String, AllocError>
-/// where
-///     Tz::Offset: fmt::Display,
-/// {
-///     format!(in alloc; "{instant}")
-/// }
-///
-/// fn by_clock<Tz: TimeZone>(zone: &Tz, local: &NaiveDateTime) -> LocalResult<DateTime<FixedOffset>> {
-///     zone.from_local_datetime(local).map(|instant| instant.fixed_offset())
-/// }
-/// ```
-///
-/// `O` is always the zone's [`TimeZone::Offset`]; it has a name of its own so that an instant can
-/// be `Copy`.
-pub struct DateTime<Tz: TimeZone, O = <Tz as TimeZone>::Offset> {
+/// It asks nothing of that type, and no more do the calls and the traits that need no zone, such as
+/// the order and [`DateTime::timestamp`]: so they can be passed on at a borrowed zone too.
+pub struct Instant<Tz, O: Offset> {
     datetime: NaiveDateTime,
     offset: O,
     zone: PhantomData<Tz>,
     pub ghost in_range: { IsInRange (reading datetime).s },
 }
 
-impl<Tz: TimeZone, O: Copy> Clone for DateTime<Tz, O> {
+impl<Tz: Copy, O: Offset + Copy> Clone for Instant<Tz, O> {
     ghost is_clone = { λ x y. y ≡ x };
 
     ghost is_infallible = { λ _. ⊤ };
 
-    fn clone(&self) -> Result<DateTime<Tz, O>, AllocError> {
+    fn clone(&self) -> Result<Instant<Tz, O>, AllocError> {
         Ok(*self)
     }
 }
 
-impl<Tz: TimeZone, O: Copy> Copy for DateTime<Tz, O> {}
+impl<Tz: Copy, O: Offset + Copy> Copy for Instant<Tz, O> {}

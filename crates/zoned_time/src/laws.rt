@@ -1,25 +1,30 @@
-//! Theorems: each function is empty, its contract is proved; never called.
-ghost use Rattle.std.specs.Prelude.{◌≡◌, ◌↔◌, ◌++◌, IsTrue, ℕ, ℤ, Option, Some, SomeIff, FitsSigned};
+//! Theorems: what a function here does is its contract alone; never called.
+ghost use Rattle.std.specs.Prelude.{◌≡◌, ◌↔◌, ◌++◌, ◌⊎◌, IsTrue, ℕ, ℤ, Option, Some, SomeIff, FitsSigned};
 ghost use Rattle.std.specs.Hash as fed;
 ghost use Rattle.std.specs.declared.cmp.Ordering.TheVariants.{Less, Equal};
 ghost use Rattle.std.specs.Int.{w64};
+ghost use Rattle.offset_core.specs.declared.choice.Choice.{Choice as AnyChoice};
 ghost use Rattle.offset_core.specs.declared.fixed_offset.FixedOffset.{FixedOffset as AnyFixed};
 ghost use Rattle.offset_core.specs.declared.local_result.LocalResult.{LocalResult};
 ghost use Rattle.offset_core.specs.FixedOffset.{seconds_of};
+ghost use Rattle.offset_core.specs.LocalResult.{map_of};
+ghost use Rattle.naive_base.specs.NaiveDateTime.{reading};
 ghost use Rattle.naive_base.specs.Range.{IsInRange};
 ghost use Rattle.naive_base.specs.Reading.{Reading, IsEarlier, total, of_total};
 ghost use Rattle.naive_base.specs.Stamp.{of_secs, IsStamp};
 ghost use Rattle.zoned_time.specs.declared.resolve_error.ResolveError.{ResolveError as Fault};
 ghost use Rattle.zoned_time.specs.declared.utc.Utc.{Utc as TheUtc};
+ghost use Rattle.zoned_time.specs.Choice.{IsBeforeGap, IsResolved, IsUnresolved};
 ghost use Rattle.zoned_time.specs.Relocal.{IsRelocal, HasInstant, instant_of, SingleIff};
 ghost use Rattle.zoned_time.specs.Stamps.{millis_of, micros_of, of_millis, of_micros, in_utc};
 ghost use Rattle.zoned_time.specs.DateTime.{zoned};
 ghost use Rattle.zoned_time.specs.Order.{compared};
 ghost use Rattle.zoned_time.specs.Zone.{Each, SameOffsets};
-ghost use Rattle.zoned_time.specs.Zoned.{Zoned, local_of, IsAt, IsFixedFrom};
+ghost use Rattle.zoned_time.specs.Zoned.{Zoned, local_of, in_seconds, IsAt, IsFixedFrom};
 
 use crate::{DateTime, Offset, ResolveError, TimeZone, Utc};
-use offset_core::FixedOffset;
+use naive_base::NaiveDateTime;
+use offset_core::{Choice, FixedOffset};
 use std::hash::Hash;
 
 /// A change of zone keeps the UTC reading: `with_timezone`, `fixed_offset` and `to_utc`.
@@ -44,6 +49,7 @@ pub fn instants_compare_by_utc<Tz: TimeZone>(a: &DateTime<Tz>, b: &DateTime<Tz>)
     ensures hashed { ⟦<DateTime<Tz> as Hash>⟧.hash_input a.now
         ≡ fed.i64 (zoned a.now).utc.s ++ fed.u32 (zoned a.now).utc.f }
     ensures cloned { ⟦<DateTime<Tz> as Clone>⟧.is_clone a.now b.now → b.now ≡ a.now }
+    ensures infallible { ⟦<DateTime<Tz> as Clone>⟧.is_infallible a.now }
 {}
 
 /// That order is the one of readings: by the second, then by the nanoseconds.
@@ -56,6 +62,7 @@ pub fn earlier_is_less()
 pub fn one_utc(a: &Utc, b: &Utc)
     ensures equal { IsTrue (⟦<Utc as PartialEq>⟧.eq a.now b.now) }
     ensures one { a.now ≡ b.now }
+    ensures infallible { ⟦<Utc as Clone>⟧.is_infallible a.now }
 {}
 
 /// What a zone gives depends on its offsets alone.
@@ -108,4 +115,45 @@ pub fn one_instant_where_the_offset_is_fixed()
 pub fn resolve_errors()
     ensures equal { (a b : Fault) → IsTrue (⟦<ResolveError as PartialEq>⟧.eq a b) ↔ (a ≡ b) }
     ensures cloned { (a b : Fault) → ⟦<ResolveError as Clone>⟧.is_clone a b ↔ (a ≡ b) }
+    ensures infallible { (a : Fault) → ⟦<ResolveError as Clone>⟧.is_infallible a }
 {}
+
+/// What a zone gives for a wall clock is determined: two answers are the same instants, at offsets
+/// of the same seconds.
+pub fn one_relocal<Tz: TimeZone>()
+    ensures { (zone : Tz) (l : Reading) (a b : LocalResult (Zoned Tz.Offset))
+        → IsRelocal (Tz.law zone) l a → IsRelocal (Tz.law zone) l b
+        → map_of (in_seconds Tz.Offset.seconds) a ≡ map_of (in_seconds Tz.Offset.seconds) b }
+{}
+
+/// A gap has one offset before it.
+pub fn one_offset_before_gap<Tz: TimeZone>()
+    ensures { (zone : Tz) (l j k : ℤ) → IsBeforeGap (Tz.law zone).off l j
+        → IsBeforeGap (Tz.law zone).off l k → j ≡ k }
+{}
+
+/// Of a reading and a choice there is one instant, at one offset in seconds, or one error, and
+/// never both.
+pub fn one_resolution<Tz: TimeZone>()
+    ensures resolved { (zone : Tz) (l : Reading) (choice : AnyChoice) (a b : Zoned Tz.Offset)
+        → IsResolved (Tz.law zone) l choice a → IsResolved (Tz.law zone) l choice b
+        → in_seconds Tz.Offset.seconds a ≡ in_seconds Tz.Offset.seconds b }
+    ensures unresolved { (zone : Tz) (l : Reading) (choice : AnyChoice) (e f : Fault)
+        → IsUnresolved (Tz.law zone).off l.s choice e
+        → IsUnresolved (Tz.law zone).off l.s choice f → e ≡ f }
+    ensures not_both { (zone : Tz) (l : Reading) (choice : AnyChoice)
+        → (a : Zoned Tz.Offset) (e : Fault)
+        → IsResolved (Tz.law zone) l choice a → IsUnresolved (Tz.law zone).off l.s choice e → ⊥ }
+{}
+
+/// And one of the two there always is.
+pub fn resolution_decided<Tz: TimeZone>(zone: &Tz, local: &NaiveDateTime, choice: Choice)
+    ensures { let law = Tz.law zone.now in let l = reading local.now in
+        ((d : Zoned Tz.Offset) × IsResolved law l choice d)
+        ⊎ ((e : Fault) × IsUnresolved law.off l.s choice e) }
+{
+    match zone.resolve(local, choice) {
+        Ok(_) => {}
+        Err(_) => {}
+    }
+}

@@ -34,7 +34,9 @@ impl NaiveZoned for NaiveDateTime {
         DateTime::from_naive_utc_and_offset(*self, Utc)
     }
 
-    fn and_local_timezone<Tz: TimeZone>(&self, tz: Tz) -> LocalResult<DateTime<Tz>> {
+    fn and_local_timezone<Tz: TimeZone>(&self, tz: Tz) -> LocalResult<DateTime<Tz>>
+        ensures { IsRelocal (Tz.law tz) (reading self.now) (map_of zoned result) }
+    {
         tz.from_local_datetime(self)
     }
 }

@@ -2,9 +2,9 @@
 ghost use Rattle.std.specs.Prelude.{◌≡◌, MatchResult};
 ghost use Rattle.offset_core.specs.WallAnswer.{IsNeverShown};
 ghost use Rattle.naive_base.specs.NaiveDateTime.{reading};
-ghost use Rattle.zoned_time.specs.Choice.{IsShifted, IsShiftOutOfRange};
 ghost use Rattle.zoned_time.specs.DateTime.{zoned};
 ghost use Rattle.zoned_time.specs.Relocal.{HasInstant, instant_of};
+ghost use Rattle.zoned_time.specs.Steps.Shifts.{IsShifted, IsShiftOutOfRange};
 ghost use Rattle.zoned_time.specs.Zone.{Shows};
 ghost use Rattle.zoned_time.specs.declared.resolve_error.ResolveError.TheVariants.{OutOfRange};
 

@@ -61,7 +61,7 @@ pub trait TimeZone: Sized + Copy {
         ensures { AreOffsetsFor (law self.now) (midnight_of local.now) result };
 
     /// In a gap the offset before it: that at the second before the first one at which a clock of
-    /// the zone shows a later reading. `None` exactly where a clock shows the reading.
+    /// the zone shows a later reading. `None` if and only if a clock shows the reading.
     fn offset_before_gap(&self, local: &NaiveDateTime) -> Option<Self::Offset>
         ensures { IsOffsetBeforeGap (law self.now) (reading local.now).s result };
 
@@ -96,7 +96,7 @@ pub trait TimeZone: Sized + Copy {
             .and_then(|offset| DateTime::<Self>::from_local_opt(local, offset))
     }
 
-    /// The instant that a choice takes for a reading. There are six outcomes. New York's clocks
+    /// The instant that a choice takes for a reading. There are seven outcomes. New York's clocks
     /// were set forward on 2021-03-14 at 02:00, and back on 2021-11-07 at 02:00:
     ///
     /// | reading | shown | choice | answer |
@@ -107,13 +107,14 @@ pub trait TimeZone: Sized + Copy {
     /// | 2021-11-07 01:30 | twice | fold: [`FoldChoice::Earliest`] | 2021-11-07 01:30 -04:00 |
     /// | 2021-11-07 01:30 | twice | fold: [`FoldChoice::Latest`] | 2021-11-07 01:30 -05:00 |
     /// | 2021-07-01 12:00 | once | any | 2021-07-01 12:00 -04:00 |
+    /// | +262142-12-31 23:30 | once | any | [`ResolveError::OutOfRange`], whose number is 23: the UTC reading is in the year 262143 |
     ///
     /// Nanoseconds are kept.
     ///
     /// # Errors
     ///
-    /// As in the table; [`ResolveError::OutOfRange`], whose number is 23, if the UTC reading of the
-    /// instant that is taken is out of range.
+    /// As in the table: [`ResolveError::Gap`], [`ResolveError::Fold`], and
+    /// [`ResolveError::OutOfRange`] if the UTC reading of the instant that is taken is out of range.
     final fn resolve(
         &self,
         local: &NaiveDateTime,

@@ -163,6 +163,8 @@ fn what_is_expected_of_types_and_rules(rt: HostRuntime) {
     assert_eq!(rt; Expected::MonthFrom1To12.as_str(), "a month from 1 to 12");
     assert_eq!(rt; Expected::WeekFrom1To5.as_str(), "a week from 1 to 5");
     assert_eq!(rt; Expected::WeekdayFrom0To6.as_str(), "a weekday from 0 to 6");
+    let shown = Expected::OffsetOfDaylightSavingTimeWithinDay.as_str();
+    assert_eq!(rt; shown, "an offset of daylight saving time within a day");
     assert_eq!(rt;
         Expected::NothingBehindText.as_str(),
         "nothing behind the text"

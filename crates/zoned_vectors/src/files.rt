@@ -7,7 +7,7 @@ use std::process::Abort;
 use std::test::Fail;
 use tz_info::{LeapSecond, LocalTimeType, TimeZone, Transition, TransitionRule};
 
-/// The file with other bytes in place of those from there on.
+// The file with other bytes in place of those from there on.
 fn changed(alloc: Global, file: &[u8], place: usize, others: &[u8]) -> Result<Vec<u8>, AllocError> {
     let mut bytes = Vec::new(alloc);
     for (k, byte) in file.iter().enumerate() {
@@ -20,7 +20,7 @@ fn changed(alloc: Global, file: &[u8], place: usize, others: &[u8]) -> Result<Ve
     Ok(bytes)
 }
 
-/// The zone of the file, or the number of the refusal.
+// The zone of the file, or the number of the refusal.
 fn read(alloc: Global, bytes: &[u8]) -> Result<TimeZone, u8> {
     match TimeZone::from_tz_data(alloc, bytes) {
         Ok(zone) => Ok(zone),
@@ -28,7 +28,7 @@ fn read(alloc: Global, bytes: &[u8]) -> Result<TimeZone, u8> {
     }
 }
 
-/// The number of the refusal, if the file is refused.
+// The number of the refusal, if the file is refused.
 fn refusal(alloc: Global, bytes: &[u8]) -> Option<u8> {
     match TimeZone::from_tz_data(alloc, bytes) {
         Ok(_) => None,
@@ -111,7 +111,7 @@ fn version_3(rt: HostRuntime) -> Result<(), Fail> {
     Ok(())
 }
 
-/// The records of the leap seconds in a file of version 1.
+// The records of the leap seconds in a file of version 1.
 fn leap_records(alloc: Global) -> Result<Vec<u8>, AllocError> {
     let mut bytes = Vec::new(alloc);
     for (leap_time, correction) in LEAP_SECONDS {
@@ -137,8 +137,8 @@ fn leap_seconds(rt: HostRuntime) -> Result<(), Fail> {
     Ok(())
 }
 
-/// Only the beginnings that end behind the first newline of a footer are files, and they have no
-/// rule.
+// Only the beginnings that end after the first newline of a footer are files, and they have no
+// rule.
 #[test]
 fn beginnings(rt: HostRuntime) -> Result<(), Fail> {
     let alloc = rt.alloc();
@@ -169,7 +169,7 @@ fn beginnings(rt: HostRuntime) -> Result<(), Fail> {
     Ok(())
 }
 
-/// The file with these bytes from that place on is refused with that number, or is a zone's.
+// The file with these bytes from that place on is refused with that number, or is a zone's.
 fn change(
     rt: &impl Abort,
     alloc: Global,
@@ -200,7 +200,7 @@ fn changes_of_version_1(rt: HostRuntime) -> Result<(), Fail> {
     change(&rt, alloc, &file, 27, &[3], Some(5))?;
     change(&rt, alloc, &file, 39, &[0], Some(5))?;
     change(&rt, alloc, &file, 43, &[0], Some(5))?;
-    // The types: marks, designations without an end or behind the last, offsets and names.
+    // The types: marks, designations without an end or after the last, offsets and names.
     change(&rt, alloc, &file, 53, &[2], Some(5))?;
     change(&rt, alloc, &file, 54, &[8], Some(5))?;
     change(&rt, alloc, &file, 68, b"T", Some(5))?;
@@ -268,7 +268,7 @@ fn changes_of_version_3(rt: HostRuntime) -> Result<(), Fail> {
     Ok(())
 }
 
-/// A header alone whose counts announce more bytes than there are; no memory is asked for.
+// A header alone whose counts announce more bytes than there are; no memory is asked for.
 #[test]
 fn large_counts(rt: HostRuntime) -> Result<(), Fail> {
     let alloc = rt.alloc();

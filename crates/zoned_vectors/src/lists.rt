@@ -5,8 +5,8 @@ use std::alloc::Global;
 use std::test::Fail;
 use tz_info::{Error, LeapSecond, LocalTimeType, Probes, TimeZone, Transition, TransitionRule};
 
-/// The zone of those transitions, types of those offsets, leap seconds, and a fixed rule of that
-/// offset.
+// The zone of those transitions, types of those offsets, leap seconds, and a fixed rule of that
+// offset.
 fn zone(
     alloc: Global,
     transitions: &[Transition],
@@ -37,12 +37,12 @@ fn zone(
     )
 }
 
-/// The zone of UTC with those leap seconds.
+// The zone of UTC with those leap seconds.
 fn leap_zone(alloc: Global, leaps: &[LeapSecond]) -> Result<TimeZone, Error> {
     zone(alloc, &[], &[0], leaps, None)
 }
 
-/// The number of the refusal, or 0.
+// The number of the refusal, or 0.
 fn number(answer: Result<TimeZone, Error>) -> u8 {
     match answer {
         Ok(_) => 0,
@@ -123,7 +123,7 @@ fn the_lists_of_a_zone(rt: HostRuntime) -> Result<(), Fail> {
     Ok(())
 }
 
-/// The zone of UTC with the leap seconds from 1972 to 2016.
+// The zone of UTC with the leap seconds from 1972 to 2016.
 fn utc_with_leap_seconds(alloc: Global) -> Result<TimeZone, Error> {
     let mut leaps = Vec::new(alloc);
     for (leap_time, correction) in LEAP_SECONDS {

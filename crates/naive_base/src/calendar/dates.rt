@@ -38,7 +38,7 @@ fn number_from_march(years: u64, month: u32, day: u32) -> i64
     (days_of_years(years) + (before_month + (day - 1)) as u64) as i64 - DAYS_FROM_MARCH
 }
 
-/// The day number of a date.
+/// The day number of a date. Requires: the calendar has it, as [`is_date`] says.
 pub fn day_number(year: i32, month: u32, day: u32) -> i64
     requires { IsDate year month day }
     ensures value { result ≡ day_number year month day }
@@ -83,7 +83,7 @@ fn find_date(day: i64) -> YearMonthDay
     }
 }
 
-/// The date of a day number.
+/// The date of a day number. Requires: a day of the years of an `i32`.
 pub fn date_of(day: i64) -> YearMonthDay
     requires { IsDay day }
     ensures year { result.year ≡ year_of day }
@@ -95,7 +95,8 @@ pub fn date_of(day: i64) -> YearMonthDay
     find_date(day)
 }
 
-/// The month and the day of the month that come so many days after the year's 1 January.
+/// The month and the day of the month that come so many days after the year's 1 January. Requires:
+/// fewer days than the year has.
 pub fn month_and_day(year: i32, day_of_year: u32) -> (u32, u32)
     requires { day_of_year < days_in_year year }
     ensures date { IsDate year result.0 result.1 }

@@ -14,7 +14,7 @@ fn days_since_sunday(day: i64) -> u64
     (day + DAYS_FROM_SUNDAY) as u64
 }
 
-/// The weekday, 0 for Sunday to 6 for Saturday.
+/// The weekday of a day, 0 for Sunday to 6 for Saturday. Requires: a day of the years of an `i32`.
 pub fn weekday_of(day: i64) -> u32
     requires { IsDay day }
     ensures value { result ≡ weekday_of day }

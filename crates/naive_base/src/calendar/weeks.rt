@@ -5,7 +5,8 @@ ghost use Rattle.naive_base.specs.IsoWeek.{IsThursdayOf};
 
 use super::weekday_of;
 
-/// The Thursday of the week, from Monday to Sunday, that the day lies in.
+/// The Thursday of the week, from Monday to Sunday, that the day lies in. Requires: from three days
+/// before it to three days after it, days of the years of an `i32`.
 pub fn thursday_of_week(day: i64) -> i64
     requires first { IsDay (day -ℤ pos 3) }
     requires last { IsDay (day +ℤ pos 3) }
@@ -16,7 +17,7 @@ pub fn thursday_of_week(day: i64) -> i64
     day - from_monday as i64 + 3
 }
 
-/// Each day lies in one week: there is one Thursday from three days before it to three days behind
+/// Each day lies in one week: there is one Thursday from three days before it to three days after
 /// it.
 pub fn weeks_law()
     ensures found { (day : ℤ) → (thursday : ℤ) × IsThursdayOf day thursday }

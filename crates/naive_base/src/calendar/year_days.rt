@@ -19,7 +19,8 @@ pub struct YearDay {
 }
 
 /// The day's place in its year, and the two things that tell the year's calendar: with the weekday
-/// of its first day and whether it is a leap year, all its dates have their weekdays.
+/// of its first day and whether it is a leap year, all its dates have their weekdays. Requires: a
+/// day of the years of an `i32`.
 #[inline(always)]
 pub fn year_day_of(day: i64) -> YearDay
     requires { IsDay day }
@@ -37,7 +38,7 @@ pub fn year_day_of(day: i64) -> YearDay
     }
 }
 
-// Whether the year behind so many centuries and years ends a cycle of four, but of the centuries
+// Whether the year after so many centuries and years ends a cycle of four, but of the centuries
 // only every fourth.
 fn is_leap_place(century: u64, year: u32) -> bool
     ensures { result ≡ (year % 4 == 3) && (not (year == 99) || (century % 4 == 3)) }

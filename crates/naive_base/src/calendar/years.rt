@@ -14,7 +14,7 @@ pub const LAST_DAY: i64 = 784_351_576_776;
 // Years are counted from the year -BASE_YEAR, a multiple of 400 before every year of an `i32`.
 const BASE_YEAR: i64 = 2_147_484_000;
 
-// The days from the 1 January behind 1 March of the base year to 1970-01-01.
+// The days from the 1 January after 1 March of the base year to 1970-01-01.
 const DAYS_FROM_JANUARY: i64 = 784_353_144_032;
 
 pub(crate) fn years_since_base(year: i32) -> u64
@@ -41,7 +41,7 @@ pub(crate) fn days_of_years(years: u64) -> u64
     1461 * years / 4 - century + century / 4
 }
 
-// Where a day lies: so many whole centuries, years and days behind a January.
+// Where a day lies: so many whole centuries, years and days after a January.
 #[derive(Clone, Copy)]
 pub(crate) struct Place {
     pub(crate) century: u64,
@@ -117,7 +117,7 @@ pub(crate) fn days_since_january(day: i64) -> u64
     (day + DAYS_FROM_JANUARY) as u64
 }
 
-/// The year that the day lies in.
+/// The year that the day lies in. Requires: a day of the years of an `i32`.
 pub fn year_of(day: i64) -> i32
     requires { IsDay day }
     ensures { result ≡ year_of day }
@@ -126,7 +126,7 @@ pub fn year_of(day: i64) -> i32
     year_from_base(years + 1)
 }
 
-/// How many days of its year come before the day, from 0.
+/// How many days of its year come before the day, from 0. Requires: a day of the years of an `i32`.
 pub fn day_of_year(day: i64) -> u32
     requires { IsDay day }
     ensures value { result ≡ day_of_year day }

@@ -8,7 +8,7 @@ ghost use Rattle.naive_base.specs.Fields.{MayShowDay, IsMonthsLater, IsDaysLater
 ghost use Rattle.naive_base.specs.Steps.Moves.{IsWithin, IsInMonth};
 ghost use Rattle.naive_base.specs.NaiveDate.{day_of, IsDateOn};
 
-use crate::range::{FIRST_DAY, LAST_DAY};
+use crate::range::{FIRST_DAY_IN_RANGE, LAST_DAY_IN_RANGE};
 use crate::{Days, Months, NaiveDate, calendar};
 
 impl NaiveDate {
@@ -33,6 +33,11 @@ impl NaiveDate {
 
     /// The date so many days later. `None` where the year is not one from -262143 to 262142, unless
     /// it is the date itself.
+    ///
+    /// ```text
+    /// 2022-02-20 and 9 days    Some(2022-03-01)
+    /// +262142-12-31 and 1 day  None
+    /// ```
     pub fn checked_add_days(self, days: Days) -> Option<NaiveDate>
         ensures { IsDaysLater day_of IsDateOn (day_of self) (pos (days_of days)) result }
     {
@@ -51,7 +56,7 @@ impl NaiveDate {
     fn on_day(self, day: i128) -> Option<NaiveDate>
         ensures { SomeIff (option_map day_of result) (MayShowDay (day_of self) day) day }
     {
-        if FIRST_DAY as i128 <= day && day <= LAST_DAY as i128 {
+        if FIRST_DAY_IN_RANGE as i128 <= day && day <= LAST_DAY_IN_RANGE as i128 {
             return Some(NaiveDate { day: day as i32 });
         }
         if self.day as i128 == day {

@@ -50,52 +50,31 @@ impl Datelike for NaiveDateTime {
     }
 
     fn with_year(&self, year: i32) -> Option<NaiveDateTime> {
-        match self.date().with_year(year) {
-            Some(date) => Some(date.and_time(self.time())),
-            None => None,
-        }
+        Some(self.date().with_year(year)?.and_time(self.time()))
     }
 
     fn with_month(&self, month: u32) -> Option<NaiveDateTime> {
-        match self.date().with_month(month) {
-            Some(date) => Some(date.and_time(self.time())),
-            None => None,
-        }
+        Some(self.date().with_month(month)?.and_time(self.time()))
     }
 
     fn with_month0(&self, month0: u32) -> Option<NaiveDateTime> {
-        match self.date().with_month0(month0) {
-            Some(date) => Some(date.and_time(self.time())),
-            None => None,
-        }
+        Some(self.date().with_month0(month0)?.and_time(self.time()))
     }
 
     fn with_day(&self, day: u32) -> Option<NaiveDateTime> {
-        match self.date().with_day(day) {
-            Some(date) => Some(date.and_time(self.time())),
-            None => None,
-        }
+        Some(self.date().with_day(day)?.and_time(self.time()))
     }
 
     fn with_day0(&self, day0: u32) -> Option<NaiveDateTime> {
-        match self.date().with_day0(day0) {
-            Some(date) => Some(date.and_time(self.time())),
-            None => None,
-        }
+        Some(self.date().with_day0(day0)?.and_time(self.time()))
     }
 
     fn with_ordinal(&self, ordinal: u32) -> Option<NaiveDateTime> {
-        match self.date().with_ordinal(ordinal) {
-            Some(date) => Some(date.and_time(self.time())),
-            None => None,
-        }
+        Some(self.date().with_ordinal(ordinal)?.and_time(self.time()))
     }
 
     fn with_ordinal0(&self, ordinal0: u32) -> Option<NaiveDateTime> {
-        match self.date().with_ordinal0(ordinal0) {
-            Some(date) => Some(date.and_time(self.time())),
-            None => None,
-        }
+        Some(self.date().with_ordinal0(ordinal0)?.and_time(self.time()))
     }
 }
 
@@ -121,31 +100,19 @@ impl Timelike for NaiveDateTime {
     }
 
     fn with_hour(&self, hour: u32) -> Option<NaiveDateTime> {
-        match self.time().with_hour(hour) {
-            Some(time) => Some(self.date().and_time(time)),
-            None => None,
-        }
+        Some(self.date().and_time(self.time().with_hour(hour)?))
     }
 
     fn with_minute(&self, min: u32) -> Option<NaiveDateTime> {
-        match self.time().with_minute(min) {
-            Some(time) => Some(self.date().and_time(time)),
-            None => None,
-        }
+        Some(self.date().and_time(self.time().with_minute(min)?))
     }
 
     fn with_second(&self, sec: u32) -> Option<NaiveDateTime> {
-        match self.time().with_second(sec) {
-            Some(time) => Some(self.date().and_time(time)),
-            None => None,
-        }
+        Some(self.date().and_time(self.time().with_second(sec)?))
     }
 
     fn with_nanosecond(&self, nano: u32) -> Option<NaiveDateTime> {
-        match self.time().with_nanosecond(nano) {
-            Some(time) => Some(self.date().and_time(time)),
-            None => None,
-        }
+        Some(self.date().and_time(self.time().with_nanosecond(nano)?))
     }
 }
 
@@ -157,10 +124,11 @@ impl NaiveDateTime {
         ensures { IsMonthsLater day_shown_by (IsReadingOnDay (reading self)) (day_shown_by self)
             (pos (months_of months)) result }
     {
-        match self.date().checked_add_months(months) {
-            Some(date) => Some(date.and_time(self.time())),
-            None => None,
-        }
+        Some(
+            self.date()
+                .checked_add_months(months)?
+                .and_time(self.time()),
+        )
     }
 
     /// The reading so many months earlier, by the rule of [`NaiveDateTime::checked_add_months`].
@@ -168,22 +136,22 @@ impl NaiveDateTime {
         ensures { IsMonthsLater day_shown_by (IsReadingOnDay (reading self)) (day_shown_by self)
             (neg_ℤ (pos (months_of months))) result }
     {
-        match self.date().checked_sub_months(months) {
-            Some(date) => Some(date.and_time(self.time())),
-            None => None,
-        }
+        Some(
+            self.date()
+                .checked_sub_months(months)?
+                .and_time(self.time()),
+        )
     }
 
     /// The reading so many days later, at the same time of day. `None` where the year is not one
     /// from -262143 to 262142, unless it is the reading itself.
+    ///
+    /// A day after 2021-01-31 12:00:00 comes 2021-02-01 12:00:00.
     pub fn checked_add_days(self, days: Days) -> Option<NaiveDateTime>
         ensures { IsDaysLater day_shown_by (IsReadingOnDay (reading self)) (day_shown_by self)
             (pos (days_of days)) result }
     {
-        match self.date().checked_add_days(days) {
-            Some(date) => Some(date.and_time(self.time())),
-            None => None,
-        }
+        Some(self.date().checked_add_days(days)?.and_time(self.time()))
     }
 
     /// The reading so many days earlier, by the rule of [`NaiveDateTime::checked_add_days`].
@@ -191,9 +159,6 @@ impl NaiveDateTime {
         ensures { IsDaysLater day_shown_by (IsReadingOnDay (reading self)) (day_shown_by self)
             (neg_ℤ (pos (days_of days))) result }
     {
-        match self.date().checked_sub_days(days) {
-            Some(date) => Some(date.and_time(self.time())),
-            None => None,
-        }
+        Some(self.date().checked_sub_days(days)?.and_time(self.time()))
     }
 }

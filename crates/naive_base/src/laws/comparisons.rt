@@ -1,5 +1,5 @@
 //! Theorems: each function is empty, its contract is proved; never called.
-ghost use Rattle.std.specs.Prelude.{◌≡◌, ◌↔◌, IsTrue, ◌++◌};
+ghost use Rattle.std.specs.Prelude.{◌≡◌, ◌↔◌, IsTrue, pos, ◌++◌};
 ghost use Rattle.std.specs.Ordering.{MatchOrdering, int_cmp, nat_cmp, ordering_then};
 ghost use Rattle.std.specs.Hash as fed;
 ghost use Rattle.naive_base.specs.declared.date.NaiveDate.{NaiveDate as AnyDate};
@@ -10,20 +10,21 @@ ghost use Rattle.naive_base.specs.declared.months_days.Days.{Days as AnyDays};
 ghost use Rattle.naive_base.specs.declared.weekday.Weekday.{Weekday as AnyWeekday};
 ghost use Rattle.naive_base.specs.declared.iso_week.IsoWeek.{IsoWeek as AnyWeek};
 ghost use Rattle.naive_base.specs.declared.calendar.year_days.YearDay.{YearDay as AnyYearDay};
+ghost use Rattle.naive_base.specs.declared.calendar.dates.YearMonthDay.{YearMonthDay as AnyYearMonthDay};
 ghost use Rattle.naive_base.specs.Reading.{IsEarlier, IsEarlierTime};
 ghost use Rattle.naive_base.specs.NaiveDate.{day_of};
 ghost use Rattle.naive_base.specs.NaiveTime.{second_of, fraction_of};
 ghost use Rattle.naive_base.specs.NaiveDateTime.{reading};
 ghost use Rattle.naive_base.specs.Months.{months_of, days_of};
-ghost use Rattle.naive_base.specs.Weekday.{weekday_number};
+ghost use Rattle.naive_base.specs.Weekday.{weekday_number, days_from_monday};
 ghost use Rattle.naive_base.specs.IsoWeek.{iso_year, iso_number};
 
-use crate::calendar::YearDay;
+use crate::calendar::{YearDay, YearMonthDay};
 use crate::{Days, IsoWeek, Months, NaiveDate, NaiveDateTime, NaiveTime, Weekday};
 use std::hash::Hash;
 
-/// Dates are equal exactly where their days are, and compare by these; a hash looks at the day, and
-/// a clone is the date.
+/// Dates are equal if and only if their days are, and compare by these; a hash looks at the day,
+/// and a clone is the date.
 pub fn dates()
     ensures equal { (a b : AnyDate) → IsTrue (⟦<NaiveDate as PartialEq>⟧.eq a b)
         ↔ (day_of a ≡ day_of b) }
@@ -31,10 +32,11 @@ pub fn dates()
     ensures order { (a b : AnyDate) → ⟦<NaiveDate as Ord>⟧.cmp a b ≡ int_cmp (day_of a) (day_of b) }
     ensures hashed { (a : AnyDate) → ⟦<NaiveDate as Hash>⟧.hash_input a ≡ fed.i32 (day_of a) }
     ensures cloned { (a b : AnyDate) → ⟦<NaiveDate as Clone>⟧.is_clone a b ↔ (a ≡ b) }
+    ensures infallible { (a : AnyDate) → ⟦<NaiveDate as Clone>⟧.is_infallible a }
 {}
 
-/// Times are equal exactly where their seconds of the day and their nanoseconds are, and compare by
-/// these in turn; a hash looks at both, and a clone is the time.
+/// Times are equal if and only if their seconds of the day and their nanoseconds are, and compare
+/// by these in turn; a hash looks at both, and a clone is the time.
 pub fn times()
     ensures equal { (a b : AnyTime) → IsTrue (⟦<NaiveTime as PartialEq>⟧.eq a b)
         ↔ ((second_of a ≡ second_of b) × (fraction_of a ≡ fraction_of b)) }
@@ -47,9 +49,10 @@ pub fn times()
     ensures hashed { (a : AnyTime) → ⟦<NaiveTime as Hash>⟧.hash_input a
         ≡ fed.u32 (second_of a) ++ fed.u32 (fraction_of a) }
     ensures cloned { (a b : AnyTime) → ⟦<NaiveTime as Clone>⟧.is_clone a b ↔ (a ≡ b) }
+    ensures infallible { (a : AnyTime) → ⟦<NaiveTime as Clone>⟧.is_infallible a }
 {}
 
-/// Readings are equal exactly where their seconds and their nanoseconds are, and compare by these
+/// Readings are equal if and only if their seconds and their nanoseconds are, and compare by these
 /// in turn; a hash looks at both, and a clone is the reading.
 pub fn readings()
     ensures equal { (a b : AnyReading) → IsTrue (⟦<NaiveDateTime as PartialEq>⟧.eq a b)
@@ -63,9 +66,10 @@ pub fn readings()
     ensures hashed { (a : AnyReading) → ⟦<NaiveDateTime as Hash>⟧.hash_input a
         ≡ fed.i64 (reading a).s ++ fed.u32 (reading a).f }
     ensures cloned { (a b : AnyReading) → ⟦<NaiveDateTime as Clone>⟧.is_clone a b ↔ (a ≡ b) }
+    ensures infallible { (a : AnyReading) → ⟦<NaiveDateTime as Clone>⟧.is_infallible a }
 {}
 
-/// Months are equal exactly where their numbers are, and compare by these; a hash looks at the
+/// Months are equal if and only if their numbers are, and compare by these; a hash looks at the
 /// number, and a clone is the same months.
 pub fn months()
     ensures equal { (a b : AnyMonths) → IsTrue (⟦<Months as PartialEq>⟧.eq a b)
@@ -74,9 +78,10 @@ pub fn months()
         ≡ nat_cmp (months_of a) (months_of b) }
     ensures hashed { (a : AnyMonths) → ⟦<Months as Hash>⟧.hash_input a ≡ fed.u32 (months_of a) }
     ensures cloned { (a b : AnyMonths) → ⟦<Months as Clone>⟧.is_clone a b ↔ (a ≡ b) }
+    ensures infallible { (a : AnyMonths) → ⟦<Months as Clone>⟧.is_infallible a }
 {}
 
-/// Days are equal exactly where their numbers are, and compare by these; a hash looks at the
+/// Days are equal if and only if their numbers are, and compare by these; a hash looks at the
 /// number, and a clone is the same days.
 pub fn days()
     ensures equal { (a b : AnyDays) → IsTrue (⟦<Days as PartialEq>⟧.eq a b)
@@ -84,29 +89,47 @@ pub fn days()
     ensures order { (a b : AnyDays) → ⟦<Days as Ord>⟧.cmp a b ≡ nat_cmp (days_of a) (days_of b) }
     ensures hashed { (a : AnyDays) → ⟦<Days as Hash>⟧.hash_input a ≡ fed.u64 (days_of a) }
     ensures cloned { (a b : AnyDays) → ⟦<Days as Clone>⟧.is_clone a b ↔ (a ≡ b) }
+    ensures infallible { (a : AnyDays) → ⟦<Days as Clone>⟧.is_infallible a }
 {}
 
-/// Weekdays are equal exactly where their numbers are, and a clone is the weekday.
+/// Weekdays are equal if and only if their numbers are; a hash looks at the days from Monday, and a
+/// clone is the weekday.
 pub fn weekdays()
     ensures equal { (a b : AnyWeekday) → IsTrue (⟦<Weekday as PartialEq>⟧.eq a b) ↔ (a ≡ b) }
     ensures numbered { (a b : AnyWeekday) → weekday_number a ≡ weekday_number b → a ≡ b }
+    ensures hashed { (a : AnyWeekday) → ⟦<Weekday as Hash>⟧.hash_input a
+        ≡ fed.isize (pos (days_from_monday a)) }
     ensures cloned { (a b : AnyWeekday) → ⟦<Weekday as Clone>⟧.is_clone a b ↔ (a ≡ b) }
+    ensures infallible { (a : AnyWeekday) → ⟦<Weekday as Clone>⟧.is_infallible a }
 {}
 
-/// ISO weeks are equal exactly where their years and their numbers are, and compare by these in
+/// ISO weeks are equal if and only if their years and their numbers are, and compare by these in
 /// turn; a hash looks at both, and a clone is the week.
 pub fn iso_weeks()
     ensures equal { (a b : AnyWeek) → IsTrue (⟦<IsoWeek as PartialEq>⟧.eq a b)
         ↔ ((iso_year a ≡ iso_year b) × (iso_number a ≡ iso_number b)) }
+    ensures same { (a b : AnyWeek) → iso_year a ≡ iso_year b → iso_number a ≡ iso_number b
+        → a ≡ b }
     ensures order { (a b : AnyWeek) → ⟦<IsoWeek as Ord>⟧.cmp a b
         ≡ ordering_then (int_cmp (iso_year a) (iso_year b)) (nat_cmp (iso_number a)
         (iso_number b)) }
     ensures hashed { (a : AnyWeek) → ⟦<IsoWeek as Hash>⟧.hash_input a
         ≡ fed.i32 (iso_year a) ++ fed.u32 (iso_number a) }
     ensures cloned { (a b : AnyWeek) → ⟦<IsoWeek as Clone>⟧.is_clone a b ↔ (a ≡ b) }
+    ensures infallible { (a : AnyWeek) → ⟦<IsoWeek as Clone>⟧.is_infallible a }
 {}
 
 /// A clone of a day's place in its year is that place.
 pub fn year_days()
-    ensures { (a b : AnyYearDay) → ⟦<YearDay as Clone>⟧.is_clone a b ↔ (a ≡ b) }
+    ensures cloned { (a b : AnyYearDay) → ⟦<YearDay as Clone>⟧.is_clone a b ↔ (a ≡ b) }
+    ensures infallible { (a : AnyYearDay) → ⟦<YearDay as Clone>⟧.is_infallible a }
+{}
+
+/// Dates of the calendar are equal if and only if their years, months and days are, and a clone is
+/// the date.
+pub fn year_month_days()
+    ensures equal { (a b : AnyYearMonthDay) → IsTrue (⟦<YearMonthDay as PartialEq>⟧.eq a b)
+        ↔ ((a.year ≡ b.year) × (a.month ≡ b.month) × (a.day ≡ b.day)) }
+    ensures cloned { (a b : AnyYearMonthDay) → ⟦<YearMonthDay as Clone>⟧.is_clone a b ↔ (a ≡ b) }
+    ensures infallible { (a : AnyYearMonthDay) → ⟦<YearMonthDay as Clone>⟧.is_infallible a }
 {}

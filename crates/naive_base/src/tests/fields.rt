@@ -9,7 +9,7 @@ fn date(rt: &impl Abort, year: i32, month: u32, day: u32) -> NaiveDate {
     NaiveDate::from_ymd_opt(year, month, day).expect(rt, "a date")
 }
 
-// The reading on the buffer day behind the range, an hour after its midnight.
+// The reading on the buffer day after the range, an hour after its midnight.
 fn on_the_last_buffer_day() -> NaiveDateTime {
     NaiveDateTime::MAX.overflowing_add_offset(FixedOffset::east(3_600))
 }

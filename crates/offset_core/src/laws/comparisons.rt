@@ -1,4 +1,5 @@
-//! Theorems: each function is empty, its contract is proved; never called.
+//! Theorems: the contract of each function is proved, and none is called. Each is empty, except one
+//! that names a constant.
 ghost use Rattle.std.specs.Prelude.{◌≡◌, ◌↔◌, IsTrue, ◌<ℤ◌, pos};
 ghost use Rattle.std.specs.Ordering.{int_cmp};
 ghost use Rattle.std.specs.Hash as fed;
@@ -9,13 +10,13 @@ ghost use Rattle.offset_core.specs.declared.fixed_offset.FixedOffset.{FixedOffse
 ghost use Rattle.offset_core.specs.declared.local_result.LocalResult.{LocalResult as AnyResult};
 ghost use Rattle.offset_core.specs.declared.time_delta.TimeDelta.{TimeDelta as AnyDelta};
 ghost use Rattle.offset_core.specs.FixedOffset.{seconds_of};
-ghost use Rattle.offset_core.specs.LocalResult.{AreAlike};
+ghost use Rattle.offset_core.specs.LocalResult.{AreAlike, HoldsOfEach, fed_of};
 ghost use Rattle.offset_core.specs.TimeDelta.{nanos_of};
 
 use crate::{Choice, FixedOffset, FoldChoice, GapChoice, LocalResult, TimeDelta};
 use std::hash::Hash;
 
-/// Offsets are equal exactly where their seconds are; a hash looks at the seconds, and a clone is
+/// Offsets are equal if and only if their seconds are; a hash looks at the seconds, and a clone is
 /// the offset.
 pub fn fixed_offsets()
     ensures equal { (a b : AnyOffset) → IsTrue (⟦<FixedOffset as PartialEq>⟧.eq a b)
@@ -24,9 +25,10 @@ pub fn fixed_offsets()
     ensures hashed { (a : AnyOffset) → ⟦<FixedOffset as Hash>⟧.hash_input a
         ≡ fed.i32 (seconds_of a) }
     ensures cloned { (a b : AnyOffset) → ⟦<FixedOffset as Clone>⟧.is_clone a b ↔ (a ≡ b) }
+    ensures infallible { (a : AnyOffset) → ⟦<FixedOffset as Clone>⟧.is_infallible a }
 {}
 
-/// Lengths of time are equal exactly where their nanoseconds are, and compare by these; a hash
+/// Lengths of time are equal if and only if their nanoseconds are, and compare by these; a hash
 /// looks at the nanoseconds, and a clone is the length.
 pub fn time_deltas()
     ensures equal { (a b : AnyDelta) → IsTrue (⟦<TimeDelta as PartialEq>⟧.eq a b)
@@ -36,6 +38,7 @@ pub fn time_deltas()
         ≡ int_cmp (nanos_of a) (nanos_of b) }
     ensures hashed { (a : AnyDelta) → ⟦<TimeDelta as Hash>⟧.hash_input a ≡ fed.i128 (nanos_of a) }
     ensures cloned { (a b : AnyDelta) → ⟦<TimeDelta as Clone>⟧.is_clone a b ↔ (a ≡ b) }
+    ensures infallible { (a : AnyDelta) → ⟦<TimeDelta as Clone>⟧.is_infallible a }
 {}
 
 /// The longest length of time.
@@ -45,17 +48,21 @@ pub fn longest_time_delta() -> TimeDelta
     TimeDelta::MAX
 }
 
-/// Answers of a lookup are equal exactly where they are of one kind and their values are equal, and
-/// a clone is of one kind with clones of the values.
-pub fn local_results<T: PartialEq + Clone>()
+/// Answers of a lookup are equal if and only if they are of one kind and their values are equal,
+/// and a clone is of one kind with clones of the values. A hash looks at the kind and at each value.
+pub fn local_results<T: PartialEq + Clone + Hash>()
     ensures equal { (x y : AnyResult T)
         → IsTrue (⟦<LocalResult<T> as PartialEq>⟧.eq x y) ↔ AreAlike
         (λ a b. IsTrue (T.PartialEq.eq a b)) x y }
     ensures cloned { (x y : AnyResult T) → ⟦<LocalResult<T> as Clone>⟧.is_clone x y
         ↔ AreAlike T.Clone.is_clone x y }
+    ensures infallible { (x : AnyResult T) → HoldsOfEach T.Clone.is_infallible x
+        → ⟦<LocalResult<T> as Clone>⟧.is_infallible x }
+    ensures hashed { (x : AnyResult T) → ⟦<LocalResult<T> as Hash>⟧.hash_input x
+        ≡ fed_of T.Hash.hash_input x }
 {}
 
-/// Choices are equal exactly where they are the same, and a clone is the choice.
+/// Choices are equal if and only if they are the same, and a clone is the choice.
 pub fn choices()
     ensures gaps { (a b : AnyGapChoice) → IsTrue (⟦<GapChoice as PartialEq>⟧.eq a b) ↔ (a ≡ b) }
     ensures folds { (a b : AnyFoldChoice) → IsTrue (⟦<FoldChoice as PartialEq>⟧.eq a b) ↔ (a ≡ b) }
@@ -63,4 +70,7 @@ pub fn choices()
     ensures gap_clone { (a b : AnyGapChoice) → ⟦<GapChoice as Clone>⟧.is_clone a b ↔ (a ≡ b) }
     ensures fold_clone { (a b : AnyFoldChoice) → ⟦<FoldChoice as Clone>⟧.is_clone a b ↔ (a ≡ b) }
     ensures clone { (a b : AnyChoice) → ⟦<Choice as Clone>⟧.is_clone a b ↔ (a ≡ b) }
+    ensures gap_infallible { (a : AnyGapChoice) → ⟦<GapChoice as Clone>⟧.is_infallible a }
+    ensures fold_infallible { (a : AnyFoldChoice) → ⟦<FoldChoice as Clone>⟧.is_infallible a }
+    ensures infallible { (a : AnyChoice) → ⟦<Choice as Clone>⟧.is_infallible a }
 {}

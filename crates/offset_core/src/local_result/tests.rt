@@ -30,7 +30,7 @@ fn places(values: LocalResult<u32>) -> LocalResult<u32>
     })
 }
 
-// The values but for one that is refused, and the digits of those that were asked for, in order.
+// The values except one that is refused, and the digits of those that were asked for, in order.
 fn asked(values: LocalResult<u32>, refused: u32) -> (MappedLocalTime<u32>, u32) {
     let mut seen = 0u32;
     let kept = values.and_then(|value| {

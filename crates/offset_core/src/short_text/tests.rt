@@ -1,7 +1,7 @@
 use super::*;
 
 #[test]
-fn each_piece_comes_behind_the_text(rt: HostRuntime) {
+fn each_piece_follows_the_text(rt: HostRuntime) {
     let mut text = ShortText::new();
     assert_eq!(rt; text.as_str(), "");
     text.push(b'+');

@@ -1,6 +1,7 @@
 ghost use Rattle.std.specs.Prelude.{pos, ◌≤ℤ◌, ◌<ℤ◌};
 
 use super::*;
+use std::test::Fail;
 
 #[test]
 fn each_unit_is_so_many_nanoseconds(rt: HostRuntime) {
@@ -130,4 +131,49 @@ fn literals_are_taken_as_they_are(rt: HostRuntime) {
     assert!(rt; hour.checked_add(&TimeDelta::hours(1)) == Some(TimeDelta::hours(2)));
     assert!(rt; TimeDelta::try_days(-1).unwrap() < TimeDelta::zero());
     assert!(rt; TimeDelta::try_milliseconds(5).unwrap() == TimeDelta::milliseconds(5));
+}
+
+#[test]
+fn units_go_toward_zero(rt: HostRuntime) {
+    let day = TimeDelta::nanoseconds(86_399_999_999_999);
+    for (delta, sign) in [(day, 1), (-day, -1)] {
+        assert!(rt; delta.num_weeks() == 0 && delta.num_days() == 0);
+        assert!(rt; delta.num_hours() == sign * 23);
+        assert!(rt; delta.num_minutes() == sign * 1_439);
+        assert!(rt; delta.num_milliseconds() == sign * 86_399_999);
+        assert!(rt; delta.num_microseconds() == Some(sign * 86_399_999_999));
+    }
+    assert!(rt; TimeDelta::MAX.num_weeks() == 15_250_284_452);
+    assert!(rt; TimeDelta::MAX.num_days() == 106_751_991_167);
+    assert!(rt; TimeDelta::MAX.num_milliseconds() == i64::MAX);
+    assert!(rt; TimeDelta::MAX.num_microseconds().is_none());
+    assert!(rt; TimeDelta::microseconds(i64::MIN).num_microseconds() == Some(i64::MIN));
+}
+
+#[test]
+fn lengths_are_multiplied_and_divided(rt: HostRuntime) {
+    assert!(rt; TimeDelta::minutes(90).checked_mul(-2) == Some(TimeDelta::hours(-3)));
+    assert!(rt; TimeDelta::MAX.checked_mul(-1) == Some(-TimeDelta::MAX));
+    assert!(rt; TimeDelta::MAX.checked_mul(2).is_none());
+    assert!(rt; TimeDelta::MAX.checked_mul(i32::MIN).is_none());
+    let third = TimeDelta::seconds(-4).checked_div(3);
+    assert!(rt; third == Some(TimeDelta::nanoseconds(-1_333_333_333)));
+    assert!(rt; TimeDelta::MAX.checked_div(-1) == Some(-TimeDelta::MAX));
+    assert!(rt; TimeDelta::zero().checked_div(0).is_none());
+}
+
+#[test]
+fn signs_are_taken_away_and_exchanged(rt: HostRuntime) {
+    let (ahead, back) = (TimeDelta::seconds(5), TimeDelta::seconds(-5));
+    assert!(rt; -ahead == back && -back == ahead);
+    assert!(rt; ahead.abs() == ahead && back.abs() == ahead);
+    assert!(rt; (-TimeDelta::MAX).abs() == TimeDelta::MAX);
+    assert!(rt; TimeDelta::zero().is_zero() && !back.is_zero());
+}
+
+#[test]
+fn debug_shows_the_nanoseconds(rt: HostRuntime) -> Result<(), Fail> {
+    let text = format!(in rt.alloc(); "{:?}", TimeDelta::seconds(-1))?;
+    assert_eq!(rt; text.as_str(), "TimeDelta { nanos: -1000000000 }");
+    Ok(())
 }

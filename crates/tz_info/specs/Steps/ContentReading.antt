@@ -7,7 +7,7 @@ use Rattle.tz_info.specs.LocalTypes.{LocalType}
 use Rattle.tz_info.specs.Fronts.{◌>>=◌}
 use Rattle.tz_info.specs.Steps.Below.{all_below}
 use Rattle.tz_info.specs.Steps.Readings.{is_name}
-use Rattle.tz_info.specs.FileContents.{signed, time_of, is_zero, designation_of, offset_in, mark_in, place_in, least_offset}
+use Rattle.tz_info.specs.FileContents.{signed, time_of, designation_of, offset_in, mark_in, place_in, least_offset}
 use Rattle.tz_info.specs.declared.error.Error.{Error}
 use Rattle.tz_info.specs.declared.error.Error.TheVariants.{OutOfMemory}
 use Rattle.tz_info.specs.declared.zone.transition.Transition.{Transition}
@@ -56,6 +56,10 @@ mark_of byte = if byte == 0 then Ok false else (if byte == 1 then Ok true else E
 abbrev pub front_of : List ℕ → Option ℕ → Result (List ℕ) ℕ
 front_of bytes None = Err 5
 front_of bytes (Some n) = Ok (take n bytes)
+
+-- the byte is 0
+abbrev pub is_zero : ℕ → Bool
+is_zero byte = byte == 0
 
 unfoldable pub text_before_zero : List ℕ → Result (List ℕ) ℕ
 text_before_zero bytes = front_of bytes (position_from is_zero 0 bytes)

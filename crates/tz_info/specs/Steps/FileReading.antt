@@ -1,4 +1,4 @@
--- Reading the pieces of a TZif file from the front: a value and the bytes behind it, or the number of the refusal.
+-- Reading the pieces of a TZif file from the front: a value and the bytes after it, or the number of the refusal.
 use Rattle.std.specs.Prelude.{ℕ, ◌+◌, ◌*◌, ◌==◌, Bool, not, ◌&&◌, ◌||◌, if◌then◌else◌, List, [], ◌∷◌, slice_index, Result, Ok, Err}
 use Rattle.std.specs.Bool.{nat_eq}
 use Rattle.std.specs.Cmp.Lexicographic.{pointwise}

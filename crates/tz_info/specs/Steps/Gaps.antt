@@ -18,7 +18,7 @@ pub record AreLessInto (z : Zone) (local : ℤ) (i : ℕ) : Type 0 where
   pub less : AreLess z local seen
   pub segment : i ≤ segment_of z seen
 
--- by no type clocks show more up to `low`, and by each they do behind `high`
+-- by no type clocks show more up to `low`, and by each they do after `high`
 pub record IsReach (z : Zone) (local low high : ℤ) : Type 0 where
   pub greatest : IsGreatest (offsets z.types z.rule) (local -ℤ low)
   pub least : IsLeast (offsets z.types z.rule) (local -ℤ high)

@@ -33,7 +33,7 @@ pub record IsHinted (places : List ℕ) (stretch : ℕ) (near : Near) : Type 0 w
 abbrev pub stretch_of : ℤ → ℤ → ℕ → ℕ
 stretch_of first time shift = nat_abs (time -ℤ first) / 2 ^ shift
 
--- of the first n items the last one in each stretch is noted behind it, and 0 where there is none
+-- of the first n items the last one in each stretch is noted after it, and 0 where there is none
 pub record AreMarked (times : List ℤ) (first : ℤ) (shift n : ℕ) (places : List ℕ) : Type 0 where
   pub of_item : (b : ℕ) → b < length places → (slice_index places b ≡ 0) ⊎ ((slice_index places b < n) × (suc (stretch_of first (time_at times (slice_index places b)) shift) ≡ b))
   pub latest : (k : ℕ) → k < n → k ≤ slice_index places (suc (stretch_of first (time_at times k) shift))

@@ -1,7 +1,9 @@
--- Looks at the items of one kind, counted.
-use Rattle.std.specs.Prelude.{ℕ, ◌≡◌, ◌+◌}
+-- Looks at the items of one kind, and questions to the rule, counted.
+use Rattle.std.specs.Prelude.{ℕ, ℤ, ◌≡◌, ◌+◌, ◌^◌, ◌<◌, ◌⊎◌, Some, None}
 use Rattle.std.proofs.Common.{arith, ap}
 use Rattle.tz_info.specs.Counts.{Counts}
+use Rattle.tz_info.specs.Zones.{Zone, IsBeforeLast, IsFromLast}
+use Rattle.tz_info.specs.declared.rule.transition_rule.TransitionRule.{TransitionRule}
 
 -- so many looks at transitions more
 abbrev pub reads_more : Counts → ℕ → Counts
@@ -28,3 +30,14 @@ pieces_more_none c = ap (λ n. record c { piece_reads = n }) (omega arith)
 
 pub pieces_more_looks : (c : Counts) (k : ℕ) → (pieces_more c k).piece_reads ≡ c.piece_reads + k
 pieces_more_looks c k = omega arith
+
+-- one question more where the rule says the type at the leap time x, else none
+abbrev pub IsAskedAtLeapTime : Zone → ℤ → ℕ → ℕ → Type 0
+IsAskedAtLeapTime z x before after =
+    ((rule : TransitionRule) × (z.rule ≡ Some rule) × IsFromLast z x × (after ≡ before + 1))
+    ⊎ ((z.rule ≡ None) × (after ≡ before))
+    ⊎ (IsBeforeLast z x × (after ≡ before))
+
+-- the count can rise by that much more within 128 bits
+abbrev pub HasRoomFor : ℕ → ℕ → Type 0
+HasRoomFor more count = count + more < 2 ^ 128

@@ -5,7 +5,7 @@ use Rattle.offset_core.specs.WallAnswer.{IsWallAnswer}
 use Rattle.offset_core.specs.declared.local_result.LocalResult.{LocalResult}
 use Rattle.offset_core.specs.declared.local_result.LocalResult.TheVariants.{None, Single, Ambiguous}
 use Rattle.tz_info.specs.LocalTypes.{LocalType, IsUtOffset}
-use Rattle.tz_info.specs.Segments.{index_of}
+use Rattle.tz_info.specs.Steps.Segments.{index_of}
 use Rattle.tz_info.specs.Steps.Starts.{IsCut}
 use Rattle.tz_info.specs.WallPieces.{AreInOrder, ListedAmong, answer_at}
 use Rattle.tz_info.specs.Zones.{Zone, HasType}

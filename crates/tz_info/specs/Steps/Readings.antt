@@ -1,4 +1,4 @@
--- What is read of a TZ text, from its front: the value with the bytes behind it, or the number of the first refusal.
+-- What is read of a TZ text, from its front: the value with the bytes after it, or the number of the first refusal.
 -- That it is what the grammar derives is a law of each piece.
 use Rattle.std.specs.Prelude.{ℕ, ℤ, pos, ◌+ℤ◌, int_le, nat_lt, nat_le, Bool, true, false, not, ◌&&◌, ◌||◌, if◌then◌else◌, List, [], ◌∷◌, length, Result, Ok, Err, Some}
 use Rattle.std.specs.List.{list_all}
@@ -24,7 +24,7 @@ nothing_at v bytes = Ok (v, bytes)
 abbrev pub checked_at : {X : Type 0} → Result X ℕ → List ℕ → Result (X × List ℕ) ℕ
 checked_at r bytes = r >>= λ x. Ok (x, bytes)
 
--- where the byte stands, the first behind it, else the second
+-- where the byte stands, the first after it, else the second
 abbrev pub marked_at : {X : Type 0} → ℕ → (List ℕ → Result (X × List ℕ) ℕ) → (List ℕ → Result (X × List ℕ) ℕ) → List ℕ → Result (X × List ℕ) ℕ
 marked_at tag a b bytes = let mark = optional_tag_at (tag ∷ []) bytes in if mark.0 then a mark.1 else b mark.1
 

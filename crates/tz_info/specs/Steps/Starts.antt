@@ -6,7 +6,7 @@ use Rattle.tz_info.specs.Transitions.{passed}
 use Rattle.tz_info.specs.declared.zone.leap_second.LeapSecond.{LeapSecond}
 use Rattle.tz_info.specs.declared.zone.transition.Transition.{Transition}
 
--- the leap time x has come exactly from the second `start` on
+-- the leap time x has come if and only if the second is `start` or later
 abbrev pub IsReachedFrom : List LeapSecond → ℤ → ℤ → Type 0
 IsReachedFrom leaps x start = (u y : ℤ) → IsNear u → IsLeapTime leaps u y → (x ≤ℤ y) ↔ (start ≤ℤ u)
 

@@ -1,11 +1,11 @@
--- How a name is stored: seven bytes, with zeros behind the name.
+-- How a name is stored: seven bytes, with zeros after the name.
 use Rattle.std.specs.Prelude.{ℕ, ◌≡◌, ◌-◌, ◌<◌, ◌≤◌, true, List, length, take, slice_index, ◌++◌}
 use Rattle.std.proofs.Common.{arith, get_or, sym, ◌∙◌}
 use Rattle.std.proofs.lemmas.Grind.{same_number_lists, common_steps}
 use Rattle.std.proofs.Math.ListN.{replicate}
 use Rattle.tz_info.specs.Names.{is_name_byte}
 
--- seven bytes hold a name of that length, and zeros behind it
+-- seven bytes hold a name of that length, and zeros after it
 pub record Holds (bytes : List ℕ) (len : ℕ) : Type 0 where
   pub seven : length bytes ≡ 7
   pub least : 3 ≤ len

@@ -22,13 +22,13 @@ pub record IsShownIn (z : Zone) (local : ℤ) (n : ℕ) (u : ℤ) (t : LocalType
   pub shows : Shows (TypeAt z) local u t
   pub before : segment_of z u < n
 
--- the one second that could show the local time at the offset was asked, and put behind all others where it does
+-- the one second that could show the local time at the offset was asked, and put after all others where it does
 abbrev pub IsAskedLast : (ℤ → LocalType → Type 0) → ℤ → ℤ → LocalResult LocalType → LocalResult LocalType → Type 0
 IsAskedLast in_force local offset before after =
     ((after ≡ before) × ((t : LocalType) → Shows in_force local (local -ℤ offset) t → ⊥))
     ⊎ ((t : LocalType) × Shows in_force local (local -ℤ offset) t × (after ≡ joined before (Single t)))
 
--- the one second that could show the local time by the type of that index was tried: it was put behind all others where its
+-- the one second that could show the local time by the type of that index was tried: it was put after all others where its
 -- leap time is one of those
 pub record IsTried (z : Zone) (local : ℤ) (index : ℕ) (within : ℤ → Type 0) (before after : LocalResult LocalType) : Type 0 where
   pub type : LocalType
@@ -39,7 +39,7 @@ pub record IsTried (z : Zone) (local : ℤ) (index : ℕ) (within : ℤ → Type
   pub leap_fits : least_time ≤ℤ leap_time
   pub tried : (within leap_time × (after ≡ joined before (Single type))) ⊎ ((within leap_time → ⊥) × (after ≡ before))
 
--- the second u lies behind the last transition, and the season's moments decide there
+-- the second u lies after the last transition, and the season's moments decide there
 pub record IsAmidSeason (z : Zone) (s : Season) (u : ℤ) : Type 0 where
   pub decided : IsDecidedIn s u
   pub behind : segment_of z u ≡ length z.transitions

@@ -93,7 +93,7 @@ fn pair_agrees(standard_wall: &[u8], ut_local: &[u8], k: usize) -> bool
     !(byte_or_zero(standard_wall, k) == 0 && byte_or_zero(ut_local, k) == 1)
 }
 
-/// The byte at that place, or 0 behind the end.
+/// The byte at that place, or 0 after the end.
 pub fn byte_or_zero(bytes: &[u8], place: usize) -> u8
     ensures { result ≡ slice_index bytes.now place }
 {

@@ -4,7 +4,7 @@ ghost use Rattle.std.specs.Prelude.{◌≡◌};
 ghost use Rattle.std.specs.List.{list_any};
 ghost use Rattle.std.specs.Str.{is_utf8};
 ghost use Rattle.tz_info.specs.Fronts.{Gives};
-ghost use Rattle.tz_info.specs.FileContents.{is_zero};
+ghost use Rattle.tz_info.specs.Steps.ContentReading.{is_zero};
 ghost use Rattle.tz_info.specs.Steps.FooterReading.{trimmed, is_between_newlines, is_no_text, rule_in, rule_or_none, text_or_none, footer_at};
 
 use crate::error::{Error, Expected};
@@ -44,7 +44,7 @@ fn rule_or_none(extended: bool, text: &[u8]) -> Result<Option<TransitionRule>, E
     Ok(Some(read_rule(extended, text)?))
 }
 
-/// A function of its own, since the reader's clause keeps the bytes behind the text.
+// A function of its own, since the reader's clause keeps the bytes after the text.
 fn read_rule(extended: bool, text: &[u8]) -> Result<TransitionRule, Error>
     ensures { Gives (λ r. r) result (rule_in extended text.now) }
 {
@@ -60,21 +60,21 @@ fn is_utf8(bytes: &[u8]) -> bool
     }
 }
 
-/// One newline alone begins and ends the footer.
+// One newline alone begins and ends the footer.
 fn is_between_newlines(bytes: &[u8]) -> bool
     ensures { result ≡ is_between_newlines bytes.now }
 {
     bytes.starts_with(b"\n") && bytes.ends_with(b"\n")
 }
 
-/// Without the ASCII white space at both ends.
+// Without the ASCII white space at both ends.
 fn trimmed(bytes: &[u8]) -> &[u8]
     ensures { result.now ≡ trimmed bytes.now }
 {
     bytes.trim_ascii_start().trim_ascii_end()
 }
 
-/// A colon in front would name a file, and a 0 byte is in no TZ text.
+// A colon in front would name a file, and a 0 byte is in no TZ text.
 fn is_no_text(text: &[u8]) -> bool
     ensures { result ≡ is_no_text text.now }
 {

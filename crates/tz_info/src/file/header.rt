@@ -1,8 +1,12 @@
 //! The headers of a file (RFC 8536 section 3.1).
 
 ghost use Rattle.std.specs.Prelude.{◌≡◌};
+ghost use Rattle.std.specs.Result.{IsErrAnd};
+ghost use Rattle.tz_info.specs.FileHeaders.{HasOtherMagic};
 ghost use Rattle.tz_info.specs.Fronts.{Gives};
 ghost use Rattle.tz_info.specs.Steps.FileReading.{magic_at, version_of, version_at, counts_at, counts_agree, header_at};
+ghost use Rattle.tz_info.specs.declared.error.Error.TheVariants.{InvalidTzFile};
+ghost use Rattle.tz_info.specs.declared.error.Expected.TheVariants.{TZifAtFrontOfHeader};
 
 use crate::cursor::Cursor;
 use crate::error::{Error, Expected};
@@ -45,7 +49,9 @@ pub struct Header {
 
 #[tactic(auto, unfolding(crate::specs::Steps::FileReading::header_at))]
 pub fn read_header(cursor: &mut Cursor<'_>, place: Place) -> Result<Header, Error>
-    ensures { Gives (λ h. (h, cursor.new)) result (header_at place cursor.old) }
+    ensures header { Gives (λ h. (h, cursor.new)) result (header_at place cursor.old) }
+    ensures magic { HasOtherMagic cursor.old
+        → IsErrAnd result (λ e. e ≡ InvalidTzFile TZifAtFrontOfHeader) }
 {
     read_magic(cursor)?;
     let version = read_version(cursor, place)?;
@@ -59,7 +65,9 @@ pub fn read_header(cursor: &mut Cursor<'_>, place: Place) -> Result<Header, Erro
 
 #[tactic(auto, unfolding(crate::specs::Steps::FileReading::magic_at))]
 fn read_magic(cursor: &mut Cursor<'_>) -> Result<(), Error>
-    ensures { Gives (λ _. cursor.new) result (magic_at cursor.old) }
+    ensures rest { Gives (λ _. cursor.new) result (magic_at cursor.old) }
+    ensures magic { HasOtherMagic cursor.old
+        → IsErrAnd result (λ e. e ≡ InvalidTzFile TZifAtFrontOfHeader) }
 {
     let front = cursor.read_exact(4)?;
     if front != b"TZif".as_slice() {
@@ -103,7 +111,7 @@ fn read_counts(cursor: &mut Cursor<'_>) -> Result<Counts, Error>
 }
 
 impl Counts {
-    /// There is a type and a byte of names, and indicators stand for no type or for each.
+    // There is a type and a byte of names, and indicators stand for no type or for each.
     fn agree(&self) -> bool
         ensures { result ≡ counts_agree self.now }
     {

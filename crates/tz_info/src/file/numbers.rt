@@ -36,7 +36,7 @@ pub fn signed_32(bytes: &[u8]) -> i32
     i32::from_be_bytes([bytes[0], bytes[1], bytes[2], bytes[3]])
 }
 
-/// The number of the first eight bytes.
+// The number of the first eight bytes.
 #[tactic(auto, unfolding(crate::specs::FileContents::signed))]
 fn signed_64(bytes: &[u8]) -> i64
     requires { 8 ≤ length bytes.now }

@@ -1,7 +1,8 @@
 //! A file from its first byte to its last: its pieces, and the lists that they spell.
 
 ghost use Rattle.std.specs.Prelude.{◌≡◌, ◌⊎◌, IfOk, IfErr, MatchResult, option_map};
-ghost use Rattle.tz_info.specs.Errors.{number_of};
+ghost use Rattle.std.specs.Result.{IsErrAnd};
+ghost use Rattle.tz_info.specs.Errors.{IsTimeZoneError, number_of};
 ghost use Rattle.tz_info.specs.Fronts.{Gives};
 ghost use Rattle.tz_info.specs.Zones.{Zone, IsValid};
 ghost use Rattle.tz_info.specs.FileBlocks.{parts_of};
@@ -9,9 +10,11 @@ ghost use Rattle.tz_info.specs.Steps.FileReading.{first_version_in, later_versio
 ghost use Rattle.tz_info.specs.Steps.ContentReading.{GivesInMemory};
 ghost use Rattle.tz_info.specs.Steps.FooterReading.{footer_of};
 ghost use Rattle.tz_info.specs.Steps.FileLists.{pieces_of, zone_of, lists_in, with_types, with_rule, HasLengths, Reads};
+ghost use Rattle.tz_info.specs.FileHeaders.{HasOtherMagic};
 ghost use Rattle.tz_info.specs.FilePieces.{FilePieces, HasPieces, is_extended};
 ghost use Rattle.tz_info.specs.TzFiles.{IsTzFile, IsFileFault};
-ghost use Rattle.tz_info.specs.declared.error.Error.TheVariants.{OutOfMemory};
+ghost use Rattle.tz_info.specs.declared.error.Error.TheVariants.{InvalidTzFile, OutOfMemory};
+ghost use Rattle.tz_info.specs.declared.error.Expected.TheVariants.{TZifAtFrontOfHeader};
 
 use crate::cursor::Cursor;
 use crate::error::{Error, Expected};
@@ -39,7 +42,7 @@ impl Lists {
     pub fn into_zone(self, alloc: Global) -> Result<TimeZone, Error>
         ensures { MatchResult result
             (λ z. IsValid (zone_of self) × (z ≡ zone_of self))
-            (λ e. ((number_of e ≡ 12) × ¬ (IsValid (zone_of self))) ⊎ ((e ≡ OutOfMemory)
+            (λ e. (IsTimeZoneError e × ¬ (IsValid (zone_of self))) ⊎ ((e ≡ OutOfMemory)
             × IsValid (zone_of self))) }
     {
         let Lists {
@@ -61,23 +64,27 @@ pub fn read_lists(alloc: Global, bytes: &[u8]) -> Result<Lists, Error>
         → MatchResult result (λ lists. zone_of lists ≡ z) (λ e. e ≡ OutOfMemory) }
     // A refusal names a fault that is there.
     ensures fault { IfErr result (λ e. IsFileFault bytes.now (number_of e)) }
-    // Want of memory is answered only where every piece of the file is there.
+    // Running out of memory is answered only where every piece of the file is there.
     ensures memory { IfErr result
         (λ e. e ≡ OutOfMemory → (p : FilePieces) × HasPieces bytes.now p) }
+    ensures magic { HasOtherMagic bytes.now
+        → IsErrAnd result (λ e. e ≡ InvalidTzFile TZifAtFrontOfHeader) }
 {
     read_file(alloc, bytes)
 }
 
-/// The same by one relation, from which the four clauses follow.
+// The same by one relation, from which the four clauses follow.
 fn read_file(alloc: Global, bytes: &[u8]) -> Result<Lists, Error>
-    ensures { Reads result (pieces_at bytes.now) }
+    ensures lists { Reads result (pieces_at bytes.now) }
+    ensures magic { HasOtherMagic bytes.now
+        → IsErrAnd result (λ e. e ≡ InvalidTzFile TZifAtFrontOfHeader) }
 {
     let pieces = read_pieces(bytes)?;
     lists_of(alloc, &pieces)
 }
 
-/// The pieces of a file that say what its zone is: the last block, with its header's counts and the
-/// size of its times, the footer, and whether the footer's text may have extensions.
+// The pieces of a file that say what its zone is: the last block, with its header's counts and the
+// size of its times, the footer, and whether the footer's text may have extensions.
 #[derive(Clone, Copy)]
 struct Pieces<'a> {
     extended: bool,
@@ -89,7 +96,9 @@ struct Pieces<'a> {
 
 #[tactic(auto, unfolding(crate::specs::Steps::FileReading::pieces_at))]
 fn read_pieces(bytes: &[u8]) -> Result<Pieces<'_>, Error>
-    ensures { Gives pieces_of result (pieces_at bytes.now) }
+    ensures pieces { Gives pieces_of result (pieces_at bytes.now) }
+    ensures magic { HasOtherMagic bytes.now
+        → IsErrAnd result (λ e. e ≡ InvalidTzFile TZifAtFrontOfHeader) }
 {
     let mut cursor = Cursor::new(bytes);
     let header = read_header(&mut cursor, Place::First)?;
@@ -111,7 +120,7 @@ fn after_first_block<'a>(
     }
 }
 
-/// In version 1 the first block says all, and nothing follows it.
+// In version 1 the first block says all, and nothing follows it.
 fn first_version<'a>(
     cursor: &Cursor<'a>,
     counts: Counts,
@@ -131,7 +140,7 @@ fn first_version<'a>(
     })
 }
 
-/// From version 2 on the second block says all, with the footer, which is the rest.
+// From version 2 on the second block says all, with the footer, which is the rest.
 #[tactic(auto, unfolding(crate::specs::Steps::FileReading::later_version_at))]
 fn later_version<'a>(cursor: &mut Cursor<'a>) -> Result<Pieces<'a>, Error>
     ensures { Gives pieces_of result (later_version_at cursor.old) }
@@ -147,15 +156,15 @@ fn later_version<'a>(cursor: &mut Cursor<'a>) -> Result<Pieces<'a>, Error>
     })
 }
 
-/// From version 3 on the TZ text has the extensions of RFC 8536 section 3.3.1.
+// From version 3 on the TZ text has the extensions of RFC 8536 section 3.3.1.
 fn is_extended(version: Version) -> bool
     ensures { result ≡ is_extended version }
 {
     matches!(version, Version::Three)
 }
 
-/// What the pieces say: first the types are read, one after the other, then the indicators, then
-/// the footer.
+// What the pieces say: first the types are read, one after the other, then the indicators, then
+// the footer.
 #[tactic(auto, unfolding(crate::specs::Steps::FileLists::lists_in))]
 fn lists_of(alloc: Global, pieces: &Pieces<'_>) -> Result<Lists, Error>
     requires { HasLengths (pieces_of pieces.now) }

@@ -3,8 +3,8 @@
 ghost use Rattle.std.specs.Prelude.{◌≡◌, ◌≤◌, ◌<◌, ◌*◌, length, IfSome, option_map};
 ghost use Rattle.std.specs.List.{position_from};
 ghost use Rattle.tz_info.specs.Fronts.{Gives};
-ghost use Rattle.tz_info.specs.FileContents.{is_zero, designation_of};
-ghost use Rattle.tz_info.specs.Steps.ContentReading.{GivesInMemory, values_below, type_in, type_of_record, with_next_type, mark_of, type_of, text_before_zero, designation_at};
+ghost use Rattle.tz_info.specs.FileContents.{designation_of};
+ghost use Rattle.tz_info.specs.Steps.ContentReading.{GivesInMemory, values_below, type_in, type_of_record, with_next_type, mark_of, type_of, text_before_zero, designation_at, is_zero};
 
 use crate::error::{Error, Expected};
 use crate::file::numbers::{record_at, signed_32};
@@ -59,7 +59,7 @@ fn read_mark(byte: u8) -> Result<bool, Error>
     }
 }
 
-/// The text that begins at that place of the designations and ends at a 0 byte.
+// The text that begins at that place of the designations and ends at a 0 byte.
 #[tactic(auto, unfolding(crate::specs::Steps::ContentReading::designation_at))]
 fn designation_at(designations: &[u8], place: usize) -> Result<&[u8], Error>
     ensures { Gives (λ s. s.now) result (designation_at designations.now place) }
@@ -87,15 +87,15 @@ fn first_zero(bytes: &[u8]) -> Option<usize>
     bytes.iter().position(|byte| *byte == 0)
 }
 
-/// The type of an offset, a mark and a text: a function of its own, so that its clause says what
-/// reading one gives.
+// The type of an offset, a mark and a text: a function of its own, so that its clause says what
+// reading one gives.
 fn local_type(ut_offset: i32, is_dst: bool, text: &[u8]) -> Result<LocalTimeType, Error>
     ensures { Gives (λ t. t) result (type_of ut_offset is_dst text.now) }
 {
     LocalTimeType::new(ut_offset, is_dst, designation_of(text))
 }
 
-/// An empty text is no name.
+// An empty text is no name.
 fn designation_of(text: &[u8]) -> Option<&[u8]>
     ensures { option_map (λ name. name.now) result ≡ designation_of text.now }
 {

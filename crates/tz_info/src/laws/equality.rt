@@ -17,64 +17,76 @@ use crate::name::TimeZoneName;
 use crate::rule::{AlternateTime, RuleDay, TransitionRule};
 use crate::zone::{LeapSecond, TimeZone, Transition};
 
-/// Transitions are equal exactly where their times and their indexes are, and a clone is the value.
+/// Transitions are equal if and only if their times and their indexes are. A clone is the value,
+/// and does not fail.
 pub fn transitions()
     ensures equal { (a b : Change) → IsTrue (⟦<Transition as PartialEq>⟧.eq a b) ↔ (a ≡ b) }
     ensures clone { (a b : Change) → ⟦<Transition as Clone>⟧.is_clone a b ↔ (b ≡ a) }
+    ensures infallible { (a : Change) → ⟦<Transition as Clone>⟧.is_infallible a }
 {}
 
-/// Leap seconds are equal exactly where their times and their corrections are, and a clone is the
-/// value.
+/// Leap seconds are equal if and only if their times and their corrections are. A clone is the
+/// value, and does not fail.
 pub fn leap_seconds()
     ensures equal { (a b : Leap) → IsTrue (⟦<LeapSecond as PartialEq>⟧.eq a b) ↔ (a ≡ b) }
     ensures clone { (a b : Leap) → ⟦<LeapSecond as Clone>⟧.is_clone a b ↔ (b ≡ a) }
+    ensures infallible { (a : Leap) → ⟦<LeapSecond as Clone>⟧.is_infallible a }
 {}
 
-/// Names are equal exactly where their bytes are, and a clone is the value.
+/// Names are equal if and only if their bytes are. A clone is the value, and does not fail.
 pub fn names()
     ensures equal { (a b : List ℕ) → IsTrue (⟦<TimeZoneName as PartialEq>⟧.eq a b) ↔ (a ≡ b) }
     ensures clone { (a b : List ℕ) → ⟦<TimeZoneName as Clone>⟧.is_clone a b ↔ (b ≡ a) }
+    ensures infallible { (a : List ℕ) → ⟦<TimeZoneName as Clone>⟧.is_infallible a }
 {}
 
-/// Types are equal exactly where their offsets, marks and names are, and a clone is the value.
+/// Types are equal if and only if their offsets, DST flags and names are. A clone is the value, and
+/// does not fail.
 pub fn local_time_types()
     ensures equal { (a b : LocalType) → IsTrue (⟦<LocalTimeType as PartialEq>⟧.eq a b) ↔ (a ≡ b) }
     ensures clone { (a b : LocalType) → ⟦<LocalTimeType as Clone>⟧.is_clone a b ↔ (b ≡ a) }
+    ensures infallible { (a : LocalType) → ⟦<LocalTimeType as Clone>⟧.is_infallible a }
 {}
 
-/// Days are equal exactly where their forms and their numbers are, and a clone is the value.
+/// Days are equal if and only if their forms and their numbers are. A clone is the value, and does
+/// not fail.
 pub fn rule_days()
     ensures equal { (a b : DayForm) → IsTrue (⟦<RuleDay as PartialEq>⟧.eq a b) ↔ (a ≡ b) }
     ensures clone { (a b : DayForm) → ⟦<RuleDay as Clone>⟧.is_clone a b ↔ (b ≡ a) }
+    ensures infallible { (a : DayForm) → ⟦<RuleDay as Clone>⟧.is_infallible a }
 {}
 
-/// Rules of two types are equal exactly where their types, days and times are, and a clone is the
-/// value.
+/// Rules of two types are equal if and only if their types, days and times are. A clone is the
+/// value, and does not fail.
 pub fn alternate_times()
     ensures equal { (a b : AlternateRule)
         → IsTrue (⟦<AlternateTime as PartialEq>⟧.eq a b) ↔ (a ≡ b) }
     ensures clone { (a b : AlternateRule) → ⟦<AlternateTime as Clone>⟧.is_clone a b ↔ (b ≡ a) }
+    ensures infallible { (a : AlternateRule) → ⟦<AlternateTime as Clone>⟧.is_infallible a }
 {}
 
-/// Rules are equal exactly where they are the same rule, and a clone is the value.
+/// Rules are equal if and only if they are the same rule. A clone is the value, and does not fail.
 pub fn transition_rules()
     ensures equal { (a b : Rule) → IsTrue (⟦<TransitionRule as PartialEq>⟧.eq a b) ↔ (a ≡ b) }
     ensures clone { (a b : Rule) → ⟦<TransitionRule as Clone>⟧.is_clone a b ↔ (b ≡ a) }
+    ensures infallible { (a : Rule) → ⟦<TransitionRule as Clone>⟧.is_infallible a }
 {}
 
-/// What was expected is equal where it is the same, and a clone is the value.
+/// What was expected is equal where it is the same. A clone is the value, and does not fail.
 pub fn expectations()
     ensures equal { (a b : Wanted) → IsTrue (⟦<Expected as PartialEq>⟧.eq a b) ↔ (a ≡ b) }
     ensures clone { (a b : Wanted) → ⟦<Expected as Clone>⟧.is_clone a b ↔ (b ≡ a) }
+    ensures infallible { (a : Wanted) → ⟦<Expected as Clone>⟧.is_infallible a }
 {}
 
-/// Errors are equal where they are the same, and a clone is the error.
+/// Errors are equal where they are the same. A clone is the error, and does not fail.
 pub fn errors()
     ensures equal { (a b : Refusal) → IsTrue (⟦<Error as PartialEq>⟧.eq a b) ↔ (a ≡ b) }
     ensures clone { (a b : Refusal) → ⟦<Error as Clone>⟧.is_clone a b ↔ (b ≡ a) }
+    ensures infallible { (a : Refusal) → ⟦<Error as Clone>⟧.is_infallible a }
 {}
 
-/// Zones are equal exactly where their transitions, types, leap seconds and rules are.
+/// Zones are equal if and only if their transitions, types, leap seconds and rules are.
 pub fn zones()
     ensures { (a b : Zone) → IsTrue (⟦<TimeZone as PartialEq>⟧.eq a b) ↔ (a ≡ b) }
 {}

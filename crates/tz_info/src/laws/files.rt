@@ -14,7 +14,7 @@ pub fn rule_is_in_limits()
     ensures { (bytes : List ℕ) (zone : Zone) → IsTzFile bytes zone → IsRuleOrNone zone.rule }
 {}
 
-/// A file with a fault, want of memory apart, spells no valid zone.
+/// A file with a fault, except running out of memory, spells no valid zone.
 pub fn fault_or_zone()
     ensures { (bytes : List ℕ) (n : ℕ) (zone : Zone) → IsZoneFault bytes n → n ≢ 17
         → IsTzFile bytes zone → ¬ (IsValid zone) }

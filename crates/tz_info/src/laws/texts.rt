@@ -25,8 +25,8 @@ pub fn zone_is_valid()
         → IsValid zone × IsRuleOrNone zone.rule }
 {}
 
-/// A text with a fault spells no rule. Its fault has one number, which is not that of want of
-/// memory.
+/// A text with a fault spells no rule. Its fault has one number, which is not that of running out
+/// of memory.
 pub fn fault_or_rule()
     ensures apart { (extended : Bool) (bytes : List ℕ) (n : ℕ) (rule : Rule)
         → IsTextFault extended bytes n → ¬ (IsTzText extended bytes rule) }
@@ -36,8 +36,8 @@ pub fn fault_or_rule()
         → n ≤ 16 }
 {}
 
-/// A text with a fault gives no zone. Its fault has one number, which is not that of want of
-/// memory.
+/// A text with a fault gives no zone. Its fault has one number, which is not that of running out
+/// of memory.
 pub fn fault_or_zone()
     ensures apart { (text : List ℕ) (n : ℕ) (zone : Zone) → IsPosixFault text n
         → ¬ (IsPosixZone text zone) }

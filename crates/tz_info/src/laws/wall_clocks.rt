@@ -1,15 +1,43 @@
 //! Theorems of wall clocks over all seconds: each function is empty, its contract is proved; never
 //! called.
 
-ghost use Rattle.std.specs.Prelude.{ℤ};
+ghost use Rattle.std.specs.Prelude.{◌≡◌, ℕ, ℤ, ◌+ℤ◌, FitsSigned};
+ghost use Rattle.std.specs.Int.{w64};
 ghost use Rattle.offset_core.specs.WallAnswer.{IsWallAnswer};
 ghost use Rattle.offset_core.specs.declared.local_result.LocalResult.{LocalResult};
 ghost use Rattle.tz_info.specs.LocalTypes.{LocalType};
-ghost use Rattle.tz_info.specs.WallClocks.{Shows};
+ghost use Rattle.tz_info.specs.WallClocks.{Shows, AreShown, IsAmongShown};
+ghost use Rattle.tz_info.specs.Windows.{IsWindowCount};
 ghost use Rattle.tz_info.specs.Zones.{Zone, IsValid, IsRuleOrNone, TypeAt};
 
 /// Each local time has an answer in each zone.
 pub fn decided()
     ensures { (z : Zone) (local : ℤ) → IsValid z → IsRuleOrNone z.rule
         → (types : LocalResult LocalType) × IsWallAnswer (Shows (TypeAt z) local) types }
+{}
+
+/// Each type that a wall clock answers is in force at the local time less its offset. And an
+/// instant whose wall clock is asked is the answer's only one, or lies between its first and its
+/// last.
+pub fn wall_clock_law()
+    ensures shown { (z : Zone) (local : ℤ) (answer : LocalResult LocalType)
+        → IsWallAnswer (Shows (TypeAt z) local) answer → AreShown (TypeAt z) local answer }
+    ensures around { (z : Zone) (u : ℤ) (t : LocalType) (answer : LocalResult LocalType)
+        → FitsSigned w64 u → TypeAt z u t
+        → IsWallAnswer (Shows (TypeAt z) (u +ℤ t.offset)) answer
+        → IsAmongShown (u +ℤ t.offset) u answer }
+{}
+
+/// A local time has one answer: that of the index and that of the walk are equal.
+pub fn one_wall_clock_law()
+    ensures { (z : Zone) (local : ℤ) (a b : LocalResult LocalType)
+        → IsWallAnswer (Shows (TypeAt z) local) a
+        → IsWallAnswer (Shows (TypeAt z) local) b
+        → a ≡ b }
+{}
+
+/// A local time has one count of the transitions that come near it.
+pub fn window_count_law()
+    ensures { (z : Zone) (local : ℤ) (j k : ℕ) → IsWindowCount z local j
+        → IsWindowCount z local k → j ≡ k }
 {}

@@ -4,7 +4,7 @@ ghost use Rattle.std.specs.Prelude.{◌≡◌, ◌<◌, ℤ, pos, neg_ℤ, ◌+�
 ghost use Rattle.naive_base.specs.DateOf.{year_of, day_of_year};
 ghost use Rattle.naive_base.specs.Year.{floor_div, year_start, LiesIn, IsDay};
 ghost use Rattle.offset_core.specs.Offset.{IsWithinDay};
-ghost use Rattle.tz_info.specs.Errors.{number_of};
+ghost use Rattle.tz_info.specs.Errors.{IsOutOfRangeError, IsTransitionRuleError};
 ghost use Rattle.tz_info.specs.Rules.{Alternate, IsAlternate, IsAlternateRule, IsWithinWeek};
 ghost use Rattle.tz_info.specs.Moments.{IsRuleTime};
 ghost use Rattle.tz_info.specs.Steps.Kinds.{kind_place};
@@ -36,22 +36,22 @@ pub struct AlternateTime {
     dst_type: LocalTimeType,
     dst_start: DayTime,
     dst_end: DayTime,
-    /// When in the year daylight saving time starts, by the year's kind.
+    // When in the year daylight saving time starts, by the year's kind.
     starts: [i64; 14],
-    /// When it ends.
+    // When it ends.
     ends: [i64; 14],
-    /// How far inside its year each moment lies at least; below 0, how far outside at most.
+    // How far inside its year each moment lies at least; below 0, how far outside at most.
     margin: i64,
 }
 
-/// The seconds at which daylight saving time starts and ends in one year.
+// The seconds at which daylight saving time starts and ends in one year.
 #[derive(Clone, Copy)]
 struct Turns {
     start: i64,
     end: i64,
 }
 
-/// The moments of one year, and from when until when these alone decide.
+// The moments of one year, and from when until when these alone decide.
 #[derive(Clone, Copy)]
 pub(crate) struct Season {
     from: i64,
@@ -169,7 +169,7 @@ impl AlternateTime {
           end = record { day = dst_end; time = dst_end_time };
         } in
             MatchResult result (λ a. IsAlternate shown × (a ≡ shown))
-            (λ e. (number_of e ≡ 13) × ¬ (IsAlternate shown)) }
+            (λ e. IsTransitionRuleError e × ¬ (IsAlternate shown)) }
     {
         if !is_within_day(&std) || !is_within_day(&dst) {
             return Err(Error::TransitionRule(Expected::OffsetsWithinDay));
@@ -210,7 +210,7 @@ impl AlternateTime {
     pub fn find_local_time_type(&self, unix_time: i64) -> Result<&LocalTimeType, Error>
         ensures { MatchResult result
             (λ t. AlternateAt self.now unix_time t.now)
-            (λ e. (number_of e ≡ 9) × IsAlternateRefused unix_time) }
+            (λ e. IsOutOfRangeError e × IsAlternateRefused unix_time) }
     {
         if !is_rule_time(unix_time) {
             return Err(Error::OutOfRange(Expected::YearThatRuleAnswersIn));
@@ -218,7 +218,7 @@ impl AlternateTime {
         Ok(self.type_in(self.season(unix_time), unix_time))
     }
 
-    /// The type in force at the second: a function of its own, for seconds that are seldom asked.
+    // The type in force at the second: a function of its own, for seconds that are seldom asked.
     #[inline(never)]
     pub(crate) fn type_at(&self, unix_time: i64) -> &LocalTimeType
         requires { IsRuleTime unix_time }
@@ -227,7 +227,7 @@ impl AlternateTime {
         self.type_in(self.season(unix_time), unix_time)
     }
 
-    /// The moments of the second's year, for questions about several seconds near it.
+    // The moments of the second's year, for questions about several seconds near it.
     #[inline(always)]
     pub(crate) fn season(&self, unix_time: i64) -> Season
         requires { IsRuleTime unix_time }
@@ -244,7 +244,7 @@ impl AlternateTime {
         }
     }
 
-    /// The type in force at the second, by the season's moments where these decide.
+    // The type in force at the second, by the season's moments where these decide.
     #[inline(always)]
     fn type_in(&self, season: Season, unix_time: i64) -> &LocalTimeType
         requires season { IsSeason self.now season }
@@ -258,8 +258,8 @@ impl AlternateTime {
         }
     }
 
-    /// Whether it is daylight saving time at the second, by the season's moments where these
-    /// decide.
+    // Whether it is daylight saving time at the second, by the season's moments where these
+    // decide.
     #[inline(always)]
     fn is_dst_in(&self, season: Season, unix_time: i64) -> bool
         requires season { IsSeason self.now season }
@@ -273,7 +273,7 @@ impl AlternateTime {
         self.is_dst(year_of(day), day, unix_time)
     }
 
-    /// Whether it is daylight saving time at a second at which the season's moments decide.
+    // Whether it is daylight saving time at a second at which the season's moments decide.
     #[inline(always)]
     pub(crate) fn is_dst_amid(&self, season: Season, unix_time: i64) -> bool
         requires season { IsSeason self.now season }
@@ -284,10 +284,10 @@ impl AlternateTime {
         season.turns.is_dst(unix_time)
     }
 
-    /// Whether it is daylight saving time at the second, which lies on that day of that year.
-    ///
-    /// A rule's moments lie less than eight days outside their year, so that near the year's ends
-    /// those of its neighbours decide as well.
+    // Whether it is daylight saving time at the second, which lies on that day of that year.
+    //
+    // A rule's moments lie less than eight days outside their year, so that near the year's ends
+    // those of its neighbours decide as well.
     #[inline(never)]
     fn is_dst(&self, year: i32, day: i64, unix_time: i64) -> bool
         requires day { day ≡ floor_div unix_time 86_400 }
@@ -299,7 +299,7 @@ impl AlternateTime {
         is_dst_by_three(self.turns(year - 1), here, self.turns(year + 1), unix_time)
     }
 
-    /// The moments of the year, by its kind.
+    // The moments of the year, by its kind.
     #[inline(always)]
     fn turns(&self, year: i32) -> Turns
         ensures start { result.start ≡ start_in self.now year }
@@ -310,7 +310,7 @@ impl AlternateTime {
         self.turns_from(first, kind_of(year, first))
     }
 
-    /// The moments of the year that begins on that day and is of that kind.
+    // The moments of the year that begins on that day and is of that kind.
     #[inline(always)]
     fn turns_from(&self, first: i64, kind: usize) -> Turns
         requires first { first ≡ year_start (year_of first) }
@@ -348,7 +348,7 @@ impl AlternateTime {
 }
 
 impl Season {
-    /// Whether the season's moments alone decide at the second.
+    // Whether the season's moments alone decide at the second.
     #[inline(always)]
     pub(crate) fn decides(self, unix_time: i64) -> bool
         ensures { IsTrue result ↔ IsDecidedIn self unix_time }
@@ -358,7 +358,7 @@ impl Season {
 }
 
 impl Turns {
-    /// Whether it is daylight saving time at the second, where no other year's moments matter.
+    // Whether it is daylight saving time at the second, where no other year's moments matter.
     fn is_dst(self, unix_time: i64) -> bool
         ensures { result ≡ is_dst_by_one self.start self.end unix_time }
     {
@@ -371,21 +371,21 @@ impl Turns {
         }
     }
 
-    /// Whether the start does not come after the end.
+    // Whether the start does not come after the end.
     fn is_start_first(self) -> bool
         ensures { result ≡ int_le self.start self.end }
     {
         self.start <= self.end
     }
 
-    /// Whether the second lies from the start to the end.
+    // Whether the second lies from the start to the end.
     fn is_from_start(self, unix_time: i64) -> bool
         ensures { result ≡ is_between self.start self.end unix_time }
     {
         self.start <= unix_time && unix_time < self.end
     }
 
-    /// Whether the second lies from the end to the start.
+    // Whether the second lies from the end to the start.
     fn is_from_end(self, unix_time: i64) -> bool
         ensures { result ≡ is_between self.end self.start unix_time }
     {
@@ -393,8 +393,8 @@ impl Turns {
     }
 }
 
-/// Whether it is daylight saving time at the second by the moments of its year and of the years
-/// before and after it.
+// Whether it is daylight saving time at the second by the moments of its year and of the years
+// before and after it.
 fn is_dst_by_three(before: Turns, here: Turns, after: Turns, unix_time: i64) -> bool
     ensures { result ≡ (if int_le here.start here.end
         then is_between before.start before.end unix_time
@@ -418,21 +418,21 @@ fn is_dst_by_three(before: Turns, here: Turns, after: Turns, unix_time: i64) -> 
     }
 }
 
-/// Whether one of them holds: a function of its own, so that no case is made of each.
+// Whether one of them holds: a function of its own, so that no case is made of each.
 fn is_any(a: bool, b: bool, c: bool) -> bool
     ensures { result ≡ (a || b || c) }
 {
     a || b || c
 }
 
-/// Whether the second lies in a year that a rule answers in.
+// Whether the second lies in a year that a rule answers in.
 fn is_rule_time(unix_time: i64) -> bool
     ensures { IsTrue result ↔ IsRuleTime unix_time }
 {
     FIRST_RULE_TIME <= unix_time && unix_time <= LAST_RULE_TIME
 }
 
-/// The second, counted from the first of the years that a rule answers in.
+// The second, counted from the first of the years that a rule answers in.
 fn since_first(unix_time: i64) -> u64
     requires { IsRuleTime unix_time }
     ensures value { unix_time +ℤ pos 67_768_100_504_812_800 ≡ pos result }
@@ -441,7 +441,7 @@ fn since_first(unix_time: i64) -> u64
     (unix_time + SECONDS_BEFORE_1970) as u64
 }
 
-/// The day number of the day so many days after the first of those years.
+// The day number of the day so many days after the first of those years.
 fn day_from_first(days: u64) -> i64
     requires { days < 1_568_704_591_149 }
     ensures { result +ℤ pos 784_353_015_102 ≡ pos days }
@@ -449,8 +449,8 @@ fn day_from_first(days: u64) -> i64
     days as i64 - DAYS_BEFORE_1970
 }
 
-/// The day number of the second. Counted from the first of those years no second is negative, so
-/// that one division is enough.
+// The day number of the second. Counted from the first of those years no second is negative, so
+// that one division is enough.
 #[inline(always)]
 fn day_of(unix_time: i64) -> i64
     requires { IsRuleTime unix_time }
@@ -460,7 +460,7 @@ fn day_of(unix_time: i64) -> i64
     day_from_first(since_first(unix_time) / 86_400)
 }
 
-/// The day number of the first day of the year that the day lies in.
+// The day number of the first day of the year that the day lies in.
 #[inline(always)]
 fn first_of_year(day: i64, passed: u32) -> i64
     requires day { IsDay day }
@@ -472,7 +472,7 @@ fn first_of_year(day: i64, passed: u32) -> i64
     day - passed as i64
 }
 
-/// Whether the type's offset is strictly within a day.
+// Whether the type's offset is strictly within a day.
 fn is_within_day(local: &LocalTimeType) -> bool
     ensures { IsTrue result ↔ IsWithinDay local.now.offset }
 {

@@ -6,14 +6,12 @@ ghost use Rattle.naive_base.specs.Year.{is_leap, year_start};
 ghost use Rattle.naive_base.specs.Month.{days_in_month};
 ghost use Rattle.naive_base.specs.Date.{day_number};
 ghost use Rattle.naive_base.specs.Weekday.{weekday_of};
-ghost use Rattle.offset_core.specs.Offset.{IsWithinDay};
-ghost use Rattle.tz_info.specs.Moments.{moment};
 ghost use Rattle.tz_info.specs.RuleDays.{IsWrittenDate};
 ghost use Rattle.tz_info.specs.Rules.{IsWithinWeek};
 ghost use Rattle.tz_info.specs.Steps.KindPlaces.{place_from, places_by_kind};
 ghost use Rattle.tz_info.specs.Steps.RuleDays.{julian_place, weekday_place};
 ghost use Rattle.tz_info.specs.declared.rule.day.DayForm.TheVariants.{MonthWeekday};
-ghost use Rattle.tz_info.specs.Errors.{number_of};
+ghost use Rattle.tz_info.specs.Errors.{IsTransitionRuleError};
 
 use crate::error::{Error, Expected};
 use naive_base::calendar::{
@@ -22,7 +20,7 @@ use naive_base::calendar::{
 };
 use std::marker::Model;
 
-/// The three forms of a date in a TZ text.
+// The three forms of a date in a TZ text.
 #[derive(Clone, Copy, Debug, PartialEq, Eq)]
 enum DayForm {
     /// `Jn`: the n-th of the 365 dates of a common year; 29 February is never counted.
@@ -40,7 +38,7 @@ pub struct RuleDay {
     form: DayForm,
 }
 
-/// A day of every year, and a time of that day in seconds after its midnight.
+// A day of every year, and a time of that day in seconds after its midnight.
 #[derive(Clone, Copy, Debug, PartialEq, Eq)]
 pub(super) struct DayTime {
     pub(super) day: RuleDay,
@@ -70,9 +68,14 @@ impl RuleDay {
     /// # Errors
     ///
     /// [`Error::TransitionRule`] unless 1 <= n <= 365.
+    ///
+    /// ```text
+    /// let day = RuleDay::julian_1(60)?;
+    /// let date = day.transition_date(2024);          // (3, 1), also in a leap year
+    /// ```
     pub fn julian_1(n: u16) -> Result<RuleDay, Error>
         ensures { MatchResult result (λ d. IsRuleDay (Julian1 n) × (d ≡ Julian1 n))
-            (λ e. (number_of e ≡ 13) × ¬ (IsRuleDay (Julian1 n))) }
+            (λ e. IsTransitionRuleError e × ¬ (IsRuleDay (Julian1 n))) }
     {
         if n < 1 || n > 365 {
             return Err(Error::TransitionRule(Expected::DayFromJ1ToJ365));
@@ -87,9 +90,14 @@ impl RuleDay {
     /// # Errors
     ///
     /// [`Error::TransitionRule`] unless n <= 365.
+    ///
+    /// ```text
+    /// let day = RuleDay::julian_0(59)?;
+    /// let date = day.transition_date(2024);          // (2, 29)
+    /// ```
     pub fn julian_0(n: u16) -> Result<RuleDay, Error>
         ensures { MatchResult result (λ d. IsRuleDay (Julian0 n) × (d ≡ Julian0 n))
-            (λ e. (number_of e ≡ 13) × ¬ (IsRuleDay (Julian0 n))) }
+            (λ e. IsTransitionRuleError e × ¬ (IsRuleDay (Julian0 n))) }
     {
         if n > 365 {
             return Err(Error::TransitionRule(Expected::DayFrom0To365));
@@ -108,7 +116,7 @@ impl RuleDay {
     pub fn month_weekday(month: u8, week: u8, weekday: u8) -> Result<RuleDay, Error>
         ensures { let form = MonthWeekday month week weekday in
             MatchResult result (λ d. IsRuleDay form × (d ≡ form))
-            (λ e. (number_of e ≡ 13) × ¬ (IsRuleDay form)) }
+            (λ e. IsTransitionRuleError e × ¬ (IsRuleDay form)) }
     {
         if month < 1 || month > 12 {
             return Err(Error::TransitionRule(Expected::MonthFrom1To12));
@@ -132,8 +140,13 @@ impl RuleDay {
 
     /// The month, from 1, and the day of the month of the rule's day in the year.
     ///
-    /// A plain day number of 365 is the day behind 31 December in a common year; its date is
+    /// A plain day number of 365 is the day after 31 December in a common year; its date is
     /// `(12, 32)`.
+    ///
+    /// ```text
+    /// let day = RuleDay::month_weekday(3, 2, 0)?;    // M3.2.0: the second Sunday of March
+    /// let date = day.transition_date(2021);          // (3, 14)
+    /// ```
     pub fn transition_date(&self, year: i32) -> (usize, i64)
         ensures date { IsWrittenDate (rule_day self.now year) year result.0 result.1 }
         ensures rule { IsRuleDay self.now }
@@ -150,6 +163,13 @@ impl RuleDay {
 
     /// The second so many seconds after the midnight with which the rule's day begins in the year,
     /// both on one clock: 86,400 times the day number plus the day time.
+    ///
+    /// Requires: the day time, in seconds, is from -2^62 to 2^62.
+    ///
+    /// ```text
+    /// let day = RuleDay::month_weekday(3, 2, 0)?;
+    /// let second = day.unix_time(2021, 7_200);       // 1615687200, 2021-03-14 02:00:00
+    /// ```
     #[inline(always)]
     pub fn unix_time(&self, year: i32, day_time: i64) -> i64
         requires { (neg_ℤ (pos 4_611_686_018_427_387_904) ≤ℤ day_time)
@@ -162,7 +182,7 @@ impl RuleDay {
         86_400 * self.number_in(year) + day_time
     }
 
-    /// The time of the day so many seconds after its midnight, if they are strictly within a week.
+    // The time of the day so many seconds after its midnight, if they are strictly within a week.
     pub(super) fn at(self, time: i32) -> Option<DayTime>
         ensures { MatchOption result (¬ (IsWithinWeek time))
             (λ d. IsWithinWeek d.time × IsRuleDay d.day
@@ -177,7 +197,7 @@ impl RuleDay {
         }
     }
 
-    /// The day number of the rule's day in the year.
+    // The day number of the rule's day in the year.
     #[inline(always)]
     #[tactic(auto, unfolding(crate::specs::Steps::RuleDays::closed_day))]
     fn number_in(&self, year: i32) -> i64
@@ -200,9 +220,9 @@ impl RuleDay {
 impl RuleDay {
     ghost use Rattle.tz_info.specs.RuleDays.{IsRuleDay};
 
-    /// How many days of a year come before the rule's day, in years of each kind: the common years
-    /// that begin with Sunday to Saturday, and then the leap years. All are found at once, from the
-    /// month's front in a common year and in a leap year.
+    // How many days of a year come before the rule's day, in years of each kind: the common years
+    // that begin with Sunday to Saturday, and then the leap years. All are found at once, from the
+    // month's front in a common year and in a leap year.
     pub(super) fn places_by_kind(&self) -> [u32; 14]
         ensures value { result ≡ places_by_kind self.now }
         ensures rule { IsRuleDay self.now }
@@ -219,7 +239,7 @@ impl RuleDay {
     }
 }
 
-/// The same place in all common years, and the same in all leap years.
+// The same place in all common years, and the same in all leap years.
 fn same_places(common: u32, leap: u32) -> [u32; 14]
     ensures { result ≡ (common ∷ common ∷ common ∷ common ∷ common ∷ common ∷ common
         ∷ leap ∷ leap ∷ leap ∷ leap ∷ leap ∷ leap ∷ leap ∷ []) }
@@ -230,7 +250,7 @@ fn same_places(common: u32, leap: u32) -> [u32; 14]
     ]
 }
 
-/// The places of the weekday in that week of the month.
+// The places of the weekday in that week of the month.
 fn weekday_places(month: u32, week: u32, weekday: u32) -> [u32; 14]
     requires month_in { IsInRange 1 12 month }
     requires week_in { IsInRange 1 5 week }
@@ -259,8 +279,8 @@ fn weekday_places(month: u32, week: u32, weekday: u32) -> [u32; 14]
     ]
 }
 
-/// The place of the weekday in that week of a month of so many days, which begins so many days
-/// after its year, where the year begins with the first weekday.
+// The place of the weekday in that week of a month of so many days, which begins so many days
+// after its year, where the year begins with the first weekday.
 #[inline(always)]
 fn place_from(before: u32, days: u32, first: u32, week: u32, weekday: u32) -> u32
     requires before { before < 366 }
@@ -273,23 +293,8 @@ fn place_from(before: u32, days: u32, first: u32, week: u32, weekday: u32) -> u3
     before + weekday_place(days, (first + before) % 7, week, weekday)
 }
 
-impl DayTime {
-    /// The second at which a clock at that offset shows the time on the day of that year.
-    #[inline(always)]
-    #[tactic(auto, unfolding(crate::specs::Moments::moment))]
-    pub(super) fn moment(&self, offset: i32, year: i32) -> i64
-        requires time { IsWithinWeek self.now.time }
-        requires offset { IsWithinDay offset }
-        ensures value { result ≡ moment self.now offset year }
-        ensures bound { (neg_ℤ (pos 4_700_000_000_000_000_000) ≤ℤ result)
-            × (result ≤ℤ pos 4_700_000_000_000_000_000) }
-    {
-        self.day.unix_time(year, self.time as i64 - offset as i64)
-    }
-}
-
-/// The month and the day of the month that come so many days after the year's 1 January, up to the
-/// next 1 January.
+// The month and the day of the month that come so many days after the year's 1 January, up to the
+// next 1 January.
 fn date_in_year(year: i32, place: u32) -> (usize, i64)
     requires { place ≤ 365 }
     ensures { IsWrittenDate (year_start year +ℤ pos place) year result.0 result.1 }
@@ -301,7 +306,7 @@ fn date_in_year(year: i32, place: u32) -> (usize, i64)
     (month as usize, day as i64)
 }
 
-/// How many days of the year come before the n-th of the 365 dates of a common year.
+// How many days of the year come before the n-th of the 365 dates of a common year.
 fn julian_place(year: i32, n: u32) -> u32
     requires { IsInRange 1 365 n }
     ensures value { result ≡ julian_place (is_leap year) n }
@@ -314,7 +319,7 @@ fn julian_place(year: i32, n: u32) -> u32
     }
 }
 
-/// How many days of the month come before the weekday of that week.
+// How many days of the month come before the weekday of that week.
 fn place_in_month(year: i32, month: u32, week: u32, weekday: u32) -> u32
     requires month_in { IsInRange 1 12 month }
     requires week_in { IsInRange 1 5 week }
@@ -328,8 +333,8 @@ fn place_in_month(year: i32, month: u32, week: u32, weekday: u32) -> u32
     weekday_place(days_in_month(year, month), first, week, weekday)
 }
 
-/// How many days come before the weekday of that week, in a month of so many days that begins with
-/// the first weekday.
+// How many days come before the weekday of that week, in a month of so many days that begins with
+// the first weekday.
 fn weekday_place(days: u32, first: u32, week: u32, weekday: u32) -> u32
     requires days_in { IsInRange 28 31 days }
     requires first_in { first < 7 }

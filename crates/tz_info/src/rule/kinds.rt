@@ -12,8 +12,8 @@ ghost use Rattle.tz_info.specs.Steps.Kinds.{kind_place, second_in, seconds_by_ki
 use crate::rule::day::DayTime;
 use naive_base::calendar::{is_leap_year, weekday_of};
 
-/// The place of the kind of the year that begins on that day: the common years that begin with
-/// Sunday to Saturday, and then the leap years.
+// The place of the kind of the year that begins on that day: the common years that begin with
+// Sunday to Saturday, and then the leap years.
 #[inline(always)]
 pub(super) fn kind_of(year: i32, first: i64) -> usize
     requires first { first ≡ year_start year }
@@ -24,7 +24,7 @@ pub(super) fn kind_of(year: i32, first: i64) -> usize
     kind_by(is_leap_year(year), weekday_of(first))
 }
 
-/// That of a leap year or a common one, by the weekday of its first day.
+// That of a leap year or a common one, by the weekday of its first day.
 #[inline(always)]
 pub(super) fn kind_by(is_leap: bool, first_weekday: u32) -> usize
     requires { first_weekday < 7 }
@@ -35,8 +35,8 @@ pub(super) fn kind_by(is_leap: bool, first_weekday: u32) -> usize
 }
 
 impl DayTime {
-    /// The second, counted from the year's first, at which a clock at that offset shows the time on
-    /// the day, in a year of each kind.
+    // The second, counted from the year's first, at which a clock at that offset shows the time on
+    // the day, in a year of each kind.
     pub(super) fn seconds_by_kind(&self, offset: i32) -> [i64; 14]
         requires time { IsWithinWeek self.now.time }
         requires offset { IsWithinDay offset }
@@ -61,7 +61,7 @@ impl DayTime {
         ]
     }
 
-    /// The same where so many days of the year come before the day.
+    // The same where so many days of the year come before the day.
     #[inline(always)]
     fn second_at(&self, offset: i32, place: u32) -> i64
         requires time { IsWithinWeek self.now.time }
@@ -72,8 +72,8 @@ impl DayTime {
     }
 }
 
-/// How far inside its year each moment lies at least, where the two also come in one order in all
-/// years; else how far outside of it none lies, as a number below 0.
+// How far inside its year each moment lies at least, where the two also come in one order in all
+// years; else how far outside of it none lies, as a number below 0.
 pub(super) fn margin_of(starts: &[i64; 14], ends: &[i64; 14]) -> i64
     ensures { result ≡ margin_of starts.now ends.now }
 {
@@ -84,8 +84,8 @@ pub(super) fn margin_of(starts: &[i64; 14], ends: &[i64; 14]) -> i64
     }
 }
 
-/// Whether in years of each kind the moments lie two days or more from the ends of the year, and
-/// come in the order in which they come in years of the first kind.
+// Whether in years of each kind the moments lie two days or more from the ends of the year, and
+// come in the order in which they come in years of the first kind.
 fn are_calm(starts: &[i64; 14], ends: &[i64; 14]) -> bool
     ensures { result ≡ are_calm starts.now ends.now }
 {
@@ -120,8 +120,8 @@ fn is_in_order(start_first: bool, start: i64, end: i64) -> bool
     }
 }
 
-/// Whether the second, counted from the year's first, lies two days or more from the ends of the
-/// year.
+// Whether the second, counted from the year's first, lies two days or more from the ends of the
+// year.
 fn is_inside(second: i64) -> bool
     ensures { result ≡ is_inside second }
 {

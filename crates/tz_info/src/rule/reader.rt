@@ -39,14 +39,14 @@ impl TransitionRule {
         // What is spelled so is read.
         ensures only { (rule : Rule) → IsTzText extended bytes.now rule
             → IsOkAnd result (λ r. r ≡ rule) }
-        // Where it is refused, what the number says stands in the text.
+        // An error names a fault that is in the text.
         ensures fault { IfErr result (λ e. IsTextFault extended bytes.now (number_of e)) }
     {
         read_all(bytes, extended)
     }
 }
 
-/// The rule that the bytes spell.
+// The rule that the bytes spell.
 pub(crate) fn read_all(bytes: &[u8], extended: bool) -> Result<TransitionRule, Error>
     ensures { (rest : List ℕ) × Gives (λ rule. (rule, rest)) result (text_at extended bytes.now) }
 {

@@ -1,7 +1,7 @@
 //! The rule of a TZ text.
 
 ghost use Rattle.std.specs.Prelude.{◌≡◌, MatchResult};
-ghost use Rattle.tz_info.specs.Errors.{number_of};
+ghost use Rattle.tz_info.specs.Errors.{IsOutOfRangeError};
 
 use crate::error::Error;
 use crate::local_time_type::LocalTimeType;
@@ -29,12 +29,12 @@ impl TransitionRule {
     ///
     /// # Errors
     ///
-    /// [`Error::OutOfRange`] if the rule has two types and the second's UTC year is below
-    /// `i32::MIN + 2` or above `i32::MAX - 2`.
+    /// [`Error::OutOfRange`] if and only if the rule has two types and the second's UTC year is
+    /// below `i32::MIN + 2` or above `i32::MAX - 2`. A rule of one type always answers.
     #[inline(always)]
     pub fn find_local_time_type(&self, unix_time: i64) -> Result<&LocalTimeType, Error>
         ensures { MatchResult result (λ t. RuleAt self.now unix_time t.now)
-            (λ e. (number_of e ≡ 9) × IsRuleRefused self.now unix_time) }
+            (λ e. IsOutOfRangeError e × IsRuleRefused self.now unix_time) }
     {
         match self {
             TransitionRule::Fixed(local) => Ok(local),

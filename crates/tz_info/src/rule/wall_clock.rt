@@ -1,6 +1,7 @@
 //! The wall clock of a rule.
 
-ghost use Rattle.std.specs.Prelude.{◌≡◌, MatchResult};
+ghost use Rattle.std.specs.Prelude.{◌≡◌};
+ghost use Rattle.std.specs.Result.{IsOkAnd};
 ghost use Rattle.naive_base.specs.NaiveDateTime.{reading};
 ghost use Rattle.naive_base.specs.Range.{IsWide};
 ghost use Rattle.offset_core.specs.WallAnswer.{IsWallAnswer};
@@ -30,8 +31,7 @@ impl TransitionRule {
         &self,
         local: NaiveDateTime,
     ) -> Result<MappedLocalTime<LocalTimeType>, Error>
-        ensures { MatchResult result
-            (λ answer. IsWallAnswer (Shows (RuleAt self.now) (reading local).s) answer) (λ _. ⊥) }
+        ensures { IsOkAnd result (IsWallAnswer (Shows (RuleAt self.now) (reading local).s)) }
     {
         Ok(self.wall_answer(local.secs_since_epoch()))
     }
@@ -50,7 +50,7 @@ impl TransitionRule {
         }
     }
 
-    /// Asks for the one second that could show the local time at the offset.
+    // Asks for the one second that could show the local time at the offset.
     fn ask(&self, local: i64, offset: i32, span: Option<Span>) -> Option<Span>
         requires { IsWide local }
         ensures { IsAsked (RuleAt self.now) local offset span result }

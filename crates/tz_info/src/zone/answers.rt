@@ -5,7 +5,7 @@ ghost use Rattle.tz_info.specs.Steps.Answers.{joined, shown_if};
 
 use offset_core::MappedLocalTime;
 
-/// Of two answers, the first of which is that of earlier seconds, the answer of all the seconds.
+// Of two answers, the first of which is that of earlier seconds, the answer of all the seconds.
 #[inline(always)]
 pub(super) fn joined<T: Copy>(
     first: MappedLocalTime<T>,
@@ -29,8 +29,8 @@ pub(super) fn joined<T: Copy>(
     MappedLocalTime::Ambiguous(least, greatest)
 }
 
-/// The answer of two seconds, the first of which is the earlier, where each shows the local time or
-/// doesn't.
+// The answer of two seconds, the first of which is the earlier, where each shows the local time or
+// doesn't.
 #[inline(always)]
 pub(super) fn answer_of_two<T: Copy>(
     first: &T,

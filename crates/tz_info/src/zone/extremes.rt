@@ -7,7 +7,7 @@ ghost use Rattle.tz_info.specs.Windows.{offsets};
 use crate::local_time_type::LocalTimeType;
 use crate::rule::TransitionRule;
 
-/// The least and the greatest of some offsets, in seconds east of UTC.
+// The least and the greatest of some offsets, in seconds east of UTC.
 #[derive(Clone, Copy, Debug)]
 pub(super) struct Extremes {
     pub(super) least: i32,
@@ -15,7 +15,7 @@ pub(super) struct Extremes {
 }
 
 impl Extremes {
-    /// Those of one offset more.
+    // Those of one offset more.
     fn with(self, offset: i32) -> Extremes
         ensures { AreJoined self offset result }
     {
@@ -32,7 +32,7 @@ impl Extremes {
         Extremes { least, greatest }
     }
 
-    /// Those of the offsets of the rule's types more.
+    // Those of the offsets of the rule's types more.
     fn with_rule(self, rule: &TransitionRule) -> Extremes
         ensures { AreJoinedByRule self rule.now result }
     {
@@ -46,7 +46,7 @@ impl Extremes {
     }
 }
 
-/// Those of the offsets of the types and of the rule, in one pass.
+// Those of the offsets of the types and of the rule, in one pass.
 pub(super) fn extremes_of(types: &[LocalTimeType], rule: &Option<TransitionRule>) -> Extremes
     requires { 0 < length types.now }
     ensures { AreExtremes (offsets types.now rule.now) result }
@@ -58,7 +58,7 @@ pub(super) fn extremes_of(types: &[LocalTimeType], rule: &Option<TransitionRule>
     }
 }
 
-/// Those of the offsets of the types.
+// Those of the offsets of the types.
 fn extremes_of_types(types: &[LocalTimeType]) -> Extremes
     requires { 0 < length types.now }
     ensures { AreExtremes (offsets_of types.now) result }

@@ -4,7 +4,7 @@ ghost use Rattle.std.specs.Prelude.{◌≡◌, ◌<◌, ◌+◌, length, pos, �
 ghost use Rattle.naive_base.specs.NaiveDateTime.{reading};
 ghost use Rattle.naive_base.specs.Range.{IsWide};
 ghost use Rattle.offset_core.specs.WallAnswer.{IsNeverShown};
-ghost use Rattle.tz_info.specs.Counts.{HasRoomFor};
+ghost use Rattle.tz_info.specs.Steps.Looks.{HasRoomFor};
 ghost use Rattle.tz_info.specs.Gaps.{IsBeforeGap, IsShown};
 ghost use Rattle.tz_info.specs.Leaps.{IsNear};
 ghost use Rattle.tz_info.specs.Steps.Gaps.{AreLessInto, IsReach, Starts, IsLesserOf};
@@ -19,8 +19,8 @@ use crate::zone::time_zone::TimeZone;
 use naive_base::NaiveDateTime;
 use offset_core::MappedLocalTime;
 
-/// The seconds between which clocks may come to show a local time: by the greatest offset, and by
-/// the least.
+// The seconds between which clocks may come to show a local time: by the greatest offset, and by
+// the least.
 #[derive(Clone, Copy)]
 struct Reach {
     low: i64,
@@ -29,7 +29,7 @@ struct Reach {
 
 impl TimeZone {
     /// In a gap the type in force before it: of all seconds take the first at which clocks show
-    /// more than the reading; it is the type at the second before that one. `None` exactly where
+    /// more than the reading; it is the type at the second before that one. `None` if and only if
     /// some second shows the reading.
     ///
     /// In New York clocks were set forward from 02:00 to 03:00 on 14 March 2021. Of 02:30 that day
@@ -47,8 +47,8 @@ impl TimeZone {
         }
     }
 
-    /// Looks at the second at which each segment begins, from the one of the earliest second that
-    /// may show the local time on.
+    // Looks at the second at which each segment begins, from the one of the earliest second that
+    // may show the local time on.
     fn type_before_gap(&self, local: i64) -> LocalTimeType
         requires local { IsWide local }
         requires never { IsNeverShown (Shows (TypeAt self.now) local) }
@@ -80,7 +80,7 @@ impl TimeZone {
         }
     }
 
-    /// The first second at which the transition at that place has come.
+    // The first second at which the transition at that place has come.
     fn start_behind(&self, place: usize, probes: &mut Probes) -> i64
         requires place { place < length self.now.transitions }
         requires room { HasRoomFor 1 probes.old.reads }
@@ -92,7 +92,7 @@ impl TimeZone {
         first_second(&self.leap_seconds, transition.unix_leap_time)
     }
 
-    /// The type at a second that is near enough to have one.
+    // The type at a second that is near enough to have one.
     fn type_near(&self, second: i64) -> &LocalTimeType
         requires { IsNear second }
         ensures { TypeAt self.now second result.now }
@@ -104,7 +104,7 @@ impl TimeZone {
         }
     }
 
-    /// The type at the second before that one.
+    // The type at the second before that one.
     fn type_before(&self, second: i64) -> &LocalTimeType
         requires { IsNear (second -ℤ pos 1) }
         ensures { TypeAt self.now (second -ℤ pos 1) result.now }
@@ -112,8 +112,8 @@ impl TimeZone {
         self.type_near(second - 1)
     }
 
-    /// Behind the last transition clocks come to show more only where a rule turns from its lesser
-    /// offset to the greater.
+    // After the last transition clocks come to show more only where a rule turns from its lesser
+    // offset to the greater.
     fn type_before_turn(&self, local: i64, reach: Reach) -> LocalTimeType
         requires never { IsNeverShown (Shows (TypeAt self.now) local) }
         requires reach { IsReach self.now local reach.low reach.high }
@@ -147,7 +147,7 @@ impl TimeZone {
     }
 }
 
-/// What a clock of that type shows at that second.
+// What a clock of that type shows at that second.
 fn shown_at(local_type: &LocalTimeType, second: i64) -> i64
     requires { IsNear second }
     ensures { result ≡ second +ℤ local_type.now.offset }
@@ -155,7 +155,7 @@ fn shown_at(local_type: &LocalTimeType, second: i64) -> i64
     second + local_type.offset() as i64
 }
 
-/// The type with the lesser offset.
+// The type with the lesser offset.
 fn lesser(turns: &AlternateTime) -> LocalTimeType
     ensures { IsLesserOf turns.now result }
 {

@@ -14,17 +14,17 @@ use crate::zone::timeline::Timed;
 use std::alloc::Global;
 use std::cmp::max;
 
-/// The place of the last item before each stretch, or of the first item where none comes before it.
-/// There are no hints where they would leave more than half of the items between two of them, or
-/// where there are fewer than five items.
+// The place of the last item before each stretch, or of the first item where none comes before it.
+// There are no hints where they would leave more than half of the items between two of them, or
+// where there are fewer than five items.
 #[derive(Drop)]
 pub(super) struct Hints {
     places: Vec<u32>,
-    /// A stretch has two to this power seconds.
+    // A stretch has two to this power seconds.
     shift: u32,
 }
 
-/// Neighbouring items, one at least, of which one is the latest.
+// Neighbouring items, one at least, of which one is the latest.
 #[derive(Clone, Copy)]
 pub(super) struct Near {
     pub(super) first: usize,
@@ -32,7 +32,7 @@ pub(super) struct Near {
 }
 
 impl Hints {
-    /// No hints, which take no memory.
+    // No hints, which take no memory.
     pub(super) fn none(alloc: Global) -> Hints
         ensures { (times : List ℤ) → AreHints times result }
     {
@@ -42,7 +42,7 @@ impl Hints {
         }
     }
 
-    /// Hints at those items.
+    // Hints at those items.
     pub(super) fn new<T: Timed>(alloc: Global, items: &[T]) -> Result<Hints, Error>
         requires { AreOrdered (map T.time items.now) }
         ensures { MatchResult result
@@ -63,8 +63,8 @@ impl Hints {
         Ok(Hints { places, shift })
     }
 
-    /// The items among which the latest one is at so many seconds after the first item, if there is
-    /// a hint.
+    // The items among which the latest one is at so many seconds after the first item, if there is
+    // a hint.
     #[inline(always)]
     pub(super) fn near(&self, seconds: u64) -> Option<Near>
         requires shift { self.now.shift < 64 }
@@ -82,7 +82,7 @@ impl Hints {
     }
 }
 
-/// How many seconds the second one comes after the first.
+// How many seconds the second one comes after the first.
 #[inline(always)]
 pub(super) fn seconds_between(first: i64, second: i64) -> u64
     requires { first ≤ℤ second }
@@ -91,7 +91,7 @@ pub(super) fn seconds_between(first: i64, second: i64) -> u64
     (second as i128 - first as i128) as u64
 }
 
-/// The least power of two by which the span has at most so many stretches.
+// The least power of two by which the span has at most so many stretches.
 fn shift_for(span: u64, most: u64) -> u32
     ensures shift { result < 64 }
     ensures stretches { span / 2 ^ result ≤ most + 1 }
@@ -104,8 +104,8 @@ fn shift_for(span: u64, most: u64) -> u32
     63
 }
 
-/// Fills in the places, where there are only zeros, and gives the most by which one is greater than
-/// the one before it.
+// Fills in the places, where there are only zeros, and gives the most by which one is greater than
+// the one before it.
 fn fill<T: Timed>(places: &mut [u32], items: &[T], first: i64, shift: u32) -> u32
     requires shift { shift < 64 }
     requires ordered { AreOrdered (map T.time items.now) }
@@ -120,8 +120,8 @@ fn fill<T: Timed>(places: &mut [u32], items: &[T], first: i64, shift: u32) -> u3
     raise(places)
 }
 
-/// Notes the place of each item behind its stretch. Where several lie in one stretch, the last of
-/// them stays.
+// Notes the place of each item after its stretch. Where several lie in one stretch, the last of
+// them stays.
 fn mark<T: Timed>(places: &mut [u32], items: &[T], first: i64, shift: u32)
     requires shift { shift < 64 }
     requires ordered { AreOrdered (map T.time items.now) }
@@ -139,8 +139,8 @@ fn mark<T: Timed>(places: &mut [u32], items: &[T], first: i64, shift: u32)
     }
 }
 
-/// Raises each number to the greatest up to it, and gives the most by which one is greater than the
-/// one before it.
+// Raises each number to the greatest up to it, and gives the most by which one is greater than the
+// one before it.
 fn raise(numbers: &mut [u32]) -> u32
     ensures { AreRaised numbers.old numbers.new result }
 {

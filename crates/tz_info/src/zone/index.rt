@@ -1,7 +1,8 @@
 //! A zone's index of the wall-clock axis.
 
 ghost use Rattle.std.specs.Prelude.{◌≡◌, ◌<◌, length, MatchResult};
-ghost use Rattle.tz_info.specs.Counts.{HasRoomFor, RoseByPieces};
+ghost use Rattle.tz_info.specs.Counts.{RoseByPieces};
+ghost use Rattle.tz_info.specs.Steps.Looks.{HasRoomFor};
 ghost use Rattle.tz_info.specs.Digits.{digits};
 ghost use Rattle.tz_info.specs.Segments.{table_count};
 ghost use Rattle.tz_info.specs.Steps.Pieces.{zone_in, ArePieces};
@@ -24,8 +25,8 @@ use offset_core::MappedLocalTime;
 use std::alloc::Global;
 use std::marker::Model;
 
-/// The pieces of a zone's wall-clock axis. A lookup can look at one of them only where the look is
-/// counted.
+// The pieces of a zone's wall-clock axis. A lookup can look at one of them only where the look is
+// counted.
 #[derive(Drop)]
 pub(super) struct Index {
     before: MappedLocalTime<usize>,
@@ -74,7 +75,7 @@ impl Timed for Piece {
 }
 
 impl Index {
-    /// The index of the zone of those lists.
+    // The index of the zone of those lists.
     pub(super) fn new(alloc: Global, lists: Lists) -> Result<Index, Error>
         requires { IsValid (zone_in lists) }
         ensures { MatchResult result (λ i. IsIndex (zone_in lists.entry) i) (λ e. e ≡ OutOfMemory) }
@@ -89,7 +90,7 @@ impl Index {
         Index::of_pieces(alloc, lists, all)
     }
 
-    /// The index of the zone of those lists, which has those pieces.
+    // The index of the zone of those lists, which has those pieces.
     fn of_pieces(alloc: Global, lists: Lists, all: Pieces) -> Result<Index, Error>
         requires valid { IsValid (zone_in lists) }
         requires some { 0 < length lists.transitions.now }
@@ -105,7 +106,7 @@ impl Index {
         })
     }
 
-    /// The index of a zone without transitions, which takes no memory.
+    // The index of a zone without transitions, which takes no memory.
     pub(super) fn without_pieces(alloc: Global, lists: Lists) -> Index
         requires none { length lists.transitions.now ≡ 0 }
         requires valid { IsValid (zone_in lists) }
@@ -126,14 +127,14 @@ impl Index {
         }
     }
 
-    /// How many pieces there are.
+    // How many pieces there are.
     pub(super) fn len(&self) -> usize
         ensures { result ≡ length self.now.pieces }
     {
         self.pieces.len()
     }
 
-    /// The second from which the zone's rule is asked.
+    // The second from which the zone's rule is asked.
     #[inline(always)]
     pub(super) fn rule_from(&self) -> i64
         ensures { result ≡ self.now.rule_from }
@@ -141,7 +142,7 @@ impl Index {
         self.rule_from
     }
 
-    /// The answer of the last piece that starts at or before the local time.
+    // The answer of the last piece that starts at or before the local time.
     #[inline(always)]
     pub(super) fn answer(&self, local: i64, probes: &mut Probes) -> MappedLocalTime<usize>
         requires { HasRoomFor (digits (length self.now.pieces)) probes.old.piece_reads }

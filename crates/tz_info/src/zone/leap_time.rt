@@ -1,19 +1,19 @@
 //! Leap times of Unix times, and Unix times of leap times.
 
 ghost use Rattle.std.specs.Prelude.{◌≡◌, MatchResult};
-ghost use Rattle.tz_info.specs.Errors.{number_of};
+ghost use Rattle.tz_info.specs.Errors.{IsOutOfRangeError};
 ghost use Rattle.tz_info.specs.Leaps.{AreLeapSeconds, IsLeapTime, IsLeapTimeRefused, IsUnixTime, IsUnixTimeRefused, correction_before};
 
 use crate::error::{Error, Expected};
 use crate::zone::leap_second::LeapSecond;
 
-/// The leap time of a Unix time.
+// The leap time of a Unix time.
 #[inline(always)]
 pub(super) fn leap_time(entries: &[LeapSecond], unix_time: i64) -> Result<i64, Error>
     requires { AreLeapSeconds entries.now }
     ensures { MatchResult result
         (λ x. IsLeapTime entries.now unix_time x)
-        (λ e. (number_of e ≡ 9) × IsLeapTimeRefused entries.now unix_time) }
+        (λ e. IsOutOfRangeError e × IsLeapTimeRefused entries.now unix_time) }
 {
     let mut leap_time = unix_time;
     for entry in entries {
@@ -28,12 +28,12 @@ pub(super) fn leap_time(entries: &[LeapSecond], unix_time: i64) -> Result<i64, E
     Ok(leap_time)
 }
 
-/// The Unix time of a leap time.
+// The Unix time of a leap time.
 pub(super) fn unix_time(entries: &[LeapSecond], leap_time: i64) -> Result<i64, Error>
     requires { AreLeapSeconds entries.now }
     ensures { MatchResult result
         (λ u. IsUnixTime entries.now leap_time u)
-        (λ e. (number_of e ≡ 9) × IsUnixTimeRefused entries.now leap_time) }
+        (λ e. IsOutOfRangeError e × IsUnixTimeRefused entries.now leap_time) }
 {
     if leap_time == i64::MIN {
         return Err(Error::OutOfRange(Expected::LeapTimeAboveI64Min));
@@ -44,7 +44,7 @@ pub(super) fn unix_time(entries: &[LeapSecond], leap_time: i64) -> Result<i64, E
     }
 }
 
-/// The correction of the last entry before a leap time.
+// The correction of the last entry before a leap time.
 fn correction_before(entries: &[LeapSecond], leap_time: i64) -> i32
     requires { AreLeapSeconds entries.now }
     ensures { result ≡ correction_before entries.now leap_time }

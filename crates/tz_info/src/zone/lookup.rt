@@ -1,9 +1,14 @@
-//! The type in force at an instant.
+//! The type in force at an instant, and the looks that lookups share.
 
-ghost use Rattle.std.specs.Prelude.{◌≡◌, ◌+◌, ◌<◌, length, IfOk, MatchResult, Some};
-ghost use Rattle.tz_info.specs.Counts.{HasRoom, HasRoomFor, RoseWithin};
-ghost use Rattle.tz_info.specs.Errors.{number_of};
+ghost use Rattle.std.specs.Prelude.{◌≡◌, ◌+◌, ◌<◌, ◌≤◌, length, take, slice_index_or, IfOk, MatchResult, Some, None};
+ghost use Rattle.tz_info.specs.Counts.{HasRoom, RoseWithin};
+ghost use Rattle.tz_info.specs.Digits.{digits};
+ghost use Rattle.tz_info.specs.Errors.{IsFindLocalTimeTypeError};
+ghost use Rattle.tz_info.specs.Leaps.{IsLeapTime, IsNear};
 ghost use Rattle.tz_info.specs.Looks.{RoseByInstant};
+ghost use Rattle.tz_info.specs.Questions.{IsAskedAt};
+ghost use Rattle.tz_info.specs.Steps.Looks.{IsAskedAtLeapTime, HasRoomFor};
+ghost use Rattle.tz_info.specs.Transitions.{passed};
 ghost use Rattle.tz_info.specs.Zones.{RuleOrType, IsRefusedBy, IsFromLast, TypeAtLeapTime, TypeAt, IsTypeRefused};
 ghost use Rattle.tz_info.specs.declared.rule.transition_rule.TransitionRule.{TransitionRule};
 
@@ -12,9 +17,15 @@ use crate::local_time_type::LocalTimeType;
 use crate::zone::leap_time::leap_time;
 use crate::zone::probes::Probes;
 use crate::zone::time_zone::TimeZone;
+use crate::zone::transition::Transition;
 
 impl TimeZone {
     /// The type in force at the second of Unix time.
+    ///
+    /// ```text
+    /// let zone = TimeZone::from_posix_tz(alloc, "CET-1CEST,M3.5.0,M10.5.0/3")?;
+    /// let winter = zone.find_local_time_type(1_609_459_200)?;    // CET, 3600 seconds east of UTC
+    /// ```
     ///
     /// Before the last transition it is the type of the latest transition that has come, and the
     /// first type before all of them. From the last transition on it is the rule's type, or without
@@ -26,12 +37,13 @@ impl TimeZone {
     /// # Errors
     ///
     /// [`Error::FindLocalTimeType`] if there is a transition and the second's leap time leaves 64
-    /// bits, or if the rule that is asked does not answer in the second's year.
+    /// bits, or if the rule says the type, has two types, and the second's UTC year is below
+    /// `i32::MIN + 2` or above `i32::MAX - 2`.
     #[inline(always)]
     pub fn find_local_time_type(&self, unix_time: i64) -> Result<&LocalTimeType, Error>
         ensures { MatchResult result
             (λ t. TypeAt self.now unix_time t.now)
-            (λ e. (number_of e ≡ 2) × IsTypeRefused self.now unix_time) }
+            (λ e. IsFindLocalTimeTypeError e × IsTypeRefused self.now unix_time) }
     {
         let mut probes = Probes::new();
         self.find_local_time_type_counted(unix_time, &mut probes)
@@ -39,7 +51,12 @@ impl TimeZone {
 
     /// As [`TimeZone::find_local_time_type`], and counts the looks at transitions and the questions
     /// to the rule: at most one look more than the number of transitions has binary digits, and one
-    /// question.
+    /// question where the rule says the type, else none.
+    ///
+    /// The zone keeps the times of its first and its last transition: a comparison with one of them
+    /// that does not decide is not counted. Reading a hint is not counted either.
+    ///
+    /// Requires: [`Probes::has_room`].
     ///
     /// ```text
     /// let mut probes = Probes::new();
@@ -59,11 +76,14 @@ impl TimeZone {
         requires { HasRoom probes.old }
         ensures found { MatchResult result
             (λ t. TypeAt self.now unix_time t.now)
-            (λ e. (number_of e ≡ 2) × IsTypeRefused self.now unix_time) }
+            (λ e. IsFindLocalTimeTypeError e × IsTypeRefused self.now unix_time) }
         ensures cost { RoseByInstant self.now probes.old probes.new }
         // Where it answers and there is a transition, one is looked at.
         ensures looked { IfOk result (λ _. 0 < length self.now.transitions
             → probes.old.reads < probes.new.reads) }
+        // The rule is asked once where it says the type, else not.
+        ensures questions { IsAskedAt self.now unix_time
+            probes.old.rule_questions probes.new.rule_questions }
     {
         let count = self.table.len();
         if count == 0 {
@@ -75,7 +95,7 @@ impl TimeZone {
         }
     }
 
-    /// The type in force at the second whose leap time is given.
+    // The type in force at the second whose leap time is given.
     #[inline(always)]
     fn at_leap_time(
         &self,
@@ -87,10 +107,12 @@ impl TimeZone {
         requires room { HasRoom probes.old }
         ensures found { MatchResult result
             (λ t. TypeAtLeapTime self.now unix_time leap_time t.now)
-            (λ e. (number_of e ≡ 2) × IsFromLast self.now leap_time
+            (λ e. IsFindLocalTimeTypeError e × IsFromLast self.now leap_time
             × IsRefusedBy self.now.rule unix_time) }
         ensures cost { RoseByInstant self.now probes.old probes.new }
         ensures looked { probes.old.reads < probes.new.reads }
+        ensures counted { IsAskedAtLeapTime self.now leap_time
+            probes.old.rule_questions probes.new.rule_questions }
     {
         let count = self.table.len();
         let passed = self.table.passed_count(leap_time, probes);
@@ -104,7 +126,7 @@ impl TimeZone {
         self.rule_or_type(unix_time, latest.type_index, probes)
     }
 
-    /// The rule's type at the second, or without a rule the type of that index.
+    // The rule's type at the second, or without a rule the type of that index.
     #[inline(always)]
     fn rule_or_type(
         &self,
@@ -116,11 +138,13 @@ impl TimeZone {
         requires room { HasRoomFor 1 probes.old.rule_questions }
         ensures found { MatchResult result
             (λ t. RuleOrType self.now unix_time index t.now)
-            (λ e. (number_of e ≡ 2) × IsRefusedBy self.now.rule unix_time) }
+            (λ e. IsFindLocalTimeTypeError e × IsRefusedBy self.now.rule unix_time) }
         ensures cost { RoseWithin probes.old probes.new 0 1 }
         // A question to the rule is counted as one.
         ensures asked { (rule : TransitionRule) → self.now.rule ≡ Some rule
             → probes.new.rule_questions ≡ probes.old.rule_questions + 1 }
+        ensures unasked { self.now.rule ≡ None
+            → probes.new.rule_questions ≡ probes.old.rule_questions }
     {
         let rule = match &self.last_rule {
             Some(rule) => rule,
@@ -131,5 +155,38 @@ impl TimeZone {
             Ok(local) => Ok(local),
             Err(_) => Err(Error::FindLocalTimeType(Expected::YearThatRuleAnswersIn)),
         }
+    }
+
+    // The leap time of a second that is near enough to have one.
+    pub(super) fn leap_time_near(&self, second: i64) -> i64
+        requires { IsNear second }
+        ensures { IsLeapTime self.now.leaps second result }
+    {
+        match leap_time(&self.leap_seconds, second) {
+            Ok(leap_time) => leap_time,
+            Err(_) => unreachable!(),
+        }
+    }
+
+    // How many transitions come at or before the leap time.
+    pub(super) fn passed_count(&self, leap_time: i64, probes: &mut Probes) -> usize
+        requires { HasRoomFor (digits (length self.now.transitions)) probes.old.reads }
+        ensures within { result ≤ length self.now.transitions }
+        ensures passed { passed self.now.transitions leap_time ≡ take result self.now.transitions }
+        ensures cost { RoseWithin probes.old probes.new (digits (length self.now.transitions)) 0 }
+        ensures looked { 0 < length self.now.transitions → probes.old.reads < probes.new.reads }
+    {
+        self.table.passed_count(leap_time, probes)
+    }
+
+    // The transition at that place.
+    pub(super) fn transition(&self, place: usize, probes: &mut Probes) -> Transition
+        requires place { place < length self.now.transitions }
+        requires room { HasRoomFor 1 probes.old.reads }
+        ensures item { result ≡ slice_index_or self.now.transitions place result }
+        ensures index { result.type_index < length self.now.types }
+        ensures cost { probes.new ≡ record probes.old { reads = probes.old.reads + 1 } }
+    {
+        self.table.read(place, probes)
     }
 }

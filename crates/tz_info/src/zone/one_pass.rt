@@ -21,21 +21,21 @@ use crate::zone::transition::Transition;
 use offset_core::MappedLocalTime;
 use std::alloc::Global;
 
-/// How far from 1970 a transition may lie whose time takes an offset within 64 bits.
-const FAR: i64 = 4_611_686_018_427_387_904;
+// How far from 1970 a transition may lie whose time takes an offset within 64 bits.
+const FAR: i64 = 1 << 62;
 
-/// The type in force in a segment, by its index and its offset.
+// The type in force in a segment, by its index and its offset.
 #[derive(Clone, Copy)]
 struct Segment {
     index: usize,
     offset: i64,
 }
 
-/// The pieces of the table, two for each transition. None where a transition cuts the axis before
-/// the one before it does, as where the two lie closer together than their offsets differ.
-///
-/// Most zones have no leap seconds, and there the pass is made without them: it is written once and
-/// compiled twice.
+// The pieces of the table, two for each transition. None where a transition cuts the axis before
+// the one before it does, as where the two lie closer together than their offsets differ.
+//
+// Most zones have no leap seconds, and there the pass is made without them: it is written once and
+// compiled twice.
 #[inline(never)]
 pub(super) fn pieces_in_one_pass(alloc: Global, lists: Lists) -> Result<Option<Pieces>, Error>
     requires valid { IsValid (zone_in lists) }
@@ -52,8 +52,8 @@ pub(super) fn pieces_in_one_pass(alloc: Global, lists: Lists) -> Result<Option<P
     }
 }
 
-/// The same where there may be leap seconds. It is not inlined: the pass without them is to have
-/// the registers.
+// The same where there may be leap seconds. It is not inlined: the pass without them is to have
+// the registers.
 #[inline(never)]
 fn pieces_with_leaps(alloc: Global, lists: Lists) -> Result<Option<Pieces>, Error>
     requires valid { IsValid (zone_in lists) }
@@ -66,7 +66,7 @@ fn pieces_with_leaps(alloc: Global, lists: Lists) -> Result<Option<Pieces>, Erro
     pieces_by(alloc, lists, false)
 }
 
-/// The same, where it is known whether there are no leap seconds to be counted.
+// The same, where it is known whether there are no leap seconds to be counted.
 #[inline(always)]
 fn pieces_by(alloc: Global, lists: Lists, leapless: bool) -> Result<Option<Pieces>, Error>
     requires valid { IsValid (zone_in lists) }
@@ -109,7 +109,7 @@ fn pieces_by(alloc: Global, lists: Lists, leapless: bool) -> Result<Option<Piece
     }))
 }
 
-/// The segment behind so many transitions.
+// The segment after so many transitions.
 #[inline(always)]
 fn segment_at(lists: Lists, place: usize) -> Segment
     requires valid { IsValid (zone_in lists) }
@@ -121,8 +121,8 @@ fn segment_at(lists: Lists, place: usize) -> Segment
     Segment { index, offset }
 }
 
-/// The pieces at the transition between the segment at that place and the one before: in a gap
-/// neither shows the local time, in a fold both do.
+// The pieces at the transition between the segment at that place and the one before: in a gap
+// neither shows the local time, in a fold both do.
 #[inline(always)]
 fn pieces_at(
     lists: Lists,
@@ -163,8 +163,8 @@ fn pieces_at(
     )
 }
 
-/// Whether there are no leap seconds, and each transition is so far from the ends of 64 bits that
-/// its time takes an offset.
+// Whether there are no leap seconds, and each transition is so far from the ends of 64 bits that
+// its time takes an offset.
 fn is_leapless(transitions: &[Transition], leaps: &[LeapSecond]) -> bool
     requires rising { AreRising transitions.now }
     requires some { 0 < length transitions.now }
@@ -178,8 +178,8 @@ fn is_leapless(transitions: &[Transition], leaps: &[LeapSecond]) -> bool
     -FAR <= first && last <= FAR
 }
 
-/// The first second at which so many transitions have come: without leap seconds that is the
-/// transition's own time.
+// The first second at which so many transitions have come: without leap seconds that is the
+// transition's own time.
 #[inline(always)]
 fn start_by(transitions: &[Transition], leaps: &[LeapSecond], count: usize, leapless: bool) -> i64
     requires leaps { AreLeapSeconds leaps.now }
@@ -197,7 +197,7 @@ fn start_by(transitions: &[Transition], leaps: &[LeapSecond], count: usize, leap
     }
 }
 
-/// What a clock at that offset shows at the second.
+// What a clock at that offset shows at the second.
 #[inline(always)]
 fn cut_by(second: i64, offset: i64, leapless: bool) -> i64
     requires offset { IsUtOffset offset }

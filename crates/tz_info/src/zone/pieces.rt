@@ -10,16 +10,16 @@ use crate::zone::answers::joined;
 use offset_core::MappedLocalTime;
 use std::alloc::Global;
 
-/// From its start on, and until the next piece starts, a local time has this answer, by indexes of
-/// types.
+// From its start on, and until the next piece starts, a local time has this answer, by indexes of
+// types.
 #[derive(Clone, Copy, Debug)]
 pub(super) struct Piece {
     pub(super) start: i64,
     pub(super) answer: MappedLocalTime<usize>,
 }
 
-/// The pieces of earlier seconds and those of later ones, merged: where one of either starts, so
-/// does one of them.
+// The pieces of earlier seconds and those of later ones, merged: where one of either starts, so
+// does one of them.
 pub(super) fn merged(
     alloc: Global,
     before_first: &MappedLocalTime<usize>,
@@ -50,7 +50,7 @@ pub(super) fn merged(
     Ok(pieces)
 }
 
-/// The answer of the piece before that place.
+// The answer of the piece before that place.
 fn answer_before(
     before: &MappedLocalTime<usize>,
     pieces: &[Piece],
@@ -65,8 +65,8 @@ fn answer_before(
     pieces[place - 1].answer
 }
 
-/// The start of the next piece of the two lists, and the places up to which they have been passed
-/// with it.
+// The start of the next piece of the two lists, and the places up to which they have been passed
+// with it.
 fn next_start(first: &[Piece], i: usize, last: &[Piece], j: usize) -> (i64, usize, usize)
     requires i { i ≤ length first.now }
     requires j { j ≤ length last.now }
@@ -80,8 +80,8 @@ fn next_start(first: &[Piece], i: usize, last: &[Piece], j: usize) -> (i64, usiz
     }
 }
 
-/// Whether the piece at place `i` of the first is the next one, and not that at place `j` of the
-/// last.
+// Whether the piece at place `i` of the first is the next one, and not that at place `j` of the
+// last.
 fn is_next(first: &[Piece], i: usize, last: &[Piece], j: usize) -> bool
     requires i { i ≤ length first.now }
     requires j { j ≤ length last.now }

@@ -1,7 +1,7 @@
 //! Zones of TZ texts.
 
 ghost use Rattle.std.specs.Prelude.{◌≡◌, IfOk, IfErr, MatchResult, ◌⊎◌, [], ◌∷◌};
-ghost use Rattle.tz_info.specs.Errors.{number_of};
+ghost use Rattle.tz_info.specs.Errors.{IsOutOfMemory, number_of};
 ghost use Rattle.tz_info.specs.Zones.{Zone};
 ghost use Rattle.tz_info.specs.PosixZones.{IsPosixZone, IsPosixFault, types_of, posix_zone};
 
@@ -12,10 +12,15 @@ use crate::zone::time_zone::TimeZone;
 use std::alloc::Global;
 
 impl TimeZone {
-    /// The zone of a TZ text, as `EST5EDT,M3.2.0,M11.1.0` (POSIX.1 section 8.3): its rule, and the
-    /// one type or the two types of the rule, that of standard time first. An empty text gives the
-    /// zone of [`TimeZone::utc`]. Otherwise spaces, tabs, line feeds, form feeds and carriage
+    /// The zone of a TZ text, such as `EST5EDT,M3.2.0,M11.1.0` (POSIX.1 section 8.3): its rule, and
+    /// the one type or the two types of the rule, that of standard time first. An empty text gives
+    /// the zone of [`TimeZone::utc`]. Otherwise spaces, tabs, line feeds, form feeds and carriage
     /// returns at both ends do not count, and the text is read without extensions.
+    ///
+    /// ```text
+    /// let zone = TimeZone::from_posix_tz(alloc, "EST5EDT,M3.2.0,M11.1.0")?;
+    /// let local = zone.find_local_time_type(1_615_705_200)?;    // EDT
+    /// ```
     ///
     /// # Errors
     ///
@@ -26,13 +31,13 @@ impl TimeZone {
         ensures found { IfOk result (λ z. IsPosixZone text.now z) }
         // A text that has a zone gives it, unless there is no memory.
         ensures only { (z : Zone) → IsPosixZone text.now z
-            → MatchResult result (λ y. y ≡ z) (λ e. number_of e ≡ 17) }
-        // Where it is refused, what the number says stands in the text, or there is no memory.
+            → MatchResult result (λ y. y ≡ z) (λ e. IsOutOfMemory e) }
+        // An error names a fault that is in the text, or says that memory ran out.
         ensures fault { IfErr result
-            (λ e. (number_of e ≡ 17) ⊎ IsPosixFault text.now (number_of e)) }
-        // Want of memory is answered for a text that has a zone alone.
+            (λ e. IsOutOfMemory e ⊎ IsPosixFault text.now (number_of e)) }
+        // Running out of memory is answered only for a text that has a zone.
         ensures memory { IfErr result
-            (λ e. number_of e ≡ 17 → (z : Zone) × IsPosixZone text.now z) }
+            (λ e. IsOutOfMemory e → (z : Zone) × IsPosixZone text.now z) }
     {
         if text.is_empty() {
             return TimeZone::utc(alloc);
@@ -41,20 +46,20 @@ impl TimeZone {
         TimeZone::of_rule(alloc, rule)
     }
 
-    /// The zone of the rule.
+    // The zone of the rule.
     fn of_rule(alloc: Global, rule: TransitionRule) -> Result<TimeZone, Error>
-        ensures { MatchResult result (λ z. z ≡ posix_zone rule) (λ e. number_of e ≡ 17) }
+        ensures { MatchResult result (λ z. z ≡ posix_zone rule) (λ e. IsOutOfMemory e) }
     {
         let types = types_of(alloc, &rule)?;
         Ok(TimeZone::with_rule(types, Some(rule)))
     }
 }
 
-/// The types of the rule, that of standard time first.
+// The types of the rule, that of standard time first.
 fn types_of(alloc: Global, rule: &TransitionRule) -> Result<Vec<LocalTimeType>, Error>
     ensures { MatchResult result
         (λ types. types.items ≡ types_of rule.now)
-        (λ e. number_of e ≡ 17) }
+        (λ e. IsOutOfMemory e) }
 {
     match rule {
         TransitionRule::Fixed(local) => Ok(vec![in alloc; *local]?),

@@ -1,7 +1,8 @@
 //! Counts of what a lookup looks at.
 
 ghost use Rattle.std.specs.Prelude.{◌≡◌, ◌+◌, ◌↔◌, IsTrue};
-ghost use Rattle.tz_info.specs.Counts.{HasRoom, HasRoomFor};
+ghost use Rattle.tz_info.specs.Counts.{HasRoom};
+ghost use Rattle.tz_info.specs.Steps.Looks.{HasRoomFor};
 
 use std::marker::Model;
 
@@ -27,7 +28,7 @@ impl Model for Probes {
 }
 
 impl Probes {
-    /// What each count is below where a lookup may start.
+    // What each count is below where a lookup may start.
     const ROOM: u128 = 1 << 120;
 
     /// Counts of 0.
@@ -72,7 +73,7 @@ impl Probes {
             && self.index_reads < Self::ROOM
     }
 
-    /// Counts a look at a transition.
+    // Counts a look at a transition.
     #[inline(always)]
     pub(super) fn count_read(&mut self)
         requires { HasRoomFor 1 self.old.reads }
@@ -81,7 +82,7 @@ impl Probes {
         self.transition_reads += 1;
     }
 
-    /// Counts a look at a piece of an index.
+    // Counts a look at a piece of an index.
     #[inline(always)]
     pub(super) fn count_piece_read(&mut self)
         requires { HasRoomFor 1 self.old.piece_reads }
@@ -90,7 +91,7 @@ impl Probes {
         self.index_reads += 1;
     }
 
-    /// Counts a question to a rule.
+    // Counts a question to a rule.
     #[inline(always)]
     pub(super) fn count_question(&mut self)
         requires { HasRoomFor 1 self.old.rule_questions }

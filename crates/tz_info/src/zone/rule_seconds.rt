@@ -4,8 +4,10 @@ ghost use Rattle.std.specs.Prelude.{◌≡◌, ◌≢◌, ◌+◌, ◌-ℤ◌, l
 ghost use Rattle.naive_base.specs.Range.{IsWide};
 ghost use Rattle.offset_core.specs.WallAnswer.{IsWallAnswer};
 ghost use Rattle.offset_core.specs.declared.local_result.LocalResult.{LocalResult};
-ghost use Rattle.tz_info.specs.Counts.{HasRoomFor, RoseWithin};
+ghost use Rattle.tz_info.specs.Counts.{RoseWithin};
+ghost use Rattle.tz_info.specs.Steps.Looks.{HasRoomFor};
 ghost use Rattle.tz_info.specs.LocalTypes.{LocalType};
+ghost use Rattle.tz_info.specs.Questions.{IsAskedAt, IsAskedFor, IsByRule};
 ghost use Rattle.tz_info.specs.Steps.Seasons.{IsSeason};
 ghost use Rattle.tz_info.specs.Steps.Walk.{TypeIn, IsShownIn, IsAskedLast, IsAmidSeason};
 ghost use Rattle.tz_info.specs.declared.rule.transition_rule.TransitionRule.TheVariants.{Fixed, Alternate};
@@ -18,8 +20,8 @@ use crate::zone::time_zone::TimeZone;
 use offset_core::MappedLocalTime;
 
 impl TimeZone {
-    /// The answer with the seconds at which the rule's types show the local time, from the last
-    /// transition on.
+    // The answer with the seconds at which the rule's types show the local time, from the last
+    // transition on.
     #[inline(always)]
     pub(super) fn try_rule(
         &self,
@@ -36,6 +38,8 @@ impl TimeZone {
         ensures found { IsWallAnswer (IsShownIn self.now local
             (length self.now.transitions + 1)) result }
         ensures cost { RoseWithin probes.old probes.new 0 2 }
+        ensures counted { IsAskedFor self.now local
+            probes.old.rule_questions probes.new.rule_questions }
     {
         match rule {
             TransitionRule::Fixed(only) => self.ask_fixed(only, local, answer, probes),
@@ -43,7 +47,7 @@ impl TimeZone {
         }
     }
 
-    /// Asks the rule of one type for the one second that could show the local time.
+    // Asks the rule of one type for the one second that could show the local time.
     #[inline(always)]
     fn ask_fixed(
         &self,
@@ -60,6 +64,8 @@ impl TimeZone {
         ensures found { IsWallAnswer (IsShownIn self.now local
             (length self.now.transitions + 1)) result }
         ensures cost { RoseWithin probes.old probes.new 0 2 }
+        ensures counted { IsAskedFor self.now local
+            probes.old.rule_questions probes.new.rule_questions }
     {
         let _types = self.local_time_types();
         let second = local - only.offset() as i64;
@@ -70,7 +76,7 @@ impl TimeZone {
         joined(answer, MappedLocalTime::Single(*only))
     }
 
-    /// Asks the rule of two types for the two seconds that could show the local time.
+    // Asks the rule of two types for the two seconds that could show the local time.
     #[inline(always)]
     fn ask_turns(
         &self,
@@ -87,6 +93,8 @@ impl TimeZone {
         ensures found { IsWallAnswer (IsShownIn self.now local
             (length self.now.transitions + 1)) result }
         ensures cost { RoseWithin probes.old probes.new 0 2 }
+        ensures counted { IsAskedFor self.now local
+            probes.old.rule_questions probes.new.rule_questions }
     {
         let _types = self.local_time_types();
         let standard = turns.std().offset();
@@ -110,20 +118,21 @@ impl TimeZone {
         self.ask_turn(turns, local, daylight, one, probes)
     }
 
-    /// Whether the rule is not asked at the second at which a clock at that offset shows the local
-    /// time.
+    // Whether the rule is not asked at the second at which a clock at that offset shows the local
+    // time.
     #[inline(always)]
     fn is_before_rule(&self, local: i64, offset: i32) -> bool
         requires { IsWide local }
-        ensures { IsTrue result → (answer : LocalResult LocalType) → IsAskedLast (TypeIn self.now
-            (length self.now.transitions)) local offset answer answer }
+        ensures silent { IsTrue result → (answer : LocalResult LocalType) → IsAskedLast
+            (TypeIn self.now (length self.now.transitions)) local offset answer answer }
+        ensures early { IsTrue result → ¬ (IsByRule self.now (local -ℤ offset)) }
     {
         let _types = self.local_time_types();
         local - (offset as i64) < self.index.rule_from()
     }
 
-    /// Whether the rule is asked at the second at which a clock at that offset shows the local
-    /// time, and the season's moments decide there.
+    // Whether the rule is asked at the second at which a clock at that offset shows the local
+    // time, and the season's moments decide there.
     #[inline(always)]
     fn is_amid(&self, season: Season, local: i64, offset: i32) -> bool
         requires { IsWide local }
@@ -134,7 +143,7 @@ impl TimeZone {
         (self.index.rule_from() <= second) & season.decides(second)
     }
 
-    /// Whether that holds at both offsets.
+    // Whether that holds at both offsets.
     #[inline(always)]
     fn are_amid(&self, season: Season, local: i64, standard: i32, daylight: i32) -> bool
         requires { IsWide local }
@@ -144,8 +153,8 @@ impl TimeZone {
         self.is_amid(season, local, standard) & self.is_amid(season, local, daylight)
     }
 
-    /// Asks the rule of two types for the two seconds that could show the local time, where the
-    /// season's moments decide at both.
+    // Asks the rule of two types for the two seconds that could show the local time, where the
+    // season's moments decide at both.
     #[inline(always)]
     fn ask_amid(
         &self,
@@ -167,6 +176,8 @@ impl TimeZone {
         ensures found { IsWallAnswer (IsShownIn self.now local
             (length self.now.transitions + 1)) result }
         ensures cost { RoseWithin probes.old probes.new 0 2 }
+        ensures counted { IsAskedFor self.now local
+            probes.old.rule_questions probes.new.rule_questions }
     {
         let _types = self.local_time_types();
         let standard = turns.std().offset();
@@ -188,7 +199,7 @@ impl TimeZone {
         )
     }
 
-    /// Asks the rule of two types for the one second that could show the local time at the offset.
+    // Asks the rule of two types for the one second that could show the local time at the offset.
     #[inline(always)]
     fn ask_turn(
         &self,
@@ -204,6 +215,8 @@ impl TimeZone {
         ensures asked { IsAskedLast (TypeIn self.now
             (length self.now.transitions)) local offset answer result }
         ensures cost { RoseWithin probes.old probes.new 0 1 }
+        ensures counted { IsAskedAt self.now (local -ℤ offset)
+            probes.old.rule_questions probes.new.rule_questions }
     {
         let _types = self.local_time_types();
         let second = local - offset as i64;

@@ -2,7 +2,8 @@
 
 ghost use Rattle.std.specs.Prelude.{◌≡◌, ◌+◌, ◌<◌, ◌≤◌, length, slice_get, Some, MatchResult};
 ghost use Rattle.tz_info.specs.LocalTypes.{IsUtOffset};
-ghost use Rattle.tz_info.specs.Segments.{index_of, table_count};
+ghost use Rattle.tz_info.specs.Segments.{table_count};
+ghost use Rattle.tz_info.specs.Steps.Segments.{index_of};
 ghost use Rattle.tz_info.specs.Steps.Pieces.{zone_in, ArePieces};
 ghost use Rattle.tz_info.specs.Zones.{IsValid};
 ghost use Rattle.tz_info.specs.declared.error.Error.TheVariants.{OutOfMemory};
@@ -18,7 +19,7 @@ use crate::zone::transition::Transition;
 use offset_core::MappedLocalTime;
 use std::alloc::Global;
 
-/// The lists of a zone, lent.
+// The lists of a zone, lent.
 #[derive(Clone, Copy)]
 pub(super) struct Lists<'a> {
     pub(super) transitions: &'a [Transition],
@@ -27,7 +28,7 @@ pub(super) struct Lists<'a> {
     pub(super) rule: &'a Option<TransitionRule>,
 }
 
-/// How many segments are the table's, and not the rule's.
+// How many segments are the table's, and not the rule's.
 pub(super) fn table_count(lists: Lists) -> usize
     ensures { result ≡ table_count (zone_in lists.entry) }
 {
@@ -37,7 +38,7 @@ pub(super) fn table_count(lists: Lists) -> usize
     }
 }
 
-/// The index of the type in force behind so many transitions.
+// The index of the type in force after so many transitions.
 pub(super) fn index_of_segment(lists: Lists, place: usize) -> usize
     requires valid { IsValid (zone_in lists) }
     requires place { place ≤ length lists.transitions.now }
@@ -50,7 +51,7 @@ pub(super) fn index_of_segment(lists: Lists, place: usize) -> usize
     lists.transitions[place - 1].type_index
 }
 
-/// The type of that index.
+// The type of that index.
 pub(super) fn listed(types: &[LocalTimeType], index: usize) -> &LocalTimeType
     requires { index < length types.now }
     ensures listed { slice_get types.now index ≡ Some result.now }
@@ -61,14 +62,14 @@ pub(super) fn listed(types: &[LocalTimeType], index: usize) -> &LocalTimeType
     local_type
 }
 
-/// The pieces of some neighbouring segments, and what stands before the first.
+// The pieces of some neighbouring segments, and what stands before the first.
 #[derive(Debug, Drop)]
 pub(super) struct Pieces {
     pub(super) before: MappedLocalTime<usize>,
     pub(super) pieces: Vec<Piece>,
 }
 
-/// The pieces of the segment behind so many transitions.
+// The pieces of the segment after so many transitions.
 fn pieces_of_one(alloc: Global, lists: Lists, place: usize) -> Result<Pieces, Error>
     requires valid { IsValid (zone_in lists) }
     requires place { place < table_count (zone_in lists) }
@@ -85,7 +86,7 @@ fn pieces_of_one(alloc: Global, lists: Lists, place: usize) -> Result<Pieces, Er
     }
 }
 
-/// The first segment has no start.
+// The first segment has no start.
 fn first_pieces(alloc: Global, lists: Lists) -> Result<Pieces, Error>
     requires valid { IsValid (zone_in lists) }
     requires place { 0 < table_count (zone_in lists) }
@@ -110,7 +111,7 @@ fn first_pieces(alloc: Global, lists: Lists) -> Result<Pieces, Error>
     Ok(Pieces { before, pieces })
 }
 
-/// The last segment has no end.
+// The last segment has no end.
 fn last_pieces(alloc: Global, lists: Lists) -> Result<Pieces, Error>
     requires valid { IsValid (zone_in lists) }
     requires some { 0 < length lists.transitions.now }
@@ -139,7 +140,7 @@ fn last_pieces(alloc: Global, lists: Lists) -> Result<Pieces, Error>
     })
 }
 
-/// A segment between two transitions. It may have no width, as where they are a leap second apart.
+// A segment between two transitions. It may have no width, as where they are a leap second apart.
 fn inner_pieces(alloc: Global, lists: Lists, place: usize) -> Result<Pieces, Error>
     requires valid { IsValid (zone_in lists) }
     requires some { 0 < place }
@@ -174,7 +175,7 @@ fn inner_pieces(alloc: Global, lists: Lists, place: usize) -> Result<Pieces, Err
     })
 }
 
-/// The pieces of the segments from `low` on and before `high`: those of two halves, merged.
+// The pieces of the segments from `low` on and before `high`: those of two halves, merged.
 pub(super) fn pieces_of(
     alloc: Global,
     lists: Lists,

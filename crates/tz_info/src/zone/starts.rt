@@ -13,7 +13,7 @@ use crate::local_time_type::LocalTimeType;
 use crate::zone::leap_second::LeapSecond;
 use crate::zone::transition::Transition;
 
-/// The first second at which the leap time has come.
+// The first second at which the leap time has come.
 pub(super) fn first_second(leaps: &[LeapSecond], leap_time: i64) -> i64
     requires { AreLeapSeconds leaps.now }
     ensures { IsReachedFrom leaps.now leap_time result }
@@ -35,7 +35,7 @@ fn later(a: i64, b: i64) -> i64
     if a < b { b } else { a }
 }
 
-/// The correction behind the first entries, of which there are so many.
+// The correction after the first entries, of which there are so many.
 fn correction_behind(leaps: &[LeapSecond], count: usize) -> i64
     requires { count ≤ length leaps.now }
     ensures { result ≡ last_else (pos 0) (corrections (take count leaps.now)) }
@@ -46,7 +46,7 @@ fn correction_behind(leaps: &[LeapSecond], count: usize) -> i64
     leaps[count - 1].correction as i64
 }
 
-/// How many entries come at or before the leap time.
+// How many entries come at or before the leap time.
 fn entries_come(leaps: &[LeapSecond], leap_time: i64) -> usize
     requires { AreLeapSeconds leaps.now }
     ensures { HaveCome leaps.now leap_time result }
@@ -54,7 +54,7 @@ fn entries_come(leaps: &[LeapSecond], leap_time: i64) -> usize
     leaps.partition_point(|entry| entry.unix_leap_time <= leap_time)
 }
 
-/// The first second at which so many transitions have come.
+// The first second at which so many transitions have come.
 pub(super) fn start_of(transitions: &[Transition], leaps: &[LeapSecond], count: usize) -> i64
     requires leaps { AreLeapSeconds leaps.now }
     requires rising { AreRising transitions.now }
@@ -65,7 +65,7 @@ pub(super) fn start_of(transitions: &[Transition], leaps: &[LeapSecond], count: 
     first_second(leaps, transitions[count - 1].unix_leap_time)
 }
 
-/// What a clock of that type shows at the second.
+// What a clock of that type shows at the second.
 fn cut_at(second: i64, local_type: &LocalTimeType) -> i64
     ensures offset { IsUtOffset local_type.now.offset }
     ensures sum { result ≡ saturate_signed w64 (second +ℤ local_type.now.offset) }
@@ -73,7 +73,7 @@ fn cut_at(second: i64, local_type: &LocalTimeType) -> i64
     second.saturating_add(local_type.offset() as i64)
 }
 
-/// What a clock of that type shows at the first second at which so many transitions have come.
+// What a clock of that type shows at the first second at which so many transitions have come.
 pub(super) fn cut_of(
     transitions: &[Transition],
     leaps: &[LeapSecond],

@@ -1,7 +1,8 @@
 //! The transitions of a zone. A lookup can look at one of them only where the look is counted.
 
 ghost use Rattle.std.specs.Prelude.{◌≡◌, ◌+◌, ◌<◌, ◌≤◌, [], length, take, slice_index_or, MatchResult};
-ghost use Rattle.tz_info.specs.Counts.{HasRoomFor, RoseWithin};
+ghost use Rattle.tz_info.specs.Counts.{RoseWithin};
+ghost use Rattle.tz_info.specs.Steps.Looks.{HasRoomFor};
 ghost use Rattle.tz_info.specs.Digits.{digits};
 ghost use Rattle.tz_info.specs.Transitions.{AreRising, passed};
 ghost use Rattle.tz_info.specs.declared.error.Error.TheVariants.{OutOfMemory};
@@ -14,7 +15,7 @@ use std::alloc::Global;
 use std::fmt;
 use std::marker::Model;
 
-/// Transitions whose times rise.
+// Transitions whose times rise.
 #[derive(Drop)]
 pub(super) struct Table {
     entries: Timeline<Transition>,
@@ -83,7 +84,7 @@ impl PartialEq for Table {
 }
 
 impl Table {
-    /// The table of those transitions.
+    // The table of those transitions.
     pub(super) fn new(alloc: Global, entries: Vec<Transition>) -> Result<Table, Error>
         requires { AreRising entries.items }
         ensures { MatchResult result (λ t. t ≡ entries.items) (λ e. e ≡ OutOfMemory) }
@@ -92,7 +93,7 @@ impl Table {
         Ok(Table { entries })
     }
 
-    /// No transitions, which take no memory.
+    // No transitions, which take no memory.
     pub(super) fn none(alloc: Global) -> Table
         ensures { result ≡ [] }
     {
@@ -101,7 +102,7 @@ impl Table {
         }
     }
 
-    /// How many transitions there are.
+    // How many transitions there are.
     #[inline(always)]
     pub(super) fn len(&self) -> usize
         ensures count { result ≡ length self.now }
@@ -110,7 +111,7 @@ impl Table {
         self.entries.len()
     }
 
-    /// The transition at that place. This is the only look that a lookup can take.
+    // The transition at that place. This is the only look that a lookup can take.
     #[inline(always)]
     pub(super) fn read(&self, place: usize, probes: &mut Probes) -> Transition
         requires place { place < length self.now }
@@ -121,7 +122,7 @@ impl Table {
         *self.entries.read(place, probes)
     }
 
-    /// How many transitions come at or before the leap time.
+    // How many transitions come at or before the leap time.
     #[inline(always)]
     pub(super) fn passed_count(&self, leap_time: i64, probes: &mut Probes) -> usize
         requires { HasRoomFor (digits (length self.now)) probes.old.reads }

@@ -2,7 +2,7 @@
 //! after them.
 
 ghost use Rattle.std.specs.Prelude.{◌≡◌, pos, ◌+◌, ◌*◌, ◌<◌, ◌≤◌, length, MatchResult, ◌⊎◌, option_map};
-ghost use Rattle.tz_info.specs.Errors.{number_of};
+ghost use Rattle.tz_info.specs.Errors.{IsLocalTimeTypeError, IsOutOfMemory, IsOutOfRangeError, IsTimeZoneError};
 ghost use Rattle.tz_info.specs.Leaps.{IsLeapTime, IsLeapTimeRefused, IsUnixTime, IsUnixTimeRefused};
 ghost use Rattle.tz_info.specs.LocalTypes.{IsUtOffset};
 ghost use Rattle.tz_info.specs.WallPieces.{WallIndex, IsIndex};
@@ -39,9 +39,9 @@ pub struct TimeZone {
     pub(super) local_types: Vec<LocalTimeType>,
     pub(super) leap_seconds: Vec<LeapSecond>,
     pub(super) last_rule: Option<TransitionRule>,
-    /// The least and the greatest offset of the types and of the rule.
+    // The least and the greatest offset of the types and of the rule.
     pub(super) extremes: Extremes,
-    /// The pieces of the wall-clock axis.
+    // The pieces of the wall-clock axis.
     pub(super) index: Index,
 }
 
@@ -136,12 +136,11 @@ impl TimeZone {
           rule = rule;
         } in
             MatchResult result (λ z. IsValid lists × (z ≡ lists))
-            (λ e. ((number_of e ≡ 12) × ¬ (IsValid lists)) ⊎ ((e ≡ OutOfMemory) × IsValid lists)) }
+            (λ e. (IsTimeZoneError e × ¬ (IsValid lists)) ⊎ ((e ≡ OutOfMemory) × IsValid lists)) }
     {
         if !is_valid(&transitions, &types, &leaps, &rule) {
             return Err(Error::TimeZone(Expected::ListsOfZone));
         }
-        let extremes = extremes_of(&types, &rule);
         let lists = Lists {
             transitions: &transitions,
             types: &types,
@@ -166,7 +165,7 @@ impl TimeZone {
     ///
     /// [`Error::OutOfMemory`] if there is no memory for it.
     pub fn utc(alloc: Global) -> Result<TimeZone, Error>
-        ensures { MatchResult result (λ z. z ≡ plain_zone (pos 0)) (λ e. number_of e ≡ 17) }
+        ensures { MatchResult result (λ z. z ≡ plain_zone (pos 0)) (λ e. IsOutOfMemory e) }
     {
         TimeZone::of_type(alloc, LocalTimeType::utc())
     }
@@ -180,13 +179,13 @@ impl TimeZone {
     pub fn fixed(alloc: Global, ut_offset: i32) -> Result<TimeZone, Error>
         ensures { MatchResult result
             (λ z. IsUtOffset ut_offset × (z ≡ plain_zone ut_offset))
-            (λ e. ((number_of e ≡ 3) × ¬ (IsUtOffset ut_offset)) ⊎ ((number_of e ≡ 17)
+            (λ e. (IsLocalTimeTypeError e × ¬ (IsUtOffset ut_offset)) ⊎ (IsOutOfMemory e
             × IsUtOffset ut_offset)) }
     {
         TimeZone::of_type(alloc, LocalTimeType::with_offset(ut_offset)?)
     }
 
-    /// The zone of those types, of which there is one at least, and of that rule.
+    // The zone of those types, of which there is one at least, and of that rule.
     pub(crate) fn with_rule(types: Vec<LocalTimeType>, rule: Option<TransitionRule>) -> TimeZone
         requires { 0 < length types.items }
         ensures { result ≡ zone_of_rule types.items rule }
@@ -212,9 +211,9 @@ impl TimeZone {
         }
     }
 
-    /// The zone of one type at every instant.
+    // The zone of one type at every instant.
     fn of_type(alloc: Global, local: LocalTimeType) -> Result<TimeZone, Error>
-        ensures { MatchResult result (λ z. z ≡ zone_of_type local) (λ e. number_of e ≡ 17) }
+        ensures { MatchResult result (λ z. z ≡ zone_of_type local) (λ e. IsOutOfMemory e) }
     {
         let types = vec![in alloc; local]?;
         Ok(TimeZone::with_rule(types, None))
@@ -267,7 +266,7 @@ impl TimeZone {
     pub fn piece_count(&self) -> usize
         ensures pieces { (index : WallIndex) × IsIndex self.now index
             × (result ≡ length index.pieces) }
-        ensures most { result ≤ 2 * length self.now.transitions + 1 }
+        ensures most { result ≤ 2 * length self.now.transitions }
     {
         self.index.len()
     }
@@ -281,7 +280,7 @@ impl TimeZone {
     pub fn unix_time_to_unix_leap_time(&self, unix_time: i64) -> Result<i64, Error>
         ensures { MatchResult result
             (λ x. IsLeapTime self.now.leaps unix_time x)
-            (λ e. (number_of e ≡ 9) × IsLeapTimeRefused self.now.leaps unix_time) }
+            (λ e. IsOutOfRangeError e × IsLeapTimeRefused self.now.leaps unix_time) }
     {
         leap_time(&self.leap_seconds, unix_time)
     }
@@ -296,7 +295,7 @@ impl TimeZone {
     pub fn unix_leap_time_to_unix_time(&self, unix_leap_time: i64) -> Result<i64, Error>
         ensures { MatchResult result
             (λ u. IsUnixTime self.now.leaps unix_leap_time u)
-            (λ e. (number_of e ≡ 9) × IsUnixTimeRefused self.now.leaps unix_leap_time) }
+            (λ e. IsOutOfRangeError e × IsUnixTimeRefused self.now.leaps unix_leap_time) }
     {
         unix_time(&self.leap_seconds, unix_leap_time)
     }

@@ -6,7 +6,8 @@
 //! as a look at its item. Hints are no items.
 
 ghost use Rattle.std.specs.Prelude.{◌≡◌, ◌+◌, ◌-◌, ◌*◌, ◌/◌, ◌<◌, ◌≤◌, [], length, map, option_map, slice_index_or, MatchResult, ℕ};
-ghost use Rattle.tz_info.specs.Counts.{Counts, HasRoomFor};
+ghost use Rattle.tz_info.specs.Counts.{Counts};
+ghost use Rattle.tz_info.specs.Steps.Looks.{HasRoomFor};
 ghost use Rattle.tz_info.specs.Digits.{digits};
 ghost use Rattle.tz_info.specs.Steps.Search.{AreCounted, AreEnds, AreOrdered, ArePassed, IsLastOf, IsLeft, IsNear};
 ghost use Rattle.tz_info.specs.declared.error.Error.TheVariants.{OutOfMemory};
@@ -17,7 +18,7 @@ use crate::zone::probes::Probes;
 use std::alloc::Global;
 use std::marker::Model;
 
-/// What comes at a second.
+// What comes at a second.
 pub(super) trait Timed: Drop {
     ghost use Rattle.std.specs.Prelude.{ℤ};
 
@@ -30,11 +31,11 @@ pub(super) trait Timed: Drop {
     // how many looks there were
     ghost looks: { Counts → ℕ };
 
-    /// The second at which it comes.
+    // The second at which it comes.
     fn second(&self) -> i64
         ensures { result ≡ time self.now };
 
-    /// Counts a look at one.
+    // Counts a look at one.
     fn count_look(probes: &mut Probes)
         requires { HasRoomFor 1 (looks probes.old) }
         ensures { probes.new ≡ counted probes.old 1 };
@@ -46,7 +47,7 @@ pub(super) trait Timed: Drop {
     ghost counts_looks: { (c : Counts) (k : ℕ) → looks (counted c k) ≡ looks c + k };
 }
 
-/// Items that come in order of time.
+// Items that come in order of time.
 #[derive(Drop)]
 pub(super) struct Timeline<T: Timed> {
     items: Vec<T>,
@@ -54,22 +55,22 @@ pub(super) struct Timeline<T: Timed> {
     hints: Hints,
 }
 
-/// The times of the first and the last item, or 0 where there is none.
+// The times of the first and the last item, or 0 where there is none.
 #[derive(Clone, Copy)]
 struct Ends {
     first: i64,
     last: i64,
 }
 
-/// How many items have come, and the last of them.
+// How many items have come, and the last of them.
 #[derive(Clone, Copy)]
 pub(super) struct Passed<'a, T> {
     pub(super) count: usize,
     pub(super) latest: Option<&'a T>,
 }
 
-/// What a search by halves has left: the items before `first` have come, the last of which is
-/// `latest`, and those behind the `count` ones from there on have not.
+// What a search by halves has left: the items before `first` have come, the last of which is
+// `latest`, and those after the `count` ones from there on have not.
 #[derive(Clone, Copy)]
 struct Left<'a, T> {
     first: usize,
@@ -92,7 +93,7 @@ impl<T: Timed> Model for Timeline<T> {
 }
 
 impl<T: Timed> Timeline<T> {
-    /// Those items.
+    // Those items.
     pub(super) fn new(alloc: Global, items: Vec<T>) -> Result<Timeline<T>, Error>
         requires { AreOrdered (map T.time items.items) }
         ensures { MatchResult result (λ t. t ≡ items.items) (λ e. e ≡ OutOfMemory) }
@@ -102,7 +103,7 @@ impl<T: Timed> Timeline<T> {
         Ok(Timeline { items, ends, hints })
     }
 
-    /// No items, which take no memory.
+    // No items, which take no memory.
     pub(super) fn none(alloc: Global) -> Timeline<T>
         ensures { result ≡ [] }
     {
@@ -113,7 +114,7 @@ impl<T: Timed> Timeline<T> {
         }
     }
 
-    /// How many items there are.
+    // How many items there are.
     #[inline(always)]
     pub(super) fn len(&self) -> usize
         ensures count { result ≡ length self.now }
@@ -122,14 +123,14 @@ impl<T: Timed> Timeline<T> {
         self.items.len()
     }
 
-    /// All of them, to be compared or printed: no lookup takes this.
+    // All of them, to be compared or printed: no lookup takes this.
     pub(super) fn items(&self) -> &[T]
         ensures { result.now ≡ self.now }
     {
         &self.items
     }
 
-    /// The item at that place. This is the only look that a lookup can take.
+    // The item at that place. This is the only look that a lookup can take.
     #[inline(always)]
     pub(super) fn read(&self, place: usize, probes: &mut Probes) -> &T
         requires place { place < length self.now }
@@ -141,8 +142,8 @@ impl<T: Timed> Timeline<T> {
         &self.items[place]
     }
 
-    /// How many items come at or before the second. Where no end decides, the hints say among which
-    /// few items the latest is.
+    // How many items come at or before the second. Where no end decides, the hints say among which
+    // few items the latest is.
     #[inline(always)]
     pub(super) fn passed(&self, second: i64, probes: &mut Probes) -> Passed<'_, T>
         requires { HasRoomFor (digits (length self.now)) (T.looks probes.old) }
@@ -178,10 +179,10 @@ impl<T: Timed> Timeline<T> {
         }
     }
 
-    /// The same, where the latest item is one of those.
-    ///
-    /// Two steps are written out: there the compiler makes of each a choice of two values, and in a
-    /// loop a branch, which the processor would guess wrong every other time. More are rarely due.
+    // The same, where the latest item is one of those.
+    //
+    // Two steps are written out: there the compiler makes of each a choice of two values, and in a
+    // loop a branch, which the processor would guess wrong every other time. More are rarely due.
     #[inline(always)]
     fn passed_near(&self, second: i64, near: Near, probes: &mut Probes) -> Passed<'_, T>
         requires near { IsNear (map T.time self.now) second near }
@@ -203,7 +204,7 @@ impl<T: Timed> Timeline<T> {
         }
     }
 
-    /// What is left after a look at the item in the middle.
+    // What is left after a look at the item in the middle.
     #[inline(always)]
     fn narrowed(&self, second: i64, left: Near, probes: &mut Probes) -> Near
         requires near { IsNear (map T.time self.now) second left }
@@ -225,7 +226,7 @@ impl<T: Timed> Timeline<T> {
         }
     }
 
-    /// How many items come at or before the second, by halving all that are between the ends.
+    // How many items come at or before the second, by halving all that are between the ends.
     #[inline(always)]
     fn passed_by_halves(&self, second: i64, probes: &mut Probes) -> Passed<'_, T>
         requires left { IsLeft (map T.time self.now) second 0 (length self.now - 1) }
@@ -249,7 +250,7 @@ impl<T: Timed> Timeline<T> {
         }
     }
 
-    /// What is left after a look at the item in the middle.
+    // What is left after a look at the item in the middle.
     #[inline(always)]
     fn halved<'a>(&'a self, second: i64, left: Left<'a, T>, probes: &mut Probes) -> Left<'a, T>
         requires left { IsLeft (map T.time self.now) second left.first (left.first + left.count) }
@@ -281,7 +282,7 @@ impl<T: Timed> Timeline<T> {
     }
 }
 
-/// The times of the first and the last of the items.
+// The times of the first and the last of the items.
 fn ends_of<T: Timed>(items: &[T]) -> Ends
     ensures { AreEnds (map T.time items.now) result }
 {

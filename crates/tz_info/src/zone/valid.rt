@@ -2,7 +2,8 @@
 
 ghost use Rattle.std.specs.Prelude.{◌≡◌, ◌+ℤ◌, ◌<◌, ◌≤ℤ◌, ◌<ℤ◌, pos, length, IsTrue, ◌↔◌};
 ghost use Rattle.tz_info.specs.Leaps.{IsOneStep, IsFirstLeap, IsNextLeap, AreLeapSeconds};
-ghost use Rattle.tz_info.specs.Transitions.{AreTransitions, Stands};
+ghost use Rattle.tz_info.specs.Transitions.{AreTransitions};
+ghost use Rattle.tz_info.specs.Steps.Validity.{Stands};
 ghost use Rattle.tz_info.specs.Zones.{IsValid, Agrees};
 
 use crate::local_time_type::LocalTimeType;
@@ -11,7 +12,7 @@ use crate::zone::leap_second::LeapSecond;
 use crate::zone::leap_time::unix_time;
 use crate::zone::transition::Transition;
 
-/// Whether the lists make a zone, in one pass over each.
+// Whether the lists make a zone, in one pass over each.
 pub(super) fn is_valid(
     transitions: &[Transition],
     types: &[LocalTimeType],
@@ -43,7 +44,7 @@ pub(super) fn is_valid(
     }
 }
 
-/// Whether at the Unix time of the last transition the rule has that transition's type.
+// Whether at the Unix time of the last transition the rule has that transition's type.
 fn agrees(
     types: &[LocalTimeType],
     leaps: &[LeapSecond],
@@ -69,8 +70,8 @@ fn is_same_type(a: &LocalTimeType, b: &LocalTimeType) -> bool
     *a == *b
 }
 
-/// Whether a zone of so many types may have the transitions, in one pass over them. None is left
-/// out where one before it does not stand, so that the loop has no branch.
+// Whether a zone of so many types may have the transitions, in one pass over them. None is left
+// out where one before it does not stand, so that the loop has no branch.
 fn are_transitions(type_count: usize, transitions: &[Transition]) -> bool
     ensures { IsTrue result ↔ AreTransitions type_count transitions.now }
 {
@@ -84,7 +85,7 @@ fn are_transitions(type_count: usize, transitions: &[Transition]) -> bool
     all_stand
 }
 
-/// Whether the transition at that place names a type and comes later than the one before it.
+// Whether the transition at that place names a type and comes later than the one before it.
 fn stands(type_count: usize, transitions: &[Transition], place: usize) -> bool
     requires some { 0 < place }
     requires place { place < length transitions.now }
@@ -110,14 +111,14 @@ fn is_before(a: i64, b: i64) -> bool
     a < b
 }
 
-/// Both are looked at, and no branch is taken by the first.
+// Both are looked at, and no branch is taken by the first.
 fn are_both(a: bool, b: bool) -> bool
     ensures { IsTrue result ↔ (IsTrue a × IsTrue b) }
 {
     a & b
 }
 
-/// Whether the entries may be those of a zone, in one pass over them.
+// Whether the entries may be those of a zone, in one pass over them.
 fn are_leap_seconds(entries: &[LeapSecond]) -> bool
     ensures { IsTrue result ↔ AreLeapSeconds entries.now }
 {

@@ -1,17 +1,17 @@
 //! The walk: a wall clock by one search in the transitions, and from there on from segment to
 //! segment.
 
-ghost use Rattle.std.specs.Prelude.{◌≡◌, ◌+◌, ◌<◌, ◌≤◌, ◌≤ℤ◌, ◌<ℤ◌, length, take, slice_index_or, MatchResult};
+ghost use Rattle.std.specs.Prelude.{◌≡◌, ◌+◌, ◌<◌, ◌≤◌, ◌≤ℤ◌, ◌<ℤ◌, length};
+ghost use Rattle.std.specs.Result.{IsOkAnd};
 ghost use Rattle.naive_base.specs.NaiveDateTime.{reading};
 ghost use Rattle.naive_base.specs.Range.{IsWide};
 ghost use Rattle.offset_core.specs.WallAnswer.{IsWallAnswer};
-ghost use Rattle.tz_info.specs.Counts.{HasRoom, HasRoomFor, RoseWithin};
-ghost use Rattle.tz_info.specs.Digits.{digits};
-ghost use Rattle.tz_info.specs.Leaps.{IsLeapTime, IsNear};
+ghost use Rattle.tz_info.specs.Counts.{HasRoom, RoseWithin};
+ghost use Rattle.tz_info.specs.Steps.Looks.{HasRoomFor};
 ghost use Rattle.tz_info.specs.Looks.{RoseByWalk};
-ghost use Rattle.tz_info.specs.Segments.{begin_of, index_of};
+ghost use Rattle.tz_info.specs.Questions.{IsAskedFor};
+ghost use Rattle.tz_info.specs.Steps.Segments.{begin_of, index_of};
 ghost use Rattle.tz_info.specs.Steps.Walk.{IsShownIn, IsTried};
-ghost use Rattle.tz_info.specs.Transitions.{passed};
 ghost use Rattle.tz_info.specs.WallClocks.{Shows};
 ghost use Rattle.tz_info.specs.Windows.{IsWindow};
 ghost use Rattle.tz_info.specs.Zones.{IsValid, TypeAt};
@@ -19,15 +19,14 @@ ghost use Rattle.tz_info.specs.Zones.{IsValid, TypeAt};
 use crate::error::Error;
 use crate::local_time_type::LocalTimeType;
 use crate::zone::answers::joined;
-use crate::zone::leap_time::leap_time;
 use crate::zone::probes::Probes;
 use crate::zone::time_zone::TimeZone;
 use crate::zone::transition::Transition;
 use naive_base::NaiveDateTime;
 use offset_core::MappedLocalTime;
 
-/// The leap times between which the transitions come that matter for a local time: after the first,
-/// and not after the second.
+// The leap times between which the transitions come that matter for a local time: after the first,
+// and not after the second.
 #[derive(Clone, Copy)]
 struct Window {
     low: i64,
@@ -41,6 +40,8 @@ impl TimeZone {
     /// local time less the zone's greatest offset, and not after that of the local time less its
     /// least.
     ///
+    /// Requires: [`Probes::has_room`].
+    ///
     /// # Errors
     ///
     /// None; the answer is always `Ok`.
@@ -50,21 +51,23 @@ impl TimeZone {
         probes: &mut Probes,
     ) -> Result<MappedLocalTime<LocalTimeType>, Error>
         requires { HasRoom probes.old }
-        ensures found { MatchResult result
-            (λ answer. IsWallAnswer (Shows (TypeAt self.now) (reading local).s) answer)
-            (λ _. ⊥) }
+        ensures found { IsOkAnd result (IsWallAnswer (Shows (TypeAt self.now) (reading local).s)) }
         ensures cost { RoseByWalk self.now (reading local).s probes.old probes.new }
+        ensures questions { IsAskedFor self.now (reading local).s
+            probes.old.rule_questions probes.new.rule_questions }
     {
         Ok(self.walked_answer(local.secs_since_epoch(), probes))
     }
 
-    /// One search for the transitions near the local time, and a walk through those, segment by
-    /// segment, in the order of the seconds.
+    // One search for the transitions near the local time, and a walk through those, segment by
+    // segment, in the order of the seconds.
     fn walked_answer(&self, local: i64, probes: &mut Probes) -> MappedLocalTime<LocalTimeType>
         requires local { IsWide local }
         requires room { HasRoom probes.old }
         ensures found { IsWallAnswer (Shows (TypeAt self.now) local) result }
         ensures cost { RoseByWalk self.now local probes.old probes.new }
+        ensures counted { IsAskedFor self.now local
+            probes.old.rule_questions probes.new.rule_questions }
     {
         let count = self.transition_count();
         let window = self.window(local);
@@ -82,7 +85,7 @@ impl TimeZone {
         self.try_last(local, current, answer, probes)
     }
 
-    /// The leap times between which the transitions come that matter for the local time.
+    // The leap times between which the transitions come that matter for the local time.
     fn window(&self, local: i64) -> Window
         requires { IsWide local }
         ensures window { IsWindow self.now local result.low result.high }
@@ -94,41 +97,8 @@ impl TimeZone {
         }
     }
 
-    /// The leap time of a second that is near enough to have one.
-    pub(super) fn leap_time_near(&self, second: i64) -> i64
-        requires { IsNear second }
-        ensures { IsLeapTime self.now.leaps second result }
-    {
-        match leap_time(&self.leap_seconds, second) {
-            Ok(leap_time) => leap_time,
-            Err(_) => unreachable!(),
-        }
-    }
-
-    /// How many transitions come at or before the leap time.
-    pub(super) fn passed_count(&self, leap_time: i64, probes: &mut Probes) -> usize
-        requires { HasRoomFor (digits (length self.now.transitions)) probes.old.reads }
-        ensures within { result ≤ length self.now.transitions }
-        ensures passed { passed self.now.transitions leap_time ≡ take result self.now.transitions }
-        ensures cost { RoseWithin probes.old probes.new (digits (length self.now.transitions)) 0 }
-        ensures looked { 0 < length self.now.transitions → probes.old.reads < probes.new.reads }
-    {
-        self.table.passed_count(leap_time, probes)
-    }
-
-    /// The transition at that place.
-    pub(super) fn transition(&self, place: usize, probes: &mut Probes) -> Transition
-        requires place { place < length self.now.transitions }
-        requires room { HasRoomFor 1 probes.old.reads }
-        ensures item { result ≡ slice_index_or self.now.transitions place result }
-        ensures index { result.type_index < length self.now.types }
-        ensures cost { probes.new ≡ record probes.old { reads = probes.old.reads + 1 } }
-    {
-        self.table.read(place, probes)
-    }
-
-    /// The last of the first so many transitions; before all of them the first type is in force,
-    /// from the least time on.
+    // The last of the first so many transitions; before all of them the first type is in force,
+    // from the least time on.
     fn latest(&self, passed: usize, probes: &mut Probes) -> Transition
         requires passed { passed ≤ length self.now.transitions }
         requires room { HasRoomFor 1 probes.old.reads }
@@ -144,7 +114,7 @@ impl TimeZone {
         self.transition(passed - 1, probes)
     }
 
-    /// Tries the type in force from the transition on until the leap time.
+    // Tries the type in force from the transition on until the leap time.
     fn try_until(
         &self,
         local: i64,
@@ -169,7 +139,7 @@ impl TimeZone {
         joined(answer, MappedLocalTime::Single(*local_type))
     }
 
-    /// Tries the type in force from the transition on.
+    // Tries the type in force from the transition on.
     fn try_from(
         &self,
         local: i64,
@@ -190,8 +160,8 @@ impl TimeZone {
         joined(answer, MappedLocalTime::Single(*local_type))
     }
 
-    /// Tries what is in force from the last transition on: the rule, or without one that
-    /// transition's type.
+    // Tries what is in force from the last transition on: the rule, or without one that
+    // transition's type.
     fn try_last(
         &self,
         local: i64,
@@ -211,6 +181,8 @@ impl TimeZone {
         ensures found { IsWallAnswer (IsShownIn self.now local
             (length self.now.transitions + 1)) result }
         ensures cost { RoseWithin probes.old probes.new 0 2 }
+        ensures counted { IsAskedFor self.now local
+            probes.old.rule_questions probes.new.rule_questions }
     {
         let _types = self.local_time_types();
         match &self.last_rule {

@@ -1,11 +1,13 @@
 //! The wall clock of a zone.
 
-ghost use Rattle.std.specs.Prelude.{◌≡◌, ◌<◌, length, MatchResult};
+ghost use Rattle.std.specs.Prelude.{◌≡◌, ◌<◌, length};
+ghost use Rattle.std.specs.Result.{IsOkAnd};
 ghost use Rattle.naive_base.specs.NaiveDateTime.{reading};
 ghost use Rattle.naive_base.specs.Range.{IsWide};
 ghost use Rattle.offset_core.specs.WallAnswer.{IsWallAnswer};
 ghost use Rattle.tz_info.specs.Counts.{HasRoom};
 ghost use Rattle.tz_info.specs.Looks.{RoseByWallClock};
+ghost use Rattle.tz_info.specs.Questions.{IsAskedFor};
 ghost use Rattle.tz_info.specs.WallClocks.{Shows};
 ghost use Rattle.tz_info.specs.Steps.Pieces.{AreBelow, AreListed};
 ghost use Rattle.tz_info.specs.Zones.{TypeAt};
@@ -34,9 +36,7 @@ impl TimeZone {
         &self,
         local: NaiveDateTime,
     ) -> Result<MappedLocalTime<LocalTimeType>, Error>
-        ensures { MatchResult result
-            (λ answer. IsWallAnswer (Shows (TypeAt self.now) (reading local).s) answer)
-            (λ _. ⊥) }
+        ensures { IsOkAnd result (IsWallAnswer (Shows (TypeAt self.now) (reading local).s)) }
     {
         let mut probes = Probes::new();
         self.find_local_time_type_from_local_counted(local, &mut probes)
@@ -44,8 +44,14 @@ impl TimeZone {
 
     /// As [`TimeZone::find_local_time_type_from_local`], and counts the looks at pieces of the
     /// zone's index and the questions to the rule: at most as many looks as twice the number of
-    /// transitions, and one, has binary digits, and at most two questions. No transition is looked
-    /// at.
+    /// transitions, and one, has binary digits, and one question for each second at which a clock
+    /// at an offset of the rule's types shows the reading and the rule says the type: at most two.
+    /// No transition is looked at.
+    ///
+    /// The zone keeps the times of its first and its last piece: a comparison with one of them that
+    /// does not decide is not counted.
+    ///
+    /// Requires: [`Probes::has_room`].
     ///
     /// # Errors
     ///
@@ -57,16 +63,16 @@ impl TimeZone {
         probes: &mut Probes,
     ) -> Result<MappedLocalTime<LocalTimeType>, Error>
         requires { HasRoom probes.old }
-        ensures found { MatchResult result
-            (λ answer. IsWallAnswer (Shows (TypeAt self.now) (reading local).s) answer)
-            (λ _. ⊥) }
+        ensures found { IsOkAnd result (IsWallAnswer (Shows (TypeAt self.now) (reading local).s)) }
         ensures cost { RoseByWallClock self.now probes.old probes.new }
+        ensures questions { IsAskedFor self.now (reading local).s
+            probes.old.rule_questions probes.new.rule_questions }
     {
         Ok(self.wall_answer(local.secs_since_epoch(), probes))
     }
 
-    /// One search in the pieces tells the table's part of the answer; the rule's seconds come
-    /// behind.
+    // One search in the pieces tells the table's part of the answer; the rule's seconds come after
+    // it.
     #[inline(always)]
     pub(super) fn wall_answer(
         &self,
@@ -77,6 +83,8 @@ impl TimeZone {
         requires room { HasRoom probes.old }
         ensures found { IsWallAnswer (Shows (TypeAt self.now) local) result }
         ensures cost { RoseByWallClock self.now probes.old probes.new }
+        ensures counted { IsAskedFor self.now local
+            probes.old.rule_questions probes.new.rule_questions }
     {
         let _transitions = self.transition_count();
         let indexes = self.index.answer(local, probes);
@@ -88,7 +96,7 @@ impl TimeZone {
     }
 }
 
-/// The types of those indexes.
+// The types of those indexes.
 #[inline(always)]
 fn types_of(
     types: &[LocalTimeType],

@@ -1,4 +1,4 @@
--- What some bytes of the input do, behind the beginning of a line that earlier bytes left.
+-- What some bytes of the input do, after the beginning of a line that earlier bytes left.
 use Rattle.std.specs.Prelude.{◌≡◌, ℕ, ◌<◌, List, ◌++◌, Bool, true, false, Option, length}
 use Rattle.std.specs.Io.KnownBytes.{Appends}
 use Rattle.tz_info.specs.Zones.{Zone}

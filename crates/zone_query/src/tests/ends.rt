@@ -1,6 +1,8 @@
-use super::fakes::{Feeder, Taker};
-use super::{RunError, outcome};
+use super::fakes::{Asker, FailsOnce, Feeder, Taker, Teller};
+use super::{RunError, Watched, outcome, run};
+use crate::report;
 use std::alloc::{AllocError, Global};
+use std::cell::Cell;
 use std::io::ErrorKind;
 use std::test::Fail;
 
@@ -112,5 +114,50 @@ fn stops_where_answers_can_not_be_sent(rt: HostRuntime) -> Result<(), Fail> {
         let answers = answers_to(rt.alloc(), &LINES.as_bytes()[..=k])?;
         assert_eq!(rt; to.taken.as_slice(), answers.as_bytes(), "after {k} bytes");
     }
+    Ok(())
+}
+
+/// A run asks an end that has failed for nothing more.
+#[test]
+fn stops_at_a_single_failure(rt: HostRuntime) {
+    let mut reader = Watched::new(FailsOnce::new());
+    let mut writer = Watched::new(Taker::new(rt.alloc()));
+    let result = run(rt.alloc(), &mut reader, &mut writer);
+    assert_eq!(rt; result, Err(RunError::Read));
+    assert_eq!(rt; reader.into_inner().calls, 1);
+
+    let mut reader = Watched::new(Feeder::new(LINES.as_bytes()));
+    let mut writer = Watched::new(FailsOnce::new());
+    let result = run(rt.alloc(), &mut reader, &mut writer);
+    assert_eq!(rt; result, Err(RunError::Write));
+    assert_eq!(rt; writer.into_inner().calls, 1);
+
+    let mut errors = Watched::new(FailsOnce::new());
+    assert_eq!(rt; report(Ok(()), &mut errors), 0);
+    assert_eq!(rt; errors.into_inner().calls, 0);
+}
+
+/// The answers to the lines so far are sent before more is read.
+#[test]
+fn answers_before_it_reads_on(rt: HostRuntime) -> Result<(), Fail> {
+    let flushed = Cell::new(0);
+    let mut reader = Watched::new(Asker {
+        bytes: LINES.as_bytes(),
+        flushed: &flushed,
+        seen: Vec::new(rt.alloc()),
+    });
+    let mut writer = Watched::new(Teller {
+        taken: 0,
+        flushed: &flushed,
+    });
+    let result = run(rt.alloc(), &mut reader, &mut writer);
+    assert_eq!(rt; result, Ok(()));
+    let mut expected = vec![in rt.alloc(); 0]?;
+    let mut sent = 0_usize;
+    for answer in ANSWERS.lines() {
+        sent = sent.saturating_add(answer.len()).saturating_add(1);
+        expected.push(sent)?;
+    }
+    assert_eq!(rt; reader.into_inner().seen, expected);
     Ok(())
 }

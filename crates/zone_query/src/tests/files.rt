@@ -42,7 +42,7 @@ const JERUSALEM: &str = "545a696633000000000000000000000000000000\
 const MANY_TYPES: &str = "545a696600000000000000000000000000000000\
     00000000000000000000000000000000ffffffff00000001";
 
-// The answers to a file, and to the lines behind it.
+// The answers to a file, and to the lines after it.
 fn expect_of_file(
     rt: &impl Abort,
     alloc: Global,

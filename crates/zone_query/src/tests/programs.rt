@@ -1,6 +1,7 @@
 use super::fakes::Taker;
 use super::{RunError, Watched};
 use crate::report;
+use std::test::Fail;
 
 const STOPS: [(RunError, &str); 4] = [
     (RunError::Read, "zoneq: read failed\n"),
@@ -14,6 +15,15 @@ fn names_each_stop(rt: HostRuntime) {
     for (stop, message) in STOPS {
         assert_eq!(rt; stop.text(), message.trim_end());
     }
+}
+
+#[test]
+fn prints_each_stop(rt: HostRuntime) -> Result<(), Fail> {
+    let names = ["Read", "Write", "Memory", "TooLong"];
+    for ((stop, _), name) in STOPS.iter().zip(names) {
+        assert_eq!(rt; format!(in rt.alloc(); "{stop:?}")?.as_str(), name);
+    }
+    Ok(())
 }
 
 #[test]

@@ -1,5 +1,5 @@
 use super::Watched;
-use super::fakes::{Feeder, Taker};
+use super::fakes::{FailsOnce, Feeder, Taker};
 use std::io::ErrorKind;
 use std::test::Fail;
 
@@ -65,4 +65,23 @@ fn watches_a_writer_that_can_not_flush(rt: HostRuntime) -> Result<(), Fail> {
     assert_eq!(rt; fault, Some(ErrorKind::Other));
     assert!(rt; writer.failed() && writer.unsent());
     Ok(())
+}
+
+/// A single failure is not hidden by one call more.
+#[test]
+fn sees_a_single_failure(rt: HostRuntime) {
+    let mut reader = Watched::new(FailsOnce::new());
+    assert!(rt; reader.read(&mut [0; 2]).is_err());
+    assert!(rt; reader.failed() && !reader.ended());
+    assert_eq!(rt; reader.into_inner().calls, 1);
+
+    let mut writer = Watched::new(FailsOnce::new());
+    assert!(rt; writer.write(b"a").is_err());
+    assert!(rt; writer.failed() && !writer.unsent());
+    assert_eq!(rt; writer.into_inner().calls, 1);
+
+    let mut sender = Watched::new(FailsOnce::new());
+    assert!(rt; sender.flush().is_err());
+    assert!(rt; sender.failed());
+    assert_eq!(rt; sender.into_inner().calls, 1);
 }

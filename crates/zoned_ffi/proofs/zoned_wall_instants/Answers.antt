@@ -1,5 +1,6 @@
 use Rattle.std.proofs.Common.{◌∙◌, inr}
+use Rattle.std.proofs.lemmas.Bool.{eq-eqb}
 use Rattle.zoned_ffi.proofs.zoned_wall_instants.Goals as goal
 
 pub returns-in-Err-clause-only : goal.returns-in-Err-clause-only
-returns-in-Err-clause-only c = λ z spelled fits. inr (c.number.ensures.value ∙ c.in-Err.ensures.only z spelled fits)
+returns-in-Err-clause-only c = λ z spelled fits. inr (c.number.ensures.value ∙ c.in-Err.ensures.only z spelled (eq-eqb _ _ fits))

@@ -3,7 +3,7 @@
 use Rattle.std.specs.Prelude.{◌≡◌, ℤ, pos, neg_ℤ}
 use Rattle.std.specs.Coded.{Coded-set, coded_ℤ}
 use Rattle.std.specs.Int.Signed.{clash_ℤ}
-use Rattle.std.proofs.Common.{sym, ap, ◌∙◌}
+use Rattle.std.proofs.Common.{sym, ap, ◌∙◌, refl}
 use Rattle.std.proofs.Math.Logic.{∥∥₁_prop, ∥∥₁_elim}
 use Rattle.std.proofs.lemmas.Int.{by_lt_z}
 use mathlib.Core.HLevel.{Σ_prop_path}
@@ -24,15 +24,9 @@ only_offset z u a b = Σ_prop_path (λ k. ∥∥₁_prop)
 offset_in_range : (z : Zone) (u : ℤ) → ∥ HasOffsets z ∥₁ → IsZoneSecond u → (k : ℤ) × ∥ HasOffset z u k ∥₁
 offset_in_range z u some inside = ∥∥₁_elim some (only_offset z u) (λ has. let k = has u inside in (k.0, ∣ k.1 ∣₁))
 
-offset_or_0 : (z : Zone) (u : ℤ) → ∥ HasOffsets z ∥₁ → (k : ℤ) × (IsZoneSecond u → ∥ HasOffset z u k ∥₁)
-offset_or_0 z u some =
-    by_lt_z u (neg_ℤ (pos 8_334_601_401_600)) (λ before. (pos 0, λ inside. clash_ℤ before inside.0)) (λ from.
-    by_lt_z (pos 8_210_267_049_599) u (λ behind. (pos 0, λ inside. clash_ℤ behind inside.1)) (λ to.
-    let k = offset_in_range z u some (from, to) in (k.0, λ _. k.1)))
-
-pub the_offset : (z : Zone) → ∥ HasOffsets z ∥₁ → ℤ → ℤ
-the_offset z some u = (offset_or_0 z u some).0
-
-pub the_offset_is : (z : Zone) (some : ∥ HasOffsets z ∥₁) (u : ℤ) → IsZoneSecond u → ∥ HasOffset z u (the_offset z some u) ∥₁
-unfolding the_offset
-the_offset_is z some u inside = (offset_or_0 z u some).1 inside
+-- it, or 0 at a second outside the range that zones answer in
+pub some_offset : (z : Zone) → ∥ HasOffsets z ∥₁ → (u : ℤ) → (k : ℤ) × (IsZoneSecond u → ∥ HasOffset z u k ∥₁) × (¬ (IsZoneSecond u) → k ≡ pos 0)
+some_offset z some u =
+    by_lt_z u (neg_ℤ (pos 8_334_601_401_600)) (λ before. (pos 0, (λ inside. clash_ℤ before inside.0), (λ _. refl))) (λ from.
+    by_lt_z (pos 8_210_267_049_599) u (λ after. (pos 0, (λ inside. clash_ℤ after inside.1), (λ _. refl))) (λ to.
+    let k = offset_in_range z u some (from, to) in (k.0, (λ _. k.1), (λ outside. absurd (outside (from, to))))))

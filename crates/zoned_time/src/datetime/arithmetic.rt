@@ -9,8 +9,8 @@ ghost use Rattle.zoned_time.specs.DateTime.{zoned, home_of};
 ghost use Rattle.zoned_time.specs.Relocal.{IsRelocal};
 ghost use Rattle.zoned_time.specs.Zoned.{IsAt, IsAtInRange};
 
-use super::DateTime;
-use crate::TimeZone;
+use super::{DateTime, Instant};
+use crate::{Offset, TimeZone};
 use naive_base::NaiveDateTime;
 use offset_core::{LocalResult, TimeDelta};
 
@@ -18,14 +18,15 @@ impl<Tz: TimeZone> DateTime<Tz> {
     // The instant of a UTC reading in range, in the zone that this one's offset came from.
     pub(super) fn at(&self, utc: &NaiveDateTime) -> DateTime<Tz>
         requires { IsInRange (reading utc.now).s }
-        ensures { IsAt (home_of self.now) (reading utc.now) (zoned result) }
+        ensures { IsAt (home_of Tz.meaning self.now) (reading utc.now) (zoned result) }
     {
         self.timezone().from_utc_datetime(utc)
     }
 
     // The instant when the clocks of that zone show a reading.
     pub(super) fn relocal(&self, local: &NaiveDateTime) -> LocalResult<DateTime<Tz>>
-        ensures { IsRelocal (home_of self.now) (reading local.now) (map_of zoned result) }
+        ensures { IsRelocal (home_of Tz.meaning self.now) (reading local.now)
+            (map_of zoned result) }
     {
         self.timezone().from_local_datetime(local)
     }
@@ -41,7 +42,8 @@ impl<Tz: TimeZone> DateTime<Tz> {
     /// before.checked_add_signed(TimeDelta::hours(1)); // 2021-11-07 01:30:00 -05:00
     /// ```
     pub fn checked_add_signed(&self, rhs: TimeDelta) -> Option<DateTime<Tz>>
-        ensures { IsAtInRange (home_of self.now) (moved (zoned self.now).utc (nanos_of rhs))
+        ensures { IsAtInRange (home_of Tz.meaning self.now)
+            (moved (zoned self.now).utc (nanos_of rhs))
             (option_map zoned result) }
     {
         let utc = self.datetime.checked_add_signed(rhs)?;
@@ -50,13 +52,16 @@ impl<Tz: TimeZone> DateTime<Tz> {
 
     /// [`DateTime::checked_add_signed`] of the opposite length.
     pub fn checked_sub_signed(&self, rhs: TimeDelta) -> Option<DateTime<Tz>>
-        ensures { IsAtInRange (home_of self.now) (moved (zoned self.now).utc (neg_ℤ (nanos_of rhs)))
+        ensures { IsAtInRange (home_of Tz.meaning self.now)
+            (moved (zoned self.now).utc (neg_ℤ (nanos_of rhs)))
             (option_map zoned result) }
     {
         let utc = self.datetime.checked_sub_signed(rhs)?;
         Some(self.at(&utc))
     }
+}
 
+impl<Tz, O: Offset> Instant<Tz, O> {
     /// The time from another instant to this one, negative where this one is earlier, whatever
     /// zones the two stand in.
     ///

@@ -18,8 +18,8 @@ use offset_core::LocalResult;
 impl<Tz: TimeZone> DateTime<Tz> {
     /// The only instant when the clocks of the zone show this time so many months later, on the
     /// same day of the month, or on its last where it has fewer days. `None` where they show it
-    /// never or more than once, and where the year is not one from -262143 to 262142, unless it is
-    /// the date that the clock shows now.
+    /// never or more than once, where its UTC reading is out of range, and where the year is not one
+    /// from -262143 to 262142, unless it is the date that the clock shows now.
     ///
     /// ```text
     /// let noon = new_york.with_ymd_and_hms(2021, 1, 31, 12, 0, 0).unwrap();
@@ -28,23 +28,29 @@ impl<Tz: TimeZone> DateTime<Tz> {
     /// night.checked_add_months(Months::new(1)) // None: a gap
     /// ```
     pub fn checked_add_months(&self, months: Months) -> Option<DateTime<Tz>>
-        ensures { IsOnlyMonthsLater self.now (pos (months_of months)) result }
+        ensures { IsOnlyMonthsLater Tz.meaning self.now (pos (months_of months)) result }
     {
         self.only_at(&self.local().checked_add_months(months)?)
     }
 
     /// The same, so many months earlier.
     pub fn checked_sub_months(&self, months: Months) -> Option<DateTime<Tz>>
-        ensures { IsOnlyMonthsLater self.now (neg_ℤ (pos (months_of months))) result }
+        ensures { IsOnlyMonthsLater Tz.meaning self.now (neg_ℤ (pos (months_of months))) result }
     {
         self.only_at(&self.local().checked_sub_months(months)?)
     }
 
     /// The only instant when the clocks of the zone show this time so many days later, and this
-    /// instant itself for no days. `None` where they show it never or more than once, and where it
-    /// is not in the years -262143 to 262142.
+    /// instant itself for no days. `None` where they show it never or more than once, where its UTC
+    /// reading is out of range, and where it is not in the years -262143 to 262142.
+    ///
+    /// ```
+    /// // In New York clocks were set back at 02:00 on 2021-11-07.
+    /// let noon = new_york.with_ymd_and_hms(2021, 11, 6, 12, 0, 0).unwrap();
+    /// noon.checked_add_days(Days::new(1)) // 2021-11-07 12:00:00 -05:00, 25 hours later
+    /// ```
     pub fn checked_add_days(&self, days: Days) -> Option<DateTime<Tz>>
-        ensures { IsDaysAdded self.now (days_of days) result }
+        ensures { IsDaysAdded Tz.meaning self.now (days_of days) result }
     {
         if days == Days::new(0) {
             return Some(*self);
@@ -53,18 +59,25 @@ impl<Tz: TimeZone> DateTime<Tz> {
     }
 
     /// The only instant when the clocks of the zone show this time so many days earlier. `None`
-    /// where they show it never or more than once, for no days too, and where it is not in the
-    /// years -262143 to 262142, unless that is the date that the clock shows now.
+    /// where they show it never or more than once, for no days too, where its UTC reading is out of
+    /// range, and where it is not in the years -262143 to 262142, unless that is the date that the
+    /// clock shows now.
     pub fn checked_sub_days(&self, days: Days) -> Option<DateTime<Tz>>
-        ensures { IsOnlyDaysLater self.now (neg_ℤ (pos (days_of days))) result }
+        ensures { IsOnlyDaysLater Tz.meaning self.now (neg_ℤ (pos (days_of days))) result }
     {
         self.only_at(&self.local().checked_sub_days(days)?)
     }
 
     /// The instants when the clocks of the zone show that time on the date that this one's clock
     /// shows: [`TimeZone::from_local_datetime`] of the two.
+    ///
+    /// ```
+    /// let noon = new_york.with_ymd_and_hms(2021, 3, 14, 12, 0, 0).unwrap();
+    /// noon.with_time(NaiveTime::from_hms_opt(2, 30, 0)?) // None: a gap
+    /// noon.with_time(NaiveTime::from_hms_opt(3, 30, 0)?) // Single(2021-03-14 03:30:00 -04:00)
+    /// ```
     pub fn with_time(&self, time: NaiveTime) -> LocalResult<DateTime<Tz>>
-        ensures { IsRelocal (home_of self.now) (reading_at (day_at (wall_of self.now))
+        ensures { IsRelocal (home_of Tz.meaning self.now) (reading_at (day_at (wall_of self.now))
             (second_of time) (fraction_of time))
             (map_of zoned result) }
     {
@@ -73,6 +86,12 @@ impl<Tz: TimeZone> DateTime<Tz> {
 
     /// The whole years from another instant to this one, by what their clocks show. `None` where
     /// this one's year is less, or is the same and its month, day and time are earlier.
+    ///
+    /// ```
+    /// let born = Utc.with_ymd_and_hms(2004, 2, 29, 0, 0, 0).unwrap();
+    /// Utc.with_ymd_and_hms(2022, 2, 28, 0, 0, 0).unwrap().years_since(born) // Some(17)
+    /// Utc.with_ymd_and_hms(2022, 3, 1, 0, 0, 0).unwrap().years_since(born) // Some(18)
+    /// ```
     pub fn years_since(&self, base: DateTime<Tz>) -> Option<u32>
         ensures { IsYearsSince (wall_of self.now) (wall_of base) result }
     {

@@ -19,7 +19,7 @@ impl DateTime<Utc> {
         DateTime::from_naive_utc_and_offset(NaiveDateTime::MIN, Utc)
     }
 
-    /// The last instant but for those of a leap second, at [`NaiveDateTime::MAX`] in UTC.
+    /// The last instant except those of a leap second, at [`NaiveDateTime::MAX`] in UTC.
     #[allow(non_snake_case)]
     pub fn MAX_UTC() -> DateTime<Utc>
         ensures { zoned result ≡ in_utc last_reading }

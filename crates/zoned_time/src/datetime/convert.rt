@@ -4,12 +4,17 @@ ghost use Rattle.zoned_time.specs.DateTime.{zoned};
 ghost use Rattle.zoned_time.specs.Stamps.{in_utc};
 ghost use Rattle.zoned_time.specs.Zoned.{IsAt, IsFixedFrom};
 
-use super::DateTime;
+use super::{DateTime, Instant};
 use crate::{Offset, TimeZone, Utc};
 use offset_core::FixedOffset;
 
-impl<Tz: TimeZone> DateTime<Tz> {
+impl<Tz, O: Offset> Instant<Tz, O> {
     /// The same instant, with the offset that the zone has then.
+    ///
+    /// ```
+    /// let there = Utc.timestamp(1_636_264_800, 0); // 2021-11-07 06:00:00 UTC
+    /// there.with_timezone(&FixedOffset::east(3600)); // 2021-11-07 07:00:00 +01:00
+    /// ```
     pub fn with_timezone<Tz2: TimeZone>(&self, tz: &Tz2) -> DateTime<Tz2>
         ensures { IsAt (Tz2.law tz.now) (zoned self.now).utc (zoned result) }
     {
@@ -18,7 +23,7 @@ impl<Tz: TimeZone> DateTime<Tz> {
 
     /// The same instant, with the offset as nothing but its seconds.
     pub fn fixed_offset(&self) -> DateTime<FixedOffset>
-        ensures { IsFixedFrom Tz.Offset.seconds (zoned self.now) (zoned result) }
+        ensures { IsFixedFrom O.seconds (zoned self.now) (zoned result) }
     {
         DateTime::from_naive_utc_and_offset(self.datetime, self.offset.fix())
     }

@@ -12,7 +12,8 @@ use naive_base::{Datelike, IsoWeek, NaiveDateTime, Timelike, Weekday};
 impl<Tz: TimeZone> DateTime<Tz> {
     // The only instant when the clocks of the zone that the offset came from show the reading.
     pub(super) fn only_at(&self, local: &NaiveDateTime) -> Option<DateTime<Tz>>
-        ensures only { IsOnly (home_of self.now) (reading local.now) (option_map zoned result) }
+        ensures only { IsOnly (home_of Tz.meaning self.now) (reading local.now)
+            (option_map zoned result) }
         ensures shown { IfSome result (λ new. wall_of new ≡ reading local.now) }
     {
         self.relocal(local).single()
@@ -21,11 +22,11 @@ impl<Tz: TimeZone> DateTime<Tz> {
 
 /// The date that the instant's clock shows, be it a buffer day, and the only instant when the
 /// clocks of its zone show another date at that time: `None` where they show it never, or more than
-/// once.
+/// once, or where its UTC reading is out of range.
 impl<Tz: TimeZone> Datelike for DateTime<Tz> {
     ghost day_shown = { day_shown_by };
 
-    ghost IsOnDay = { IsOnlyOnDay };
+    ghost IsOnDay = { IsOnlyOnDay Tz.meaning };
 
     fn year(&self) -> i32 {
         self.local().year()
@@ -93,11 +94,12 @@ impl<Tz: TimeZone> Datelike for DateTime<Tz> {
 }
 
 /// The time that the instant's clock shows, and the only instant when the clocks of its zone show
-/// another time on that day: `None` where they show it never, or more than once.
+/// another time on that day: `None` where they show it never, or more than once, or where
+/// its UTC reading is out of range.
 impl<Tz: TimeZone> Timelike for DateTime<Tz> {
     ghost time_shown = { λ d. time_at (wall_of d) };
 
-    ghost IsAtTime = { IsOnlyAtTime };
+    ghost IsAtTime = { IsOnlyAtTime Tz.meaning };
 
     fn hour(&self) -> u32 {
         self.local().hour()

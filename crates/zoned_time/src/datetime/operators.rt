@@ -18,12 +18,19 @@ use std::ops::{Add, AddAssign, Sub, SubAssign};
 use std::time::Duration;
 
 /// [`DateTime::checked_add_signed`], where it answers.
+///
+/// ```
+/// let start = Utc.timestamp(1_636_264_800, 0); // 2021-11-07 06:00:00 UTC
+/// start + TimeDelta::hours(1) // 2021-11-07 07:00:00 UTC
+/// start + Months::new(1) // 2021-12-07 06:00:00 UTC
+/// (start + TimeDelta::hours(1)) - start // an hour
+/// ```
 impl<Tz: TimeZone> Add<TimeDelta> for DateTime<Tz> {
     type Output = DateTime<Tz>;
 
     ghost can_add = { λ d t. CanMove d (nanos_of t) };
 
-    ghost add_gives = { λ d t r. IsMoved d (nanos_of t) r };
+    ghost add_gives = { λ d t r. IsMoved Tz.meaning d (nanos_of t) r };
 
     fn add(self, rhs: TimeDelta) -> DateTime<Tz> {
         self.checked_add_signed(rhs).unwrap()
@@ -36,7 +43,7 @@ impl<Tz: TimeZone> Sub<TimeDelta> for DateTime<Tz> {
 
     ghost can_sub = { λ d t. CanMove d (neg_ℤ (nanos_of t)) };
 
-    ghost sub_gives = { λ d t r. IsMoved d (neg_ℤ (nanos_of t)) r };
+    ghost sub_gives = { λ d t r. IsMoved Tz.meaning d (neg_ℤ (nanos_of t)) r };
 
     fn sub(self, rhs: TimeDelta) -> DateTime<Tz> {
         self.checked_sub_signed(rhs).unwrap()
@@ -46,7 +53,7 @@ impl<Tz: TimeZone> Sub<TimeDelta> for DateTime<Tz> {
 impl<Tz: TimeZone> AddAssign<TimeDelta> for DateTime<Tz> {
     ghost can_add_assign = { λ d t. CanMove d (nanos_of t) };
 
-    ghost add_assign_gives = { λ d t r. IsMoved d (nanos_of t) r };
+    ghost add_assign_gives = { λ d t r. IsMoved Tz.meaning d (nanos_of t) r };
 
     fn add_assign(&mut self, rhs: TimeDelta) {
         *self = *self + rhs;
@@ -56,7 +63,7 @@ impl<Tz: TimeZone> AddAssign<TimeDelta> for DateTime<Tz> {
 impl<Tz: TimeZone> SubAssign<TimeDelta> for DateTime<Tz> {
     ghost can_sub_assign = { λ d t. CanMove d (neg_ℤ (nanos_of t)) };
 
-    ghost sub_assign_gives = { λ d t r. IsMoved d (neg_ℤ (nanos_of t)) r };
+    ghost sub_assign_gives = { λ d t r. IsMoved Tz.meaning d (neg_ℤ (nanos_of t)) r };
 
     fn sub_assign(&mut self, rhs: TimeDelta) {
         *self = *self - rhs;
@@ -70,7 +77,7 @@ impl<Tz: TimeZone> Add<Duration> for DateTime<Tz> {
 
     ghost can_add = { λ d t. FitsTimeDelta (pos (as_nanos t)) × CanMove d (pos (as_nanos t)) };
 
-    ghost add_gives = { λ d t r. IsMoved d (pos (as_nanos t)) r };
+    ghost add_gives = { λ d t r. IsMoved Tz.meaning d (pos (as_nanos t)) r };
 
     fn add(self, rhs: Duration) -> DateTime<Tz> {
         self + TimeDelta::from_std(rhs).unwrap()
@@ -85,7 +92,7 @@ impl<Tz: TimeZone> Sub<Duration> for DateTime<Tz> {
     ghost can_sub = { λ d t.
         FitsTimeDelta (pos (as_nanos t)) × CanMove d (neg_ℤ (pos (as_nanos t))) };
 
-    ghost sub_gives = { λ d t r. IsMoved d (neg_ℤ (pos (as_nanos t))) r };
+    ghost sub_gives = { λ d t r. IsMoved Tz.meaning d (neg_ℤ (pos (as_nanos t))) r };
 
     fn sub(self, rhs: Duration) -> DateTime<Tz> {
         self - TimeDelta::from_std(rhs).unwrap()
@@ -96,7 +103,7 @@ impl<Tz: TimeZone> AddAssign<Duration> for DateTime<Tz> {
     ghost can_add_assign = { λ d t.
         FitsTimeDelta (pos (as_nanos t)) × CanMove d (pos (as_nanos t)) };
 
-    ghost add_assign_gives = { λ d t r. IsMoved d (pos (as_nanos t)) r };
+    ghost add_assign_gives = { λ d t r. IsMoved Tz.meaning d (pos (as_nanos t)) r };
 
     fn add_assign(&mut self, rhs: Duration) {
         *self = *self + rhs;
@@ -107,7 +114,7 @@ impl<Tz: TimeZone> SubAssign<Duration> for DateTime<Tz> {
     ghost can_sub_assign = { λ d t. FitsTimeDelta (pos (as_nanos t))
         × CanMove d (neg_ℤ (pos (as_nanos t))) };
 
-    ghost sub_assign_gives = { λ d t r. IsMoved d (neg_ℤ (pos (as_nanos t))) r };
+    ghost sub_assign_gives = { λ d t r. IsMoved Tz.meaning d (neg_ℤ (pos (as_nanos t))) r };
 
     fn sub_assign(&mut self, rhs: Duration) {
         *self = *self - rhs;
@@ -170,9 +177,10 @@ impl<Tz: TimeZone> Sub<&DateTime<Tz>> for DateTime<Tz> {
 impl<Tz: TimeZone> Add<Months> for DateTime<Tz> {
     type Output = DateTime<Tz>;
 
-    ghost can_add = { λ d n. (e : _) × IsOnlyMonthsLater d (pos (months_of n)) (Some e) };
+    ghost can_add = { λ d n.
+        (e : _) × IsOnlyMonthsLater Tz.meaning d (pos (months_of n)) (Some e) };
 
-    ghost add_gives = { λ d n r. IsOnlyMonthsLater d (pos (months_of n)) (Some r) };
+    ghost add_gives = { λ d n r. IsOnlyMonthsLater Tz.meaning d (pos (months_of n)) (Some r) };
 
     fn add(self, rhs: Months) -> DateTime<Tz> {
         self.checked_add_months(rhs).unwrap()
@@ -183,9 +191,11 @@ impl<Tz: TimeZone> Add<Months> for DateTime<Tz> {
 impl<Tz: TimeZone> Sub<Months> for DateTime<Tz> {
     type Output = DateTime<Tz>;
 
-    ghost can_sub = { λ d n. (e : _) × IsOnlyMonthsLater d (neg_ℤ (pos (months_of n))) (Some e) };
+    ghost can_sub = { λ d n.
+        (e : _) × IsOnlyMonthsLater Tz.meaning d (neg_ℤ (pos (months_of n))) (Some e) };
 
-    ghost sub_gives = { λ d n r. IsOnlyMonthsLater d (neg_ℤ (pos (months_of n))) (Some r) };
+    ghost sub_gives = { λ d n r.
+        IsOnlyMonthsLater Tz.meaning d (neg_ℤ (pos (months_of n))) (Some r) };
 
     fn sub(self, rhs: Months) -> DateTime<Tz> {
         self.checked_sub_months(rhs).unwrap()
@@ -196,9 +206,9 @@ impl<Tz: TimeZone> Sub<Months> for DateTime<Tz> {
 impl<Tz: TimeZone> Add<Days> for DateTime<Tz> {
     type Output = DateTime<Tz>;
 
-    ghost can_add = { λ d n. (e : _) × IsDaysAdded d (days_of n) (Some e) };
+    ghost can_add = { λ d n. (e : _) × IsDaysAdded Tz.meaning d (days_of n) (Some e) };
 
-    ghost add_gives = { λ d n r. IsDaysAdded d (days_of n) (Some r) };
+    ghost add_gives = { λ d n r. IsDaysAdded Tz.meaning d (days_of n) (Some r) };
 
     fn add(self, rhs: Days) -> DateTime<Tz> {
         self.checked_add_days(rhs).unwrap()
@@ -209,9 +219,10 @@ impl<Tz: TimeZone> Add<Days> for DateTime<Tz> {
 impl<Tz: TimeZone> Sub<Days> for DateTime<Tz> {
     type Output = DateTime<Tz>;
 
-    ghost can_sub = { λ d n. (e : _) × IsOnlyDaysLater d (neg_ℤ (pos (days_of n))) (Some e) };
+    ghost can_sub = { λ d n.
+        (e : _) × IsOnlyDaysLater Tz.meaning d (neg_ℤ (pos (days_of n))) (Some e) };
 
-    ghost sub_gives = { λ d n r. IsOnlyDaysLater d (neg_ℤ (pos (days_of n))) (Some r) };
+    ghost sub_gives = { λ d n r. IsOnlyDaysLater Tz.meaning d (neg_ℤ (pos (days_of n))) (Some r) };
 
     fn sub(self, rhs: Days) -> DateTime<Tz> {
         self.checked_sub_days(rhs).unwrap()

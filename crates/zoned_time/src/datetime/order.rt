@@ -8,38 +8,38 @@ ghost use Rattle.std.proofs.Common.{rules};
 ghost use Rattle.zoned_time.specs.DateTime.{zoned};
 ghost use Rattle.zoned_time.specs.Order.{compared};
 
-use super::DateTime;
-use crate::TimeZone;
+use super::{DateTime, Instant};
+use crate::{Offset, TimeZone};
 use std::cmp::Ordering;
 use std::hash::{Hash, Hasher};
 
-impl<Tz: TimeZone> PartialEq for DateTime<Tz> {
+impl<Tz, O: Offset> PartialEq for Instant<Tz, O> {
     ghost eq = { eq_of_both (on (λ d. (zoned d).utc.s) int_eq) (on (λ d. (zoned d).utc.f) ◌==◌) };
 
     ghost laws = { Prim.search (comparing, rules) };
 
-    fn eq(&self, other: &DateTime<Tz>) -> bool {
+    fn eq(&self, other: &Instant<Tz, O>) -> bool {
         self.datetime == other.datetime
     }
 }
 
-impl<Tz: TimeZone> Eq for DateTime<Tz> {
+impl<Tz, O: Offset> Eq for Instant<Tz, O> {
     ghost laws = { Prim.search (comparing, rules) };
 }
 
-impl<Tz: TimeZone> PartialOrd for DateTime<Tz> {
+impl<Tz, O: Offset> PartialOrd for Instant<Tz, O> {
     ghost partial_cmp = { as_partial_cmp
         (then_cmp (on (λ d. (zoned d).utc.s) int_cmp) (on (λ d. (zoned d).utc.f) nat_cmp)) };
 
     ghost laws = { partial_order_from_own_ties (Prim.search (comparing, rules))
         (Prim.search (comparing, rules)) };
 
-    fn partial_cmp(&self, other: &DateTime<Tz>) -> Option<Ordering> {
+    fn partial_cmp(&self, other: &Instant<Tz, O>) -> Option<Ordering> {
         Some(self.cmp(other))
     }
 }
 
-impl<Tz: TimeZone> Ord for DateTime<Tz> {
+impl<Tz, O: Offset> Ord for Instant<Tz, O> {
     ghost cmp = { then_cmp
         (on (λ d. (zoned d).utc.s) int_cmp)
         (on (λ d. (zoned d).utc.f) nat_cmp) };
@@ -50,12 +50,12 @@ impl<Tz: TimeZone> Ord for DateTime<Tz> {
 
     ghost matches_eq = { Prim.search (comparing, rules) };
 
-    fn cmp(&self, other: &DateTime<Tz>) -> Ordering {
+    fn cmp(&self, other: &Instant<Tz, O>) -> Ordering {
         self.datetime.cmp(&other.datetime)
     }
 }
 
-impl<Tz: TimeZone> Hash for DateTime<Tz> {
+impl<Tz, O: Offset> Hash for Instant<Tz, O> {
     ghost hash_input = { λ d. fed.i64 (zoned d).utc.s ++ fed.u32 (zoned d).utc.f };
 
     ghost respects_eq = { Prim.search (hashing, rules) };
@@ -65,7 +65,7 @@ impl<Tz: TimeZone> Hash for DateTime<Tz> {
     }
 }
 
-impl<Tz: TimeZone> DateTime<Tz> {
+impl<Tz, O: Offset> Instant<Tz, O> {
     /// Whether it is the same instant, whatever zones the two stand in.
     ///
     /// ```text

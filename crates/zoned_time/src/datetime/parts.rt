@@ -10,7 +10,7 @@ ghost use Rattle.zoned_time.specs.Relocal.{HasInstant, instant_of};
 ghost use Rattle.zoned_time.specs.Zone.{SameOffsets};
 ghost use Rattle.zoned_time.specs.Zoned.{shown};
 
-use super::DateTime;
+use super::{DateTime, Instant};
 use crate::{Offset, TimeZone};
 use naive_base::{NaiveDate, NaiveDateTime, NaiveTime};
 use std::marker::PhantomData;
@@ -21,7 +21,7 @@ impl<Tz: TimeZone> DateTime<Tz> {
         requires { IsInRange (reading datetime).s }
         ensures { zoned result ≡ shown datetime offset }
     {
-        DateTime {
+        Instant {
             datetime,
             offset,
             zone: PhantomData,
@@ -58,6 +58,15 @@ impl<Tz: TimeZone> DateTime<Tz> {
         Some(DateTime::from_naive_utc_and_offset(utc, offset))
     }
 
+    /// A zone of the same offsets as the one that the offset came from.
+    pub fn timezone(&self) -> Tz
+        ensures { SameOffsets (Tz.law result).off (Tz.meaning.home (zoned self.now).offset) }
+    {
+        Tz::from_offset(&self.offset)
+    }
+}
+
+impl<Tz, O: Offset> Instant<Tz, O> {
     /// What a clock of UTC shows.
     pub fn naive_utc(&self) -> NaiveDateTime
         ensures { reading result ≡ (zoned self.now).utc }
@@ -66,17 +75,10 @@ impl<Tz: TimeZone> DateTime<Tz> {
     }
 
     /// The offset.
-    pub fn offset(&self) -> &Tz::Offset
+    pub fn offset(&self) -> &O
         ensures { result.now ≡ (zoned self.now).offset }
     {
         &self.offset
-    }
-
-    /// A zone of the same offsets as the one that the offset came from.
-    pub fn timezone(&self) -> Tz
-        ensures { SameOffsets (Tz.law result).off (Tz.meaning.home (zoned self.now).offset) }
-    {
-        Tz::from_offset(&self.offset)
     }
 
     /// What a clock with the offset shows, be it on a buffer day.

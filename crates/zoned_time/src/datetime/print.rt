@@ -3,16 +3,13 @@ ghost use Rattle.std.specs.Prelude.{◌∷◌, ◌++◌, option_map};
 ghost use Rattle.naive_base.specs.Text.{reading_text};
 ghost use Rattle.zoned_time.specs.DateTime.{zoned, wall_of};
 
-use super::DateTime;
-use crate::TimeZone;
+use super::Instant;
+use crate::Offset;
 use std::fmt;
 
-impl<Tz: TimeZone> fmt::Display for DateTime<Tz>
-where
-    Tz::Offset: fmt::Display,
-{
+impl<Tz, O: Offset + fmt::Display> fmt::Display for Instant<Tz, O> {
     ghost output = { λ d. option_map (λ offset. reading_text 32 (wall_of d) ++ (32 ∷ offset))
-        (Tz.Offset.output (zoned d).offset) };
+        (O.output (zoned d).offset) };
 
     fn fmt<W: fmt::Write>(&self, f: &mut fmt::Formatter<W>) -> fmt::Result {
         let local = self.local();
@@ -20,9 +17,9 @@ where
     }
 }
 
-impl<Tz: TimeZone> fmt::Debug for DateTime<Tz> {
+impl<Tz, O: Offset> fmt::Debug for Instant<Tz, O> {
     ghost debug_output = { λ d. option_map (λ offset. reading_text 84 (wall_of d) ++ offset)
-        (Tz.Offset.debug_output (zoned d).offset) };
+        (O.debug_output (zoned d).offset) };
 
     fn fmt<W: fmt::Write>(&self, f: &mut fmt::Formatter<W>) -> fmt::Result {
         let local = self.local();

@@ -7,11 +7,11 @@ ghost use Rattle.naive_base.specs.Stamp.{of_secs, IsStamp};
 ghost use Rattle.zoned_time.specs.DateTime.{zoned};
 ghost use Rattle.zoned_time.specs.Stamps.{millis_of, micros_of, of_millis, of_micros, in_utc};
 
-use super::DateTime;
-use crate::{TimeZone, Utc};
+use super::{DateTime, Instant};
+use crate::{Offset, Utc};
 use naive_base::{NaiveDateTime, Timelike};
 
-impl<Tz: TimeZone> DateTime<Tz> {
+impl<Tz, O: Offset> Instant<Tz, O> {
     /// The whole seconds since 1970-01-01 00:00:00 UTC.
     pub fn timestamp(&self) -> i64
         ensures { result ≡ (zoned self.now).utc.s }
@@ -36,8 +36,8 @@ impl<Tz: TimeZone> DateTime<Tz> {
     }
 
     /// The nanoseconds since 1970-01-01 00:00:00 UTC, and those of a leap second on top of its
-    /// second's. `None` where an `i64` doesn't hold them, which are the instants before 1677-09-21
-    /// and after 2262-04-11.
+    /// second's. `None` where an `i64` doesn't hold them: before 1677-09-21 00:12:43.145224192 UTC
+    /// and after 2262-04-11 23:47:16.854775807 UTC.
     pub fn timestamp_nanos_opt(&self) -> Option<i64>
         ensures { let nanos = total (zoned self.now).utc in SomeIff result
             (FitsSigned w64 nanos) nanos }
@@ -59,7 +59,7 @@ impl<Tz: TimeZone> DateTime<Tz> {
         self.timestamp() as i128 * 1_000_000_000 + self.timestamp_subsec_nanos() as i128
     }
 
-    /// The whole milliseconds since the second began: from 1000 on, those of a leap second behind
+    /// The whole milliseconds since the second began: from 1000 on, those of a leap second after
     /// it.
     pub fn timestamp_subsec_millis(&self) -> u32
         ensures { result ≡ (zoned self.now).utc.f / 1_000_000 }
@@ -67,7 +67,7 @@ impl<Tz: TimeZone> DateTime<Tz> {
         self.timestamp_subsec_nanos() / 1_000_000
     }
 
-    /// The whole microseconds since the second began: from 10^6 on, those of a leap second behind
+    /// The whole microseconds since the second began: from 10^6 on, those of a leap second after
     /// it.
     pub fn timestamp_subsec_micros(&self) -> u32
         ensures { result ≡ (zoned self.now).utc.f / 1_000 }
@@ -75,7 +75,7 @@ impl<Tz: TimeZone> DateTime<Tz> {
         self.timestamp_subsec_nanos() / 1_000
     }
 
-    /// The nanoseconds since the second began: from 10^9 on, those of a leap second behind it.
+    /// The nanoseconds since the second began: from 10^9 on, those of a leap second after it.
     pub fn timestamp_subsec_nanos(&self) -> u32
         ensures { result ≡ (zoned self.now).utc.f }
     {
@@ -86,7 +86,13 @@ impl<Tz: TimeZone> DateTime<Tz> {
 impl DateTime<Utc> {
     /// The instant so many seconds, and then nanoseconds, after 1970-01-01 00:00:00 UTC. `None`
     /// where it is out of range, or the nanoseconds are 10^9 or more, unless these are a leap
-    /// second's: below 2*10^9, behind the last second of a minute.
+    /// second's: below 2*10^9, after the last second of a minute.
+    ///
+    /// ```
+    /// DateTime::<Utc>::from_timestamp(1_609_459_200, 0) // 2021-01-01 00:00:00 UTC
+    /// DateTime::<Utc>::from_timestamp(59, 1_500_000_000) // 1970-01-01 00:00:60.500 UTC
+    /// DateTime::<Utc>::from_timestamp(0, 1_000_000_000) // None
+    /// ```
     pub fn from_timestamp(secs: i64, nsecs: u32) -> Option<DateTime<Utc>>
         ensures { let r = of_secs secs nsecs in SomeIff (option_map zoned result) (IsStamp r)
             (in_utc r) }

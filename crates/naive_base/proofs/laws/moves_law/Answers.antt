@@ -1,8 +1,10 @@
-use Rattle.naive_base.proofs.Moves.{moved-plain_again, moved-moved_back, difference-moved}
+use Rattle.naive_base.proofs.Moves.{moved-plain_again, moved-moved_back, difference-moved, moved-none, difference-itself}
 use Rattle.naive_base.proofs.laws.moves_law.Goals as goal
 
 pub returns : goal.returns
 returns c = record {
   back = λ r d plain. (moved-plain_again r d plain, moved-moved_back r d plain);
   difference = difference-moved;
+  stays = moved-none;
+  itself = difference-itself;
 }

@@ -1,3 +1,6 @@
+use Rattle.std.proofs.Common.{arith}
+use Rattle.std.proofs.lemmas.Int.{ints}
+use Rattle.tz_info.proofs.LeapEntries.{before_first, before_later}
 use Rattle.tz_info.proofs.LeapOrder.{leap_times_rise, leap_times_answer, leap_time_undone}
 use Rattle.tz_info.proofs.laws.leap_times_law.Goals as goal
 
@@ -12,3 +15,9 @@ returns-clause-apart c = λ leaps u x a r. r.leaves (a.fits r.place r.passed)
 
 pub returns-clause-undone : goal.returns-clause-undone
 returns-clause-undone c = leap_time_undone
+
+pub returns-clause-first : goal.returns-clause-first
+returns-clause-first c = λ leaps d u valid h unix. let e = before_first leaps d valid h in let s = unix.difference in omega (arith, ints)
+
+pub returns-clause-later : goal.returns-clause-later
+returns-clause-later c = λ leaps k d u valid h unix. let e = before_later leaps k d valid h in let s = unix.difference in omega (arith, ints)

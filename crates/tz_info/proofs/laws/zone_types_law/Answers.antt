@@ -1,3 +1,4 @@
+use Rattle.tz_info.proofs.LastType.{last_type}
 use Rattle.tz_info.proofs.ZoneLaws.{type_once, type_not_refused, type_decided, type_listed}
 use Rattle.tz_info.proofs.laws.zone_types_law.Goals as goal
 
@@ -12,3 +13,6 @@ returns-clause-decided c = type_decided
 
 pub returns-clause-listed : goal.returns-clause-listed
 returns-clause-listed c = type_listed
+
+pub returns-clause-last : goal.returns-clause-last
+returns-clause-last c = last_type

@@ -9,10 +9,10 @@ ghost use Rattle.tz_info.specs.Steps.Readings.{sign_at, seconds_at, minutes_seco
 use crate::cursor::Cursor;
 use crate::error::{Error, Expected};
 
-/// The limit of each number, before those of hours, minutes and seconds.
+// The limit of each number, before those of hours, minutes and seconds.
 const CLOCK_MAX: u32 = i32::MAX as u32;
 
-/// An offset, in seconds east of UTC. The text counts west.
+// An offset, in seconds east of UTC. The text counts west.
 #[tactic(auto, unfolding(crate::specs::Steps::Readings::offset_at))]
 pub(super) fn read_offset(cursor: &mut Cursor<'_>) -> Result<i32, Error>
     ensures value { Gives (λ z. (z, cursor.new)) result (offset_at cursor.old) }
@@ -22,7 +22,7 @@ pub(super) fn read_offset(cursor: &mut Cursor<'_>) -> Result<i32, Error>
     read_duration(23, !is_minus, cursor)
 }
 
-/// A `/` and a time of day, in seconds behind midnight, or nothing for two o'clock.
+// A `/` and a time of day, in seconds after midnight, or nothing for two o'clock.
 #[tactic(auto, unfolding(crate::specs::Steps::Readings::optional_time_at))]
 pub(super) fn read_optional_time(extended: bool, cursor: &mut Cursor<'_>) -> Result<i32, Error>
     ensures value { Gives (λ z. (z, cursor.new)) result (optional_time_at extended cursor.old) }
@@ -51,7 +51,7 @@ fn read_time_sign(extended: bool, cursor: &mut Cursor<'_>) -> bool
     if extended { read_sign(cursor) } else { false }
 }
 
-/// Whether a minus stands there. A plus may stand there too.
+// Whether a minus stands there. A plus may stand there too.
 #[tactic(auto, unfolding(crate::specs::Steps::Readings::sign_at))]
 fn read_sign(cursor: &mut Cursor<'_>) -> bool
     ensures { sign_at cursor.old ≡ Ok (result, cursor.new) }
@@ -74,7 +74,7 @@ fn read_duration(limit: u32, negative: bool, cursor: &mut Cursor<'_>) -> Result<
     seconds_of(limit, negative, h, m, s)
 }
 
-/// Hours, minutes and seconds; 0 for what is left out.
+// Hours, minutes and seconds; 0 for what is left out.
 #[tactic(auto, unfolding(crate::specs::Steps::Readings::hours_minutes_seconds_at))]
 fn read_hours_minutes_seconds(cursor: &mut Cursor<'_>) -> Result<(u32, u32, u32), Error>
     ensures { Gives (λ t. ((t.0, t.1, t.2), cursor.new)) result
@@ -116,7 +116,7 @@ fn read_seconds(cursor: &mut Cursor<'_>) -> Result<u32, Error>
     }
 }
 
-/// The signed seconds of so many hours, up to the limit, minutes and seconds, up to 59.
+// The signed seconds of so many hours, up to the limit, minutes and seconds, up to 59.
 #[tactic(auto, unfolding(crate::specs::Steps::Readings::seconds_within))]
 fn seconds_of(limit: u32, negative: bool, h: u32, m: u32, s: u32) -> Result<i32, Error>
     requires { limit ≤ 167 }

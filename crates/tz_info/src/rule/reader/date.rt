@@ -10,13 +10,13 @@ use crate::error::Error;
 use crate::rule::day::RuleDay;
 use crate::rule::reader::clock::read_optional_time;
 
-/// The limit of a month, a week and a weekday, before their own.
+// The limit of a month, a week and a weekday, before their own.
 const DATE_MAX: u32 = u8::MAX as u32;
 
-/// The limit of a day number, before its own.
+// The limit of a day number, before its own.
 const DAY_MAX: u32 = u16::MAX as u32;
 
-/// A date, and its time of day, in seconds behind midnight.
+// A date, and its time of day, in seconds after midnight.
 #[tactic(auto, unfolding(crate::specs::Steps::Readings::day_at))]
 pub(super) fn read_day(extended: bool, cursor: &mut Cursor<'_>) -> Result<(RuleDay, i32), Error>
     ensures value { Gives (λ d. (day_time_of d, cursor.new)) result (day_at extended cursor.old) }
@@ -40,7 +40,7 @@ fn read_date(cursor: &mut Cursor<'_>) -> Result<RuleDay, Error>
     }
 }
 
-/// `month.week.weekday`, behind the `M`.
+// `month.week.weekday`, after the `M`.
 #[tactic(auto, unfolding(crate::specs::Steps::Readings::month_date_at, crate::specs::Steps::Readings::rule_day_of))]
 fn read_month_date(cursor: &mut Cursor<'_>) -> Result<RuleDay, Error>
     ensures { Gives (λ d. (d, cursor.new)) result (month_date_at cursor.old) }
@@ -59,7 +59,7 @@ fn read_byte(cursor: &mut Cursor<'_>) -> Result<u8, Error>
     Ok(cursor.read_int(DATE_MAX)? as u8)
 }
 
-/// The number behind the `J`.
+// The number after the `J`.
 #[tactic(auto, unfolding(crate::specs::Steps::Readings::julian_date_at, crate::specs::Steps::Readings::rule_day_of))]
 fn read_julian_date(cursor: &mut Cursor<'_>) -> Result<RuleDay, Error>
     ensures { Gives (λ d. (d, cursor.new)) result (julian_date_at cursor.old) }

@@ -8,7 +8,7 @@ ghost use Rattle.tz_info.specs.Steps.Readings.{name_at, quoted_at};
 use crate::cursor::Cursor;
 use crate::error::Error;
 
-/// A name as the text gives it, which need not be one that a type can have.
+// A name as the text gives it, which need not be one that a type can have.
 #[tactic(auto, unfolding(crate::specs::Steps::Readings::name_at, crate::specs::Steps::Readings::letters_at))]
 pub(super) fn read_name<'a>(cursor: &mut Cursor<'a>) -> Result<&'a [u8], Error>
     ensures { Gives (λ name. (name.now, cursor.new)) result (name_at cursor.old) }
@@ -20,7 +20,7 @@ pub(super) fn read_name<'a>(cursor: &mut Cursor<'a>) -> Result<&'a [u8], Error>
     }
 }
 
-/// What stands before the `>`, which is taken too.
+// What stands before the `>`, which is taken too.
 #[tactic(auto, unfolding(crate::specs::Steps::Readings::quoted_at))]
 fn read_quoted<'a>(cursor: &mut Cursor<'a>) -> Result<&'a [u8], Error>
     ensures { Gives (λ name. (name.now, cursor.new)) result (quoted_at cursor.old) }

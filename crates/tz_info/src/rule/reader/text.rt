@@ -16,15 +16,15 @@ use crate::rule::reader::date::read_day;
 use crate::rule::reader::name::read_name;
 use crate::rule::transition_rule::TransitionRule;
 
-/// What a text spells: one type, or two with the days and times at which the second starts and
-/// ends. The rule is made of it at the end, since it is large and each call would copy it.
+// What a text spells: one type, or two with the days and times at which the second starts and
+// ends. The rule is made of it at the end, since it is large and each call would copy it.
 #[derive(Clone, Copy)]
 pub(super) enum Spelled {
     Fixed(LocalTimeType),
     Alternate(LocalTimeType, LocalTimeType, (RuleDay, i32), (RuleDay, i32)),
 }
 
-/// The rule that was spelled.
+// The rule that was spelled.
 #[inline(always)]
 pub(super) fn rule_of(spelled: Spelled) -> TransitionRule
     requires { IsSpelled spelled }
@@ -38,7 +38,7 @@ pub(super) fn rule_of(spelled: Spelled) -> TransitionRule
     }
 }
 
-/// What all bytes of the cursor spell.
+// What all bytes of the cursor spell.
 #[tactic(auto, unfolding(crate::specs::Steps::Readings::text_at))]
 pub(super) fn read_text(extended: bool, cursor: &mut Cursor<'_>) -> Result<Spelled, Error>
     ensures value { Gives (λ spelled. (rule_of spelled, cursor.new)) result
@@ -79,7 +79,7 @@ fn read_fixed(name: &[u8], offset: i32, cursor: &mut Cursor<'_>) -> Result<Spell
     Ok(Spelled::Fixed(named_type(name, false, offset)?))
 }
 
-/// What follows the offset of standard time. The names are looked at last.
+// What follows the offset of standard time. The names are looked at last.
 #[tactic(auto, unfolding(crate::specs::Steps::Readings::alternate_at))]
 fn read_alternate(
     extended: bool,
@@ -100,7 +100,7 @@ fn read_alternate(
     Ok(Spelled::Alternate(std, dst, start, end))
 }
 
-/// The days when daylight saving time starts and ends, with their times.
+// The days when daylight saving time starts and ends, with their times.
 #[tactic(auto, unfolding(crate::specs::Steps::Readings::days_at))]
 fn read_days(
     extended: bool,
@@ -116,8 +116,8 @@ fn read_days(
     Ok((start, end))
 }
 
-/// The offset of daylight saving time, an hour more than that of standard time if none is given,
-/// and the comma behind it.
+// The offset of daylight saving time, an hour more than that of standard time if none is given,
+// and the comma after it.
 #[tactic(auto, unfolding(crate::specs::Steps::Readings::dst_offset_at))]
 fn read_dst_offset(std: i32, cursor: &mut Cursor<'_>) -> Result<i32, Error>
     requires { IsWithinDay std }
@@ -156,7 +156,7 @@ fn next_hour(std: i32) -> Result<i32, Error>
     Ok(offset)
 }
 
-/// The types of standard time and of daylight saving time.
+// The types of standard time and of daylight saving time.
 #[tactic(auto, unfolding(crate::specs::Steps::Readings::named_types_of))]
 fn named_types(
     std_name: &[u8],
@@ -176,7 +176,7 @@ fn named_types(
     Ok((std, dst))
 }
 
-/// The type of that name, if a type can have it.
+// The type of that name, if a type can have it.
 fn named_type(name: &[u8], dst: bool, offset: i32) -> Result<LocalTimeType, Error>
     requires { IsWithinDay offset }
     ensures value { Gives (λ t. t) result (named_type_of name.now dst offset) }
@@ -185,7 +185,7 @@ fn named_type(name: &[u8], dst: bool, offset: i32) -> Result<LocalTimeType, Erro
     LocalTimeType::new(offset, dst, Some(name))
 }
 
-/// The rule of two types and two days with their times.
+// The rule of two types and two days with their times.
 fn alternate(
     std: LocalTimeType,
     dst: LocalTimeType,
@@ -226,7 +226,7 @@ fn expect_end(cursor: &Cursor<'_>) -> Result<(), Error>
     }
 }
 
-/// The test as a value that what is read is told by.
+// The test as a value that specifies what is read.
 fn is_at_end(cursor: &Cursor<'_>) -> bool
     ensures { result ≡ is_end cursor.now }
 {

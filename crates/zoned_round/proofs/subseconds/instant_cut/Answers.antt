@@ -13,5 +13,5 @@ returns g c =
     let way = neg_ℤ (nanos_of c.nanoseconds.result) in
     let is : way ≡ neg_ℤ (pos c.args.behind) = omega (arith, ints) in
     let earlier = moved-earlier (reading c.args.here.datetime) way c.args.behind c.args.here.datetime.in_range.1 c.requires is in
-    let there : IsAt (home_of c.args.here) (moved (reading c.args.here.datetime) way) (zoned c.unwrap.result) = search rules in
+    let there : IsAt (home_of g.Tz.TimeZone.meaning c.args.here) (moved (reading c.args.here.datetime) way) (zoned c.unwrap.result) = search rules in
     rw earlier at there

@@ -1,6 +1,6 @@
 use Rattle.std.proofs.Common.{◌≡◌, ◌+◌, ◌-◌, ◌*◌, length, vec_len, vec_capacity}
 use Rattle.offset_core.specs.declared.local_result.LocalResult.TheVariants.{Single}
-use Rattle.tz_info.specs.Segments.{index_of}
+use Rattle.tz_info.specs.Steps.Segments.{index_of}
 use Rattle.tz_info.specs.Steps.Pieces.{zone_in, IsSegment}
 use Rattle.tz_info.proofs.OnePass.{AreOpen, IsLatest}
 use Rattle.tz_info.proofs.zone.one_pass.pieces_by.Given as goal

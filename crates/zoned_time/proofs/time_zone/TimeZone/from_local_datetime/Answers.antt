@@ -20,6 +20,6 @@ returns-clause-fixed g c = λ fixed range.
 pub returns-clause-utc : goal.returns-clause-utc
 returns-clause-utc g c = λ zero range.
     let law = g.Self.TimeZone.law c.args.self.now in
-    let fixed : IsFixed law = λ u v. zero u ∙ sym (zero v) in
-    let at = zero (pos 0) in
+    let fixed : IsFixed law = λ u v first last. zero u first ∙ sym (zero v last) in
+    let at = zero (pos 0) (omega (arith, ints), omega (arith, ints)) in
     returns-clause-fixed g c fixed (omega (arith, ints), omega (arith, ints))

@@ -24,3 +24,9 @@ returns-in-Some-and_hms_opt-clause-exists g c = λ _ _ _.
     let fits = c.ranges.year in
     let made = simp to_z-of_z at c.in-Some.ensures.value in
     rw (sym made.2) (rw (sym c.in-Some-and_hms_opt.ensures.value.2) c.from_local_datetime.ensures.instants)
+
+pub returns-in-Some-and_hms_opt-clause-missing : goal.returns-in-Some-and_hms_opt-clause-missing
+returns-in-Some-and_hms_opt-clause-missing g c = λ none.
+    let fits = c.ranges.year in
+    let made = simp to_z-of_z at c.in-Some.ensures.value in
+    absurd (none made.0 made.1 c.in-Some-and_hms_opt.ensures.value.0)

@@ -1,5 +1,5 @@
 use Rattle.std.proofs.Common.{◌≡◌, ◌&&◌, true, to_z-of_z}
-use Rattle.tz_info.proofs.ListLaws.{and_parts}
+use Rattle.std.proofs.lemmas.Bool.{and_parts}
 use Rattle.tz_info.proofs.zone.time_zone.TimeZone.are_amid.Goals as goal
 
 pub returns : goal.returns

@@ -1,6 +1,6 @@
 use Rattle.std.proofs.Common.{arith, ap, ◌≡◌, ◌-◌, ◌+◌, ◌∙◌, sym}
 use Rattle.tz_info.specs.declared.zone.transition.Transition.{Transition}
-use Rattle.tz_info.specs.Segments.{begin_of, index_of}
+use Rattle.tz_info.specs.Steps.Segments.{begin_of, index_of}
 use Rattle.tz_info.proofs.SegmentLaws.{begin_next, index_next}
 use Rattle.tz_info.proofs.zone.time_zone.TimeZone.latest.Goals as goal
 

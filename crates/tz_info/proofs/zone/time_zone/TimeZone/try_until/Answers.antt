@@ -1,13 +1,12 @@
-use Rattle.std.proofs.Common.{◌≡◌, arith, ap, sym, refl, ◌∙◌, ℤ, ◌-ℤ◌, inl, inr, ◌⊎◌, length, slice_get, w32, w64, to_z-of_z, rules}
+use Rattle.std.proofs.Common.{◌≡◌, arith, refl, ℤ, inl, inr, ◌⊎◌, w64, to_z-of_z, rules}
 use mir.Val.{SFits}
 use Rattle.std.proofs.lemmas.Int.{ints}
-use Rattle.std.proofs.lemmas.Option.{slice_get_read}
 use Rattle.offset_core.specs.declared.local_result.LocalResult.{LocalResult}
 use Rattle.offset_core.specs.declared.local_result.LocalResult.TheVariants.{Single}
 use Rattle.tz_info.specs.LocalTypes.{LocalType}
 use Rattle.tz_info.specs.Steps.Answers.{joined}
 use Rattle.tz_info.specs.Steps.Walk.{IsTried}
-use Rattle.tz_info.specs.Zones.{Zone}
+use Rattle.tz_info.proofs.TriedTypes.{type_tried}
 use Rattle.tz_info.proofs.zone.time_zone.TimeZone.try_until.Goals as goal
 use Rattle.tz_info.proofs.zone.time_zone.TimeZone.try_until.Goals.{After-leap_time_near-leap_time}
 
@@ -17,22 +16,10 @@ tried : (c : goal.After-leap_time_near-leap_time) (within : ℤ → Type 0) (bef
     ⊎ ((within c.leap_time_near-leap_time.result → ⊥) × (after ≡ before))
     → IsTried c.args.self.now c.args.local c.args.current.type_index within before after
 tried c within before after answered =
-    let ft : SFits w32 c.offset.result = let b = c.offset.ensures.bound in let v = c.offset.ensures.value in omega (arith, ints) in
     let fl = c.ranges.local in
-    let gt : SFits w64 c.offset.result = omega (arith, ints) in
-    let gu : SFits w64 (c.args.local -ℤ c.offset.result) = omega (arith, ints) in
-    let fx : SFits w64 c.leap_time_near-leap_time.result = search rules in
-    let v = c.offset.ensures.value in
-    let listed = ap (λ (z : Zone). slice_get z.types c.args.current.type_index) (sym c.self.view_is) ∙ slice_get_read c.self.inside.local_types.items _ c.args.current.type_index c.index-local_type.result.now refl (let m = ap (λ (z : Zone). length z.types) c.self.view_is in let r = c.requires.listed in omega arith) c.index-local_type.ensures in
-    record {
-      type = c.index-local_type.result.now;
-      listed = listed;
-      leap_time = c.leap_time_near-leap_time.result;
-      of_second = rw v at (simp to_z-of_z at c.leap_time_near-leap_time.ensures);
-      fits = rw v at gu;
-      leap_fits = omega (arith, ints);
-      tried = answered;
-    }
+    type_tried c.args.self.now _ c.args.local c.offset.result c.leap_time_near-leap_time.result c.args.current.type_index c.index-local_type.result.now within before after
+    c.self.view_is c.requires.listed c.index-local_type.ensures c.requires.local c.offset.ensures.bound c.offset.ensures.value (search rules)
+    (λ narrow wide second. simp to_z-of_z at c.leap_time_near-leap_time.ensures) answered
 
 pub returns-then-leap_time-current : goal.returns-then-leap_time-current
 returns-then-leap_time-current c =

@@ -7,6 +7,7 @@ use Rattle.tz_info.specs.Steps.Walk.{IsShownIn}
 use Rattle.tz_info.specs.Windows.{IsWindow}
 use Rattle.tz_info.specs.declared.zone.transition.Transition.{Transition}
 use Rattle.tz_info.proofs.DigitLaws.{digits-le}
+use Rattle.tz_info.proofs.QuestionLaws.{asked_for_window}
 use Rattle.tz_info.proofs.SegmentLaws.{between_passed, begin_next, index_next}
 use Rattle.tz_info.proofs.TableSearch.{Between}
 use Rattle.tz_info.proofs.WalkLaws.{none_before, tried_before, none_behind, all_segments, walked_most, rose_by_walk, inside_more}
@@ -122,3 +123,17 @@ returns-clause-cost c =
     let k = c.try_last.ensures.cost in
     let walked = walked_most c.args.self.now.transitions c.window-window.result.low c.window-window.result.high c.passed_count-first.result c.loop-place.place (split at.After-passed_count-first) (omega arith) i.inside in
     rose_by_walk c.args.self.now c.args.local c.window-window.result.low c.window-window.result.high c.args.probes.now c.try_last.new.probes c.passed_count-first.result c.loop-place.place (λ h. let l = i.looked h in let n = k.reads_kept in omega arith) (k.pieces_same ∙ i.pieces) (seen at.After-window-window) walked (omega arith) (omega arith) (omega arith) (omega arith)
+
+pub returns-then-window-next-clause-counted : goal.returns-then-window-next-clause-counted
+returns-then-window-next-clause-counted c =
+    let at = goal.at.returns-then-window-next-clause-counted c in
+    let fh : SFits w64 c.window-window.result.high = search rules in
+    let fn : SFits w64 c.transition-next.result.unix_leap_time = search rules in
+    let time = ap (λ (t : Transition). t.unix_leap_time) c.transition-next.ensures.item in
+    asked_for_window c.args.self.now c.args.local c.window-window.result.low c.window-window.result.high c.loop-place.place c.transition-next.result c.args.probes.now.rule_questions c.transition-next.new.probes.rule_questions c.window-window.ensures.valid (seen at.After-window-window) (omega arith) (omega (arith, ints))
+    (ap (λ (p : Counts). p.rule_questions) c.transition-next.ensures.cost ∙ c.loop-place.invariant.questions)
+
+pub returns-clause-counted : goal.returns-clause-counted
+returns-clause-counted c =
+    let fl = c.ranges.local in
+    rw c.loop-place.invariant.questions at (simp to_z-of_z at c.try_last.ensures.counted)

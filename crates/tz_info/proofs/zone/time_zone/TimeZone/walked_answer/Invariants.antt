@@ -1,7 +1,7 @@
 use Rattle.std.proofs.Common.{ℕ, ◌≡◌, ◌+◌, ◌<◌, ◌≤◌, ◌≤ℤ◌, length, get_or}
 use Rattle.offset_core.specs.WallAnswer.{IsWallAnswer}
 use Rattle.tz_info.specs.Digits.{digits}
-use Rattle.tz_info.specs.Segments.{begin_of, index_of}
+use Rattle.tz_info.specs.Steps.Segments.{begin_of, index_of}
 use Rattle.tz_info.specs.Steps.Walk.{IsShownIn}
 use Rattle.tz_info.specs.declared.zone.transition.Transition.{Transition}
 use Rattle.tz_info.proofs.zone.time_zone.TimeZone.walked_answer.Given as goal

@@ -1,0 +1,10 @@
+//! Idioms over instants of a borrowed zone.
+
+pub mod closures;
+pub mod compare;
+pub mod copies;
+pub mod iterate;
+pub mod maps;
+pub mod print;
+pub mod sort;
+pub mod zones;

@@ -1,0 +1,74 @@
+//! Lengths of time added, multiplied and divided.
+ghost use Rattle.std.specs.Prelude.{◌≡◌, ◌≢◌, ◌↔◌, IsTrue, pos, neg_ℤ, ◌+ℤ◌, ◌*ℤ◌, int_div, unsigned_abs, SomeIff, option_map};
+ghost use Rattle.offset_core.specs.TimeDelta.{nanos_of, IsDeltaOf};
+
+use crate::TimeDelta;
+use std::ops::Neg;
+
+impl TimeDelta {
+    /// Whether this is no time at all.
+    pub fn is_zero(&self) -> bool
+        ensures { IsTrue result ↔ (nanos_of self.now ≡ pos 0) }
+    {
+        self.nanos == 0
+    }
+
+    /// The length without its sign.
+    ///
+    /// `TimeDelta::seconds(-5).abs()` is five seconds.
+    pub fn abs(&self) -> TimeDelta
+        ensures { nanos_of result ≡ pos (unsigned_abs (nanos_of self.now)) }
+    {
+        TimeDelta {
+            nanos: self.nanos.abs(),
+        }
+    }
+
+    /// The sum of two lengths, or `None` where that is out of range.
+    pub fn checked_add(&self, other: &TimeDelta) -> Option<TimeDelta>
+        ensures { IsDeltaOf (nanos_of self.now +ℤ nanos_of other.now) result }
+    {
+        TimeDelta::of_nanos(self.nanos + other.nanos)
+    }
+
+    /// So many times this length, or `None` where that is out of range.
+    ///
+    /// ```text
+    /// TimeDelta::minutes(90).checked_mul(-2)  Some(TimeDelta::hours(-3))
+    /// TimeDelta::MAX.checked_mul(2)           None
+    /// ```
+    pub fn checked_mul(&self, rhs: i32) -> Option<TimeDelta>
+        ensures { IsDeltaOf (nanos_of self.now *ℤ rhs) result }
+    {
+        TimeDelta::of_nanos(self.nanos.checked_mul(rhs as i128)?)
+    }
+
+    /// This length divided by a number, in whole nanoseconds toward zero, or `None` for the number
+    /// 0.
+    ///
+    /// ```text
+    /// TimeDelta::seconds(-4).checked_div(3)  Some(TimeDelta::nanoseconds(-1_333_333_333))
+    /// TimeDelta::seconds(-4).checked_div(0)  None
+    /// ```
+    pub fn checked_div(&self, rhs: i32) -> Option<TimeDelta>
+        ensures { SomeIff (option_map nanos_of result) (rhs ≢ pos 0)
+            (int_div (nanos_of self.now) rhs) }
+    {
+        if rhs == 0 {
+            return None;
+        }
+        Some(TimeDelta {
+            nanos: self.nanos / rhs as i128,
+        })
+    }
+}
+
+impl Neg for TimeDelta {
+    type Output = TimeDelta;
+
+    ghost neg_gives = { λ delta answer. nanos_of answer ≡ neg_ℤ (nanos_of delta) };
+
+    fn neg(self) -> TimeDelta {
+        TimeDelta { nanos: -self.nanos }
+    }
+}

@@ -1,0 +1,84 @@
+//! A length of time in each of its units.
+ghost use Rattle.std.specs.Prelude.{◌≡◌, FitsSigned, SomeIff, int_div, int_rem};
+ghost use Rattle.std.specs.Int.{w64};
+ghost use Rattle.offset_core.specs.Nanoseconds.{nanos_per_microsecond, nanos_per_millisecond, nanos_per_second, nanos_per_minute, nanos_per_hour, nanos_per_day, nanos_per_week};
+ghost use Rattle.offset_core.specs.TimeDelta.{nanos_of};
+
+use super::{
+    NANOS_PER_DAY, NANOS_PER_HOUR, NANOS_PER_MICROSECOND, NANOS_PER_MILLISECOND, NANOS_PER_MINUTE,
+    NANOS_PER_SECOND, NANOS_PER_WEEK,
+};
+use crate::TimeDelta;
+
+impl TimeDelta {
+    /// The whole weeks of this length, toward zero.
+    pub fn num_weeks(&self) -> i64
+        ensures { result ≡ int_div (nanos_of self.now) nanos_per_week }
+    {
+        (self.nanos / NANOS_PER_WEEK) as i64
+    }
+
+    /// The whole days of 86,400 seconds of this length, toward zero.
+    pub fn num_days(&self) -> i64
+        ensures { result ≡ int_div (nanos_of self.now) nanos_per_day }
+    {
+        (self.nanos / NANOS_PER_DAY) as i64
+    }
+
+    /// The whole hours of this length, toward zero.
+    pub fn num_hours(&self) -> i64
+        ensures { result ≡ int_div (nanos_of self.now) nanos_per_hour }
+    {
+        (self.nanos / NANOS_PER_HOUR) as i64
+    }
+
+    /// The whole minutes of this length, toward zero.
+    pub fn num_minutes(&self) -> i64
+        ensures { result ≡ int_div (nanos_of self.now) nanos_per_minute }
+    {
+        (self.nanos / NANOS_PER_MINUTE) as i64
+    }
+
+    /// The whole seconds of this length, a part of a second left away on either side of zero.
+    pub fn num_seconds(&self) -> i64
+        ensures { result ≡ int_div (nanos_of self.now) nanos_per_second }
+    {
+        (self.nanos / NANOS_PER_SECOND) as i64
+    }
+
+    /// The whole milliseconds of this length, toward zero.
+    pub fn num_milliseconds(&self) -> i64
+        ensures { result ≡ int_div (nanos_of self.now) nanos_per_millisecond }
+    {
+        (self.nanos / NANOS_PER_MILLISECOND) as i64
+    }
+
+    /// The whole microseconds of this length, toward zero, or `None` where these leave an `i64`.
+    pub fn num_microseconds(&self) -> Option<i64>
+        ensures { let micros = int_div (nanos_of self.now) nanos_per_microsecond in
+            SomeIff result (FitsSigned w64 micros) micros }
+    {
+        i64::try_from(self.nanos / NANOS_PER_MICROSECOND).ok()
+    }
+
+    /// All of this length in nanoseconds, or `None` where that leaves an `i64`.
+    pub fn num_nanoseconds(&self) -> Option<i64>
+        ensures { SomeIff result (FitsSigned w64 (nanos_of self.now)) (nanos_of self.now) }
+    {
+        i64::try_from(self.nanos).ok()
+    }
+
+    /// All of this length in nanoseconds.
+    pub fn whole_nanoseconds(&self) -> i128
+        ensures { result ≡ nanos_of self.now }
+    {
+        self.nanos
+    }
+
+    /// The nanoseconds beside the whole seconds, with the sign of the length.
+    pub fn subsec_nanos(&self) -> i32
+        ensures { result ≡ int_rem (nanos_of self.now) nanos_per_second }
+    {
+        (self.nanos % NANOS_PER_SECOND) as i32
+    }
+}

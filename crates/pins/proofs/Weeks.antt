@@ -1,0 +1,46 @@
+-- The week of a day, where its Thursday and the Thursday's year are known.
+use Rattle.std.proofs.Common.{◌≡◌, ◌∙◌, ap, ℕ, ◌+◌, ◌/◌, arith, refl, ℤ, pos, ◌+ℤ◌, ◌≤ℤ◌}
+use Rattle.naive_base.specs.Year.{year_start, LiesIn}
+use Rattle.naive_base.specs.Month.{days_of_months}
+use Rattle.naive_base.specs.Date.{day_number}
+use Rattle.naive_base.specs.DateOf.{year_of, day_of_year}
+use Rattle.naive_base.specs.IsoWeek.{IsThursdayOf, IsWeekOf, iso_year, iso_number}
+use Rattle.naive_base.specs.declared.iso_week.IsoWeek.{IsoWeek}
+use Rattle.naive_base.proofs.ForCallers.{floors, floor_mod_parts, lies_in, one_year, year_step, days_at_least, day_of_year_is}
+
+one_thursday : (day a b : ℤ) → IsThursdayOf day a → IsThursdayOf day b → a ≡ b
+one_thursday day a b h k =
+    let first = floor_mod_parts (a +ℤ pos 4) 7 (omega arith) in
+    let second = floor_mod_parts (b +ℤ pos 4) 7 (omega arith) in
+    omega (arith, floors, h.0, k.0)
+
+year_is : (t y : ℤ) → LiesIn t y → year_of t ≡ y
+year_is t y lies = one_year t (year_of t) y (lies_in t) lies
+
+place_is : (t y : ℤ) (n : ℕ) → LiesIn t y → year_start y +ℤ pos n ≡ t → day_of_year t ≡ n
+place_is t y n lies e =
+    let own = rw (year_is t y lies) at (day_of_year_is t).0 in
+    omega (arith, floors)
+
+-- the week of a day whose Thursday is the n-th day after 1 January of y
+pub week_is : (day t y : ℤ) (n : ℕ) (week : IsoWeek) → IsThursdayOf day t → LiesIn t y → year_start y +ℤ pos n ≡ t
+    → IsWeekOf day week → (iso_year week ≡ y) × (iso_number week ≡ n / 7 + 1)
+week_is day t y n week h lies e w =
+    let same = one_thursday day w.thursday t w.in_week h in
+    (w.year ∙ ap year_of same ∙ year_is t y lies, w.number ∙ ap (λ d. d / 7 + 1) (ap day_of_year same ∙ place_is t y n lies e))
+
+first_days : (y t : ℤ) (n : ℕ) → year_start y +ℤ pos n ≡ t → t ≤ℤ (year_start y +ℤ pos 6) → n / 7 + 1 ≡ 1
+first_days y t n e high = omega (arith, floors)
+
+fourth : (y : ℤ) → day_number y 1 4 ≡ year_start y +ℤ pos 3
+unfolding day_number days_of_months
+fourth y = refl
+
+pub first_week : (y : ℤ) (week : IsoWeek) → IsWeekOf (day_number y 1 4) week → (iso_year week ≡ y) × (iso_number week ≡ 1)
+first_week y week w =
+    let t = w.thursday in let near = w.in_week in let day = fourth y in
+    let step = year_step y in let days = days_at_least y in
+    let lies : LiesIn t y = (omega (arith, floors), omega (arith, floors)) in
+    let own = rw (year_is t y lies) at (day_of_year_is t).0 in
+    let is = week_is (day_number y 1 4) t y (day_of_year t) week near lies own w in
+    (is.0, is.1 ∙ first_days y t (day_of_year t) own (omega (arith, floors)))

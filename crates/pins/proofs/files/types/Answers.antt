@@ -1,0 +1,26 @@
+use Rattle.std.proofs.Common.{refl, arith, [], ◌∷◌}
+use Rattle.tz_info.specs.FileContents.{signed}
+use Rattle.pins.proofs.FileParts.{no_flag}
+use Rattle.pins.proofs.SpelledPieces.{is_name_3}
+use Rattle.pins.proofs.files.types.Goals as goal
+
+pub returns : goal.returns
+unfolding signed
+returns c = record {
+  hst = record {
+    text = 72 ∷ 83 ∷ 84 ∷ [];
+    offset = refl;
+    above_least = omega arith;
+    mark = refl;
+    stands = record {
+      before = 76 ∷ 77 ∷ 84 ∷ 0 ∷ [];
+      after = 72 ∷ 68 ∷ 84 ∷ 0 ∷ 72 ∷ 87 ∷ 84 ∷ 0 ∷ 72 ∷ 80 ∷ 84 ∷ 0 ∷ [];
+      whole = refl;
+      at = refl;
+      ends = (λ e. absurd (omega (arith, e)), (λ e. absurd (omega (arith, e)), (λ e. absurd (omega (arith, e)), tt)));
+    };
+    name = refl;
+    name_fits = is_name_3 72 83 84 refl refl refl;
+  };
+  flag_2 = λ t h. no_flag t.dst h.mark;
+}

@@ -1,0 +1,12 @@
+use Rattle.tz_info.specs.TzFiles.IsFileFault.{In_piece}
+use Rattle.tz_info.specs.TzFiles.IsZoneFault.{In_file}
+use Rattle.pins.proofs.HonoluluFile.{version_1_again, other_version, no_file}
+use Rattle.pins.proofs.honolulu.second_versions.Goals as goal
+
+pub returns : goal.returns
+returns c = record {
+  version_1 = no_file _ 5 version_1_again;
+  version_1_fault = In_file 5 (In_piece 5 version_1_again);
+  digit_1 = no_file _ 14 other_version;
+  digit_1_fault = In_file 14 (In_piece 14 other_version);
+}

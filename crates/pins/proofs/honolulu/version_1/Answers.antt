@@ -1,0 +1,11 @@
+use Rattle.tz_info.specs.TzFiles.IsFileFault.{In_piece}
+use Rattle.tz_info.specs.TzFiles.IsZoneFault.{In_file}
+use Rattle.pins.proofs.HonoluluFile.{of_version_1, byte_after, no_file}
+use Rattle.pins.proofs.honolulu.version_1.Goals as goal
+
+pub returns : goal.returns
+returns c = record {
+  spells = of_version_1;
+  byte_after = λ b. no_file _ 5 (byte_after b);
+  byte_after_fault = λ b. In_file 5 (In_piece 5 (byte_after b));
+}

@@ -1,0 +1,17 @@
+use Rattle.std.proofs.Common.{refl, []}
+use Rattle.tz_info.proofs.ForCallers.{text_fault_or_zone}
+use Rattle.pins.specs.Texts.{no_days}
+use Rattle.pins.proofs.SpelledPieces.{some_bytes}
+use Rattle.pins.proofs.SpelledTexts.{ends_early}
+use Rattle.pins.proofs.texts.faults.Goals as goal
+
+pub returns : goal.returns
+returns c = record {
+  ends = ends_early;
+  none = λ zone z. text_fault_or_zone no_days 15 zone (record {
+    some = some_bytes _ _;
+    trimmed = no_days;
+    trims = record { before = []; after = []; whole = refl; space_before = tt; space_after = tt; first = refl; last = refl };
+    fault = ends_early;
+  }) z;
+}

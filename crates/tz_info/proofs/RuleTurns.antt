@@ -1,0 +1,92 @@
+-- A rule's types beside its moments: from which second on a type is in force, and which one a second before.
+use Rattle.std.proofs.Common.{◌≡◌, arith, refl, ap, Bool, ⊎_elim, ℤ, pos, ◌+ℤ◌, ◌-ℤ◌, ◌*ℤ◌, ◌≤ℤ◌, ◌<ℤ◌, true, false}
+use Rattle.std.proofs.lemmas.Int.{ints, by_lt_z}
+use Rattle.naive_base.proofs.ForCallers.{floors}
+use Rattle.tz_info.specs.Moments.{IsYearOf, IsInSomeYear, IsDstAt, type_when, IsRuleYear, AlternateAt, IsBetween, moment, start_in, end_in}
+use Rattle.tz_info.specs.RuleDays.{IsRuleDay, IsDayOf}
+use Rattle.tz_info.specs.RuleDayOf.{rule_day}
+use Rattle.tz_info.specs.Rules.{Alternate, IsAlternateRule}
+use Rattle.tz_info.specs.declared.rule.day.DayTime.{DayTime}
+use Rattle.tz_info.proofs.Neighbours.{by_start, by_end}
+use Rattle.tz_info.proofs.RuleDays.{rule_day_is, one_rule_day, day_rises}
+
+abbrev Rise : (ℤ → ℤ) → Type 0
+Rise f = (x y : ℤ) → x ≤ℤ y → f x ≤ℤ f y
+
+moment_rises : (t : DayTime) (offset x y : ℤ) → IsRuleDay t.day → x <ℤ y → moment t offset x ≤ℤ moment t offset y
+unfolding moment
+moment_rises t offset x y fits h = let r = day_rises t.day x y fits h in omega (arith, floors)
+
+moments_rise : (t : DayTime) (offset : ℤ) → IsRuleDay t.day → Rise (moment t offset)
+moments_rise t offset fits x y h =
+    by_lt_z x y
+    (λ l. moment_rises t offset x y fits l)
+    (λ l. let e : x ≡ y = omega (arith, ints) in let g = ap (moment t offset) e in omega (arith, ints))
+
+-- the second at which a clock shows the day's time is the year's moment
+moment_is : (t : DayTime) (offset year day u : ℤ) → IsRuleDay t.day → IsDayOf t.day year day → (u +ℤ offset) ≡ (pos 86_400 *ℤ day +ℤ t.time) → u ≡ moment t offset year
+unfolding moment
+moment_is t offset year day u fits of_year shown =
+    let e : day ≡ rule_day t.day year = one_rule_day t.day year day (rule_day t.day year) fits of_year (rule_day_is t.day year fits) in
+    omega (arith, floors)
+
+left_out : (f g : ℤ → ℤ) (year u : ℤ) → Rise f → Rise g → u ≡ f year → g (year -ℤ pos 1) <ℤ f year → IsInSomeYear f g (u -ℤ pos 1) → ⊥
+left_out f g year u rf rg e h (y, a, b) =
+    by_lt_z y year
+    (λ l. let r = rg y (year -ℤ pos 1) (omega (arith, ints)) in absurd (omega (arith, ints)))
+    (λ l. let r = rf year y (omega (arith, ints)) in absurd (omega (arith, ints)))
+
+right_out : (f g : ℤ → ℤ) (year u : ℤ) → Rise f → Rise g → u ≡ f year → f year <ℤ g (year +ℤ pos 1) → IsInSomeYear g f u → ⊥
+right_out f g year u rf rg e h (y, a, b) =
+    by_lt_z year y
+    (λ l. let r = rg (year +ℤ pos 1) y (omega (arith, ints)) in absurd (omega (arith, ints)))
+    (λ l. let r = rf y year (omega (arith, ints)) in absurd (omega (arith, ints)))
+
+-- the type that the moment's side says is in force
+shown : (a : Alternate) (year u : ℤ) (dst : Bool) → IsRuleYear year → IsDstAt (start_in a) (end_in a) year u dst → IsYearOf u year → AlternateAt a u (type_when a dst)
+shown a year u dst inside when of_second = record { year = year; of_second = of_second; inside = inside; dst = dst; when = when; shown = refl }
+
+not_both : false ≡ true → ⊥
+not_both e = cc
+
+start_after : (f g : ℤ → ℤ) (year u : ℤ) → Rise f → Rise g → u ≡ f year → g (year -ℤ pos 1) <ℤ f year → f year <ℤ g year → IsDstAt f g year u true × IsDstAt f g year (u -ℤ pos 1) false
+start_after f g year u rf rg e before after = (
+  by_start f g year u true (omega (arith, ints)) (λ _. (year, omega (arith, ints), omega (arith, ints))) (λ _. refl),
+  by_start f g year (u -ℤ pos 1) false (omega (arith, ints)) (λ t. absurd (not_both t)) (λ k. absurd (left_out f g year u rf rg e before k)),
+)
+
+start_between : (f g : ℤ → ℤ) (year u : ℤ) → Rise f → Rise g → u ≡ f year → g year <ℤ f year → f year <ℤ g (year +ℤ pos 1) → IsDstAt f g year u true × IsDstAt f g year (u -ℤ pos 1) false
+start_between f g year u rf rg e before after = (
+  by_end f g year u true false before refl (λ t. absurd (not_both t)) (λ k. absurd (right_out f g year u rf rg e after k)),
+  by_end f g year (u -ℤ pos 1) false true before refl (λ _. (year, omega (arith, ints), omega (arith, ints))) (λ _. refl),
+)
+
+end_after : (f g : ℤ → ℤ) (year u : ℤ) → Rise f → Rise g → u ≡ g year → f (year -ℤ pos 1) <ℤ g year → g year <ℤ f year → IsDstAt f g year u false × IsDstAt f g year (u -ℤ pos 1) true
+end_after f g year u rf rg e before after = (
+  by_end f g year u false true after refl (λ _. (year, omega (arith, ints), omega (arith, ints))) (λ _. refl),
+  by_end f g year (u -ℤ pos 1) true false after refl (λ t. absurd (not_both t)) (λ k. absurd (left_out g f year u rg rf e before k)),
+)
+
+end_between : (f g : ℤ → ℤ) (year u : ℤ) → Rise f → Rise g → u ≡ g year → f year <ℤ g year → g year <ℤ f (year +ℤ pos 1) → IsDstAt f g year u false × IsDstAt f g year (u -ℤ pos 1) true
+end_between f g year u rf rg e before after = (
+  by_start f g year u false (omega (arith, ints)) (λ t. absurd (not_both t)) (λ k. absurd (right_out g f year u rg rf e after k)),
+  by_start f g year (u -ℤ pos 1) true (omega (arith, ints)) (λ _. (year, omega (arith, ints), omega (arith, ints))) (λ _. refl),
+)
+
+pub starts : (a : Alternate) (year day u : ℤ) → IsAlternateRule a → IsRuleYear year → IsDayOf a.start.day year day → (u +ℤ a.std.offset) ≡ (pos 86_400 *ℤ day +ℤ a.start.time) → IsBetween (end_in a) (start_in a) year → (IsYearOf u year → AlternateAt a u a.dst) × (IsYearOf (u -ℤ pos 1) year → AlternateAt a (u -ℤ pos 1) a.std)
+starts a year day u rule inside of_year clock between =
+    let e : u ≡ start_in a year = moment_is a.start a.std.offset year day u rule.start_day of_year clock in
+    let rs : Rise (start_in a) = moments_rise a.start a.std.offset rule.start_day in
+    let re : Rise (end_in a) = moments_rise a.end a.dst.offset rule.end_day in
+    let sides : IsDstAt (start_in a) (end_in a) year u true × IsDstAt (start_in a) (end_in a) year (u -ℤ pos 1) false =
+    ⊎_elim (λ k. start_after (start_in a) (end_in a) year u rs re e k.0 k.1) (λ k. start_between (start_in a) (end_in a) year u rs re e k.0 k.1) between in
+    (shown a year u true inside sides.0, shown a year (u -ℤ pos 1) false inside sides.1)
+
+pub ends : (a : Alternate) (year day u : ℤ) → IsAlternateRule a → IsRuleYear year → IsDayOf a.end.day year day → (u +ℤ a.dst.offset) ≡ (pos 86_400 *ℤ day +ℤ a.end.time) → IsBetween (start_in a) (end_in a) year → (IsYearOf u year → AlternateAt a u a.std) × (IsYearOf (u -ℤ pos 1) year → AlternateAt a (u -ℤ pos 1) a.dst)
+ends a year day u rule inside of_year clock between =
+    let e : u ≡ end_in a year = moment_is a.end a.dst.offset year day u rule.end_day of_year clock in
+    let rs : Rise (start_in a) = moments_rise a.start a.std.offset rule.start_day in
+    let re : Rise (end_in a) = moments_rise a.end a.dst.offset rule.end_day in
+    let sides : IsDstAt (start_in a) (end_in a) year u false × IsDstAt (start_in a) (end_in a) year (u -ℤ pos 1) true =
+    ⊎_elim (λ k. end_after (start_in a) (end_in a) year u rs re e k.0 k.1) (λ k. end_between (start_in a) (end_in a) year u rs re e k.0 k.1) between in
+    (shown a year u false inside sides.0, shown a year (u -ℤ pos 1) true inside sides.1)

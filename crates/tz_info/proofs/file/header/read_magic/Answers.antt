@@ -1,0 +1,12 @@
+use Rattle.std.proofs.Common.{◌∙◌, sym}
+use Rattle.std.proofs.lemmas.Bool.{not-false}
+use Rattle.tz_info.specs.Steps.FileReading.{is_magic}
+use Rattle.tz_info.proofs.HeaderLaws.{not_short, not_magic}
+use Rattle.tz_info.proofs.file.header.read_magic.Goals as goal
+
+pub returns-in_err-front-clause-magic : goal.returns-in_err-front-clause-magic
+returns-in_err-front-clause-magic c = λ h. absurd (not_short c.args.cursor.now _ h c.in_err-front.ensures.value)
+
+pub returns-clause-magic : goal.returns-clause-magic
+returns-clause-magic c =
+    λ h. not_magic c.args.cursor.now _ h c.in_ok-front.ensures.value (not-false (is_magic c.in_ok-front.front.now) (sym (rw c.as_slice.ensures at c.ne.ensures) ∙ c.if-ne.false))

@@ -1,9 +1,0 @@
-use Rattle.std.proofs.Common.{refl}
-use Rattle.tz_info.proofs.WallLaws.{are_shown, is_among_shown}
-use Rattle.tz_info.proofs.wall_laws.wall_clock_law.Goals as goal
-
-pub returns-clause-shown : goal.returns-clause-shown
-returns-clause-shown c = are_shown
-
-pub returns-clause-around : goal.returns-clause-around
-returns-clause-around c = λ z u t answer fits type wall. is_among_shown z _ u t answer (record { fits = fits; type = type; shown = refl }) wall

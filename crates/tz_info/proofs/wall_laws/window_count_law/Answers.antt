@@ -1,5 +1,0 @@
-use Rattle.tz_info.proofs.WindowLaws.{window_count_once}
-use Rattle.tz_info.proofs.wall_laws.window_count_law.Goals as goal
-
-pub returns : goal.returns
-returns c = window_count_once

@@ -1,0 +1,48 @@
+-- Instants that went back.
+use Rattle.std.proofs.Common.{◌≡◌, ◌∙◌, ap, inl, inr, ℕ, ◌<◌, arith, ℤ, pos, negsuc, ◌+ℤ◌, ◌-ℤ◌, ◌*ℤ◌, ◌≤ℤ◌, ◌<ℤ◌, unsigned_abs}
+use Rattle.std.proofs.lemmas.Bool.{cases_lt}
+use Rattle.std.proofs.lemmas.Int.{ints, by_lt_z}
+use Rattle.naive_base.specs.Reading.{Reading, total, of_total, moved, moved_leap, ahead}
+use Rattle.naive_base.proofs.ForCallers.{floors, floor_mod_parts, moved-leap, moved_leap-within, total-moved}
+use Rattle.naive_base.proofs.Moves.{moved_leap-before}
+use Rattle.zoned_round.specs.Durations.{IsGone}
+use Rattle.zoned_round.specs.Multiples.{multiple_below}
+
+total-of : (n : ℤ) → total (of_total n) ≡ n
+total-of n = let parts = floor_mod_parts n 1_000_000_000 (omega arith) in omega (arith, floors)
+
+in_leap : (s p : ℤ) → p <ℤ pos 2_000_000_000 → total (moved_leap s p) ≡ s *ℤ pos 1_000_000_000 +ℤ p
+in_leap s p short = by_lt_z {P = total (moved_leap s p) ≡ s *ℤ pos 1_000_000_000 +ℤ p} p (pos 0)
+    (λ before. ap total (moved_leap-before s p before) ∙ total-of (s *ℤ pos 1_000_000_000 +ℤ p))
+    (λ within. ap total (moved_leap-within s p within short) ∙ omega (arith, ints, within))
+
+-- back by some way, out of a leap second too, all of it is less by as much
+pub total-back : (r : Reading) (way : ℤ) → r.f < 2_000_000_000 → way ≤ℤ pos 0 → total (moved r way) ≡ total r +ℤ way
+total-back r way short back = elim (cases_lt r.f 1_000_000_000) [
+  | inl plain ↦ total-moved r way plain
+  | inr leap ↦ ap total (moved-leap r way leap) ∙ in_leap r.s (pos r.f +ℤ way) (omega (arith, ints)) ∙ omega (arith, ints)
+]
+
+pub gone-back : {T : Type 0} (instant : T → Reading) (IsMoved : ℤ → T → Type 0) (value answer : T) (way : ℤ)
+    → ((d : ℤ) (new : T) → IsMoved d new → instant new ≡ moved (instant value) d)
+    → (instant value).f < 2_000_000_000 → way ≤ℤ pos 0 → IsGone IsMoved way value answer
+    → total (instant answer) ≡ total (instant value) +ℤ way
+gone-back instant IsMoved value answer way moves short back gone =
+    by_lt_z {P = total (instant answer) ≡ total (instant value) +ℤ way} way (pos 0)
+    (λ early. ap total (moves way answer (gone.other (λ none. absurd (omega (arith, floors))))) ∙ total-back (instant value) way short back)
+    (λ late. let none : way ≡ pos 0 = omega (arith, floors) in
+    let stays : total (instant answer) ≡ total (instant value) = ap (λ v. total (instant v)) (gone.itself none) in
+    omega (arith, floors))
+
+-- the multiple below is less than a span away
+near-below : (n : ℤ) (span : ℕ) → 0 < span → (multiple_below n span ≤ℤ n) × (n <ℤ (multiple_below n span +ℤ pos span))
+near-below n span some = let parts = floor_mod_parts n span some in (omega (arith, floors), omega (arith, floors))
+
+pub way-back : (n span : ℤ) → pos 0 <ℤ span → let way = multiple_below n (unsigned_abs span) -ℤ n in (way ≤ℤ pos 0) × (pos 0 <ℤ (way +ℤ span))
+way-back n (pos span) some = let near = near-below n span (omega (arith, floors)) in (omega (arith, floors), omega (arith, floors))
+way-back n (negsuc span) some = absurd (omega (arith, floors))
+
+-- what clocks as far from UTC show went back by as much
+pub shown-back : (old new : Reading) (j k way : ℤ) → total new ≡ total old +ℤ way → k ≡ j
+    → total (ahead new k) ≡ total (ahead old j) +ℤ way
+shown-back old new j k way back same = rw same (omega (arith, floors, back))

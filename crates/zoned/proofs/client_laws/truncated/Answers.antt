@@ -1,0 +1,45 @@
+use Rattle.std.proofs.Common.{◌≡◌, ◌∙◌, subst, refl, arith, ℤ, ◌+ℤ◌, ◌-ℤ◌, unsigned_abs}
+use Rattle.offset_core.specs.TimeDelta.{nanos_of}
+use Rattle.naive_base.proofs.ForCallers.{floors}
+use Rattle.naive_base.specs.Reading.{total, moved}
+use Rattle.naive_base.specs.Year.{floor_div}
+use Rattle.zoned_round.specs.Laws.{IsMultiple}
+use Rattle.zoned_round.specs.Multiples.{multiple_below}
+use Rattle.zoned_time.specs.DateTime.{zoned, wall_of, home_of}
+use Rattle.zoned_time.specs.Zoned.{IsAt}
+use Rattle.zoned_time.specs.declared.datetime.Instant.{Instant}
+use Rattle.zoned.proofs.Buckets.{gone-back, way-back, shown-back}
+use Rattle.zoned.proofs.client_laws.truncated.Given as given
+use Rattle.zoned.proofs.client_laws.truncated.Goals as goal
+
+-- the stamp, and the multiple below
+abbrev stamp : (g : given.Over) → goal.Start g → ℤ
+stamp g c = total (wall_of c.args.instant.now)
+
+abbrev below : (g : given.Over) → goal.Start g → ℤ
+below g c = multiple_below (stamp g c) (unsigned_abs (nanos_of c.args.length))
+
+-- the instant went from the one to the other
+went : (g : given.Over) (c : goal.Start g)
+    → total (zoned c.args.start.now).utc ≡ total (zoned c.args.instant.now).utc +ℤ (below g c -ℤ stamp g c)
+went g c =
+    let d = c.args.instant.now in
+    gone-back {T = Instant _ _ _ _} (λ e. (zoned e).utc) (λ way e. IsAt (home_of g.Tz.TimeZone.meaning d) (moved (zoned d).utc way) (zoned e))
+    d c.args.start.now (below g c -ℤ stamp g c) (λ _ _ is. is.utc) d.datetime.in_range.1 (way-back (stamp g c) _ c.requires.0.0).0 c.requires.2
+
+there : (from to : ℤ) → from +ℤ (to -ℤ from) ≡ to
+there from to = omega (arith, floors)
+
+pub returns-clause-not_later : goal.returns-clause-not_later
+returns-clause-not_later g c =
+    let back = way-back (stamp g c) _ c.requires.0.0 in let gone = went g c in omega (arith, floors, back, gone)
+
+pub returns-clause-near : goal.returns-clause-near
+returns-clause-near g c = λ span length.
+    let back = way-back (stamp g c) _ c.requires.0.0 in let gone = went g c in omega (arith, floors, back, gone, length)
+
+pub returns-clause-multiple : goal.returns-clause-multiple
+returns-clause-multiple g c = λ span length same.
+    let shown = shown-back (zoned c.args.instant.now).utc (zoned c.args.start.now).utc _ _ _ (went g c) same in
+    let Of : ℤ → Type 0 = λ n. IsMultiple (unsigned_abs n) (below g c) in
+    let is = subst Of length (floor_div (stamp g c) (unsigned_abs (nanos_of c.args.length)), refl) in (is.0, shown ∙ there (stamp g c) (below g c) ∙ is.1)

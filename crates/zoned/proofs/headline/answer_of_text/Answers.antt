@@ -1,0 +1,10 @@
+use Rattle.std.proofs.Common.{subst}
+use Rattle.offset_core.specs.WallAnswer.{IsWallAnswer}
+use Rattle.naive_base.specs.NaiveDateTime.{reading}
+use Rattle.tz_info.specs.WallClocks.{Shows}
+use Rattle.tz_info.specs.Zones.{Zone, TypeAt}
+use Rattle.zoned.proofs.headline.answer_of_text.Goals as goal
+
+pub returns-in-Ok-clause-only : goal.returns-in-Ok-clause-only
+returns-in-Ok-clause-only c = λ z of_text.
+    subst (λ (y : Zone). IsWallAnswer (Shows (TypeAt y) (reading c.args.local.now).s) c.answer_in.result) (c.in-Ok.ensures.only z of_text) c.answer_in.ensures.found

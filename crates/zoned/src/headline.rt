@@ -1,0 +1,189 @@
+//! The headline, as theorems: from any bytes, through the zone, to the wall clock's answer with its
+//! count, and to the law on which each call of a `DateTime` stands.
+//!
+//! Where a function is empty its contract is the theorem. The others make the calls one after
+//! another, so that nobody has to join their contracts by hand.
+
+ghost use Rattle.std.specs.Prelude.{◌≡◌, ◌≢◌, ◌↔◌, ℕ, ℤ, List, IfOk, IfErr, IfSome, IsSome, MatchResult, ◌⊎◌};
+ghost use Rattle.offset_core.specs.LocalResult.{map_of};
+ghost use Rattle.offset_core.specs.Offset.{IsWithinDay};
+ghost use Rattle.offset_core.specs.WallAnswer.{IsWallAnswer};
+ghost use Rattle.offset_core.specs.declared.local_result.LocalResult.{LocalResult as Answer};
+ghost use Rattle.naive_base.specs.NaiveDateTime.{reading};
+ghost use Rattle.naive_base.specs.Range.{IsWide};
+ghost use Rattle.tz_info.specs.Counts.{HasRoom};
+ghost use Rattle.tz_info.specs.Errors.{number_of};
+ghost use Rattle.tz_info.specs.FilePieces.{FilePieces, HasPieces};
+ghost use Rattle.tz_info.specs.LocalTypes.{LocalType};
+ghost use Rattle.tz_info.specs.Looks.{RoseByWallClock};
+ghost use Rattle.tz_info.specs.PosixZones.{IsPosixZone, IsPosixFault};
+ghost use Rattle.tz_info.specs.TzFiles.{IsTzFile, IsZoneFault};
+ghost use Rattle.tz_info.specs.WallClocks.{Shows};
+ghost use Rattle.tz_info.specs.Zones.{Zone, IsValid, TypeAt};
+ghost use Rattle.tz_info.specs.declared.error.Error.TheVariants.{OutOfMemory};
+ghost use Rattle.zoned_time.specs.Zone.{IsZoneSecond, SameOffsets};
+ghost use Rattle.zoned_time.specs.Zone as zones;
+ghost use Rattle.zoned_ref.specs.Offsets.{IsNarrow, AreOffsetsOf};
+ghost use Rattle.zoned_ref.specs.TimeZoneRef.{zone_of, off_of};
+ghost use Rattle.zoned_kept.specs.KeptZone.{zone_of as kept_zone, off_of as kept_off};
+ghost use Rattle.zoned.specs.NoZone.{IsWhyNoZone, IsOutOfMemory};
+
+use crate::{KeepError, KeptZone, LocalResult, NaiveDateTime, TimeZoneRef};
+use std::alloc::Global;
+use tz_info::{Error, LocalTimeType, Probes};
+
+/// No bytes spell two zones. A file with a fault, running out of memory aside, spells no valid zone,
+/// and a text with a fault none at all; a text's zone is valid.
+pub fn one_zone()
+    ensures files { (bytes : List ℕ) (y z : Zone) → IsTzFile bytes y → IsTzFile bytes z → y ≡ z }
+    ensures file_or_fault { (bytes : List ℕ) (n : ℕ) (z : Zone) → IsZoneFault bytes n → n ≢ 17
+        → IsTzFile bytes z → ¬ (IsValid z) }
+    ensures texts { (text : List ℕ) (y z : Zone) → IsPosixZone text y → IsPosixZone text z
+        → y ≡ z }
+    ensures text_or_fault { (text : List ℕ) (n : ℕ) (z : Zone) → IsPosixFault text n
+        → ¬ (IsPosixZone text z) }
+    ensures text_is_valid { (text : List ℕ) (z : Zone) → IsPosixZone text z → IsValid z }
+{}
+
+/// From the bytes of a TZif file to the types of local time whose clocks show a reading.
+///
+/// # Errors
+///
+/// Those of [`TimeZone::from_tz_data`](tz_info::TimeZone::from_tz_data).
+pub fn answer_of_file(
+    alloc: Global,
+    bytes: &[u8],
+    local: &NaiveDateTime,
+    probes: &mut Probes,
+) -> Result<LocalResult<LocalTimeType>, Error>
+    requires { HasRoom probes.old }
+    // The bytes are the file of a valid zone; the answer is that of all seconds of 64 bits there,
+    // within the stated count of looks.
+    ensures answered { IfOk result (λ types. (z : Zone) × IsTzFile bytes.now z × IsValid z
+        × IsWallAnswer (Shows (TypeAt z) (reading local.now).s) types
+        × RoseByWallClock z probes.old probes.new) }
+    // The file of a valid zone is answered, unless memory runs out.
+    ensures only { (z : Zone) → IsTzFile bytes.now z → IsValid z → MatchResult result
+        (IsWallAnswer (Shows (TypeAt z) (reading local.now).s))
+        (λ e. e ≡ OutOfMemory) }
+    // An error's number says what stands in the file.
+    ensures fault { IfErr result (λ e. IsZoneFault bytes.now (number_of e)) }
+    // Running out of memory is answered only if every piece of the file is there.
+    ensures memory { IfErr result (λ e. e ≡ OutOfMemory
+        → (p : FilePieces) × HasPieces bytes.now p) }
+{
+    match tz_info::TimeZone::from_tz_data(alloc, bytes) {
+        Ok(zone) => Ok(answer_in(&zone, local, probes)),
+        Err(e) => Err(e),
+    }
+}
+
+/// From a TZ text to the types of local time whose clocks show a reading.
+///
+/// # Errors
+///
+/// Those of [`TimeZone::from_posix_tz`](tz_info::TimeZone::from_posix_tz).
+pub fn answer_of_text(
+    alloc: Global,
+    text: &str,
+    local: &NaiveDateTime,
+    probes: &mut Probes,
+) -> Result<LocalResult<LocalTimeType>, Error>
+    requires { HasRoom probes.old }
+    // The text gives a zone; the answer is that of all seconds of 64 bits there, within the stated
+    // count of looks.
+    ensures answered { IfOk result (λ types. (z : Zone) × IsPosixZone text.now z
+        × IsWallAnswer (Shows (TypeAt z) (reading local.now).s) types
+        × RoseByWallClock z probes.old probes.new) }
+    // A text that gives a zone is answered, unless memory runs out.
+    ensures only { (z : Zone) → IsPosixZone text.now z → MatchResult result
+        (IsWallAnswer (Shows (TypeAt z) (reading local.now).s))
+        (λ e. number_of e ≡ 17) }
+    // An error's number says what stands in the text, or that memory ran out.
+    ensures fault { IfErr result
+        (λ e. (number_of e ≡ 17) ⊎ IsPosixFault text.now (number_of e)) }
+{
+    match tz_info::TimeZone::from_posix_tz(alloc, text) {
+        Ok(zone) => Ok(answer_in(&zone, local, probes)),
+        Err(e) => Err(e),
+    }
+}
+
+// The types of the zone whose clocks show a reading.
+fn answer_in(
+    zone: &tz_info::TimeZone,
+    local: &NaiveDateTime,
+    probes: &mut Probes,
+) -> LocalResult<LocalTimeType>
+    requires { HasRoom probes.old }
+    ensures found { IsWallAnswer (Shows (TypeAt zone.now) (reading local.now).s) result }
+    ensures cost { RoseByWallClock zone.now probes.old probes.new }
+{
+    match zone.find_local_time_type_from_local_counted(*local, probes) {
+        Ok(types) => types,
+        Err(_) => unreachable!(),
+    }
+}
+
+/// From a parsed zone to a lawful one, which [`TimeZone`](crate::TimeZone)'s law names, or `None`
+/// where one of its offsets is a day or more.
+pub fn lawful_zone(zone: &tz_info::TimeZone) -> Option<TimeZoneRef<'_>>
+    ensures narrow { IsSome result ↔ IsNarrow zone.now }
+    ensures zone { IfSome result (λ r. zone_of r ≡ zone.now) }
+    // Its law is the offsets of the types in force.
+    ensures offsets { IfSome result (λ r. AreOffsetsOf zone.now (off_of r)) }
+{
+    TimeZoneRef::new(zone)
+}
+
+/// Why the bytes of a file give no kept zone.
+#[derive(Debug, Drop)]
+pub enum NoZone {
+    /// The bytes have a fault, or memory ran out while they were read.
+    NotRead(Error),
+    /// Their zone isn't kept, and is given back: one of its offsets is a day or more, or there is no
+    /// memory to keep it in.
+    NotKept(KeepError),
+}
+
+/// From the bytes of a TZif file to a lawful zone that stays until the program ends.
+///
+/// # Errors
+///
+/// [`NoZone::NotRead`] with the error of
+/// [`TimeZone::from_tz_data`](tz_info::TimeZone::from_tz_data), and [`NoZone::NotKept`] with that of
+/// [`KeptZone::keep`].
+pub fn kept_zone_of_file(alloc: Global, bytes: &[u8]) -> Result<KeptZone, NoZone>
+    // The bytes are the file of a valid zone, which is kept, and whose offsets are its law.
+    ensures kept { IfOk result (λ kept. (z : Zone) × IsTzFile bytes.now z × IsValid z
+        × IsNarrow z × (kept_zone kept ≡ z) × AreOffsetsOf z (kept_off kept)) }
+    // The file of a valid and narrow zone gives it, unless memory runs out.
+    ensures only { (z : Zone) → IsTzFile bytes.now z → IsValid z → IsNarrow z → MatchResult result
+        (λ kept. kept_zone kept ≡ z)
+        IsOutOfMemory }
+    // An error says what stands in the file, or why its zone isn't kept.
+    ensures fault { IfErr result (λ e. IsWhyNoZone bytes.now e) }
+{
+    match tz_info::TimeZone::from_tz_data(alloc, bytes) {
+        Ok(parsed) => match KeptZone::keep(alloc, parsed) {
+            Ok(kept) => Ok(kept),
+            Err(e) => Err(NoZone::NotKept(e)),
+        },
+        Err(e) => Err(NoZone::NotRead(e)),
+    }
+}
+
+/// What a lawful zone answers is what the bytes' zone answers: the offsets of the types in force are
+/// one function of the second, strictly within a day, and the wall clock's answer over it, whose
+/// seconds are those of the range that zones answer in, is that of the types over all seconds of 64
+/// bits.
+pub fn lawful()
+    ensures one_law { (z : Zone) (f g : ℤ → ℤ) → AreOffsetsOf z f → AreOffsetsOf z g
+        → SameOffsets f g }
+    ensures within_day { (z : Zone) (off : ℤ → ℤ) → IsNarrow z → AreOffsetsOf z off
+        → (u : ℤ) → IsZoneSecond u → IsWithinDay (off u) }
+    ensures answers { (z : Zone) (off : ℤ → ℤ) (local : ℤ) → IsNarrow z → AreOffsetsOf z off
+        → IsWide local → (types : Answer LocalType)
+        → IsWallAnswer (Shows (TypeAt z) local) types
+        → IsWallAnswer (zones.Shows off local) (map_of (λ t. t.offset) types) }
+{}

@@ -1,0 +1,86 @@
+//! Facts about instants, stated in the words that the library passes on. None has a proof file.
+ghost use Rattle.std.specs.Prelude.{◌≡◌, pos, ◌+ℤ◌, ◌≤ℤ◌, ◌<ℤ◌, IfErr, IfOk, IfSome, option_map, FitsSigned};
+ghost use Rattle.std.specs.Int.{w64};
+ghost use Rattle.zoned.specs.Choice.{IsUnresolved};
+ghost use Rattle.zoned.specs.DateTime.{zoned, wall_of};
+ghost use Rattle.zoned.specs.InstantFields.{IsOnly};
+ghost use Rattle.zoned.specs.KeptZone.{zone_of};
+ghost use Rattle.zoned.specs.Laws.{IsMultiple};
+ghost use Rattle.zoned.specs.LocalTypes.{LocalType};
+ghost use Rattle.zoned.specs.NaiveDate.{day_of};
+ghost use Rattle.zoned.specs.NaiveDateTime.{reading};
+ghost use Rattle.zoned.specs.Reading.{reading_at, total};
+ghost use Rattle.zoned.specs.Zoned.{in_seconds};
+ghost use Rattle.zoned.specs.Zones.{TypeAt};
+
+use zoned::tz_info::TimeZoneName;
+use zoned::{
+    Choice, DateTime, DurationRound, KeptZone, NaiveDate, NaiveDateTime, ResolveError,
+    RoundingError, TimeDelta, TimeZone, Utc, client_laws,
+};
+
+/// The seconds from 1970-01-01 00:00:00 UTC to an instant.
+pub fn seconds(instant: &DateTime<Utc>) -> i64
+    ensures { result ≡ (zoned instant.now).utc.s }
+{
+    instant.timestamp()
+}
+
+/// An instant, by the clocks of another zone.
+pub fn elsewhere<A: TimeZone, B: TimeZone>(instant: &DateTime<A>, zone: &B) -> DateTime<B>
+    // It is the same instant.
+    ensures { (zoned result).utc ≡ (zoned instant.now).utc }
+{
+    instant.with_timezone(zone)
+}
+
+/// The instant at which a daily job runs: when the clocks of its zone show 09:00 on a day.
+pub fn fire<Tz: TimeZone>(zone: &Tz, day: &NaiveDate) -> Option<DateTime<Tz>>
+    ensures nine { IfSome result (λ d. wall_of d ≡ reading_at (day_of day.now) 32_400 0) }
+    ensures only { IsOnly (Tz.law zone.now) (reading_at (day_of day.now) 32_400 0)
+        (option_map (λ d. zoned d) result) }
+{
+    let nine = day.and_hms_opt(9, 0, 0)?;
+    zone.from_local_datetime(&nine).single()
+}
+
+/// What a choice takes for a reading, asked for twice.
+pub fn twice<Tz: TimeZone>(
+    zone: &Tz,
+    local: &NaiveDateTime,
+    choice: Choice,
+) -> Result<(DateTime<Tz>, DateTime<Tz>), ResolveError>
+    ensures same { IfOk result (λ pair. in_seconds Tz.Offset.seconds (zoned pair.0)
+        ≡ in_seconds Tz.Offset.seconds (zoned pair.1)) }
+    ensures error { let law = Tz.law zone.now in
+        IfErr result (λ e. IsUnresolved law.off (reading local.now).s choice e) }
+{
+    let first = zone.resolve(local, choice)?;
+    let second = zone.resolve(local, choice)?;
+    client_laws::resolved_alike(zone, local, choice, &first, &second);
+    Ok((first, second))
+}
+
+/// The abbreviation of the local time in a zone at an instant, given by its UTC reading.
+pub fn abbreviation(zone: &KeptZone, utc: &NaiveDateTime) -> Option<TimeZoneName>
+    ensures { (t : LocalType) × TypeAt (zone_of zone.now) (reading utc.now).s t
+        × (t.name ≡ result) }
+{
+    zone.offset_from_utc_datetime(utc).name().copied()
+}
+
+/// The start of the five minutes in which an instant lies.
+pub fn bucket(instant: DateTime<Utc>) -> Result<DateTime<Utc>, RoundingError>
+    ensures multiple { IfOk result (λ start. IsMultiple 300_000_000_000 (total (wall_of start))) }
+    ensures not_later { IfOk result (λ start. total (zoned start).utc
+        ≤ℤ total (zoned instant).utc) }
+    ensures near { IfOk result (λ start. total (zoned instant).utc
+        <ℤ (total (zoned start).utc +ℤ pos 300_000_000_000)) }
+    // The nanoseconds since 1970 of an instant that has no start don't fit an `i64`.
+    ensures error { IfErr result (λ e. FitsSigned w64 (total (wall_of instant)) → ⊥) }
+{
+    let length = TimeDelta::minutes(5);
+    let start = instant.duration_trunc(length)?;
+    client_laws::truncated(&instant, length, &start);
+    Ok(start)
+}

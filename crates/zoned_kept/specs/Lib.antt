@@ -1,0 +1,3 @@
+pub mod KeepError
+pub mod KeptOffset
+pub mod KeptZone

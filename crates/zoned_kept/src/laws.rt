@@ -1,0 +1,26 @@
+//! Theorems: what a function here does is its contract alone; never called.
+ghost use Rattle.std.specs.Prelude.{◌≡◌, ◌↔◌, IsTrue};
+ghost use Rattle.std.specs.Hash as fed;
+ghost use Rattle.zoned_kept.specs.KeptOffset.{ahead_of, type_of};
+ghost use Rattle.zoned_kept.specs.declared.kept_offset.KeptOffset.{KeptOffset as AnyOffset};
+ghost use Rattle.zoned_kept.specs.declared.kept_zone.KeptZone.{KeptZone as AnyZone};
+
+use crate::{KeptOffset, KeptZone};
+use std::hash::Hash;
+
+/// Offsets are equal if and only if their types of local time are, a hash looks at the seconds, and
+/// a clone is the offset.
+pub fn kept_offsets()
+    ensures equal { (a b : AnyOffset) → IsTrue (⟦<KeptOffset as PartialEq>⟧.eq a b)
+        ↔ (type_of a ≡ type_of b) }
+    ensures hashed { (a : AnyOffset) → ⟦<KeptOffset as Hash>⟧.hash_input a
+        ≡ fed.i32 (ahead_of a) }
+    ensures cloned { (a b : AnyOffset) → ⟦<KeptOffset as Clone>⟧.is_clone a b ↔ (b ≡ a) }
+{
+    tz_info::laws::equality::local_time_types();
+}
+
+/// A clone is the zone.
+pub fn kept_zones()
+    ensures { (a b : AnyZone) → ⟦<KeptZone as Clone>⟧.is_clone a b ↔ (b ≡ a) }
+{}

@@ -1,0 +1,19 @@
+//! Parsed time zones that a program keeps until it ends.
+//!
+//! [`KeptZone`] is a [`TimeZone`](zoned_time::TimeZone) without a lifetime: it and its instants
+//! stand in structs, lists and closures as those of UTC do. What is proved of a borrowed zone, as
+//! [`TimeZoneRef`](zoned_ref::TimeZoneRef), holds of it. The memory that it takes is never given
+//! back.
+#![tactic(auto)]
+
+mod keep_error;
+mod kept_offset;
+mod kept_zone;
+pub mod laws;
+mod lookup;
+#[cfg(test)]
+mod tests;
+
+pub use keep_error::KeepError;
+pub use kept_offset::KeptOffset;
+pub use kept_zone::KeptZone;

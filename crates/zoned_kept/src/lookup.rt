@@ -1,0 +1,98 @@
+//! A kept zone's lookups: those of the borrowed one.
+ghost use Rattle.std.specs.Prelude.{◌≡◌, MatchOption, refl};
+ghost use Rattle.offset_core.specs.LocalResult.{map_of};
+ghost use Rattle.offset_core.specs.WallAnswer.{IsWallAnswer};
+ghost use Rattle.naive_base.specs.NaiveDateTime.{reading};
+ghost use Rattle.tz_info.specs.Gaps.{IsBeforeGap, IsShown};
+ghost use Rattle.tz_info.specs.WallClocks.{Shows};
+ghost use Rattle.tz_info.specs.Zones.{TypeAt};
+ghost use Rattle.zoned_time.specs.Choice.{IsOffsetBeforeGap};
+ghost use Rattle.zoned_time.specs.Zone.{IsOffsetAt, AreOffsetsFor, midnight_of};
+ghost use Rattle.zoned_kept.specs.KeptOffset.{meaning_of, law_of, type_of};
+ghost use Rattle.zoned_kept.specs.KeptZone.{zone_of};
+
+use crate::{KeptOffset, KeptZone};
+use naive_base::{NaiveDate, NaiveDateTime, NaiveTime};
+use offset_core::LocalResult;
+use zoned_time::TimeZone;
+
+impl TimeZone for KeptZone {
+    type Offset = KeptOffset;
+
+    ghost meaning = { meaning_of };
+
+    ghost law = { law_of };
+
+    ghost within_day = { λ zone. zone.borrowed.within_day };
+
+    ghost told = { λ _. refl };
+
+    fn from_offset(offset: &KeptOffset) -> KeptZone {
+        offset.zone
+    }
+
+    fn offset_from_utc_datetime(&self, utc: &NaiveDateTime) -> KeptOffset
+        ensures offset { IsOffsetAt (law_of self.now) (reading utc.now).s result }
+        // It is the offset of the type in force.
+        ensures local_type { TypeAt (zone_of self.now) (reading utc.now).s (type_of result) }
+    {
+        KeptOffset::of(
+            self,
+            self.borrowed.offset_from_utc_datetime(utc).local_type(),
+        )
+    }
+
+    fn offset_from_utc_date(&self, utc: &NaiveDate) -> KeptOffset
+        ensures offset { IsOffsetAt (law_of self.now) (midnight_of utc.now) result }
+        ensures local_type { TypeAt (zone_of self.now) (midnight_of utc.now) (type_of result) }
+    {
+        self.offset_from_utc_datetime(&midnight(utc))
+    }
+
+    fn offset_from_local_datetime(&self, local: &NaiveDateTime) -> LocalResult<KeptOffset>
+        ensures offsets { AreOffsetsFor (law_of self.now) (reading local.now).s result }
+        // They are the offsets of the types in force.
+        ensures local_types { IsWallAnswer (Shows (TypeAt (zone_of self.now)) (reading local.now).s)
+            (map_of type_of result) }
+    {
+        match self.borrowed.offset_from_local_datetime(local) {
+            LocalResult::None => LocalResult::None,
+            LocalResult::Single(only) => LocalResult::Single(KeptOffset::of(
+                self,
+                only.local_type(),
+            )),
+            LocalResult::Ambiguous(first, last) => LocalResult::Ambiguous(
+                KeptOffset::of(self, first.local_type()),
+                KeptOffset::of(self, last.local_type()),
+            ),
+        }
+    }
+
+    fn offset_from_local_date(&self, local: &NaiveDate) -> LocalResult<KeptOffset>
+        ensures offsets { AreOffsetsFor (law_of self.now) (midnight_of local.now) result }
+        ensures local_types { IsWallAnswer (Shows (TypeAt (zone_of self.now)) (midnight_of local.now))
+            (map_of type_of result) }
+    {
+        self.offset_from_local_datetime(&midnight(local))
+    }
+
+    fn offset_before_gap(&self, local: &NaiveDateTime) -> Option<KeptOffset>
+        ensures offset { IsOffsetBeforeGap (law_of self.now) (reading local.now).s result }
+        // It is the offset of the type before the gap.
+        ensures local_type { MatchOption result
+            (IsShown (TypeAt (zone_of self.now)) (reading local.now).s)
+            (λ o. IsBeforeGap (TypeAt (zone_of self.now)) (reading local.now).s (type_of o)) }
+    {
+        match self.borrowed.offset_before_gap(local) {
+            Some(before) => Some(KeptOffset::of(self, before.local_type())),
+            None => None,
+        }
+    }
+}
+
+// The reading at which a day begins.
+fn midnight(date: &NaiveDate) -> NaiveDateTime
+    ensures { (reading result).s ≡ midnight_of date.now }
+{
+    date.and_time(NaiveTime::MIN)
+}

@@ -1,0 +1,301 @@
+#!/usr/bin/env python3
+"""Holds the documents beside the code, in seconds and without a proof.
+
+usage: tools/check_documents.py [--write]
+
+- Each relative link of a document leads to a file, and its anchor to a heading there.
+- Each word between backquotes in README.md and docs/ is a name of the code, or stands in tools/known_words.txt, which lists
+  the names of chrono, of the kit and of other programs that the documents speak of.
+- The index at the end of docs/DEFINITIONS.md has a line for each word of specs/ that a public contract cites: its page and
+  its meaning, which is the comment before its definition. --write writes the index anew.
+- No clause of a public function cites a step of a proof (specs/Steps).
+- Each must-fail edit is listed in docs/WRONG_BODIES.md, and each of its old texts stands once in its file.
+- A lemma that nothing names is an error, and so is a page of lemmas that its proofs/Lib.antt doesn't name.
+- docs/MAP.md names each crate and each module of a library.
+- No call for C requires anything: what C passes is checked, or is what the header says.
+
+Prints a line for each fault, with its place, and ends with status 1 where there is one.
+"""
+
+import re
+import sys
+from functools import lru_cache
+from itertools import chain
+
+from sources import (
+    NAME, TOP, cited, crates, files, imports_of, module_of, public_clauses, shown, text_of, without_comments, words_of,
+)
+
+DOCUMENTS = [*sorted(TOP.glob("*.md")), *sorted((TOP / "docs").glob("*.md"))]
+DEFINITIONS = TOP / "docs/DEFINITIONS.md"
+WRONG_BODIES = TOP / "docs/WRONG_BODIES.md"
+MAP = TOP / "docs/MAP.md"
+KNOWN = TOP / "tools/known_words.txt"
+INDEX = "## Index of the words that contracts cite\n"
+WORD = r"[A-Za-z_][A-Za-z0-9_]*"
+
+
+def without_blocks(text):
+    """The text with its fenced blocks blanked, line by line."""
+    return re.sub(r"(?ms)^ *```.*?^ *```", lambda block: re.sub(r"[^\n]", " ", block[0]), text)
+
+
+# Links
+
+
+def anchor(heading):
+    """The anchor of a heading, as GitHub forms it."""
+    plain = re.sub(r"\[([^\]]*)\]\([^)]*\)", r"\1", heading).replace("`", "")
+    return re.sub(r"[^\w\- ]", "", plain.strip().lower()).replace(" ", "-")
+
+
+@lru_cache(maxsize=None)
+def anchors(path):
+    return {anchor(heading) for heading in re.findall(r"(?m)^#+ (.*)$", without_blocks(text_of(path)))}
+
+
+def links():
+    for path in DOCUMENTS:
+        text = without_blocks(text_of(path))
+        for link in re.finditer(r"\]\(([^)\s]+)\)", text):
+            target, _, place = link[1].partition("#")
+            if re.match(r"\w+:", target):
+                continue
+            file = (path.parent / target).resolve() if target else path
+            if not file.exists():
+                yield f"{shown(path, link.start())}: the link {link[1]} leads nowhere"
+            elif place and place not in anchors(file):
+                yield f"{shown(path, link.start())}: {file.name} has no heading for #{place}"
+
+
+# Words
+
+
+@lru_cache(maxsize=None)
+def names_of_code():
+    """Each name that stands in the code, outside comments, and the names of files and folders."""
+    names = set()
+    for folder in ("src", "specs", "proofs"):
+        for path in chain(files(folder, ".rt"), files(folder, ".antt")):
+            mark = "//" if path.suffix == ".rt" else "--"
+            names.update(re.findall(WORD, without_comments(text_of(path), mark)))
+    others = ["tools", "examples", "bench", ".ci", "crates/zoned_ffi/include"]
+    for path in chain.from_iterable(sorted((TOP / other).rglob("*")) for other in others):
+        if path.is_file() and path.suffix in (".py", ".c", ".h", ".rs", ".sh", ".rt", ".cpp", ".java", ""):
+            if path.suffix != "" or path.parent.name == ".ci":
+                names.update(re.findall(WORD, text_of(path)))
+    for path in TOP.rglob("*"):
+        inside = path.relative_to(TOP).parts
+        if inside[0] != ".git" and "out" not in inside:
+            names.update(re.findall(WORD, path.name))
+    names.update(re.findall(WORD, text_of(TOP / "crates.txt")))
+    names.update(re.findall(WORD, text_of(TOP / "HANDLES")))
+    return names
+
+
+def known_words():
+    rows = [row.split("#")[0].split() for row in text_of(KNOWN).splitlines()]
+    return set(chain.from_iterable(rows))
+
+
+def unknown_words():
+    known = names_of_code() | known_words()
+    for path in DOCUMENTS:
+        if path.name in ("CHANGELOG.md", "LICENSE.md"):
+            continue
+        text = without_blocks(text_of(path))
+        if path == DEFINITIONS:
+            text = text.split(INDEX)[0]
+        for span in re.finditer(r"(`+)(.+?)\1", text):
+            for word in re.findall(WORD, span[2]):
+                if len(word) > 1 and word not in known:
+                    yield f"{shown(path, span.start())}: `{word}` is no name of the code, nor in {KNOWN.name}"
+
+
+def stale_words():
+    """Words of the list that no document uses any more."""
+    used = set()
+    for path in DOCUMENTS:
+        for span in re.findall(r"(`+)(.+?)\1", without_blocks(text_of(path))):
+            used.update(re.findall(WORD, span[1]))
+    for word in sorted(known_words() - used):
+        yield f"{shown(KNOWN)}: no document has the word {word}"
+
+
+# The index
+
+
+def words_in_contracts():
+    """The words that public contracts cite, each with its page, its meaning, and a place that cites it."""
+    words = {(module_of(page), word.name): word for page in files("specs", ".antt") for word in words_of(page)}
+    found = {}
+    for clause in public_clauses():
+        for page, name in cited(clause):
+            if (page, name) in words:
+                found.setdefault((page, name), (words[page, name], clause))
+    return found
+
+
+def index_row(word):
+    crate, *page = module_of(word.page).split(".")[1:]
+    return f"| `{word.name}` | `{crate}` `{'/'.join(page[1:])}` | {word.meaning.replace('|', '/')} |"
+
+
+def index():
+    rows = [index_row(word) for (page, _), (word, _) in words_in_contracts().items() if ".Steps" not in page]
+    head = "Made from the comments of the pages by `tools/check_documents.py --write`.\n\n| word | page | means |\n|---|---|---|\n"
+    return INDEX + "\n" + head + "\n".join(sorted(rows, key=str.lower)) + "\n"
+
+
+def index_faults():
+    text = text_of(DEFINITIONS)
+    at = text.find(INDEX)
+    written = set(text[at:].splitlines()) if at >= 0 else set()
+    due = set(index().splitlines())
+    for row in sorted(due - written):
+        yield f"{shown(DEFINITIONS)}: the index lacks the line: {row}"
+    for row in sorted(written - due):
+        yield f"{shown(DEFINITIONS)}: the index has a line of its own: {row}"
+    for (page, name), (word, clause) in words_in_contracts().items():
+        if not word.meaning:
+            yield f"{shown(word.page, word.place)}: {name} has no comment that says what it means"
+        if ".Steps" in page and not is_invariant(clause):
+            yield f"{shown(clause.path, clause.place)}: a public contract cites {name} of {page}, a step"
+
+
+def is_invariant(clause):
+    """Whether the clause belongs to an `impl Model`, which says how a value is kept and what it shows."""
+    before = without_comments(text_of(clause.path), "//")[: clause.place]
+    heads = re.findall(r"(?m)^(?:pub )?(?:trait|impl|struct)\b[^{;]*", before)
+    return bool(heads) and "Model for" in heads[-1]
+
+
+def write_index():
+    text = text_of(DEFINITIONS)
+    at = text.find(INDEX)
+    DEFINITIONS.write_text((text[:at] if at >= 0 else text.rstrip() + "\n\n") + index())
+
+
+# Edits
+
+
+def edits():
+    listed = set(re.findall(r"`(\w+)`", text_of(WRONG_BODIES)))
+    for crate in crates():
+        for path in sorted((TOP / "crates" / crate / "must-fail").glob("*.edit")):
+            if path.stem not in listed:
+                yield f"{shown(path)}: {WRONG_BODIES.name} doesn't list it"
+            yield from edit_faults(crate, path)
+
+
+def edit_faults(crate, path):
+    """An edit that can't be applied: an old text that stands nowhere, or twice."""
+    texts, file = {}, None
+    for row in text_of(path).splitlines():
+        key, _, value = row.partition(": ")
+        if key == "file":
+            file = TOP / "crates" / crate / value
+            texts.setdefault(file, text_of(file))
+        elif key == "old":
+            old = value
+            if texts[file].count(old) != 1:
+                yield f"{shown(path)}: its old text stands {texts[file].count(old)} times in {shown(file)}: {old}"
+        elif key == "new":
+            texts[file] = texts[file].replace(old, value)
+
+
+# Lemmas
+
+
+def definitions(text):
+    """The blocks of a page of proofs: each name with its text, from its signature to the next one."""
+    starts = [*re.finditer(rf"(?m)^(?:(?:pub|abbrev|unfoldable|opaque|data|record) )*({NAME}) : ", text)]
+    starts += [*re.finditer(rf"(?m)^(?:(?:pub|unfoldable|opaque) )*(?:data|record) ({NAME})", text)]
+    starts = sorted({start.start(): start for start in starts}.values(), key=lambda start: start.start())
+    for start, after in zip(starts, [*starts[1:], None]):
+        yield start[1], start.start(), text[start.start() : after.start() if after else len(text)]
+
+
+def is_named_in(name, text):
+    return re.search(rf"(?<![^\s(){{}}\[\],;:.λ→×≡∙|\"`]){re.escape(name)}(?![^\s(){{}}\[\],;:.λ→×≡∙|\"`])", text)
+
+
+def unused_lemmas():
+    proofs = files("proofs", ".antt")
+    readers = [*proofs, *files("specs", ".antt"), *files("src", ".rt")]
+    taken, whole = set(), {}
+    for path in readers:
+        text = without_comments(text_of(path), "//" if path.suffix == ".rt" else "--")
+        for here, (page, there) in imports_of(text).items():
+            if there:
+                taken.add((page, there))
+            else:
+                whole.setdefault(page, []).append((here, text))
+    for path in proofs:
+        module = module_of(path)
+        if path.stem in ("Answers", "Invariants", "Proof", "Lib", "ForCallers"):
+            continue
+        text = without_comments(text_of(path), "--")
+        blocks = list(definitions(text))
+        for name, place, block in blocks:
+            if (module, name) in taken or any(is_named_in(name, other) for at, _, other in with_places(blocks) if at != place):
+                continue
+            if any(is_named_in(f"{here}.{name}", other) for here, other in whole.get(module, [])):
+                continue
+            yield f"{shown(path, place)}: nothing names the lemma {name}"
+
+
+def with_places(blocks):
+    return [(place, name, block) for name, place, block in blocks]
+
+
+def unlisted_pages():
+    for crate in crates():
+        for folder in ("proofs", "specs"):
+            lib = TOP / "crates" / crate / folder / "Lib.antt"
+            for path in sorted((TOP / "crates" / crate / folder).glob("*.antt")):
+                if path != lib and not re.search(rf"(?m)^(?:pub )?mod {path.stem}$", text_of(lib) if lib.exists() else ""):
+                    yield f"{shown(path)}: {folder}/Lib.antt doesn't name it"
+
+
+# The map, and the calls for C
+
+
+def map_faults():
+    text = text_of(MAP)
+    words = set(re.findall(WORD, text))
+    for crate in crates():
+        if f"`{crate}`" not in text:
+            yield f"{shown(MAP)}: it doesn't name the crate {crate}"
+        if not (TOP / "crates" / crate / "specs").exists():
+            continue
+        for path in files("src", ".rt"):
+            inside = path.relative_to(TOP / "crates").parts
+            if inside[0] == crate and path.stem not in ("lib", "main", "tests") and "tests" not in inside and path.stem not in words:
+                yield f"{shown(MAP)}: it doesn't name the module {path.stem} of {crate}"
+
+
+def required_of_c():
+    for path in files("src", ".rt"):
+        text = without_comments(text_of(path), "//")
+        for call in re.finditer(r'pub extern "C" fn (\w+)', text):
+            head = text[call.start() : text.find("\n{", call.start())]
+            if "requires" in head:
+                yield f"{shown(path, call.start())}: {call[1]} is called from C, and requires something"
+
+
+CHECKS = [links, unknown_words, stale_words, index_faults, edits, unused_lemmas, unlisted_pages, map_faults, required_of_c]
+
+
+def main():
+    if sys.argv[1:] == ["--write"]:
+        write_index()
+        text_of.cache_clear()
+    elif sys.argv[1:]:
+        sys.exit(__doc__)
+    faults = [fault for check in CHECKS for fault in check()]
+    print("\n".join(faults) or f"{len(DOCUMENTS)} documents, {len(words_in_contracts())} words of contracts: nothing is wrong")
+    sys.exit(bool(faults))
+
+
+main()

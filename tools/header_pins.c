@@ -1,0 +1,84 @@
+/* What zoned_ffi.h says of sizes, places and numbers, held beside the archive. The assertions are tried when this file is
+   compiled, and fail where the header says something else than the callers of today were built with. The program is linked
+   with the archive and asks it: the numbers and the places that the archive writes are those of the header. It prints
+   nothing and ends with 0, or names the line that differs. tools/try_examples.py compiles and runs it. */
+#include "../crates/zoned_ffi/include/zoned_ffi.h"
+
+#include <stdio.h>
+#include <string.h>
+
+_Static_assert(sizeof(zoned_wall_clock) == 32, "the size of the struct");
+_Static_assert(_Alignof(zoned_wall_clock) == 8, "the alignment of the struct");
+_Static_assert(offsetof(zoned_wall_clock, shown) == 0, "the place of shown");
+_Static_assert(offsetof(zoned_wall_clock, first_offset) == 4, "the place of first_offset");
+_Static_assert(offsetof(zoned_wall_clock, last_offset) == 8, "the place of last_offset");
+_Static_assert(offsetof(zoned_wall_clock, first) == 16, "the place of first");
+_Static_assert(offsetof(zoned_wall_clock, last) == 24, "the place of last");
+
+_Static_assert(ZONED_FILE == 0 && ZONED_TEXT == 1, "the kinds");
+_Static_assert(ZONED_OK == 0 && ZONED_UNKNOWN_KIND == 31 && ZONED_OTHER_SIZE == 32, "the numbers of a call");
+_Static_assert(ZONED_NEVER == 0 && ZONED_ONCE == 1 && ZONED_SEVERAL_TIMES == 2 && ZONED_OUT_OF_RANGE == 3, "how often");
+_Static_assert(ZONED_NO_OFFSET == -2147483647 - 1, "no offset");
+
+static int differences = 0;
+
+#define IS(given, due)                                                                                         \
+    do {                                                                                                       \
+        if ((long long)(given) != (long long)(due)) {                                                          \
+            fprintf(stderr, "header_pins.c:%d: %s is %lld, and not %lld\n", __LINE__, #given,                  \
+                    (long long)(given), (long long)(due));                                                     \
+            differences++;                                                                                     \
+        }                                                                                                      \
+    } while (0)
+
+/* New York since 2007. Clocks are set forward at 2021-03-14 07:00:00 UTC, and back at 2021-11-07 06:00:00 UTC. */
+static const uint8_t NEW_YORK[] = "EST5EDT,M3.2.0,M11.1.0";
+#define LEN (sizeof NEW_YORK - 1)
+
+/* 2021-03-14 02:30:00 lies in a gap, 2021-11-07 01:30:00 in a fold, noon of that day is shown once, and the last one is the
+   first second after the calendar's range. */
+static const int64_t LOCALS[4] = {1615689000, 1636248600, 1636286400, 8210266876800};
+
+int main(void) {
+    const int64_t instants[3] = {1615705199, 1615705200, INT64_MAX};
+    int32_t offsets[3];
+    IS(zoned_at(ZONED_TEXT, NEW_YORK, LEN, instants, 3, offsets, 3), ZONED_OK);
+    IS(offsets[0], -18000);
+    IS(offsets[1], -14400);
+    IS(offsets[2], ZONED_NO_OFFSET);
+
+    int32_t triples[12];
+    IS(zoned_wall(ZONED_TEXT, NEW_YORK, LEN, LOCALS, 4, triples, 12), ZONED_OK);
+    const int32_t told[12] = {ZONED_NEVER, 0,      0,      ZONED_SEVERAL_TIMES, -14400, -18000,
+                              ZONED_ONCE,  -18000, -18000, ZONED_OUT_OF_RANGE,  0,      0};
+    for (int i = 0; i < 12; i++) IS(triples[i], told[i]);
+
+    zoned_wall_clock clocks[4];
+    memset(clocks, 0x55, sizeof clocks); /* what stood there doesn't matter */
+    IS(zoned_wall_instants(ZONED_TEXT, NEW_YORK, LEN, LOCALS, 4, clocks, 4), ZONED_OK);
+    for (int i = 0; i < 4; i++) {
+        IS(clocks[i].shown, told[3 * i]);
+        IS(clocks[i].first_offset, told[3 * i + 1]);
+        IS(clocks[i].last_offset, told[3 * i + 2]);
+    }
+    IS(clocks[0].first, 0);
+    IS(clocks[0].last, 0);
+    IS(clocks[1].first, 1636263000);
+    IS(clocks[1].last, 1636266600);
+    IS(clocks[2].first, 1636304400);
+    IS(clocks[2].last, 1636304400);
+
+    /* Numbers of faults. */
+    IS(zoned_parse(ZONED_TEXT, NEW_YORK, LEN), ZONED_OK);
+    IS(zoned_parse(ZONED_FILE, NEW_YORK, LEN), 5);
+    IS(zoned_parse(ZONED_FILE, (const uint8_t *)"TZif", 4), 7);
+    IS(zoned_parse(2, NEW_YORK, LEN), ZONED_UNKNOWN_KIND);
+
+    /* A count that is wrong is told, and nothing is written: also one whose product by three is the room, as it wraps. */
+    int32_t guarded[4] = {77, 77, 77, 77};
+    IS(zoned_wall(ZONED_TEXT, NEW_YORK, LEN, LOCALS, (size_t)0x5555555555555556, guarded + 1, 2), ZONED_OTHER_SIZE);
+    IS(zoned_wall(ZONED_TEXT, NEW_YORK, LEN, LOCALS, 1, guarded + 1, 2), ZONED_OTHER_SIZE);
+    IS(zoned_at(ZONED_TEXT, NEW_YORK, LEN, instants, 3, guarded + 1, 2), ZONED_OTHER_SIZE);
+    for (int i = 0; i < 4; i++) IS(guarded[i], 77);
+    return differences != 0;
+}
