@@ -15,8 +15,10 @@ from datetime import datetime, timedelta, timezone
 from pathlib import Path
 
 OURS = "sahvumbi"
+HANDLE = "handle"
 PEERS = {
     OURS: "Sahvumbi",
+    HANDLE: "one call a question",
     "cctz": "cctz",
     "hinnant": "date",
     "java": "java.time",
@@ -101,7 +103,7 @@ def best_peer(figures, wrong, question, years, zone):
     times = [
         (figures[key], peer)
         for peer in PEERS
-        if peer != OURS
+        if peer not in (OURS, HANDLE)
         and (key := (question, years, zone, peer)) in figures
         and figures[key] > 0
         and key not in wrong

@@ -33,7 +33,12 @@ def processor_time(path, words):
 def main():
     path = Path(sys.argv[1] if len(sys.argv) > 1 else FILE)
     print("| question | borrowed | kept |\n|---|--:|--:|")
-    for question, name in (("instant", "an instant, and its offset"), ("wall", "a wall clock, and its instants")):
+    questions = (
+        ("instant", "an instant, and its offset"),
+        ("wall", "a wall clock, and its instants"),
+        ("gap", "a reading in a gap, shifted"),
+    )
+    for question, name in questions:
         times, sums = [], set()
         for zone in ("borrowed", "kept"):
             idle, _ = processor_time(path, [zone, question, "0"])

@@ -9,7 +9,7 @@ usage: tools/check_documents.py [--write]
 - The index at the end of docs/DEFINITIONS.md has a line for each word of specs/ that a public contract cites: its page and
   its meaning, which is the comment before its definition. --write writes the index anew.
 - No clause of a public function cites a step of a proof (specs/Steps).
-- Each must-fail edit is listed in docs/WRONG_BODIES.md, and each of its old texts stands once in its file.
+- Each must-fail edit is listed in docs/WRONG_BODIES.md, under what tries it, and each of its old texts stands once in its file.
 - A lemma that nothing names is an error, and so is a page of lemmas that its proofs/Lib.antt doesn't name.
 - docs/MAP.md names each crate and each module of a library.
 - No call for C requires anything: what C passes is checked, or is what the header says.
@@ -32,6 +32,7 @@ WRONG_BODIES = TOP / "docs/WRONG_BODIES.md"
 MAP = TOP / "docs/MAP.md"
 KNOWN = TOP / "tools/known_words.txt"
 INDEX = "## Index of the words that contracts cite\n"
+EDITS = {"## Tried by the gate": "must-fail", "## Tried by hand": "must-fail-by-hand"}
 WORD = r"[A-Za-z_][A-Za-z0-9_]*"
 
 
@@ -79,7 +80,9 @@ def names_of_code():
         for path in chain(files(folder, ".rt"), files(folder, ".antt")):
             mark = "//" if path.suffix == ".rt" else "--"
             names.update(re.findall(WORD, without_comments(text_of(path), mark)))
-    others = ["tools", "examples", "bench", ".ci", "crates/zoned_ffi/include"]
+    for path in files("tried", ".txt"):
+        names.update(re.findall(WORD, without_comments(text_of(path), "//")))
+    others = ["tools", "examples", "bench", "python", ".ci", "crates/zoned_ffi/include"]
     for path in chain.from_iterable(sorted((TOP / other).rglob("*")) for other in others):
         if path.is_file() and path.suffix in (".py", ".c", ".h", ".rs", ".sh", ".rt", ".cpp", ".java", ""):
             if path.suffix != "" or path.parent.name == ".ci":
@@ -180,12 +183,27 @@ def write_index():
 
 
 def edits():
-    listed = set(re.findall(r"`(\w+)`", text_of(WRONG_BODIES)))
-    for crate in crates():
-        for path in sorted((TOP / "crates" / crate / "must-fail").glob("*.edit")):
-            if path.stem not in listed:
-                yield f"{shown(path)}: {WRONG_BODIES.name} doesn't list it"
+    paths = {
+        title: {(crate, path.stem): path for crate in crates() for path in files(folder, ".edit", [crate])}
+        for title, folder in EDITS.items()
+    }
+    known = set().union(*paths.values())
+    for title, tried in paths.items():
+        listed = set(listed_edits(title))
+        for crate, name in sorted(listed - known):
+            yield f"{shown(WRONG_BODIES)}: {title[3:]}: {crate} has no edit {name}"
+        for (crate, name), path in tried.items():
+            if (crate, name) not in listed:
+                yield f"{shown(path)}: {WRONG_BODIES.name} doesn't list it under {title[3:]}"
             yield from edit_faults(crate, path)
+
+
+def listed_edits(title):
+    """The edits that a part of the list names, each with its crate, which its row begins with."""
+    part = text_of(WRONG_BODIES).partition(f"\n{title}\n")[2].partition("\n## ")[0]
+    for row in re.findall(r"(?m)^- .*$", part):
+        crate, *names = re.findall(r"`(\w+)`", row)
+        yield from ((crate, name) for name in names if "_" in name and name not in crates())
 
 
 def edit_faults(crate, path):
@@ -233,7 +251,7 @@ def unused_lemmas():
                 whole.setdefault(page, []).append((here, text))
     for path in proofs:
         module = module_of(path)
-        if path.stem in ("Answers", "Invariants", "Proof", "Lib", "ForCallers"):
+        if path.stem in ("Answers", "Invariants", "Proof", "Send", "Lib", "ForCallers"):
             continue
         text = without_comments(text_of(path), "--")
         blocks = list(definitions(text))

@@ -15,8 +15,22 @@ _Static_assert(offsetof(zoned_wall_clock, last_offset) == 8, "the place of last_
 _Static_assert(offsetof(zoned_wall_clock, first) == 16, "the place of first");
 _Static_assert(offsetof(zoned_wall_clock, last) == 24, "the place of last");
 
+_Static_assert(sizeof(struct zoned_zone) == sizeof(void *), "the size of a handle");
+_Static_assert(sizeof(zoned_local_type) == 16 && _Alignof(zoned_local_type) == 4, "the size of a type");
+_Static_assert(offsetof(zoned_local_type, offset) == 0, "the place of the type's offset");
+_Static_assert(offsetof(zoned_local_type, is_dst) == 4, "the place of is_dst");
+_Static_assert(offsetof(zoned_local_type, abbreviation) == 8, "the place of abbreviation");
+_Static_assert(sizeof(zoned_resolved) == 16 && _Alignof(zoned_resolved) == 8, "the size of a resolved local time");
+_Static_assert(offsetof(zoned_resolved, number) == 0, "the place of number");
+_Static_assert(offsetof(zoned_resolved, offset) == 4, "the place of the resolved offset");
+_Static_assert(offsetof(zoned_resolved, instant) == 8, "the place of instant");
+
 _Static_assert(ZONED_FILE == 0 && ZONED_TEXT == 1, "the kinds");
 _Static_assert(ZONED_OK == 0 && ZONED_UNKNOWN_KIND == 31 && ZONED_OTHER_SIZE == 32, "the numbers of a call");
+_Static_assert(ZONED_NOT_OPEN == 33 && ZONED_UNKNOWN_CHOICE == 34, "the numbers of a call by handle");
+_Static_assert(ZONED_GAP_REFUSE == 0 && ZONED_GAP_SHIFT_FORWARD == 1, "choices for gaps");
+_Static_assert(ZONED_FOLD_REFUSE == 0 && ZONED_FOLD_EARLIEST == 1 && ZONED_FOLD_LATEST == 2, "choices for folds");
+_Static_assert(ZONED_IN_GAP == 21 && ZONED_IN_FOLD == 22 && ZONED_INSTANT_OUT_OF_RANGE == 23, "why there is no instant");
 _Static_assert(ZONED_NEVER == 0 && ZONED_ONCE == 1 && ZONED_SEVERAL_TIMES == 2 && ZONED_OUT_OF_RANGE == 3, "how often");
 _Static_assert(ZONED_NO_OFFSET == -2147483647 - 1, "no offset");
 
@@ -73,6 +87,49 @@ int main(void) {
     IS(zoned_parse(ZONED_FILE, NEW_YORK, LEN), 5);
     IS(zoned_parse(ZONED_FILE, (const uint8_t *)"TZif", 4), 7);
     IS(zoned_parse(2, NEW_YORK, LEN), ZONED_UNKNOWN_KIND);
+
+    /* By a handle. The gap's instant by the offset before it is 2021-03-14 07:30:00 UTC. */
+    struct zoned_zone zone = {0};
+    int32_t offset = 77;
+    IS(zoned_zone_offset(&zone, 0, &offset), ZONED_NOT_OPEN);
+    IS(offset, 77);
+    IS(zoned_open(ZONED_FILE, NEW_YORK, LEN, &zone), 5);
+    IS(zoned_open(2, NEW_YORK, LEN, &zone), ZONED_UNKNOWN_KIND);
+    IS(zone.zone != NULL, 0);
+    IS(zoned_open(ZONED_TEXT, NEW_YORK, LEN, &zone), ZONED_OK);
+    IS(zone.zone != NULL, 1);
+    IS(zoned_zone_offset(&zone, instants[1], &offset), ZONED_OK);
+    IS(offset, -14400);
+    zoned_local_type types[3];
+    IS(zoned_zone_types(&zone, instants, 3, types, 3), ZONED_OK);
+    IS(types[0].offset, -18000);
+    IS(types[0].is_dst, 0);
+    IS(memcmp(types[0].abbreviation, "EST\0\0\0\0", 8), 0);
+    IS(types[1].is_dst, 1);
+    IS(memcmp(types[1].abbreviation, "EDT\0\0\0\0", 8), 0);
+    IS(types[2].offset, ZONED_NO_OFFSET);
+    IS(memcmp(types[2].abbreviation, "\0\0\0\0\0\0\0", 8), 0);
+    zoned_resolved taken[4];
+    const uint32_t numbers[4] = {ZONED_IN_GAP, ZONED_IN_FOLD, ZONED_OK, ZONED_INSTANT_OUT_OF_RANGE};
+    IS(zoned_zone_resolve(&zone, ZONED_GAP_REFUSE, ZONED_FOLD_REFUSE, LOCALS, 4, taken, 4), ZONED_OK);
+    for (int i = 0; i < 4; i++) IS(taken[i].number, numbers[i]);
+    IS(taken[2].instant, 1636304400);
+    IS(zoned_zone_resolve(&zone, ZONED_GAP_SHIFT_FORWARD, ZONED_FOLD_EARLIEST, LOCALS, 4, taken, 4), ZONED_OK);
+    IS(taken[0].instant, 1615707000);
+    IS(taken[0].offset, -14400);
+    IS(taken[1].instant, 1636263000);
+    IS(taken[1].offset, -14400);
+    IS(zoned_zone_instant(&zone, ZONED_GAP_REFUSE, ZONED_FOLD_LATEST, LOCALS[1], taken), ZONED_OK);
+    IS(taken[0].instant, 1636266600);
+    IS(taken[0].offset, -18000);
+    IS(zoned_zone_instant(&zone, 2, ZONED_FOLD_LATEST, LOCALS[1], taken), ZONED_UNKNOWN_CHOICE);
+    IS(zoned_zone_instant(&zone, ZONED_GAP_REFUSE, 3, LOCALS[1], taken), ZONED_UNKNOWN_CHOICE);
+    zoned_close(&zone);
+    zoned_close(&zone);
+    IS(zone.zone != NULL, 0);
+    uint8_t text[8] = "1234567";
+    IS(zoned_error_text(17, text, 4), 13);
+    IS(memcmp(text, "out\000567", 8), 0);
 
     /* A count that is wrong is told, and nothing is written: also one whose product by three is the room, as it wraps. */
     int32_t guarded[4] = {77, 77, 77, 77};

@@ -19,17 +19,28 @@ def without_comments(text, mark):
     return re.sub(rf"(?m){re.escape(mark)}(?: |/|!|$).*$", lambda found: " " * len(found[0]), text)
 
 
+def uses():
+    """The crates that crates.txt lists, each with the libraries that it names there."""
+    rows = [row.split("#")[0].partition(":") for row in text_of(TOP / "crates.txt").splitlines()]
+    return {words.split()[0]: libraries.split() for words, _, libraries in rows if words.strip()}
+
+
 def crates():
     """The crates that crates.txt lists."""
-    rows = text_of(TOP / "crates.txt").splitlines()
-    return [row.split(":")[0].split()[0] for row in rows if row.strip() and not row.startswith("#")]
+    return list(uses())
 
 
-def files(folder, ending):
-    """The crates' files of that folder and ending, without what rt made."""
+def libraries_below(crate):
+    """This repository's libraries that a crate stands on, also through others."""
+    direct = [library for library in uses()[crate] if library in uses()]
+    return {below for library in direct for below in [library, *libraries_below(library)]}
+
+
+def files(folder, ending, of=None):
+    """The crates' files of that folder and ending, without what rt made: of all crates, or of those."""
     return [
         path
-        for crate in crates()
+        for crate in of or crates()
         for path in sorted((TOP / "crates" / crate / folder).rglob(f"*{ending}"))
         if "out" not in path.relative_to(TOP / "crates" / crate).parts
     ]

@@ -8,7 +8,7 @@ crates/zoned_ffi, and gcc, rustc and python3. Three things are tried:
 
 - each program of examples/ is built and run by the two lines in its head, and what it prints is compared with Python's
   zoneinfo: zones.c, zones.rs and zones.py on files, rule.c on TZ texts;
-- each call that the header declares is called by a program of examples/, and defined in the archive;
+- each call that the header declares is called by a program of examples/ or by try_handles.c, and defined in the archive;
 - tools/header_pins.c, which pins the header's sizes, places and numbers, compiles, and finds them in the archive's answers.
 
 It takes a few seconds. The gate runs it. Ends with status 1 where anything differs.
@@ -40,6 +40,7 @@ REFUSED_TEXTS = [("EST5EDT", 15), ("FOO25", 6), ("5", 3)]
 HEADER = TOP / "crates/zoned_ffi/include/zoned_ffi.h"
 ARCHIVE = TOP / "crates/zoned_ffi/out/libzoned_ffi.a"
 PINS = TOP / "tools/header_pins.c"
+HANDLES = TOP / "tools/try_handles.c"
 
 
 def recipe(name):
@@ -55,7 +56,7 @@ def shown(zone, local):
     for fold in (0, 1):
         reading = (EPOCH + timedelta(seconds=local)).replace(tzinfo=zone, fold=fold)
         second = local - offset(reading)
-        back = zone.fromutc((EPOCH + timedelta(seconds=second)).replace(tzinfo=zone))
+        back = instant(zone, second)
         if back.replace(tzinfo=None) == reading.replace(tzinfo=None):
             seconds[second] = offset(back)
     return sorted(seconds.items())
@@ -65,20 +66,30 @@ def offset(reading):
     return int(reading.utcoffset().total_seconds())
 
 
+def instant(zone, second):
+    return zone.fromutc((EPOCH + timedelta(seconds=second)).replace(tzinfo=zone))
+
+
 def expected(zone):
     for second in SECONDS:
-        at = zone.fromutc((EPOCH + timedelta(seconds=second)).replace(tzinfo=zone))
-        yield f"instant {second}: {offset(at)}"
+        at = instant(zone, second)
+        yield f"instant {second}: {offset(at)} {at.tzname()}{' dst' if at.dst() else ''}"
         found = shown(zone, second)
         told = [f"{when} ({ahead})" for when, ahead in found]
         words = ["never", "once, at {}", "several times, first at {} and last at {}"][len(found)]
         yield f"wall clock {second}: {words.format(*told)}"
+        # In a gap the first fold of a reading has the offset before it.
+        taken = second - offset((EPOCH + timedelta(seconds=second)).replace(tzinfo=zone))
+        yield f"taken {second}: {taken} ({offset(instant(zone, taken))})"
 
 
-def told_by_rule(line):
-    """A line of what zones.c prints as rule.c prints it: offsets alone."""
-    line = re.sub(r"at -?\d+ \((-?\d+)\)", r"by \1", line)
-    return line
+def told_by_rule(lines):
+    """What zones.c prints as rule.c prints it: offsets alone."""
+    for line in lines:
+        if line.startswith("instant"):
+            yield " ".join(line.split()[:3])
+        elif line.startswith("wall clock"):
+            yield re.sub(r"at -?\d+ \((-?\d+)\)", r"by \1", line)
 
 
 def zone_of_text(text):
@@ -116,7 +127,7 @@ def differences(name, what, command, lines):
 
 def unrefused(name, what, command, number):
     ended = run(command)
-    if ended.returncode != 1 or f"is refused: {number}" not in ended.stderr:
+    if ended.returncode != 1 or not re.search(rf"is refused: {number}\b", ended.stderr):
         yield f"{name}: {what} ends with {ended.returncode}: {ended.stderr}"
 
 
@@ -141,7 +152,7 @@ def complaints_of_texts(name, folder):
         yield complaint
         return
     for text in TEXTS:
-        lines = [told_by_rule(line) for line in expected(zone_of_text(text))]
+        lines = list(told_by_rule(expected(zone_of_text(text))))
         yield from differences(name, text, [*start, text, *map(str, SECONDS)], lines)
     for text, number in REFUSED_TEXTS:
         yield from unrefused(name, text, [*start, text, "0"], number)
@@ -150,9 +161,10 @@ def complaints_of_texts(name, folder):
 def complaints_of_header(folder):
     """What is amiss between the header, the archive and the programs."""
     text = re.sub(r"/\*.*?\*/", "", HEADER.read_text(), flags=re.S)
-    declared = set(re.findall(r"^uint32_t (\w+)\(", text, re.M))
+    declared = set(re.findall(r"^(?:uint32_t|size_t|void) (\w+)\(", text, re.M))
     defined = set(re.findall(r" T (zoned_\w+)$", run(["nm", str(ARCHIVE)]).stdout, re.M))
-    called = {call for name in BUILT for call in re.findall(r"\bzoned_\w+(?=\()", (TOP / "examples" / name).read_text())}
+    callers = [*(TOP / "examples" / name for name in BUILT), HANDLES]
+    called = {call for path in callers for call in re.findall(r"\bzoned_\w+(?=\()", path.read_text())}
     if not declared:
         yield f"{HEADER.name} declares no call"
     for call in sorted(declared - defined):
@@ -160,7 +172,7 @@ def complaints_of_header(folder):
     for call in sorted(defined - declared):
         yield f"{call} is in the archive, and the header doesn't declare it"
     for call in sorted(declared - called):
-        yield f"{call} is called by no program of examples/"
+        yield f"{call} is called neither by a program of examples/ nor by {HANDLES.name}"
     kit = Path(run(["rt", "doc"]).stdout.strip()).parent
     pins = folder / "pins"
     libraries = [str(ARCHIVE), str(kit / "c/liblibc_c.a")]

@@ -1,5 +1,6 @@
 // This library, by the calls of zoned_ffi.h. A call reads the zone and answers a slice of questions; the time of a call
-// without a question is taken off.
+// without a question is taken off. As the peer `handle` the same questions by a handle, one call for each, as other peers are
+// asked.
 #include "common.h"
 #include "../../crates/zoned_ffi/include/zoned_ffi.h"
 
@@ -74,8 +75,35 @@ static void time_lookups(const Run &run, const std::string &name, const Zone &zo
     });
 }
 
+// One call a question, of a zone that is open.
+static void time_handle(const Run &run, const std::string &name, struct zoned_zone *zone, const char *years) {
+    size_t used;
+    std::vector<int64_t> instants = run.seconds("at", years), locals = run.seconds("wall", years);
+    std::vector<int32_t> offsets(instants.size()), told;
+    auto ask_instant = [&](size_t i) {
+        if (uint32_t number = zoned_zone_offset(zone, instants[i], &offsets[i])) refused(number);
+    };
+    double took = least_time(instants.size(), &used, ask_instant);
+    run.figure(name, "at", years, took, used);
+    for (size_t i = 0; i < CHECKED; i++) ask_instant(i);
+    offsets.resize(CHECKED);
+    run.answers(name, "at", years, offsets);
+
+    zoned_wall_clock clock;
+    auto ask_local = [&](size_t i) {
+        if (uint32_t number = zoned_zone_wall_clock(zone, locals[i], &clock)) refused(number);
+    };
+    took = least_time(locals.size(), &used, ask_local);
+    run.figure(name, "wall", years, took, used);
+    for (size_t i = 0; i < CHECKED; i++) {
+        ask_local(i);
+        tell_wall(told, clock.shown, clock.first_offset, clock.last_offset);
+    }
+    run.answers(name, "wall", years, told);
+}
+
 int main(int count, char **words) {
-    Run run("sahvumbi", count, words);
+    Run run("sahvumbi", count, words), by_handle("handle", count, words);
     for (const std::string &name : run.zones()) {
         bool is_text = name == "Text";
         Zone zone{is_text ? (uint32_t)ZONED_TEXT : (uint32_t)ZONED_FILE,
@@ -86,5 +114,10 @@ int main(int count, char **words) {
         run.figure(name, "read", "-", took, used);
         time_lookups(run, name, zone, "wide");
         time_lookups(run, name, zone, "near");
+        struct zoned_zone open = {nullptr};
+        if (uint32_t number = zoned_open(zone.kind, zone.data(), zone.bytes.size(), &open)) refused(number);
+        time_handle(by_handle, name, &open, "wide");
+        time_handle(by_handle, name, &open, "near");
+        zoned_close(&open);
     }
 }

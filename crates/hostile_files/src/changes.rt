@@ -1,6 +1,6 @@
-//! Files in which one byte is another. That each of them is a zone or refused, and that the
-//! number's fault stands in it, is proved of the reader; which fault is named where several stand,
-//! and that no zone is lost, these rows show.
+//! Files in which one byte is another. That each of them is a zone or refused by its first fault is
+//! proved of the reader, running out of memory aside; these rows show that the definitions say what
+//! another reader finds, and that no zone is lost.
 
 use crate::answers::{
     GUAYAQUIL_00, GUAYAQUIL_7F, GUAYAQUIL_80, GUAYAQUIL_FF, HONOLULU_00, HONOLULU_7F, HONOLULU_80,

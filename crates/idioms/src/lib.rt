@@ -21,8 +21,6 @@ pub mod agenda;
 pub mod borrowed;
 mod error;
 pub mod kept;
-#[cfg(test)]
-mod tests;
 pub mod utc;
 
 pub use error::IdiomError;

@@ -1,9 +1,9 @@
 //! Asks a zone for instants or for wall clocks, many times over, and prints what the answers sum up
 //! to. `bench/time_instants.py` times it: a kept zone beside a borrowed one.
 //!
-//! Usage: `instant_work ZONE QUESTION COUNT`, with `kept` or `borrowed` for ZONE, and `instant` or
-//! `wall` for QUESTION. The zone is a TZif file or a TZ text on standard input. With other words, or
-//! another input, it ends with status 1.
+//! Usage: `instant_work ZONE QUESTION COUNT`, with `kept` or `borrowed` for ZONE, and `instant`,
+//! `wall` or `gap` for QUESTION. The zone is a TZif file or a TZ text on standard input. With other
+//! words, or another input, it ends with status 1.
 #![tactic(auto)]
 
 mod questions;

@@ -1,7 +1,9 @@
 //! The questions, and what their answers sum up to.
 
 use crate::work_error::WorkError;
-use zoned::{DateTime, LocalResult, NaiveDateTime, Offset, TimeZone};
+use zoned::{
+    Choice, DateTime, FoldChoice, GapChoice, LocalResult, NaiveDateTime, Offset, TimeZone,
+};
 
 /// What a zone is asked.
 #[derive(Clone, Copy, PartialEq, Eq)]
@@ -10,6 +12,8 @@ pub enum Question {
     Instant,
     /// At which instants its clocks show a reading.
     Wall,
+    /// Which instant is taken for a reading that they skip.
+    Gap,
 }
 
 impl Question {
@@ -17,6 +21,7 @@ impl Question {
         match word {
             "instant" => Ok(Question::Instant),
             "wall" => Ok(Question::Wall),
+            "gap" => Ok(Question::Gap),
             _ => Err(WorkError::Usage),
         }
     }
@@ -26,6 +31,26 @@ impl Question {
 const FIRST: i64 = -2_208_988_800;
 
 const SECONDS: u64 = 6_311_433_600;
+
+// Half past two on days when New York's clocks are set forward at two, one of eight years each.
+const GAPS: [i64; 16] = [
+    9_945_000,
+    262_751_400,
+    514_953_000,
+    765_340_200,
+    1_018_146_600,
+    1_268_533_800,
+    1_520_735_400,
+    1_772_937_000,
+    2_025_743_400,
+    2_277_945_000,
+    2_530_751_400,
+    2_782_953_000,
+    3_035_759_400,
+    3_287_961_000,
+    3_540_162_600,
+    3_792_969_000,
+];
 
 /// The sum over so many questions, whose seconds are drawn from the years 1900 to 2099 by a fixed
 /// rule.
@@ -40,6 +65,7 @@ pub fn sum_of<Tz: TimeZone>(zone: &Tz, question: Question, count: u32) -> i64 {
         sum = sum.wrapping_add(match question {
             Question::Instant => at_instant(zone, second),
             Question::Wall => at_wall_clock(zone, second),
+            Question::Gap => in_gap(zone, GAPS[(drawn >> 11) as usize % 16]),
         });
     }
     sum
@@ -64,6 +90,21 @@ fn at_wall_clock<Tz: TimeZone>(zone: &Tz, second: i64) -> i64 {
         LocalResult::Ambiguous(first, last) => {
             ahead(&first).wrapping_add(ahead(&last).wrapping_mul(2))
         }
+    }
+}
+
+// Those at the instant that is taken for a reading in a gap.
+fn in_gap<Tz: TimeZone>(zone: &Tz, second: i64) -> i64 {
+    let Some(local) = NaiveDateTime::from_timestamp_opt(second, 0) else {
+        return 0;
+    };
+    let choice = Choice {
+        gap: GapChoice::ShiftForward,
+        fold: FoldChoice::Earliest,
+    };
+    match zone.resolve(&local, choice) {
+        Ok(instant) => ahead(&instant),
+        Err(_) => 0,
     }
 }
 

@@ -22,6 +22,3 @@ pub use months_days::{Days, Months};
 pub use time::NaiveTime;
 pub use timelike::Timelike;
 pub use weekday::Weekday;
-
-#[cfg(test)]
-mod tests;

@@ -1,6 +1,6 @@
 -- What an `OddOffset` shows.
 use Rattle.std.specs.Prelude.{ℤ, pos}
-use Rattle.zoned_time.specs.Zone.{Meaning, Law}
+use Rattle.zoned_time.specs.Zone.{Meaning, Law, meaning_by_seconds, law_by_seconds}
 use Rattle.odd_zone.specs.Odd.{odd_offset}
 use Rattle.odd_zone.specs.declared.offset.OddOffset.{OddOffset}
 use Rattle.odd_zone.specs.declared.offset.OddOffset.TheVariants.{Even, Odd}
@@ -13,8 +13,8 @@ ahead_of Odd = pos 1
 
 -- what the offsets mean: their zone is the odd one
 abbrev pub meaning_of : Meaning OddOffset
-meaning_of = record { seconds = ahead_of; home = λ _. odd_offset }
+meaning_of = meaning_by_seconds ahead_of (λ _. odd_offset)
 
 -- the law of the zone
 abbrev pub law_of : TheZone → Law meaning_of
-law_of _ = record { off = odd_offset }
+law_of _ = law_by_seconds odd_offset

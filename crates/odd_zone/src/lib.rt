@@ -19,8 +19,6 @@
 
 pub mod laws;
 mod offset;
-#[cfg(test)]
-mod tests;
 mod zone;
 
 pub use offset::OddOffset;

@@ -1,5 +1,5 @@
 -- The pieces of Honolulu's file, put together from bytes.
-use Rattle.std.proofs.Common.{◌≡◌, ap, refl, arith, inr, ℕ, ◌<◌, ℤ, ◌<ℤ◌, Bool, false, true, List, [], ◌∷◌, ◌++◌, length, pos, neg_ℤ}
+use Rattle.std.proofs.Common.{◌≡◌, ap, refl, arith, inl, inr, ℕ, ◌<◌, ℤ, ◌<ℤ◌, Bool, false, true, List, [], ◌∷◌, ◌++◌, length, pos, neg_ℤ}
 use Rattle.std.proofs.lemmas.Bool.{false≢true}
 use Rattle.std.proofs.lemmas.Str.{IsUtf8-from_ascii}
 use Rattle.std.proofs.lemmas.Str.Ascii.{IsAscii-cons, IsAscii-nil}
@@ -7,10 +7,8 @@ use Rattle.std.specs.Prelude.{None}
 use Rattle.std.specs.Int.{w32}
 use Rattle.tz_info.specs.FileBlocks.{IsBlock}
 use Rattle.tz_info.specs.FileContents.{signed, least_offset, SpellsType, IsMark, SpellTransitions, SpellTypes, IndicatorsAgree}
-use Rattle.tz_info.specs.FileHeaders.{IsHeader, AreCounts, CountsAgree, StandsFor, MayStand}
-use Rattle.tz_info.specs.FileHeaders.HeaderFault.{Other_version, First_version}
+use Rattle.tz_info.specs.FileHeaders.{IsHeader, AreCounts, CountsAgree, StandsFor, MayStand, VersionFault}
 use Rattle.tz_info.specs.FilePieces.{HasPieces, PieceFault, first_pieces}
-use Rattle.tz_info.specs.FilePieces.PieceFault.{Second_header, More_bytes}
 use Rattle.tz_info.specs.Footers.{IsFooter}
 use Rattle.tz_info.specs.Names.{is_name_byte}
 use Rattle.tz_info.specs.Pieces.{clock_max}
@@ -20,7 +18,8 @@ use Rattle.tz_info.specs.declared.file.header.Place.{Place}
 use Rattle.tz_info.specs.declared.file.header.Place.TheVariants.{First, Second}
 use Rattle.tz_info.specs.declared.file.header.Version.{Version}
 use Rattle.tz_info.specs.declared.file.header.Version.TheVariants.{One, Two}
-use Rattle.tz_info.proofs.FilePieceLaws.{pieces_again, pieces_refuses}
+use Rattle.tz_info.proofs.Decided.{apart}
+use Rattle.tz_info.proofs.FilePieceLaws.{pieces_law}
 use Rattle.pins.specs.Honolulu.{counts, header, short_times, long_times, type_indexes, type_records, designations, indicators, parts, block, pieces, hst_footer, file_with, honolulu_file, short_file}
 use Rattle.pins.specs.Zones.{named, honolulu, honolulu_from, hst10}
 use Rattle.pins.proofs.FileParts.{no_version_1}
@@ -332,24 +331,21 @@ of_version_1 = (
 )
 
 -- ---- wrong files
+-- what is wrong with the header of the second half
+second_header : (byte n : ℕ) → VersionFault Second (byte ∷ []) n → PieceFault (file_with byte) n
+second_header byte n fault =
+    let rest = header byte ++ (block long_times ++ hst_footer) in
+    inr (record { version = Two; counts = counts }, _, is_header First 50 Two (block short_times ++ rest) refl tt, inr (parts short_times, rest, first_block rest, inl (inr (_, refl, inl fault))))
+
 pub other_version : PieceFault (file_with 49) 14
-other_version =
-    let head = is_header First 50 Two (block short_times ++ (header 49 ++ (block long_times ++ hst_footer))) refl tt in
-    let first = first_block (header 49 ++ (block long_times ++ hst_footer)) in
-    Second_header 14 _ _ _ _ head not_one first (Other_version 49 _ refl no_version_1)
+other_version = second_header 49 14 (inr (no_version_1, refl))
 
 pub version_1_again : PieceFault (file_with 0) 5
-version_1_again =
-    let head = is_header First 50 Two (block short_times ++ (header 0 ++ (block long_times ++ hst_footer))) refl tt in
-    let first = first_block (header 0 ++ (block long_times ++ hst_footer)) in
-    Second_header 5 _ _ _ _ head not_one first (First_version _ refl refl)
+version_1_again = second_header 0 5 (inl (refl, refl, refl))
 
 pub byte_after : (b : ℕ) → PieceFault (short_file ++ (b ∷ [])) 5
 byte_after b =
-    More_bytes _ _ _ b [] (is_header First 0 One (block short_times ++ (b ∷ [])) refl tt) refl (first_block (b ∷ []))
+    inr (record { version = One; counts = counts }, _, is_header First 0 One (block short_times ++ (b ∷ [])) refl tt, inr (parts short_times, b ∷ [], first_block (b ∷ []), (some_bytes b [], refl)))
 
 pub no_file : (bytes : List ℕ) (n : ℕ) → PieceFault bytes n → (z : Zone) → IsTzFile bytes z → ⊥
-no_file bytes n fault z file =
-    let refused = pieces_refuses bytes n fault in
-    let read = pieces_again bytes file.0 file.1 in
-    cc
+no_file bytes n fault z file = apart (pieces_law bytes) file.0 n file.1 fault

@@ -6,3 +6,6 @@ pub mod SpelledPieces
 pub mod SpelledTexts
 pub mod FileParts
 pub mod HonoluluFile
+pub mod GivenDays
+pub mod PassedYears
+pub mod SetClocks

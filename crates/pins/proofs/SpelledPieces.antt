@@ -31,6 +31,18 @@ two_digits max d e rest digit digit₂ longest limit = record {
   limit = limit;
 }
 
+pub three_digits : (max d e g : ℕ) (rest : List ℕ) → is_digit d ≡ true → is_digit e ≡ true → is_digit g ≡ true → NoneFirst is_digit rest
+    → value_from 0 (d ∷ e ∷ g ∷ []) ≤ max → Number max (d ∷ e ∷ g ∷ rest) (value_from 0 (d ∷ e ∷ g ∷ [])) rest
+three_digits max d e g rest digit digit₂ digit₃ longest limit = record {
+  digits = d ∷ e ∷ g ∷ [];
+  whole = refl;
+  each = (digit, (digit₂, (digit₃, tt)));
+  some = omega arith;
+  longest = longest;
+  value = refl;
+  limit = limit;
+}
+
 -- hours alone
 pub hours : (limit : ℕ) (negative : Bool) (bytes : List ℕ) (h : ℕ) (rest : List ℕ) → Number clock_max bytes h rest → Without colon rest → h ≤ limit → Duration limit negative bytes (seconds_of negative h 0 0) rest
 hours limit negative bytes h rest number bare most = record {
@@ -50,6 +62,9 @@ no_sign bytes a b = inr (a, inr (b, (refl, refl)))
 
 pub minus_sign : (after : List ℕ) → Sign (45 ∷ after) true after
 minus_sign after = inr (λ e. absurd (omega arith), inl (after, refl, (refl, refl)))
+
+pub plus_sign : (after : List ℕ) → Sign (43 ∷ after) false after
+plus_sign after = inl (after, refl, (refl, refl))
 
 -- three letters or more
 pub is_name_3 : (a b c : ℕ) → is_name_byte a ≡ true → is_name_byte b ≡ true → is_name_byte c ≡ true → IsName (a ∷ b ∷ c ∷ [])

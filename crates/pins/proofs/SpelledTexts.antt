@@ -1,11 +1,11 @@
 -- What the texts spell.
 use Rattle.std.proofs.Common.{refl, arith, inl, inr, Bool, true, false, [], ◌∷◌, pos, neg_ℤ}
-use Rattle.tz_info.specs.Pieces.{clock_max}
+use Rattle.tz_info.specs.Pieces.{clock_max, day_max}
 use Rattle.tz_info.specs.TzFaults.{IsTextFault}
 use Rattle.tz_info.specs.TzTexts.{IsTzText}
 use Rattle.pins.specs.NewYork.{new_york_rule}
-use Rattle.pins.specs.Texts.{new_york_text, no_days, foo_23, foo_23_rule, foo_24, utc_text, utc_rule, jerusalem_text, jerusalem_rule, nuuk_text, nuuk_rule}
-use Rattle.pins.proofs.SpelledPieces.{one_digit, two_digits, hours, no_sign, minus_sign, is_name_3, letters_3, month_date_1, month_date_2, at_two, some_bytes}
+use Rattle.pins.specs.Texts.{new_york_text, no_days, foo_23, foo_23_rule, foo_24, utc_text, utc_rule, jerusalem_text, jerusalem_rule, nuuk_text, nuuk_rule, foo_plus_5, foo_minus_5, foo_behind, foo_ahead, numbered_text, numbered_rule}
+use Rattle.pins.proofs.SpelledPieces.{one_digit, two_digits, three_digits, hours, no_sign, plus_sign, minus_sign, is_name_3, letters_3, month_date_1, month_date_2, at_two, some_bytes}
 
 pub new_york : (extended : Bool) → IsTzText extended new_york_text new_york_rule
 new_york extended = record {
@@ -183,3 +183,80 @@ over_23 extended = inr (
     ),
   )),
 )
+
+-- `FOO+5` and `FOO-5`
+pub plus_5_spelled : (extended : Bool) → IsTzText extended foo_plus_5 foo_behind
+plus_5_spelled extended = record {
+  name = 70 ∷ 79 ∷ 79 ∷ [];
+  after_name = 43 ∷ 53 ∷ [];
+  name_spelled = letters_3 70 79 79 _ refl refl refl refl (λ e. absurd (omega arith));
+  offset_spelled = record {
+    is_minus = false;
+    unsigned = 53 ∷ [];
+    sign = plus_sign (53 ∷ []);
+    duration = hours 23 true _ 5 _ (one_digit clock_max 53 [] refl tt (omega arith)) tt (omega arith);
+  };
+  named = record { allowed = is_name_3 70 79 79 refl refl refl; named = refl; mark = refl };
+}
+
+pub minus_5_spelled : (extended : Bool) → IsTzText extended foo_minus_5 foo_ahead
+minus_5_spelled extended = record {
+  name = 70 ∷ 79 ∷ 79 ∷ [];
+  after_name = 45 ∷ 53 ∷ [];
+  name_spelled = letters_3 70 79 79 _ refl refl refl refl (λ e. absurd (omega arith));
+  offset_spelled = record {
+    is_minus = true;
+    unsigned = 53 ∷ [];
+    sign = minus_sign (53 ∷ []);
+    duration = hours 23 false _ 5 _ (one_digit clock_max 53 [] refl tt (omega arith)) tt (omega arith);
+  };
+  named = record { allowed = is_name_3 70 79 79 refl refl refl; named = refl; mark = refl };
+}
+
+-- `EST5EDT,J60,300`
+pub numbered : (extended : Bool) → IsTzText extended numbered_text numbered_rule
+numbered extended = record {
+  std_name = 69 ∷ 83 ∷ 84 ∷ [];
+  dst_name = 69 ∷ 68 ∷ 84 ∷ [];
+  after_std_name = 53 ∷ 69 ∷ 68 ∷ 84 ∷ 44 ∷ 74 ∷ 54 ∷ 48 ∷ 44 ∷ 51 ∷ 48 ∷ 48 ∷ [];
+  after_std = 69 ∷ 68 ∷ 84 ∷ 44 ∷ 74 ∷ 54 ∷ 48 ∷ 44 ∷ 51 ∷ 48 ∷ 48 ∷ [];
+  after_dst_name = 44 ∷ 74 ∷ 54 ∷ 48 ∷ 44 ∷ 51 ∷ 48 ∷ 48 ∷ [];
+  at_start = 74 ∷ 54 ∷ 48 ∷ 44 ∷ 51 ∷ 48 ∷ 48 ∷ [];
+  at_end = 51 ∷ 48 ∷ 48 ∷ [];
+  std_name_spelled = letters_3 69 83 84 _ refl refl refl refl (λ e. absurd (omega arith));
+  std_offset_spelled = record {
+    is_minus = false;
+    unsigned = _;
+    sign = no_sign _ (λ e. absurd (omega arith)) (λ e. absurd (omega arith));
+    duration = hours 23 true _ 5 _ (one_digit clock_max 53 _ refl refl (omega arith)) (λ e. absurd (omega arith)) (omega arith);
+  };
+  dst_name_spelled = letters_3 69 68 84 _ refl refl refl refl (λ e. absurd (omega arith));
+  dst_offset_spelled = inl (_, refl, record { value = refl; limit = omega arith; whole = refl });
+  start_spelled = at_two extended _ _ _ (inr (
+    λ e. absurd (omega arith),
+    inl (
+      _,
+      refl,
+      record {
+        n = 60;
+        spelled = two_digits day_max 54 48 _ refl refl refl (omega arith);
+        value = refl;
+        fits = (omega arith, omega arith);
+      },
+    ),
+  )) (λ e. absurd (omega arith));
+  end_spelled = at_two extended _ _ [] (inr (
+    λ e. absurd (omega arith),
+    inr (
+      λ e. absurd (omega arith),
+      record {
+        n = 300;
+        spelled = three_digits day_max 51 48 48 [] refl refl refl tt (omega arith);
+        value = refl;
+        fits = omega arith;
+      },
+    ),
+  )) tt;
+  std_named = record { allowed = is_name_3 69 83 84 refl refl refl; named = refl; mark = refl };
+  dst_named = record { allowed = is_name_3 69 68 84 refl refl refl; named = refl; mark = refl };
+}

@@ -6,7 +6,13 @@ use Rattle.tz_info.specs.declared.file.header.Counts.{Counts}
 
 -- the names, each with a 0 byte at its end: `LMT`, `HST`, `HDT`, `HWT` and `HPT`
 abbrev pub designations : List ℕ
-designations = 76 ∷ 77 ∷ 84 ∷ 0 ∷ 72 ∷ 83 ∷ 84 ∷ 0 ∷ 72 ∷ 68 ∷ 84 ∷ 0 ∷ 72 ∷ 87 ∷ 84 ∷ 0 ∷ 72 ∷ 80 ∷ 84 ∷ 0 ∷ []
+designations =
+    76 ∷ 77 ∷ 84 ∷ 0 ∷
+    72 ∷ 83 ∷ 84 ∷ 0 ∷
+    72 ∷ 68 ∷ 84 ∷ 0 ∷
+    72 ∷ 87 ∷ 84 ∷ 0 ∷
+    72 ∷ 80 ∷ 84 ∷ 0 ∷
+    []
 
 -- a type of -10:00 whose name begins at 4, and whose isdst byte is that
 abbrev pub hst_record : ℕ → List ℕ
@@ -25,7 +31,14 @@ hst_footer = 10 ∷ 72 ∷ 83 ∷ 84 ∷ 49 ∷ 48 ∷ 10 ∷ []
 
 -- how many things each header counts
 abbrev pub counts : Counts
-counts = record { ut_local = 6; standard_wall = 6; leap_seconds = 0; transitions = 7; types = 6; designations = 20 }
+counts = record {
+  ut_local = 6;
+  standard_wall = 6;
+  leap_seconds = 0;
+  transitions = 7;
+  types = 6;
+  designations = 20;
+}
 
 -- a header of that version's byte, fifteen 0 bytes, and the counts
 abbrev pub header : ℕ → List ℕ
@@ -97,11 +110,13 @@ parts times = record {
 
 -- the bytes of that block: there are no leap seconds
 abbrev pub block : List ℕ → List ℕ
-block times = times ++ (type_indexes ++ (type_records ++ (designations ++ (indicators ++ indicators))))
+block times =
+    times ++ (type_indexes ++ (type_records ++ (designations ++ (indicators ++ indicators))))
 
 -- the file, with that version's byte in its second header
 abbrev pub file_with : ℕ → List ℕ
-file_with version = header 50 ++ (block short_times ++ (header version ++ (block long_times ++ hst_footer)))
+file_with version =
+    header 50 ++ (block short_times ++ (header version ++ (block long_times ++ hst_footer)))
 
 -- the file as it is: both headers say version 2
 abbrev pub honolulu_file : List ℕ
@@ -113,4 +128,10 @@ short_file = header 0 ++ block short_times
 
 -- the pieces that say the zone: the second block and the footer
 abbrev pub pieces : FilePieces
-pieces = record { extended = false; time_size = 8; counts = counts; parts = parts long_times; footer = Some hst_footer }
+pieces = record {
+  extended = false;
+  time_size = 8;
+  counts = counts;
+  parts = parts long_times;
+  footer = Some hst_footer;
+}

@@ -1,5 +1,8 @@
+pub mod Choices
+pub mod Fields
 pub mod Files
 pub mod Honolulu
+pub mod Instants
 pub mod LeapSeconds
 pub mod Looks
 pub mod NewYork

@@ -75,8 +75,8 @@ pub fn weekdays()
     ensures before_first { weekday_of (day_number (pos 1969) 12 31) ≡ 3 }
 {}
 
-/// 2021-01-01 was a Friday in week 53 of 2020, 2018-12-31 a Monday in week 1 of 2019. 4 January lies
-/// in week 1 of its year, always.
+/// 2021-01-01 was a Friday in week 53 of 2020, 2018-12-31 a Monday in week 1 of 2019. 4 January
+/// lies in week 1 of its year, always.
 pub fn weeks()
     ensures friday { (week : IsoWeek) → IsWeekOf (day_number (pos 2021) 1 1) week
         → (iso_year week ≡ pos 2020) × (iso_number week ≡ 53) }

@@ -1,9 +1,9 @@
 //! Parts of TZif files, as Honolulu's file has them (RFC 8536 appendix B.2).
 
-ghost use Rattle.std.specs.Prelude.{◌≡◌, ℕ, Bool, true, false, [], ◌∷◌, List, None, pos, neg_ℤ};
-ghost use Rattle.tz_info.specs.FileContents.{IsMark, SpellsType, SpellsLeapSecond, IndicatorsAgree, time_of};
-ghost use Rattle.tz_info.specs.FileHeaders.{AreCounts, IsNumber, StandsFor};
-ghost use Rattle.tz_info.specs.FilePieces.{FilePieces, IsAfterFirstBlock};
+ghost use Rattle.std.specs.Prelude.{◌≡◌, ℕ, Bool, true, false, [], ◌∷◌, ◌++◌, List, None, pos, neg_ℤ};
+ghost use Rattle.tz_info.specs.FileContents.{IsMark, SpellsType, TypeFault, SpellsLeapSecond, IndicatorsAgree, time_of};
+ghost use Rattle.tz_info.specs.FileHeaders.{AreCounts, CountsAgree, IsNumber, StandsFor};
+ghost use Rattle.tz_info.specs.FilePieces.{FilePieces, IsAfterFirstBlock, is_extended};
 ghost use Rattle.tz_info.specs.FileBlocks.{IsBlock, Parts};
 ghost use Rattle.tz_info.specs.declared.file.header.Counts.{Counts};
 ghost use Rattle.tz_info.specs.declared.file.header.Version.{Version};
@@ -11,7 +11,7 @@ ghost use Rattle.tz_info.specs.declared.file.header.Version.TheVariants.{One, Tw
 ghost use Rattle.tz_info.specs.Footers.{IsFooter, FooterFault};
 ghost use Rattle.tz_info.specs.LocalTypes.{LocalType};
 ghost use Rattle.pins.specs.Honolulu.{designations, hst_record, hst_footer, first_time, least_time};
-ghost use Rattle.pins.specs.Files.{one_to_six};
+ghost use Rattle.pins.specs.Files.{one_to_six, of_types, short_record, long_record, one_leap_second, with_leap_second};
 ghost use Rattle.pins.specs.LeapSeconds.{entry};
 ghost use Rattle.pins.specs.Zones.{hst, hst10};
 
@@ -40,6 +40,15 @@ pub fn counts()
     ensures high_byte_first { IsNumber (1 ∷ 2 ∷ 3 ∷ 4 ∷ []) 16_909_060 [] }
 {}
 
+/// There is a type, and a byte of designations; indicators are given for no type, or for each.
+pub fn counts_that_agree()
+    ensures indicators { CountsAgree (of_types 6 6 20) }
+    ensures no_indicators { CountsAgree (of_types 0 6 20) }
+    ensures some_indicators { ¬ (CountsAgree (of_types 5 6 20)) }
+    ensures no_types { ¬ (CountsAgree (of_types 0 0 20)) }
+    ensures no_designations { ¬ (CountsAgree (of_types 6 6 0)) }
+{}
+
 /// The isdst byte is 0 or 1.
 pub fn flags()
     ensures standard { IsMark 0 false }
@@ -53,10 +62,26 @@ pub fn times()
     ensures four_bytes { time_of 4 least_time ≡ neg_ℤ (pos 2_147_483_648) }
 {}
 
+/// Version 3 alone has the extensions of TZ texts.
+pub fn extended()
+    ensures one { is_extended One ≡ false }
+    ensures two { is_extended Two ≡ false }
+    ensures three { is_extended Three ≡ true }
+{}
+
 /// A type's record: its offset, its isdst byte, and where its name begins.
 pub fn types()
     ensures hst { SpellsType designations (hst_record 0) hst }
+    ensures least_offset { (t : LocalType)
+        → ¬ (SpellsType designations (128 ∷ 0 ∷ 0 ∷ 0 ∷ 0 ∷ 4 ∷ []) t) }
     ensures flag_2 { (t : LocalType) → ¬ (SpellsType designations (hst_record 2) t) }
+{}
+
+/// Of a type's record the isdst byte is judged before the offset, of which only the least number of
+/// 32 bits is a fault.
+pub fn type_faults()
+    ensures flag { TypeFault designations (128 ∷ 0 ∷ 0 ∷ 0 ∷ 2 ∷ 0 ∷ []) 5 }
+    ensures not_offset { ¬ (TypeFault designations (128 ∷ 0 ∷ 0 ∷ 0 ∷ 2 ∷ 0 ∷ []) 3) }
 {}
 
 /// Honolulu's footer, `HST10` between newlines, says a rule of one type. One newline alone says
@@ -70,10 +95,8 @@ pub fn footers()
 /// A leap second's record: its time, and the correction from then on. 1972-06-30 23:59:60 was the
 /// first.
 pub fn leap_seconds()
-    ensures four_bytes { SpellsLeapSecond 4 (4 ∷ 178 ∷ 88 ∷ 0 ∷ 0 ∷ 0 ∷ 0 ∷ 1 ∷ [])
-        (entry (pos 78_796_800) 1) }
-    ensures eight_bytes { SpellsLeapSecond 8 (0 ∷ 0 ∷ 0 ∷ 0 ∷ 4 ∷ 178 ∷ 88 ∷ 0 ∷ 0 ∷ 0 ∷ 0 ∷ 1 ∷ [])
-        (entry (pos 78_796_800) 1) }
+    ensures four_bytes { SpellsLeapSecond 4 short_record (entry (pos 78_796_800) 1) }
+    ensures eight_bytes { SpellsLeapSecond 8 long_record (entry (pos 78_796_800) 1) }
 {}
 
 /// A block has its parts in this order: standard/wall indicators come before UT/local ones.
@@ -94,6 +117,14 @@ pub fn parts()
       standard_wall = 8 ∷ [];
       ut_local = 9 ∷ 10 ∷ [];
     }) [] }
+{}
+
+/// A leap second's record has eight bytes in the first block, and twelve in the second.
+pub fn leap_second_blocks()
+    ensures first { (rest : List ℕ) → IsBlock 4 one_leap_second (short_record ++ rest)
+        (with_leap_second short_record) rest }
+    ensures second { (rest : List ℕ) → IsBlock 8 one_leap_second (long_record ++ rest)
+        (with_leap_second long_record) rest }
 {}
 
 /// What is given in UT is given in standard time; an indicator left out is 0.

@@ -48,8 +48,8 @@ pub fn file()
     ensures only { (z : Zone) → IsTzFile honolulu_file z → z ≡ honolulu hst10 }
 {}
 
-/// The first block alone is a file of version 1, whose first transition is at the least time of four
-/// bytes and which has no rule. With any byte after it, it is no file.
+/// The first block alone is a file of version 1, whose first transition is at the least time of
+/// four bytes and which has no rule. With any byte after it, it is no file.
 pub fn version_1()
     ensures spells { IsTzFile short_file (honolulu_from (neg_ℤ (pos 2_147_483_648)) None) }
     ensures byte_after { (b : ℕ) (z : Zone) → ¬ (IsTzFile (short_file ++ (b ∷ [])) z) }

@@ -1,7 +1,7 @@
 //! The 27 leap seconds of UTC from 1972 to 2016: leap times count them, Unix times don't.
 
 ghost use Rattle.std.specs.Prelude.{◌≡◌, [], ◌∷◌, map, pos, neg_ℤ, ◌*ℤ◌};
-ghost use Rattle.tz_info.specs.Leaps.{AreLeapSeconds, IsLeapTime, IsUnixTime, thresholds};
+ghost use Rattle.tz_info.specs.Leaps.{AreLeapSeconds, IsLeapTime, IsNear, IsUnixTime, thresholds};
 ghost use Rattle.pins.specs.LeapSeconds.{utc_leaps, days_after, entry};
 
 /// They may be a zone's, and each ends where a month does: at midnight of UTC.
@@ -15,9 +15,11 @@ pub fn table()
 /// more or less than the one before.
 pub fn limits()
     ensures close { AreLeapSeconds (entry (pos 78_796_800) 1 ∷ entry (pos 81_215_999) 2 ∷ []) }
-    ensures too_close { ¬ (AreLeapSeconds (entry (pos 78_796_800) 1 ∷ entry (pos 81_215_998) 2 ∷ [])) }
+    ensures too_close { ¬ (AreLeapSeconds
+        (entry (pos 78_796_800) 1 ∷ entry (pos 81_215_998) 2 ∷ [])) }
     ensures two_at_once { ¬ (AreLeapSeconds (entry (pos 78_796_800) 2 ∷ [])) }
-    ensures two_more { ¬ (AreLeapSeconds (entry (pos 78_796_800) 1 ∷ entry (pos 94_694_401) 3 ∷ [])) }
+    ensures two_more { ¬ (AreLeapSeconds
+        (entry (pos 78_796_800) 1 ∷ entry (pos 94_694_401) 3 ∷ [])) }
     ensures taken_away { AreLeapSeconds (record {
       unix_leap_time = pos 78_796_800;
       correction = neg_ℤ (pos 1);
@@ -37,6 +39,14 @@ pub fn leap_times()
     ensures second { IsLeapTime utc_leaps (pos 94_694_400) (pos 94_694_402) }
     ensures before_last { IsLeapTime utc_leaps (pos 1_483_228_799) (pos 1_483_228_825) }
     ensures last { IsLeapTime utc_leaps (pos 1_483_228_800) (pos 1_483_228_827) }
+{}
+
+/// Seconds to 10^13 before 1970 and after it are near enough to have leap times.
+pub fn near()
+    ensures least { IsNear (neg_ℤ (pos 10_000_000_000_000)) }
+    ensures before { ¬ (IsNear (neg_ℤ (pos 10_000_000_000_001))) }
+    ensures greatest { IsNear (pos 10_000_000_000_000) }
+    ensures after { ¬ (IsNear (pos 10_000_000_000_001)) }
 {}
 
 /// A leap second has the Unix time of the second that follows it.

@@ -1,13 +1,17 @@
 //! Facts about the definitions alone: each function is empty, its contract is proved; never called.
 //!
-//! Contracts are written in the words of `specs/`. A wrong word makes each proof that uses it a proof
-//! of something else, and no proof of code can notice. These facts can: they are worked examples from
-//! the public standards and from the calendar, stated of the words and proved with no code between.
+//! Contracts are written in the words of `specs/`. A wrong word makes each proof that uses it a
+//! proof of something else, and no proof of code can notice. These facts can: they are worked
+//! examples from the public standards and from the calendar, stated of the words and proved with no
+//! code between.
 #![tactic(auto)]
 
 pub mod calendar;
+pub mod choices;
+pub mod fields;
 pub mod files;
 pub mod honolulu;
+pub mod instants;
 pub mod leap_seconds;
 pub mod looks;
 pub mod odd;
@@ -16,5 +20,6 @@ pub mod readings;
 pub mod roundings;
 pub mod rules;
 pub mod texts;
+pub mod values;
 pub mod wall_clocks;
 pub mod zones;

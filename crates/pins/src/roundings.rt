@@ -1,8 +1,12 @@
 //! Multiples and digits, as chrono's documentation of rounding has them.
 
-ghost use Rattle.std.specs.Prelude.{◌≡◌, pos, neg_ℤ};
+ghost use Rattle.std.specs.Prelude.{◌≡◌, pos, neg_ℤ, codes};
+ghost use Rattle.zoned_round.specs.Durations.{IsSpan};
+ghost use Rattle.zoned_round.specs.Errors.{IsRefusal, message};
 ghost use Rattle.zoned_round.specs.Multiples.{multiple_below, multiple_above, nearest_multiple};
 ghost use Rattle.zoned_round.specs.Subseconds.{rounded, cut};
+ghost use Rattle.zoned_round.specs.declared.error.RoundingError.{RoundingError};
+ghost use Rattle.zoned_round.specs.declared.error.RoundingError.TheVariants.{DurationExceedsLimit, DurationExceedsTimestamp, TimestampExceedsLimit};
 ghost use Rattle.pins.specs.Readings.{at};
 
 /// 12:00:00.154 to ten milliseconds is 12:00:00.150, and to a day the next midnight. A tie goes up,
@@ -17,6 +21,22 @@ pub fn multiples()
     ensures below_before_1970 { multiple_below (neg_ℤ (pos 1)) 10 ≡ neg_ℤ (pos 10) }
     ensures above { multiple_above (pos 43_200_154) 10 ≡ pos 43_200_160 }
     ensures itself { multiple_above (pos 43_200_150) 10 ≡ pos 43_200_150 }
+{}
+
+/// A length of nothing, and a clock whose nanoseconds don't fit: the length's fault is told. What
+/// each fault prints is chrono's text.
+pub fn refusals()
+    ensures no_length { ¬ (IsSpan (pos 0)) }
+    ensures shortest { IsSpan (pos 1) }
+    ensures longest { IsSpan (pos 9_223_372_036_854_775_807) }
+    ensures too_long { ¬ (IsSpan (pos 9_223_372_036_854_775_808)) }
+    ensures both { (e : RoundingError) → IsRefusal ⊥ ⊥ e → e ≡ DurationExceedsLimit }
+    ensures limit { message DurationExceedsLimit
+        ≡ codes "duration exceeds num_nanoseconds limit" }
+    ensures timestamp { message TimestampExceedsLimit
+        ≡ codes "timestamp exceeds num_nanoseconds limit" }
+    ensures exceeds { message DurationExceedsTimestamp
+        ≡ codes "duration in nanoseconds exceeds timestamp" }
 {}
 
 /// 12:00:00.154 rounded to two digits is 12:00:00.150, and cut after one it is 12:00:00.100.

@@ -1,9 +1,11 @@
-//! The days of rules, and New York's clocks in 2021 by `EST5EDT,M3.2.0,M11.1.0` (POSIX.1 section 8.3).
+//! The days of rules, and New York's clocks in 2021 by `EST5EDT,M3.2.0,M11.1.0` (POSIX.1 section
+//! 8.3).
 
 ghost use Rattle.std.specs.Prelude.{◌≡◌, pos, neg_ℤ};
 ghost use Rattle.naive_base.specs.Date.{day_number};
 ghost use Rattle.tz_info.specs.RuleDays.{IsDayOf, IsRuleDay};
 ghost use Rattle.tz_info.specs.RuleDayOf.{rule_day};
+ghost use Rattle.tz_info.specs.Rules.{IsWithinWeek};
 ghost use Rattle.tz_info.specs.Moments.{start_in, end_in, IsYearOf, IsRuleYear};
 ghost use Rattle.tz_info.specs.RuleTypes.{RuleAt, IsRuleRefused};
 ghost use Rattle.tz_info.specs.declared.rule.day.DayForm.TheVariants.{Julian1, Julian0, MonthWeekday};
@@ -26,6 +28,26 @@ pub fn days()
         ≡ day_number (pos 2021) 10 31 }
     ensures fourth_is_last { rule_day (MonthWeekday 3 5 0) (pos 2021)
         ≡ day_number (pos 2021) 3 28 }
+{}
+
+/// The same days, by what a day of a rule is: 1 March is the 60th of 365 dates, 29 February comes
+/// 59 days after 1 January, 14 March 2021 is the second Sunday, and 28 March 2021 the last.
+pub fn days_themselves()
+    ensures j60_leap { IsDayOf (Julian1 60) (pos 2024) (day_number (pos 2024) 3 1) }
+    ensures n59_leap { IsDayOf (Julian0 59) (pos 2024) (day_number (pos 2024) 2 29) }
+    ensures second_sunday { IsDayOf (MonthWeekday 3 2 0) (pos 2021) (day_number (pos 2021) 3 14) }
+    ensures last_sunday { IsDayOf (MonthWeekday 3 5 0) (pos 2021) (day_number (pos 2021) 3 28) }
+    ensures first_monday { IsDayOf (MonthWeekday 11 1 1) (pos 2021) (day_number (pos 2021) 11 1) }
+    ensures seventh_of_month { IsDayOf (MonthWeekday 11 1 0) (pos 2021)
+        (day_number (pos 2021) 11 7) }
+{}
+
+/// A time of a rule's day lies strictly within a week.
+pub fn times()
+    ensures most { IsWithinWeek (pos 604_799) }
+    ensures week { ¬ (IsWithinWeek (pos 604_800)) }
+    ensures least { IsWithinWeek (neg_ℤ (pos 604_799)) }
+    ensures week_before { ¬ (IsWithinWeek (neg_ℤ (pos 604_800))) }
 {}
 
 /// The numbers that a day may have.

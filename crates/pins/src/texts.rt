@@ -1,18 +1,56 @@
 //! TZ texts and the rules that they spell (POSIX.1 section 8.3, RFC 8536 section 3.3.1).
 
-ghost use Rattle.std.specs.Prelude.{ℕ, List, Bool, true, false};
+ghost use Rattle.std.specs.Prelude.{◌≡◌, ℕ, [], ◌∷◌, ◌++◌, List, Bool, true, false, pos, neg_ℤ};
+ghost use Rattle.tz_info.specs.Names.{IsName};
+ghost use Rattle.tz_info.specs.Pieces.{time_limit, seconds_of};
 ghost use Rattle.tz_info.specs.TzTexts.{IsTzText};
 ghost use Rattle.tz_info.specs.TzFaults.{IsTextFault};
-ghost use Rattle.tz_info.specs.PosixZones.{IsPosixZone};
-ghost use Rattle.tz_info.specs.Zones.{Zone};
-ghost use Rattle.pins.specs.NewYork.{new_york_rule, new_york_zone};
-ghost use Rattle.pins.specs.Texts.{new_york_text, no_days, foo_23, foo_23_rule, foo_24, utc_text, utc_rule, jerusalem_text, jerusalem_rule, nuuk_text, nuuk_rule};
+ghost use Rattle.tz_info.specs.PosixZones.{IsPosixZone, posix_zone, types_of};
+ghost use Rattle.tz_info.specs.Zones.{Zone, plain_zone};
+ghost use Rattle.pins.specs.NewYork.{new_york_rule, new_york_zone, est, edt};
+ghost use Rattle.pins.specs.Texts.{new_york_text, no_days, foo_23, foo_23_rule, foo_24, foo_5_60, foo, fo_5, day_0, utc_text, utc_rule, jerusalem_text, jerusalem_rule, nuuk_text, nuuk_rule, foo_plus_5, foo_minus_5, foo_behind, foo_ahead, numbered_text, numbered_rule};
 
 /// `EST5EDT,M3.2.0,M11.1.0` spells that rule, and `UTC0` one of one type.
 pub fn rules()
     ensures new_york { (extended : Bool) → IsTzText extended new_york_text new_york_rule }
     ensures utc { (extended : Bool) → IsTzText extended utc_text utc_rule }
     ensures zone { IsPosixZone new_york_text new_york_zone }
+{}
+
+/// Offsets count west of UTC: `+5` is five hours behind it, as `5` is, and `-5` five hours ahead.
+pub fn signs()
+    ensures plus { (extended : Bool) → IsTzText extended foo_plus_5 foo_behind }
+    ensures minus { (extended : Bool) → IsTzText extended foo_minus_5 foo_ahead }
+{}
+
+/// `J60` is the 60th day of a common year, and `300` the day 300 after 1 January.
+pub fn numbered_days()
+    ensures rule { (extended : Bool) → IsTzText extended numbered_text numbered_rule }
+{}
+
+/// White space around a text is no part of it, and no text at all gives the zone of UTC.
+pub fn zones()
+    ensures spaced { IsPosixZone (32 ∷ (utc_text ++ (10 ∷ []))) (posix_zone utc_rule) }
+    ensures empty { IsPosixZone [] (plain_zone (pos 0)) }
+    ensures types { types_of new_york_rule ≡ est ∷ edt ∷ [] }
+{}
+
+/// A name has three to seven letters, digits, `+` or `-`.
+pub fn names()
+    ensures three { IsName (69 ∷ 83 ∷ 84 ∷ []) }
+    ensures seven { IsName (43 ∷ 49 ∷ 50 ∷ 51 ∷ 45 ∷ 90 ∷ 122 ∷ []) }
+    ensures two { ¬ (IsName (69 ∷ 83 ∷ [])) }
+    ensures eight { ¬ (IsName (69 ∷ 83 ∷ 84 ∷ 69 ∷ 83 ∷ 84 ∷ 69 ∷ 83 ∷ [])) }
+    ensures underscore { ¬ (IsName (69 ∷ 95 ∷ 84 ∷ [])) }
+{}
+
+/// Hours of a time of day go to 24, and with extensions to 167. Of an offset 1:30:15 west is less
+/// than UTC by so many seconds.
+pub fn times()
+    ensures plain { time_limit false ≡ 24 }
+    ensures extended { time_limit true ≡ 167 }
+    ensures west { seconds_of true 1 30 15 ≡ neg_ℤ (pos 5_415) }
+    ensures east { seconds_of false 1 30 15 ≡ pos 5_415 }
 {}
 
 /// RFC 8536's examples of its extensions: a time of 26 hours, and times before midnight.
@@ -25,6 +63,15 @@ pub fn extensions()
 pub fn faults()
     ensures ends { IsTextFault false no_days 15 }
     ensures none { (zone : Zone) → ¬ (IsPosixZone no_days zone) }
+{}
+
+/// A minute is below 60, an offset has a digit, a name three letters, and the first date of a year
+/// is `J1`.
+pub fn fault_numbers()
+    ensures minute_60 { (extended : Bool) → IsTextFault extended foo_5_60 6 }
+    ensures no_digit { (extended : Bool) → IsTextFault extended foo 10 }
+    ensures two_letters { (extended : Bool) → IsTextFault extended fo_5 3 }
+    ensures date_0 { (extended : Bool) → IsTextFault extended day_0 13 }
 {}
 
 /// The hours of an offset go to 23, and not to 24 as POSIX.1 allows.

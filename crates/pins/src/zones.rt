@@ -1,9 +1,9 @@
 //! Zones with transitions: what is in force before the first, at it, and from the last on.
 
-ghost use Rattle.std.specs.Prelude.{◌≡◌, pos, neg_ℤ, true, Some, None};
+ghost use Rattle.std.specs.Prelude.{◌≡◌, [], ◌∷◌, pos, neg_ℤ, true, Some, None};
 ghost use Rattle.tz_info.specs.Zones.{TypeAt, IsValid};
 ghost use Rattle.tz_info.specs.declared.rule.transition_rule.TransitionRule.TheVariants as rules;
-ghost use Rattle.pins.specs.Zones.{honolulu, hst10, lmt, early_hst, hst, named, two_types};
+ghost use Rattle.pins.specs.Zones.{honolulu, hst10, lmt, early_hst, hst, named, change, listed, two_types};
 
 /// The first type before the first transition, and the transition's own type from its second on.
 pub fn honolulu_types()
@@ -26,6 +26,16 @@ pub fn leap_times()
     ensures before { TypeAt (two_types (pos 78_796_801) None) (pos 78_796_799) lmt }
     ensures from { TypeAt (two_types (pos 78_796_801) None) (pos 78_796_800) hst }
     ensures none_by_unix_time { TypeAt (two_types (pos 78_796_802) None) (pos 78_796_800) lmt }
+{}
+
+/// A zone has a type; its transitions name types, and no two of them come at one time.
+pub fn lists()
+    ensures no_types { ¬ (IsValid (listed [] [])) }
+    ensures no_transitions { IsValid (listed [] (lmt ∷ [])) }
+    ensures rising { IsValid (listed (change (pos 5) 0 ∷ change (pos 6) 1 ∷ []) (lmt ∷ hst ∷ [])) }
+    ensures at_once { ¬ (IsValid (listed (change (pos 5) 0 ∷ change (pos 5) 1 ∷ [])
+        (lmt ∷ hst ∷ []))) }
+    ensures no_such_type { ¬ (IsValid (listed (change (pos 5) 2 ∷ []) (lmt ∷ hst ∷ []))) }
 {}
 
 /// A rule has the last transition's type then, in its offset, its DST flag and its name.

@@ -1,10 +1,13 @@
 -- The laws of offsets and times of day.
-use Rattle.std.proofs.Common.{◌≡◌, ℕ, ℤ, pos, ◌<◌, ◌≤◌, arith, refl, subst, Bool, true, false, cond, nat_lt, ◌||◌, Ok, Err, Result, inl, inr, ◌⊎◌, not}
+use Rattle.std.proofs.Common.{◌≡◌, ℕ, ℤ, pos, ◌<◌, ◌≤◌, arith, refl, subst, Bool, true, false, nat_lt, ◌||◌, inl, inr, ◌⊎◌, not}
 use Rattle.std.proofs.lemmas.Bool.Decides.{nat_tests}
 use Rattle.tz_info.specs.Pieces.{plus, minus, slash, colon, Optional, clock_max, Seconds, MinutesSeconds, HoursMinutesSeconds, Sign, seconds_of, Duration, Offset, TimeSign, time_limit, Time}
 use Rattle.tz_info.specs.TzFaults.{NoFault, MarkedFault, SecondsFault, MinutesSecondsFault, HoursMinutesSecondsFault, IsOverLimit, DurationFault, OffsetFault, TimeFault}
 use Rattle.tz_info.specs.Steps.Readings.{sign_at, seconds_at, minutes_seconds_at, others_at, hours_minutes_seconds_at, seconds_within, duration_at, offset_at, time_sign_at, time_at, optional_time_at}
-use Rattle.tz_info.proofs.PieceLaws.{Law, then_law, like_law, nothing_law, checked_law, marked_law, int_law, made_law}
+use Rattle.std.specs.Bool.{Decides}
+use Rattle.std.proofs.lemmas.Bool.{cases_lt}
+use Rattle.tz_info.proofs.Decided.{Decided, like, choice, done, refused, checked}
+use Rattle.tz_info.proofs.PieceLaws.{Law, then_law, like_law, nothing_law, marked_law, int_law, made_law}
 
 pub sign_law : Law Bool sign_at Sign NoFault
 unfolding sign_at
@@ -37,47 +40,37 @@ hours_minutes_seconds_law = like_law (then_law (int_law clock_max) (λ h. made_l
     (λ bytes n h. h)
     (λ bytes n h. h)
 
-abbrev refused_if : Bool → ℤ → Result ℤ ℕ
-refused_if t z = cond t (Err 6) (Ok z)
+abbrev IsOver : ℕ → ℕ → ℕ → ℕ → Type 0
+IsOver limit h m s = (limit < h) ⊎ (59 < m) ⊎ (59 < s)
 
-limits_ok : (limit : ℕ) (negative : Bool) (h m s : ℕ) (z : ℤ) → seconds_within limit negative h m s ≡ Ok z → (h ≤ limit) × (m ≤ 59) × (s ≤ 59) × (seconds_of negative h m s ≡ z)
+over : (limit h m s : ℕ) → Decides (nat_lt limit h || nat_lt 59 m || nat_lt 59 s) (IsOver limit h m s)
+over limit h m s = (λ t. grind (arith, nat_tests), λ o. grind (arith, nat_tests))
+
+within : (limit h m s : ℕ) → ¬ (IsOver limit h m s) → (h ≤ limit) × (m ≤ 59) × (s ≤ 59)
+within limit h m s n = (le_unless (λ l. n (inl l)), le_unless (λ l. n (inr (inl l))), le_unless (λ l. n (inr (inr l))))
+  where
+    le_unless : {a b : ℕ} → (b < a → ⊥) → a ≤ b
+    le_unless {a = a} {b = b} not_less = elim (cases_lt b a) [ inl less ↦ absurd (not_less less) | inr at_most ↦ at_most ]
+
+not_over : (limit h m s : ℕ) → h ≤ limit → m ≤ 59 → s ≤ 59 → ¬ (IsOver limit h m s)
+not_over limit h m s a b c o = elim o [ inl l ↦ absurd (omega (arith, a, l)) | inr p ↦ elim p [ inl l ↦ absurd (omega (arith, b, l)) | inr l ↦ absurd (omega (arith, c, l)) ] ]
+
+limits_law : (limit : ℕ) (negative : Bool) (h m s : ℕ) → Decided ℤ (seconds_within limit negative h m s) (λ z. (h ≤ limit) × (m ≤ 59) × (s ≤ 59) × (seconds_of negative h m s ≡ z)) (IsOverLimit limit (h, m, s))
 unfolding seconds_within
-limits_ok limit negative h m s z e = elim (nat_lt limit h || nat_lt 59 m || nat_lt 59 s) as (λ t. (nat_lt limit h || nat_lt 59 m || nat_lt 59 s) ≡ t → refused_if t (seconds_of negative h m s) ≡ Ok z → (h ≤ limit) × (m ≤ 59) × (s ≤ 59) × (seconds_of negative h m s ≡ z)) [
-  | true ↦ λ t k. cc
-  | false ↦ λ t k. (grind (arith, nat_tests), grind (arith, nat_tests), grind (arith, nat_tests), cc)
-] refl e
-
-over : (limit h m s : ℕ) → (nat_lt limit h || nat_lt 59 m || nat_lt 59 s) ≡ true → (limit < h) ⊎ (59 < m) ⊎ (59 < s)
-over limit h m s t = grind (arith, nat_tests)
-
-limits_err : (limit : ℕ) (negative : Bool) (h m s n : ℕ) → seconds_within limit negative h m s ≡ Err n → IsOverLimit limit (h, m, s) n
-unfolding seconds_within
-limits_err limit negative h m s n e = elim (nat_lt limit h || nat_lt 59 m || nat_lt 59 s) as (λ t. (nat_lt limit h || nat_lt 59 m || nat_lt 59 s) ≡ t → refused_if t (seconds_of negative h m s) ≡ Err n → IsOverLimit limit (h, m, s) n) [
-  | true ↦ λ t k. record { number = cc; fault = over limit h m s t }
-  | false ↦ λ t k. cc
-] refl e
-
-limits_again : (limit : ℕ) (negative : Bool) (h m s : ℕ) (z : ℤ) → h ≤ limit → m ≤ 59 → s ≤ 59 → seconds_of negative h m s ≡ z → seconds_within limit negative h m s ≡ Ok z
-unfolding seconds_within
-limits_again limit negative h m s z a b c e =
-    let t : (nat_lt limit h || nat_lt 59 m || nat_lt 59 s) ≡ false = grind (arith, nat_tests) in
-    rw (t, e) refl
-
-limits_refuse : (limit : ℕ) (negative : Bool) (h m s n : ℕ) → IsOverLimit limit (h, m, s) n → seconds_within limit negative h m s ≡ Err n
-unfolding seconds_within
-limits_refuse limit negative h m s n o =
-    let f = o.fault in
-    let t : (nat_lt limit h || nat_lt 59 m || nat_lt 59 s) ≡ true = grind (arith, nat_tests) in
-    rw (t, o.number) refl
+limits_law limit negative h m s = like (choice (over limit h m s) (refused 6) (done (seconds_of negative h m s)))
+    (λ z k. elim k [ inl o ↦ absurd o.1 | inr n ↦ let w = within limit h m s n.0 in (w.0, w.1, w.2, n.1) ])
+    (λ z k. inr (not_over limit h m s k.0 k.1 k.2, k.3))
+    (λ n k. elim k [ inl o ↦ record { number = o.1; fault = o.0 } | inr f ↦ absurd f.1 ])
+    (λ n k. inl (k.fault, k.number))
 
 pub duration_law : (limit : ℕ) (negative : Bool) → Law ℤ (duration_at limit negative) (Duration limit negative) (DurationFault limit)
 unfolding duration_at
-duration_law limit negative = like_law (then_law hours_minutes_seconds_law (λ t. checked_law (seconds_within limit negative t.0 t.1 t.2)))
-    (λ bytes z rest h. let l = limits_ok limit negative h.0.0 h.0.1 h.0.2 z h.3.0 in
+duration_law limit negative = like_law (then_law hours_minutes_seconds_law (λ t. checked (limits_law limit negative t.0 t.1 t.2)))
+    (λ bytes z rest h. let l = h.3.0 in
     record { h = h.0.0; m = h.0.1; s = h.0.2; spelled = subst (HoursMinutesSeconds bytes h.0) h.3.1 h.2; hours = l.0; minutes = l.1; seconds = l.2; value = l.3 })
-    (λ bytes z rest h. ((h.h, h.m, h.s), rest, h.spelled, (limits_again limit negative h.h h.m h.s z h.hours h.minutes h.seconds h.value, refl)))
-    (λ bytes n h. elim h [ inl a ↦ inl a | inr b ↦ inr (b.0, b.1, b.2, limits_err limit negative b.0.0 b.0.1 b.0.2 n b.3) ])
-    (λ bytes n h. elim h [ inl a ↦ inl a | inr b ↦ inr (b.0, b.1, b.2, limits_refuse limit negative b.0.0 b.0.1 b.0.2 n b.3) ])
+    (λ bytes z rest h. ((h.h, h.m, h.s), rest, h.spelled, ((h.hours, h.minutes, h.seconds, h.value), refl)))
+    (λ bytes n h. h)
+    (λ bytes n h. h)
 
 pub offset_law : Law ℤ offset_at Offset OffsetFault
 unfolding offset_at

@@ -1,5 +1,5 @@
 -- The laws of the days of a TZ text.
-use Rattle.std.proofs.Common.{◌≡◌, ℕ, ℤ, arith, refl, sym, subst, List, ◌∷◌, Bool, true, false, cond, Ok, Err, Result}
+use Rattle.std.proofs.Common.{◌≡◌, ℕ, ℤ, arith, refl, sym, subst, List, ◌∷◌, Bool, true}
 use Rattle.std.proofs.lemmas.Bool.Decides.{nat_tests}
 use Rattle.tz_info.specs.Pieces.{comma, dot, letter_J, letter_M, Number, date_max, day_max, MonthDate, JulianDate, DayNumber, Date, Day}
 use Rattle.tz_info.specs.TzFaults.{IsBadDay, MonthDateFault, JulianDateFault, DayNumberFault, DateFault, DayFault, DaysFault, Days}
@@ -8,7 +8,8 @@ use Rattle.tz_info.specs.RuleDays.{IsRuleDay}
 use Rattle.tz_info.specs.declared.rule.day.DayForm.{DayForm}
 use Rattle.tz_info.specs.declared.rule.day.DayForm.TheVariants.{Julian1, Julian0, MonthWeekday}
 use Rattle.tz_info.specs.declared.rule.day.DayTime.{DayTime}
-use Rattle.tz_info.proofs.PieceLaws.{Law, then_law, like_law, checked_law, marked_law, byte_law, int_law, made_law}
+use Rattle.tz_info.proofs.Decided.{guard, checked}
+use Rattle.tz_info.proofs.PieceLaws.{Law, then_law, like_law, marked_law, byte_law, int_law, made_law}
 use Rattle.tz_info.proofs.ClockLaws.{optional_time_law}
 
 rule_day_from : (form : DayForm) → is_rule_day form ≡ true → IsRuleDay form
@@ -21,43 +22,12 @@ rule_day_to (Julian1 n) h = let a = h.0 in let b = h.1 in grind (arith, nat_test
 rule_day_to (Julian0 n) h = grind (arith, nat_tests)
 rule_day_to (MonthWeekday m w d) h = let a = h.0 in let b = h.1 in let c = h.2 in let e = h.3 in let f = h.4 in grind (arith, nat_tests)
 
-abbrev day_refused_unless : Bool → DayForm → Result DayForm ℕ
-day_refused_unless t form = cond t (Ok form) (Err 13)
-
-day_ok : (form x : DayForm) → rule_day_of form ≡ Ok x → (form ≡ x) × IsRuleDay form
-unfolding rule_day_of
-day_ok form x h = elim (is_rule_day form) as (λ t. is_rule_day form ≡ t → day_refused_unless t form ≡ Ok x → (form ≡ x) × IsRuleDay form) [
-  | true ↦ λ t k. (cc, rule_day_from form t)
-  | false ↦ λ t k. cc
-] refl h
-
-day_again : (form x : DayForm) → x ≡ form → IsRuleDay x → rule_day_of form ≡ Ok x
-unfolding rule_day_of
-day_again form x e h = let t = rule_day_to x h in rw (← e, t) refl
-
-day_err : (form : DayForm) (rest : List ℕ) (n : ℕ) → rule_day_of form ≡ Err n → IsBadDay form rest n
-unfolding rule_day_of
-day_err form rest n h = elim (is_rule_day form) as (λ t. is_rule_day form ≡ t → day_refused_unless t form ≡ Err n → IsBadDay form rest n) [
-  | true ↦ λ t k. cc
-  | false ↦ λ t k. (λ fits. let e = rule_day_to form fits in cc, cc)
-] refl h
-
-day_refused : (form : DayForm) (n : ℕ) → ¬ (IsRuleDay form) → n ≡ 13 → rule_day_of form ≡ Err n
-unfolding rule_day_of
-day_refused form n bad e = elim (is_rule_day form) as (λ t. is_rule_day form ≡ t → day_refused_unless t form ≡ Err n) [
-  | true ↦ λ t. absurd (bad (rule_day_from form t))
-  | false ↦ λ t. rw e refl
-] refl
-
 abbrev FormPiece : DayForm → List ℕ → DayForm → List ℕ → Type 0
-FormPiece form bytes x rest = (form ≡ x) × IsRuleDay form × (bytes ≡ rest)
+FormPiece form bytes x rest = (IsRuleDay form × (form ≡ x)) × (bytes ≡ rest)
 
 form_law : (form : DayForm) → Law DayForm (checked_at (rule_day_of form)) (FormPiece form) (IsBadDay form)
-form_law form = like_law (checked_law (rule_day_of form))
-    (λ bytes x rest h. let d = day_ok form x h.0 in (d.0, d.1, h.1))
-    (λ bytes x rest h. (day_again form x (sym h.0) (subst IsRuleDay h.0 h.1), h.2))
-    (λ bytes n h. day_err form bytes n h)
-    (λ bytes n h. day_refused form n h.0 h.1)
+unfolding rule_day_of
+form_law form = checked (guard form 13 (rule_day_from form, rule_day_to form))
 
 month_date_law : Law DayForm month_date_at MonthDate MonthDateFault
 unfolding month_date_at
@@ -72,27 +42,27 @@ month_date_law = like_law (then_law (int_law date_max) (λ m. then_law (byte_law
       at_weekday = w.3.1;
       month_spelled = subst (Number date_max bytes h.0) h.3.2 h.2;
       week_spelled = subst (Number date_max h.3.1 w.0) w.3.2 w.2;
-      weekday_spelled = subst (Number date_max w.3.1 d.0) f.2 d.2;
-      value = sym f.0;
-      fits = subst IsRuleDay f.0 f.1;
+      weekday_spelled = subst (Number date_max w.3.1 d.0) f.1 d.2;
+      value = sym f.0.1;
+      fits = subst IsRuleDay f.0.1 f.0.0;
     })
-    (λ bytes x rest h. (h.month, dot ∷ h.at_week, h.month_spelled, (tt, h.at_week, refl, (h.week, dot ∷ h.at_weekday, h.week_spelled, (tt, h.at_weekday, refl, (h.weekday, rest, h.weekday_spelled, (sym h.value, subst IsRuleDay h.value h.fits, refl)))))))
+    (λ bytes x rest h. (h.month, dot ∷ h.at_week, h.month_spelled, (tt, h.at_week, refl, (h.week, dot ∷ h.at_weekday, h.week_spelled, (tt, h.at_weekday, refl, (h.weekday, rest, h.weekday_spelled, ((subst IsRuleDay h.value h.fits, sym h.value), refl)))))))
     (λ bytes n h. h)
     (λ bytes n h. h)
 
 julian_date_law : Law DayForm julian_date_at JulianDate JulianDateFault
 unfolding julian_date_at
 julian_date_law = like_law (then_law (int_law day_max) (λ n. form_law (Julian1 n)))
-    (λ bytes x rest h. record { n = h.0; spelled = subst (Number day_max bytes h.0) h.3.2 h.2; value = sym h.3.0; fits = subst IsRuleDay h.3.0 h.3.1 })
-    (λ bytes x rest h. (h.n, rest, h.spelled, (sym h.value, subst IsRuleDay h.value h.fits, refl)))
+    (λ bytes x rest h. record { n = h.0; spelled = subst (Number day_max bytes h.0) h.3.1 h.2; value = sym h.3.0.1; fits = subst IsRuleDay h.3.0.1 h.3.0.0 })
+    (λ bytes x rest h. (h.n, rest, h.spelled, ((subst IsRuleDay h.value h.fits, sym h.value), refl)))
     (λ bytes n h. h)
     (λ bytes n h. h)
 
 day_number_law : Law DayForm day_number_at DayNumber DayNumberFault
 unfolding day_number_at
 day_number_law = like_law (then_law (int_law day_max) (λ n. form_law (Julian0 n)))
-    (λ bytes x rest h. record { n = h.0; spelled = subst (Number day_max bytes h.0) h.3.2 h.2; value = sym h.3.0; fits = subst IsRuleDay h.3.0 h.3.1 })
-    (λ bytes x rest h. (h.n, rest, h.spelled, (sym h.value, subst IsRuleDay h.value h.fits, refl)))
+    (λ bytes x rest h. record { n = h.0; spelled = subst (Number day_max bytes h.0) h.3.1 h.2; value = sym h.3.0.1; fits = subst IsRuleDay h.3.0.1 h.3.0.0 })
+    (λ bytes x rest h. (h.n, rest, h.spelled, ((subst IsRuleDay h.value h.fits, sym h.value), refl)))
     (λ bytes n h. h)
     (λ bytes n h. h)
 

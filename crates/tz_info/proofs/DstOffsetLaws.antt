@@ -1,73 +1,42 @@
 -- The law of the offset of daylight saving time.
-use Rattle.std.proofs.Common.{◌≡◌, ℕ, ℤ, pos, ◌+ℤ◌, ◌≤ℤ◌, ◌<ℤ◌, int_le, arith, refl, ap, ◌∙◌, sym, subst, List, [], ◌∷◌, Bool, true, false, cond, Ok, Err, Result, inl, inr, ◌⊎◌, ◌≢◌}
+use Rattle.std.proofs.Common.{◌≡◌, ℕ, ℤ, pos, ◌+ℤ◌, ◌≤ℤ◌, ◌<ℤ◌, int_le, arith, refl, ap, ◌∙◌, sym, subst, List, [], ◌∷◌, true, false, Err, inl, inr, ◌⊎◌, ◌≢◌}
 use Rattle.tz_info.specs.Pieces.{comma, Offset, NextHour, DstOffset}
 use Rattle.tz_info.specs.TzFaults.{ThenFault, ByteFault, OffsetFault, NextHourFault, EndsFault, GivenOffsetFault, DstOffsetFault}
 use Rattle.tz_info.specs.Steps.Readings.{checked_at, sign_at, hours_minutes_seconds_at, duration_at, offset_at, next_hour_of, more_at, given_offset_at, dst_offset_at}
-use Rattle.tz_info.proofs.PieceLaws.{Law, then_law, like_law, checked_law, marked_law, byte_law, ok_parts, made_law}
+use Rattle.std.specs.Bool.{Decides}
+use Rattle.tz_info.proofs.Decided.{Decided, like, guard, done, refused, law_of, checked}
+use Rattle.tz_info.proofs.PieceLaws.{Law, then_law, like_law, marked_law, byte_law, made_law}
 use Rattle.std.proofs.lemmas.Int.{ints}
 use Rattle.tz_info.specs.Fronts.{int_at, optional_tag_at}
 use Rattle.tz_info.proofs.ClockLaws.{offset_law}
 
-abbrev hour_refused_unless : Bool → ℤ → Result ℤ ℕ
-hour_refused_unless t z = cond t (Ok z) (Err 6)
+at_most : (z limit : ℤ) → Decides (int_le z limit) (z ≤ℤ limit)
+at_most z limit = (λ t. grind (arith, ints), λ l. grind (arith, ints))
 
-next_ok : (std x : ℤ) → next_hour_of std ≡ Ok x → (x ≡ std +ℤ pos 3_600) × (x ≤ℤ pos 86_399)
-unfolding next_hour_of
-next_ok std x h = elim (int_le (std +ℤ pos 3_600) (pos 86_399)) as (λ t. int_le (std +ℤ pos 3_600) (pos 86_399) ≡ t → hour_refused_unless t (std +ℤ pos 3_600) ≡ Ok x → (x ≡ std +ℤ pos 3_600) × (x ≤ℤ pos 86_399)) [
-  | true ↦ λ t k. let e : std +ℤ pos 3_600 ≡ x = cc in let l : (std +ℤ pos 3_600) ≤ℤ pos 86_399 = grind (arith, ints) in (sym e, subst (λ (y : ℤ). y ≤ℤ pos 86_399) e l)
-  | false ↦ λ t k. cc
-] refl h
-
-next_again : (std x : ℤ) → x ≡ std +ℤ pos 3_600 → x ≤ℤ pos 86_399 → next_hour_of std ≡ Ok x
-unfolding next_hour_of
-next_again std x e l =
-    let t : int_le (std +ℤ pos 3_600) (pos 86_399) ≡ true = grind (arith, ints) in
-    rw t (ap Ok (sym e))
-
-next_err : (std : ℤ) (rest : List ℕ) (n : ℕ) → next_hour_of std ≡ Err n → NextHourFault std rest n
-unfolding next_hour_of
-next_err std rest n h = elim (int_le (std +ℤ pos 3_600) (pos 86_399)) as (λ t. int_le (std +ℤ pos 3_600) (pos 86_399) ≡ t → hour_refused_unless t (std +ℤ pos 3_600) ≡ Err n → NextHourFault std rest n) [
-  | true ↦ λ t k. cc
-  | false ↦ λ t k. (grind (arith, ints), cc)
-] refl h
-
-next_refused : (std : ℤ) (n : ℕ) → pos 86_399 <ℤ (std +ℤ pos 3_600) → n ≡ 6 → next_hour_of std ≡ Err n
-unfolding next_hour_of
-next_refused std n above e =
-    let t : int_le (std +ℤ pos 3_600) (pos 86_399) ≡ false = grind (arith, ints) in
-    rw (t, e) refl
+above : (z limit : ℤ) → ¬ (z ≤ℤ limit) → limit <ℤ z
+above z limit not_most = elim (int_le z limit) as (λ t. int_le z limit ≡ t → limit <ℤ z) [
+  | true ↦ λ t. absurd (not_most ((at_most z limit).0 t))
+  | false ↦ λ t. grind (arith, ints)
+] refl
 
 next_law : (std : ℤ) → Law ℤ (checked_at (next_hour_of std)) (NextHour std) (NextHourFault std)
-next_law std = like_law (checked_law (next_hour_of std))
-    (λ bytes x rest h. let d = next_ok std x h.0 in record { value = d.0; limit = d.1; whole = h.1 })
-    (λ bytes x rest h. (next_again std x h.value h.limit, h.whole))
-    (λ bytes n h. next_err std bytes n h)
-    (λ bytes n h. next_refused std n h.0 h.1)
+unfolding next_hour_of
+next_law std = like_law (checked (guard (std +ℤ pos 3_600) 6 (at_most (std +ℤ pos 3_600) (pos 86_399))))
+    (λ bytes x rest h. record { value = sym h.0.1; limit = subst (λ (y : ℤ). y ≤ℤ pos 86_399) h.0.1 h.0.0; whole = h.1 })
+    (λ bytes x rest h. ((subst (λ (y : ℤ). y ≤ℤ pos 86_399) h.value h.limit, sym h.value), h.whole))
+    (λ bytes n h. (above (std +ℤ pos 3_600) (pos 86_399) h.0, h.1))
+    (λ bytes n h. (λ l. absurd (omega (arith, ints, h.0, l)), h.1))
 
 abbrev More : List ℕ → Unit {0} → List ℕ → Type 0
 More bytes unit rest = (bytes ≢ []) × (bytes ≡ rest)
 
-more_takes : (bytes : List ℕ) (u : Unit {0}) (rest : List ℕ) → more_at bytes ≡ Ok (u, rest) → More bytes u rest
+more_read : (bytes : List ℕ) → Decided (Unit {0} × List ℕ) (more_at bytes) (λ p. More bytes p.0 p.1) (EndsFault bytes)
 unfolding more_at
-more_takes [] u rest h = cc
-more_takes (b ∷ bs) u rest h = (λ e. cc, (ok_parts tt u (b ∷ bs) rest h).1)
-
-more_again : (bytes : List ℕ) (u : Unit {0}) (rest : List ℕ) → More bytes u rest → more_at bytes ≡ Ok (u, rest)
-unfolding more_at
-more_again [] u rest h = absurd (h.0 refl)
-more_again (b ∷ bs) u rest h = rw h.1 refl
-
-more_fails : (bytes : List ℕ) (n : ℕ) → more_at bytes ≡ Err n → EndsFault bytes n
-unfolding more_at
-more_fails [] n h = (refl, cc)
-more_fails (b ∷ bs) n h = cc
-
-more_refuses : (bytes : List ℕ) (n : ℕ) → EndsFault bytes n → more_at bytes ≡ Err n
-unfolding more_at
-more_refuses bytes n h = rw (h.0, h.1) refl
+more_read [] = like (refused 15) (λ p h. absurd h) (λ p h. absurd (h.0 refl)) (λ n h. (refl, h)) (λ n h. h.1)
+more_read (b ∷ bs) = like (done (tt, b ∷ bs)) (λ p h. (λ e. cc, ap (λ (q : Unit {0} × List ℕ). q.1) h)) (λ p h. ap (λ (r : List ℕ). (tt, r)) h.1) (λ n h. absurd h) (λ n h. let e = h.0 in cc)
 
 more_law : Law (Unit {0}) more_at More EndsFault
-more_law = record { takes = more_takes; again = more_again; fails = more_fails; refuses = more_refuses }
+more_law = law_of more_read
 
 offset_none : offset_at [] ≡ Err 10
 unfolding offset_at sign_at duration_at hours_minutes_seconds_at int_at optional_tag_at

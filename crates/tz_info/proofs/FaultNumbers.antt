@@ -5,13 +5,13 @@ use Rattle.tz_info.specs.TzFaults.{NoFault, ThenFault, MarkedFault, ByteFault, N
 use Rattle.tz_info.specs.declared.rule.day.DayForm.{DayForm}
 use Rattle.tz_info.specs.declared.rule.day.DayForm.TheVariants.{Julian1, Julian0, MonthWeekday}
 
-abbrev IsLow : (List ℕ → ℕ → Type 0) → Type 0
+abbrev pub IsLow : (List ℕ → ℕ → Type 0) → Type 0
 IsLow F = (bytes : List ℕ) (n : ℕ) → F bytes n → n ≤ 16
 
 none_low : IsLow NoFault
 none_low bytes n h = absurd h
 
-then_low : {X : Type 0} (P : List ℕ → X → List ℕ → Type 0) {F : List ℕ → ℕ → Type 0} {G : X → List ℕ → ℕ → Type 0} → IsLow F → ((x : X) → IsLow (G x)) → IsLow (ThenFault P F G)
+pub then_low : {X : Type 0} (P : List ℕ → X → List ℕ → Type 0) {F : List ℕ → ℕ → Type 0} {G : X → List ℕ → ℕ → Type 0} → IsLow F → ((x : X) → IsLow (G x)) → IsLow (ThenFault P F G)
 then_low P f g bytes n h = elim h [ inl a ↦ f bytes n a | inr b ↦ g b.0 b.1 n b.3 ]
 
 marked_low : {tag : ℕ} {F G : List ℕ → ℕ → Type 0} → IsLow F → IsLow G → IsLow (MarkedFault tag F G)

@@ -1,5 +1,5 @@
 -- Lemmas for the crates above.
-pub use Rattle.tz_info.proofs.FileFaults.{fault_or_zone as file_fault_or_zone}
+pub use Rattle.tz_info.proofs.TzFileLaws.{fault_or_zone as file_fault_or_zone}
 pub use Rattle.tz_info.proofs.FileZoneLaws.{file_rule_fits}
 pub use Rattle.tz_info.proofs.LeapOrder.{leap_times_answer}
 pub use Rattle.tz_info.proofs.PosixLaws.{fault_or_zone as text_fault_or_zone}

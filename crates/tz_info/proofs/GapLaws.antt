@@ -1,30 +1,33 @@
 -- Gaps: where the first second lies at which clocks show more than a local time that they never show.
-use Rattle.std.proofs.Common.{◌≡◌, ℕ, zero, suc, ◌+◌, ◌<◌, ◌≤◌, arith, refl, sym, ap, ◌∙◌, subst, length, get_or, ℤ, pos, ◌+ℤ◌, ◌-ℤ◌, ◌≤ℤ◌, ◌<ℤ◌, unsigned_abs, inl, inr, ◌⊎◌, Option, Some, None, slice_get}
+use Rattle.std.proofs.Common.{◌≡◌, ℕ, zero, suc, ◌+◌, ◌<◌, ◌≤◌, arith, refl, sym, ap, ◌∙◌, subst, length, get_or, ℤ, pos, ◌+ℤ◌, ◌-ℤ◌, ◌≤ℤ◌, ◌<ℤ◌, inl, inr, ◌⊎◌, ⊎_elim, ◌↔◌, Option, Some, None, slice_get}
 use Rattle.std.proofs.lemmas.Int.{ints, by_lt_z}
 use Rattle.std.proofs.lemmas.Bool.{cases_lt}
 use Rattle.naive_base.specs.Year.{floor_div}
 use Rattle.naive_base.specs.DateOf.{year_of}
 use Rattle.naive_base.proofs.ForCallers.{lies_in}
 use Rattle.offset_core.specs.WallAnswer.{IsNeverShown}
-use Rattle.tz_info.specs.Gaps.{ShowsMore, IsBeforeGap}
+use Rattle.tz_info.specs.Gaps.{ShowsMore, HasGap}
 use Rattle.tz_info.specs.Leaps.{IsNear}
 use Rattle.tz_info.specs.LocalTypes.{LocalType}
+use Rattle.tz_info.specs.Moments.{AlternateAt}
 use Rattle.tz_info.specs.Rules.{Alternate as AlternateRule}
 use Rattle.tz_info.specs.Segments.{segment_of}
 use Rattle.tz_info.specs.Steps.Segments.{index_of}
-use Rattle.tz_info.specs.Steps.Gaps.{AreLess, AreLessInto, IsReach, Starts, IsLesserOf}
+use Rattle.tz_info.specs.Steps.Gaps.{AreLess, AreLessInto, IsReach, Starts}
+use Rattle.tz_info.specs.Steps.NextMoments.{IsSteadyUntil}
 use Rattle.tz_info.specs.Steps.Starts.{IsReachedFrom}
 use Rattle.tz_info.specs.WallClocks.{Shows}
+use Rattle.tz_info.specs.WallPieces.{IsStart}
 use Rattle.tz_info.specs.Zones.{Zone, IsValid, IsTypeRefused, by_leap_time, by_rule, IsRefusedBy, IsRuleOrNone, RuleOrElse, TypeAt}
 use Rattle.tz_info.specs.declared.rule.transition_rule.TransitionRule.{TransitionRule}
 use Rattle.tz_info.specs.declared.rule.transition_rule.TransitionRule.TheVariants.{Fixed, Alternate}
 use Rattle.tz_info.specs.declared.zone.transition.Transition.{Transition}
-use Rattle.tz_info.proofs.Candidates.{one_of_two}
 use Rattle.tz_info.proofs.ExtremeLaws.{at_most_greatest, at_least_least}
 use Rattle.tz_info.proofs.LeapOrder.{leap_times_answer}
-use Rattle.tz_info.proofs.RuleLaws.{rule_year}
-use Rattle.tz_info.proofs.SegmentLaws.{segments_rise, segment_most, type_before, type_from, come_by_time, come_at_time}
-use Rattle.tz_info.proofs.WallSegments.{leap_time_of}
+use Rattle.tz_info.proofs.RuleLaws.{rule_once, rule_year}
+use Rattle.tz_info.proofs.SegmentLaws.{segments_rise, segment_most, segment_at, type_before, type_from, type_in_from, come_by_time, come_at_time}
+use Rattle.tz_info.proofs.TableSearch.{Between}
+use Rattle.tz_info.proofs.WallSegments.{leap_time_of, rule_begun}
 use Rattle.tz_info.proofs.ZoneLaws.{type_decided, type_once, some_once}
 
 abbrev pub IsNever : Zone → ℤ → Type 0
@@ -50,7 +53,7 @@ near_type z u valid limits near = elim (type_decided z u valid limits) [
 
 -- ---- in a segment that is not an alternate rule's one type is in force
 -- the rule has one type, or there is none
-abbrev IsSteady : Option TransitionRule → Type 0
+abbrev pub IsSteady : Option TransitionRule → Type 0
 IsSteady None = Unit {0}
 IsSteady (Some (Fixed t)) = Unit {0}
 IsSteady (Some (Alternate a)) = ⊥
@@ -64,7 +67,7 @@ steady_once (Some (Alternate a)) o u v s t steady h k = absurd steady
 abbrev pub HasOneType : Zone → ℕ → Type 0
 HasOneType z i = (i < length z.transitions) ⊎ (IsSteady z.rule × (i ≡ length z.transitions))
 
-one_type : (z : Zone) (i : ℕ) (u v : ℤ) (s t : LocalType) → IsValid z → HasOneType z i → segment_of z u ≡ i → segment_of z v ≡ i → TypeAt z u s → TypeAt z v t → s ≡ t
+pub one_type : (z : Zone) (i : ℕ) (u v : ℤ) (s t : LocalType) → IsValid z → HasOneType z i → segment_of z u ≡ i → segment_of z v ≡ i → TypeAt z u s → TypeAt z v t → s ≡ t
 one_type z i u v s t valid (inl h) a b k m = some_once (slice_get z.types (index_of z.transitions i)) s t
     (type_before z i u s valid.transitions.rising (record { type = k; segment = a }) h)
     (type_before z i v t valid.transitions.rising (record { type = m; segment = b }) h)
@@ -165,14 +168,14 @@ least_near z l low high c reach far all u m = by_lt_z u c
     absurd (omega (arith, ints)))
     (λ h. h)
 
-pub first_found : (z : Zone) (l low high c : ℤ) (s t : LocalType) → IsNever z l → IsReach z l low high → IsNear c → AreLess z l (c -ℤ pos 1)
-    → TypeAt z c s → l <ℤ (c +ℤ s.offset) → TypeAt z (c -ℤ pos 1) t → IsBeforeGap (TypeAt z) l t
-first_found z l low high c s t never reach far all here more before = record {
+pub gap_found : (z : Zone) (l low high c : ℤ) (s t : LocalType) → IsNever z l → IsReach z l low high → IsNear c → AreLess z l (c -ℤ pos 1)
+    → TypeAt z c s → l <ℤ (c +ℤ s.offset) → TypeAt z (c -ℤ pos 1) t → HasGap (TypeAt z) l t s c
+gap_found z l low high c s t never reach far all here more before = record {
   never = never;
-  first = c;
-  more = record { type = s; here = here; more = more };
+  here = here;
+  more = more;
   least = least_near z l low high c reach far all;
-  before = before;
+  earlier = before;
 }
 
 -- a second more that shows less
@@ -214,80 +217,102 @@ none_ends z l low high valid limits never e = steady_ends z l low high valid lim
 pub fixed_ends : (z : Zone) (f : LocalType) (l low high : ℤ) → IsValid z → IsRuleOrNone z.rule → IsNever z l → z.rule ≡ Some (Fixed f) → IsReach z l low high → AreLessInto z l (length z.transitions) → ⊥
 fixed_ends z f l low high valid limits never e = steady_ends z l low high valid limits never (subst IsSteady (sym e) tt)
 
--- seconds one after another up to one that shows more: the first such
-record IsTurn (z : Zone) (l seen : ℤ) : Type 0 where
-  first : ℤ
-  later : seen <ℤ first
-  near : IsNear first
-  type : LocalType
-  here : TypeAt z first type
-  more : l <ℤ (first +ℤ type.offset)
-  less : AreLess z l (first -ℤ pos 1)
+-- ---- from moment to moment of a rule of two types
+rule_at : (z : Zone) (a : AlternateRule) (u : ℤ) (t : LocalType) → IsValid z → z.rule ≡ Some (Alternate a) → segment_of z u ≡ length z.transitions → TypeAt z u t → AlternateAt a u t
+rule_at z a u t valid rule e k = rw rule at (type_from z u t valid.transitions.rising (record { type = k; segment = e }))
 
-turn_within : (z : Zone) (l : ℤ) (n : ℕ) (seen : ℤ) → IsValid z → IsRuleOrNone z.rule → IsNever z l → AreLess z l seen → IsNear seen → IsNear (seen +ℤ pos n) → IsTurn z l seen ⊎ AreLess z l (seen +ℤ pos n)
-turn_within z l zero seen valid limits never all near far = inr (subst (AreLess z l) (omega (arith, ints)) all)
-turn_within z l (suc n) seen valid limits never all near far =
-    let next : ℤ = seen +ℤ pos 1 in
-    let near_next : IsNear next = (omega (arith, ints, near), omega (arith, ints, far)) in
-    let t = near_type z next valid limits near_next in
-    let back : next -ℤ pos 1 ≡ seen = omega (arith, ints) in
-    let all_before : AreLess z l (next -ℤ pos 1) = subst (AreLess z l) (sym back) all in
-    by_lt_z l (next +ℤ t.0.offset)
-    (λ more. inl (record { first = next; later = omega (arith, ints); near = near_next; type = t.0; here = t.1; more = more; less = all_before }))
-    (λ h.
-    let more : AreLess z l next = less_at z l next t.0 never near_next all_before t.1 h in
-    let same : next +ℤ pos n ≡ seen +ℤ pos (suc n) = omega (arith, ints) in
-    elim (turn_within z l n next valid limits never more near_next (subst IsNear (sym same) far)) [
-      | inl k ↦ inl (record { first = k.first; later = let a = k.later in omega (arith, ints); near = k.near; type = k.type; here = k.here; more = k.more; less = k.less })
-      | inr k ↦ inr (subst (AreLess z l) same k)
-    ])
+pub type_by_rule : (z : Zone) (a : AlternateRule) (u : ℤ) (t : LocalType) → IsValid z → z.rule ≡ Some (Alternate a) → IsNear u → segment_of z u ≡ length z.transitions → AlternateAt a u t → TypeAt z u t
+type_by_rule z a u t valid rule near e k =
+    let time = leap_time_of z u valid near in
+    let b : Between z.transitions time.0 (length z.transitions) (length z.transitions) = rw (sym time.1.sum) at (segment_at z u (length z.transitions) valid.transitions.rising e) in
+    (type_in_from z u time.0 t time.1 b (rw rule k)).type
 
--- of two types of the rule, the one with the smaller offset
-lesser_is : (a : AlternateRule) (b c lesser : LocalType) → (b ≡ a.std) ⊎ (b ≡ a.dst) → (c ≡ a.std) ⊎ (c ≡ a.dst) → b.offset <ℤ c.offset → IsLesserOf a lesser → b ≡ lesser
-lesser_is a b c lesser (inl x) (inl y) h k = let e : b ≡ c = x ∙ sym y in absurd (let f = ap (λ (t : LocalType). t.offset) e in omega (arith, ints))
-lesser_is a b c lesser (inl x) (inr y) h (inl k) = x ∙ sym k.0
-lesser_is a b c lesser (inl x) (inr y) h (inr k) =
-    let f = ap (λ (t : LocalType). t.offset) x in let g = ap (λ (t : LocalType). t.offset) y in let m = k.1 in absurd (omega (arith, ints))
-lesser_is a b c lesser (inr x) (inl y) h (inl k) =
-    let f = ap (λ (t : LocalType). t.offset) x in let g = ap (λ (t : LocalType). t.offset) y in let m = k.1 in absurd (omega (arith, ints))
-lesser_is a b c lesser (inr x) (inl y) h (inr k) = x ∙ sym k.0
-lesser_is a b c lesser (inr x) (inr y) h k = let e : b ≡ c = x ∙ sym y in absurd (let f = ap (λ (t : LocalType). t.offset) e in omega (arith, ints))
+-- a second behind the last transition up to which clocks show less
+pub record IsPassed (z : Zone) (l last : ℤ) : Type 0 where
+  pub near : IsNear last
+  pub behind : segment_of z last ≡ length z.transitions
+  pub less : AreLess z l last
 
-rule_type : (z : Zone) (a : AlternateRule) (u : ℤ) (t : LocalType) → IsValid z → z.rule ≡ Some (Alternate a) → TypeAt z u t → segment_of z u ≡ length z.transitions → (t ≡ a.std) ⊎ (t ≡ a.dst)
-rule_type z a u t valid rule k e = one_of_two a u t (rw rule at (type_from z u t valid.transitions.rising (record { type = k; segment = e })))
+pub passed_first : (z : Zone) (l low high start m : ℤ) → IsValid z → IsNever z l → IsReach z l low high → IsStart z.transitions z.leaps (length z.transitions) start → ((u : ℤ) → (m ≤ℤ u) ↔ ((low ≤ℤ u) × (start ≤ℤ u)))
+    → AreLessInto z l (length z.transitions) → IsPassed z l m
+passed_first z l low high start m valid never reach begun is i =
+    let both = (is m).0 (omega (arith, ints)) in
+    let least = (is (m -ℤ pos 1)).1 in
+    let near_low = reach.near_low in
+    let near_seen = i.near in
+    let of_seen : segment_of z i.seen ≡ length z.transitions = let most = segment_most z i.seen valid.transitions.rising in let at = i.segment in omega arith in
+    let from : start ≤ℤ i.seen = (rule_begun z i.seen start valid i.near begun).0 of_seen in
+    let to : (m ≤ℤ low) ⊎ (m ≤ℤ start) = by_lt_z low m
+    (λ h. by_lt_z start m (λ k. let c = least (omega (arith, ints), omega (arith, ints)) in absurd (omega (arith, ints))) (λ k. inr k))
+    (λ h. inl h) in
+    let near : IsNear m = ⊎_elim (λ h. (omega (arith, ints, both.0), omega (arith, ints, near_low))) (λ h. (omega (arith, ints, both.0, near_low), omega (arith, ints, near_seen))) to in
+    record {
+      near = near;
+      behind = (rule_begun z m start valid near begun).1 both.1;
+      less = ⊎_elim (λ h u near_u k t g. less_low z l low high never reach u near_u (omega (arith, ints)) t g) (λ h u near_u k t g. i.less u near_u (omega (arith, ints)) t g) to;
+    }
 
-turn_found : (z : Zone) (a : AlternateRule) (l low high : ℤ) (lesser : LocalType) → IsValid z → IsRuleOrNone z.rule → z.rule ≡ Some (Alternate a) → IsNever z l → IsReach z l low high
-    → (i : AreLessInto z l (length z.transitions)) → IsTurn z l i.seen → IsLesserOf a lesser → IsBeforeGap (TypeAt z) l lesser
-turn_found z a l low high lesser valid limits rule never reach i k is_lesser =
-    let c = k.first in
-    let later = k.later in
-    let near = i.near in
-    let near_c = k.near in
-    let at = i.segment in
-    let near_b : IsNear (c -ℤ pos 1) = (omega (arith, ints, near), omega (arith, ints, near_c)) in
-    let b = near_type z (c -ℤ pos 1) valid limits near_b in
-    let seg_c = segments_rise z i.seen c valid.transitions.rising valid.leaps (omega (arith, ints)) in
-    let most_c = segment_most z c valid.transitions.rising in
-    let seg_b = segments_rise z i.seen (c -ℤ pos 1) valid.transitions.rising valid.leaps (omega (arith, ints)) in
-    let most_b = segment_most z (c -ℤ pos 1) valid.transitions.rising in
-    let of_c = rule_type z a c k.type valid rule k.here (omega arith) in
-    let of_b = rule_type z a (c -ℤ pos 1) b.0 valid rule b.1 (omega arith) in
-    let less = k.less (c -ℤ pos 1) near_b (omega (arith, ints)) b.0 b.1 in
-    let more = k.more in
-    let smaller : b.0.offset <ℤ k.type.offset = omega (arith, ints) in
-    let same : b.0 ≡ lesser = lesser_is a b.0 k.type lesser of_b of_c smaller is_lesser in
-    first_found z l low high c k.type lesser never reach near_c k.less k.here k.more (subst (TypeAt z (c -ℤ pos 1)) same b.1)
+-- from there until the rule's next moment they show less
+steady_less : (z : Zone) (a : AlternateRule) (l last next v : ℤ) → IsValid z → IsRuleOrNone z.rule → z.rule ≡ Some (Alternate a) → IsNever z l → IsPassed z l last → IsSteadyUntil a last next → IsNear v → last ≤ℤ v → v <ℤ next
+    → (t : LocalType) → TypeAt z v t → (v +ℤ t.offset) <ℤ l
+steady_less z a l last next v valid limits rule never p steady near from before t k =
+    let rises : (w : ℤ) → last ≤ℤ w → segment_of z w ≡ length z.transitions = λ w h.
+    (let low = segments_rise z last w valid.transitions.rising valid.leaps h in let high = segment_most z w valid.transitions.rising in let at = p.behind in omega arith) in
+    let s = near_type z last valid limits p.near in
+    let of_last : AlternateAt a last s.0 = rule_at z a last s.0 valid rule p.behind s.1 in
+    let same : s.0 ≡ t = rule_once (Alternate a) v s.0 t (steady.same v from before s.0 of_last) (rule_at z a v t valid rule (rises v from) k) in
+    let less : (last +ℤ t.offset) <ℤ l = subst (λ (x : LocalType). (last +ℤ x.offset) <ℤ l) same (p.less last p.near (omega (arith, ints)) s.0 s.1) in
+    by_lt_z (v +ℤ t.offset) l (λ m. m) (λ m.
+    let w : ℤ = l -ℤ t.offset in
+    let near_last = p.near in
+    let near_w : IsNear w = (omega (arith, ints, near, near_last), omega (arith, ints, near, near_last)) in
+    let low : last ≤ℤ w = omega (arith, ints) in
+    let there : AlternateAt a w t = subst (AlternateAt a w) same (steady.same w low (omega (arith, ints)) s.0 of_last) in
+    let shown : (w +ℤ t.offset) <ℤ l = not_more z l w t never near_w (type_by_rule z a w t valid rule near_w (rises w low) there) (omega (arith, ints)) in
+    absurd (omega (arith, ints)))
 
-distance : (a b : ℤ) → a ≤ℤ b → (n : ℕ) × (a +ℤ pos n ≡ b)
-distance a b h = (unsigned_abs (b -ℤ a), omega (arith, ints))
+-- the moment is near, clocks show less before it, and just before it the type is the one from the moment before
+pub record IsTurn (z : Zone) (a : AlternateRule) (l last next : ℤ) : Type 0 where
+  pub near : IsNear next
+  pub near_before : IsNear (next -ℤ pos 1)
+  pub behind : segment_of z next ≡ length z.transitions
+  pub less : AreLess z l (next -ℤ pos 1)
+  pub before : (t : LocalType) → AlternateAt a last t → TypeAt z (next -ℤ pos 1) t
 
-pub rule_turn : (z : Zone) (a : AlternateRule) (l low high : ℤ) (lesser : LocalType) → IsValid z → IsRuleOrNone z.rule → z.rule ≡ Some (Alternate a) → IsNever z l → IsReach z l low high
-    → AreLessInto z l (length z.transitions) → IsLesserOf a lesser → IsBeforeGap (TypeAt z) l lesser
-rule_turn z a l low high lesser valid limits rule never reach i is_lesser = by_lt_z i.seen (high +ℤ pos 1)
-    (λ before.
-    let d = distance i.seen (high +ℤ pos 1) (omega (arith, ints)) in
-    elim (turn_within z l d.0 i.seen valid limits never i.less i.near (subst IsNear (sym d.1) reach.near_high)) [
-      | inl k ↦ turn_found z a l low high lesser valid limits rule never reach i k is_lesser
-      | inr less ↦ absurd (not_less z l low high (high +ℤ pos 1) valid limits reach (subst (AreLess z l) d.1 less) (omega (arith, ints)))
-    ])
-    (λ behind. absurd (not_less z l low high i.seen valid limits reach i.less behind))
+pub turn_next : (z : Zone) (a : AlternateRule) (l low high last next : ℤ) → IsValid z → IsRuleOrNone z.rule → z.rule ≡ Some (Alternate a) → IsNever z l → IsReach z l low high → IsPassed z l last → IsSteadyUntil a last next
+    → IsTurn z a l last next × (next ≤ℤ (high +ℤ pos 1))
+turn_next z a l low high last next valid limits rule never reach p steady =
+    let later = steady.later in
+    let near_last = p.near in
+    let near_high = reach.near_high in
+    let until : (s : ℤ) → s <ℤ next → AreLess z l s = λ s h u near le t k. by_lt_z last u
+    (λ m. steady_less z a l last next u valid limits rule never p steady near (omega (arith, ints)) (omega (arith, ints)) t k)
+    (λ m. p.less u near m t k) in
+    let most : next ≤ℤ (high +ℤ pos 1) = by_lt_z (high +ℤ pos 1) next
+    (λ h. absurd (not_less z l low high (high +ℤ pos 1) valid limits reach (until (high +ℤ pos 1) h) (omega (arith, ints))))
+    (λ h. h) in
+    let near : IsNear next = (omega (arith, ints, near_last), omega (arith, ints, near_high)) in
+    let near_before : IsNear (next -ℤ pos 1) = (omega (arith, ints, near_last), omega (arith, ints, near_high)) in
+    let segment : (w : ℤ) → last ≤ℤ w → segment_of z w ≡ length z.transitions = λ w h.
+    (let from = segments_rise z last w valid.transitions.rising valid.leaps h in let to = segment_most z w valid.transitions.rising in let at = p.behind in omega arith) in (
+      record {
+        near = near;
+        near_before = near_before;
+        behind = segment next (omega (arith, ints));
+        less = until (next -ℤ pos 1) (omega (arith, ints));
+        before = λ t k. type_by_rule z a (next -ℤ pos 1) t valid rule near_before (segment (next -ℤ pos 1) (omega (arith, ints))) (steady.same (next -ℤ pos 1) (omega (arith, ints)) (omega (arith, ints)) t k);
+      },
+      most,
+    )
+
+-- a moment at which they still show less
+pub passed_more : (z : Zone) (a : AlternateRule) (l last next : ℤ) (s : LocalType) → IsValid z → z.rule ≡ Some (Alternate a) → IsNever z l → IsTurn z a l last next → AlternateAt a next s → (next +ℤ s.offset) ≤ℤ l → IsPassed z l next
+passed_more z a l last next s valid rule never turn here h = record {
+  near = turn.near;
+  behind = turn.behind;
+  less = less_at z l next s never turn.near turn.less (type_by_rule z a next s valid rule turn.near turn.behind here) h;
+}
+
+pub gap_of_turn : (z : Zone) (a : AlternateRule) (l low high last next : ℤ) (s t : LocalType) → IsValid z → z.rule ≡ Some (Alternate a) → IsNever z l → IsReach z l low high → IsTurn z a l last next → AlternateAt a next s → l <ℤ (next +ℤ s.offset) → AlternateAt a last t → HasGap (TypeAt z) l t s next
+gap_of_turn z a l low high last next s t valid rule never reach turn here more before =
+    gap_found z l low high next s t never reach turn.near turn.less (type_by_rule z a next s valid rule turn.near turn.behind here) more (turn.before t before)

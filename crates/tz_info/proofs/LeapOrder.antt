@@ -66,12 +66,12 @@ was_counted p u e es k f l = by_lt_z u (e.unix_leap_time -ℤ p)
     (λ above. above)
 
 -- the k-th passed entry lies k steps on, and its correction is at most k + 1 away
-record Bounded (p a u : ℤ) (es : List LeapSecond) (k : ℕ) : Type 0 where
+pub record Bounded (p a u : ℤ) (es : List LeapSecond) (k : ℕ) : Type 0 where
   pub later : (a +ℤ pos (2_419_198 * k)) ≤ℤ u
   pub most : get_or (corrections es) k (pos 0) ≤ℤ (p +ℤ pos (suc k))
   pub least : p ≤ℤ (get_or (corrections es) k (pos 0) +ℤ pos (suc k))
 
-bounded : (p a u : ℤ) (es : List LeapSecond) (k : ℕ) → Follow p es → ((d : LeapSecond) → 0 < length es → a ≤ℤ ((get_or es 0 d).unix_leap_time -ℤ p)) → k < counted_from p es u → Bounded p a u es k
+pub bounded : (p a u : ℤ) (es : List LeapSecond) (k : ℕ) → Follow p es → ((d : LeapSecond) → 0 < length es → a ≤ℤ ((get_or es 0 d).unix_leap_time -ℤ p)) → k < counted_from p es u → Bounded p a u es k
 bounded p a u [] k f h l = absurd (omega arith)
 bounded p a u (e ∷ es) zero f h l =
     let above = was_counted p u e es zero f l in let t = h e (omega arith) in let d = f.step e (omega arith) in

@@ -3,8 +3,11 @@ pub mod RuleDays
 pub mod Neighbours
 pub mod RuleLaws
 pub mod RuleTurns
+pub mod NextMoments
 pub mod KindLaws
 pub mod SeasonLaws
+pub mod RuleChanges
+pub mod ChangeSearch
 pub mod Prefixes
 pub mod LeapEntries
 pub mod LeapOrder
@@ -17,6 +20,8 @@ pub mod Validity
 pub mod ZoneLaws
 pub mod RunLaws
 pub mod PieceLaws
+pub mod ReadLaws
+pub mod Decided
 pub mod NamedTypes
 pub mod ClockLaws
 pub mod QuoteLaws
@@ -43,8 +48,9 @@ pub mod QuestionLaws
 pub mod SeasonAnswers
 pub mod WindowLaws
 pub mod GapLaws
+pub mod AroundLaws
+pub mod ZoneChanges
 pub mod PosixZoneLaws
-pub mod ReadLaws
 pub mod SizedLaws
 pub mod HeaderLaws
 pub mod BlockLaws
@@ -56,7 +62,6 @@ pub mod TrimLaws
 pub mod TypeLaws
 pub mod FooterLaws
 pub mod TzFileLaws
-pub mod FileFaults
 pub mod ZoneFileLaws
 pub mod FileZoneLaws
 pub mod WallTimes

@@ -32,14 +32,14 @@ pub ends_near : (a : Alternate) → IsAlternateRule a → IsNear (end_in a)
 ends_near a h = moments_near a.end a.dst.offset h.end_day h.within.end_time h.within.dst_offset
 
 -- a later year begins at least 365 days later
-year_after : (a b : ℤ) → a <ℤ b → (year_start a +ℤ pos 365) ≤ℤ year_start b
+pub year_after : (a b : ℤ) → a <ℤ b → (year_start a +ℤ pos 365) ≤ℤ year_start b
 year_after a b h =
     let step = year_step a in let least = days_at_least a in
     let rise = starts_rise (a +ℤ pos 1) b (omega (arith, floors)) in
     omega (arith, floors)
 
 -- two years later at least 730 days later
-two_years_after : (a b : ℤ) → (a +ℤ pos 1) <ℤ b → (year_start a +ℤ pos 730) ≤ℤ year_start b
+pub two_years_after : (a b : ℤ) → (a +ℤ pos 1) <ℤ b → (year_start a +ℤ pos 730) ≤ℤ year_start b
 two_years_after a b h =
     let step = year_after a (a +ℤ pos 1) (omega (arith, floors)) in let next = year_after (a +ℤ pos 1) b h in
     omega (arith, floors)
@@ -51,7 +51,7 @@ second_low u year h = omega (arith, floors, h.0)
 pub second_high : (u year : ℤ) → IsYearOf u year → u <ℤ (pos 86_400 *ℤ year_start (year +ℤ pos 1))
 second_high u year h = omega (arith, floors, h.1)
 
-not_earlier : (lasts : ℤ → ℤ) (u year other : ℤ) → IsNear lasts → IsYearOf u year → u <ℤ lasts other → (year -ℤ pos 1) ≤ℤ other
+pub not_earlier : (lasts : ℤ → ℤ) (u year other : ℤ) → IsNear lasts → IsYearOf u year → u <ℤ lasts other → (year -ℤ pos 1) ≤ℤ other
 not_earlier lasts u year other near of_second before = by_lt_z other (year -ℤ pos 1)
     (λ less.
     let far = two_years_after other year (omega (arith, floors)) in
@@ -59,7 +59,7 @@ not_earlier lasts u year other near of_second before = by_lt_z other (year -ℤ 
     absurd (omega (arith, floors)))
     (λ h. h)
 
-not_later : (firsts : ℤ → ℤ) (u year other : ℤ) → IsNear firsts → IsYearOf u year → firsts other ≤ℤ u → other ≤ℤ (year +ℤ pos 1)
+pub not_later : (firsts : ℤ → ℤ) (u year other : ℤ) → IsNear firsts → IsYearOf u year → firsts other ≤ℤ u → other ≤ℤ (year +ℤ pos 1)
 not_later firsts u year other near of_second from = by_lt_z (year +ℤ pos 1) other
     (λ more.
     let far = year_after (year +ℤ pos 1) other more in
@@ -68,7 +68,7 @@ not_later firsts u year other near of_second from = by_lt_z (year +ℤ pos 1) ot
     (λ h. h)
 
 -- moments that enclose a second are those of one of three years
-place : (year other : ℤ) → (year -ℤ pos 1) ≤ℤ other → other ≤ℤ (year +ℤ pos 1) → (other ≡ year -ℤ pos 1) ⊎ ((other ≡ year) ⊎ (other ≡ year +ℤ pos 1))
+pub place : (year other : ℤ) → (year -ℤ pos 1) ≤ℤ other → other ≤ℤ (year +ℤ pos 1) → (other ≡ year -ℤ pos 1) ⊎ ((other ≡ year) ⊎ (other ≡ year +ℤ pos 1))
 place year other low high = by_lt_z other year
     (λ less. inl (omega (arith, floors)))
     (λ not_less. inr (by_lt_z year other (λ more. inr (omega (arith, floors))) (λ not_more. inl (omega (arith, floors)))))

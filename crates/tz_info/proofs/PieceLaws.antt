@@ -4,7 +4,7 @@ use Rattle.std.proofs.lemmas.Bool.Decides.{nat_tests}
 use Rattle.tz_info.specs.Fronts.{is_digit, run_of, after_run, value_from, number_within, int_at, tag_at, optional_tag_at, ◌>>=◌}
 use Rattle.tz_info.specs.Pieces.{AllOf, NoneFirst, Without, Nothing, Marked, Number}
 use Rattle.tz_info.specs.TzFaults.{NoFault, ThenFault, MarkedFault, Byte, ByteFault, NumberFault}
-use Rattle.tz_info.specs.Steps.Readings.{nothing_at, checked_at, marked_at}
+use Rattle.tz_info.specs.Steps.Readings.{nothing_at, marked_at}
 use Rattle.tz_info.proofs.RunLaws.{within_is, above_is}
 
 -- reading gives P: what is read is spelled so, what is spelled so is read, where it is refused its fault stands, and where
@@ -68,20 +68,6 @@ nothing_law v = record {
   again = λ bytes x rest h. let a = h.0 in let b = h.1 in cc;
   fails = λ bytes n h. cc;
   refuses = λ bytes n h. absurd h;
-}
-
-pub checked_law : {X : Type 0} (r : Result X ℕ) → Law X (checked_at r) (λ bytes x rest. (r ≡ Ok x) × (bytes ≡ rest)) (λ bytes n. r ≡ Err n)
-checked_law (Ok v) = record {
-  takes = λ bytes x rest h. let p = ok_parts v x bytes rest h in let e = p.0 in (cc, p.1);
-  again = λ bytes x rest h. let a = h.0 in let b = h.1 in cc;
-  fails = λ bytes n h. cc;
-  refuses = λ bytes n h. cc;
-}
-checked_law (Err m) = record {
-  takes = λ bytes x rest h. cc;
-  again = λ bytes x rest h. let a = h.0 in cc;
-  fails = λ bytes n h. cc;
-  refuses = λ bytes n h. cc;
 }
 
 pub made_law : {X Y : Type 0} {a : List ℕ → Result (X × List ℕ) ℕ} {P : List ℕ → X → List ℕ → Type 0} {F : List ℕ → ℕ → Type 0} (f : X → Y) → Law X a P F → Law Y (λ bytes. a bytes >>= λ p. Ok (f p.0, p.1)) (Made P f) F

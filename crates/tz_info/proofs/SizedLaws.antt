@@ -1,15 +1,11 @@
 -- Pieces of a known length, which are refused only for want of bytes: their law, and how such laws go together.
-use Rattle.std.proofs.Common.{◌≡◌, ℕ, ◌+◌, ◌<◌, arith, refl, ap, ◌∙◌, List, ◌++◌, length, Ok, Err, Result, inl, inr, ◌⊎◌}
+use Rattle.std.proofs.Common.{◌≡◌, ℕ, ◌+◌, arith, refl, ap, ◌∙◌, List, length, Ok, Err, Result, inl, inr, ◌⊎◌}
 use Rattle.std.proofs.lemmas.List.{length-append}
 use Rattle.std.specs.Int.{w32, from_be_bytes}
 use Rattle.tz_info.specs.Fronts.{◌>>=◌, exact_at, be_u32_at}
-use Rattle.tz_info.specs.FileHeaders.{IsNumber}
+use Rattle.tz_info.specs.FileHeaders.{IsNumber, Short, Bytes}
 use Rattle.tz_info.proofs.PieceLaws.{Law, Then, Made, then_law, made_law, like_law}
 use Rattle.tz_info.proofs.ReadLaws.{exact_takes, exact_again, exact_fails, exact_short}
-
--- there are fewer bytes, and the number of that refusal
-abbrev pub Short : ℕ → List ℕ → ℕ → Type 0
-Short size bytes n = (n ≡ 7) × (length bytes < size)
 
 pub record SizedLaw (X : Type 0) (size : ℕ) (at : List ℕ → Result (X × List ℕ) ℕ) (P : List ℕ → X → List ℕ → Type 0) : Type 0 where
   pub law : Law X at P (Short size)
@@ -43,11 +39,7 @@ like_sized la same to from = record {
   sized = λ bytes x rest h. omega (arith, same, la.sized bytes x rest (from bytes x rest h));
 }
 
--- so many bytes
-abbrev pub Exact : ℕ → List ℕ → List ℕ → List ℕ → Type 0
-Exact n bytes x rest = (bytes ≡ x ++ rest) × (length x ≡ n)
-
-pub exact_law : (n : ℕ) → SizedLaw (List ℕ) n (exact_at n) (Exact n)
+pub exact_law : (n : ℕ) → SizedLaw (List ℕ) n (exact_at n) (Bytes n)
 exact_law n = record {
   law = record {
     takes = λ bytes x rest h. exact_takes n bytes (x, rest) h;

@@ -1,5 +1,5 @@
 -- The law of a whole TZ text, and what it says of a reader.
-use Rattle.std.proofs.Common.{◌≡◌, ℕ, ℤ, refl, ap, ◌∙◌, sym, subst, List, [], ◌∷◌, Bool, true, false, cond, Ok, Err, Result, inl, inr, ◌⊎◌, ◌≢◌, Option, Some, IfOk, IfErr}
+use Rattle.std.proofs.Common.{◌≡◌, ℕ, ℤ, refl, ap, ◌∙◌, sym, subst, List, [], ◌∷◌, Bool, true, false, Ok, Err, Result, inl, inr, ◌⊎◌, ◌≢◌, Option, Some, IfOk, IfErr}
 use Rattle.std.specs.Result.{IsOkAnd}
 use Rattle.tz_info.specs.Errors.{number_of}
 use Rattle.tz_info.specs.Fronts.{Gives, optional_tag_at, ◌>>=◌}
@@ -8,13 +8,14 @@ use Rattle.tz_info.specs.Rules.{Alternate}
 use Rattle.tz_info.specs.Pieces.{Name, Offset, DstOffset}
 use Rattle.tz_info.specs.TzTexts.{IsNamed, IsTzText}
 use Rattle.tz_info.specs.TzFaults.{Days, IsBadName, TurnsFault, RuleFault, IsTextFault}
-use Rattle.tz_info.specs.Steps.Readings.{checked_at, name_at, letters_at, is_name, named_type_of, end_at, more_at, dst_offset_at, given_offset_at, fixed_at, named_types_of, alternate_at, rule_at, text_at}
+use Rattle.tz_info.specs.Steps.Readings.{checked_at, name_at, letters_at, named_type_of, end_at, more_at, dst_offset_at, given_offset_at, fixed_at, named_types_of, alternate_at, rule_at, text_at}
 use Rattle.tz_info.specs.declared.error.Error.{Error}
 use Rattle.tz_info.specs.declared.rule.day.DayTime.{DayTime}
 use Rattle.tz_info.specs.declared.rule.transition_rule.TransitionRule.{TransitionRule}
 use Rattle.tz_info.specs.declared.rule.transition_rule.TransitionRule.TheVariants as rules
 use Rattle.tz_info.proofs.NamedTypes.{name_from, name_to}
-use Rattle.tz_info.proofs.PieceLaws.{Law, Then, then_law, made_law, like_law, checked_law, ok_parts, bind_ok, bind_err}
+use Rattle.tz_info.proofs.Decided.{Decided, like, bind, made, guard, done, refused, either, law_of, checked}
+use Rattle.tz_info.proofs.PieceLaws.{Law, Then, then_law, made_law, like_law, ok_parts}
 use Rattle.tz_info.proofs.ClockLaws.{offset_law}
 use Rattle.tz_info.proofs.QuoteLaws.{name_law}
 use Rattle.tz_info.proofs.DayLaws.{days_law}
@@ -24,33 +25,16 @@ use Rattle.tz_info.proofs.DstOffsetLaws.{dst_offset_law}
 abbrev typed : ℤ → Bool → Option (List ℕ) → LocalType
 typed offset dst name = record { offset = offset; dst = dst; name = name }
 
-abbrev type_refused_unless : Bool → LocalType → Result LocalType ℕ
-type_refused_unless t x = cond t (Ok x) (Err 3)
-
-named_ok : (name : List ℕ) (dst : Bool) (offset : ℤ) (t : LocalType) → named_type_of name dst offset ≡ Ok t → IsNamed name dst t × (t.offset ≡ offset)
-unfolding named_type_of
-named_ok name dst offset t h = elim (is_name name) as (λ b. is_name name ≡ b → type_refused_unless b (typed offset dst (Some name)) ≡ Ok t → IsNamed name dst t × (t.offset ≡ offset)) [
-  | true ↦ λ b k.
-      let e : typed offset dst (Some name) ≡ t = cc in
-      subst (λ (y : LocalType). IsNamed name dst y × (y.offset ≡ offset)) e (record { allowed = name_from name b; named = refl; mark = refl }, refl)
-  | false ↦ λ b k. cc
-] refl h
-
 same_type : (o p : ℤ) (d e : Bool) (m n : Option (List ℕ)) → o ≡ p → d ≡ e → m ≡ n → typed o d m ≡ typed p e n
 same_type o p d e m n a b c = cc
 
-named_again : (name : List ℕ) (dst : Bool) (offset : ℤ) (t : LocalType) → IsNamed name dst t → t.offset ≡ offset → named_type_of name dst offset ≡ Ok t
+named_law : (name : List ℕ) (dst : Bool) (offset : ℤ) → Decided LocalType (named_type_of name dst offset) (λ t. IsNamed name dst t × (t.offset ≡ offset)) (λ n. IsBadName name n)
 unfolding named_type_of
-named_again name dst offset t h e =
-    let same : t ≡ typed offset dst (Some name) = same_type t.offset offset t.dst dst t.name (Some name) e h.mark h.named in
-    rw (name_to name h.allowed) (ap Ok (sym same))
-
-named_err : (name : List ℕ) (dst : Bool) (offset : ℤ) (n : ℕ) → named_type_of name dst offset ≡ Err n → IsBadName name n
-unfolding named_type_of
-named_err name dst offset n h = elim (is_name name) as (λ b. is_name name ≡ b → type_refused_unless b (typed offset dst (Some name)) ≡ Err n → IsBadName name n) [
-  | true ↦ λ b k. cc
-  | false ↦ λ b k. (λ good. let e = name_to name good in cc, cc)
-] refl h
+named_law name dst offset = like (guard (typed offset dst (Some name)) 3 (name_from name, name_to name))
+    (λ t h. subst (λ (y : LocalType). IsNamed name dst y × (y.offset ≡ offset)) h.1 (record { allowed = h.0; named = refl; mark = refl }, refl))
+    (λ t h. (h.0.allowed, same_type offset t.offset dst t.dst (Some name) t.name (sym h.1) (sym h.0.mark) (sym h.0.named)))
+    (λ n h. h)
+    (λ n h. h)
 
 -- both types of a rule
 record AreNamed (std_name : List ℕ) (std_offset : ℤ) (dst_name : List ℕ) (dst_offset : ℤ) (p : LocalType × LocalType) : Type 0 where
@@ -59,51 +43,16 @@ record AreNamed (std_name : List ℕ) (std_offset : ℤ) (dst_name : List ℕ) (
   dst_named : IsNamed dst_name true p.1
   dst_offset_is : p.1.offset ≡ dst_offset
 
-types_ok : (std_name : List ℕ) (std_offset : ℤ) (dst_name : List ℕ) (dst_offset : ℤ) (p : LocalType × LocalType) → named_types_of std_name std_offset dst_name dst_offset ≡ Ok p → AreNamed std_name std_offset dst_name dst_offset p
+types_law : (std_name : List ℕ) (std_offset : ℤ) (dst_name : List ℕ) (dst_offset : ℤ) → Decided (LocalType × LocalType) (named_types_of std_name std_offset dst_name dst_offset) (AreNamed std_name std_offset dst_name dst_offset) (λ n. IsBadName std_name n ⊎ IsBadName dst_name n)
 unfolding named_types_of
-types_ok std_name std_offset dst_name dst_offset p h =
-    let k = bind_ok (named_type_of std_name false std_offset) _ p h in
-    let m = bind_ok (named_type_of dst_name true dst_offset) _ p k.2 in
-    let a = named_ok std_name false std_offset k.0 k.1 in
-    let b = named_ok dst_name true dst_offset m.0 m.1 in
-    let e : (k.0, m.0) ≡ p = cc in
-    subst (AreNamed std_name std_offset dst_name dst_offset) e (record { std_named = a.0; std_offset_is = a.1; dst_named = b.0; dst_offset_is = b.1 })
-
-types_again : (std_name : List ℕ) (std_offset : ℤ) (dst_name : List ℕ) (dst_offset : ℤ) (p : LocalType × LocalType) → AreNamed std_name std_offset dst_name dst_offset p → named_types_of std_name std_offset dst_name dst_offset ≡ Ok p
-unfolding named_types_of
-types_again std_name std_offset dst_name dst_offset p h = rw (named_again std_name false std_offset p.0 h.std_named h.std_offset_is, named_again dst_name true dst_offset p.1 h.dst_named h.dst_offset_is) refl
-
-types_err : (std_name : List ℕ) (std_offset : ℤ) (dst_name : List ℕ) (dst_offset : ℤ) (n : ℕ) → named_types_of std_name std_offset dst_name dst_offset ≡ Err n → IsBadName std_name n ⊎ IsBadName dst_name n
-unfolding named_types_of
-types_err std_name std_offset dst_name dst_offset n h = elim (bind_err (named_type_of std_name false std_offset) _ n h) [
-  | inl e ↦ inl (named_err std_name false std_offset n e)
-  | inr k ↦ elim (bind_err (named_type_of dst_name true dst_offset) _ n k.2) [ inl e ↦ inr (named_err dst_name true dst_offset n e) | inr m ↦ cc ]
-]
-
-named_refused : (name : List ℕ) (dst : Bool) (offset : ℤ) (n : ℕ) → IsBadName name n → named_type_of name dst offset ≡ Err n
-unfolding named_type_of
-named_refused name dst offset n h = elim (is_name name) as (λ b. is_name name ≡ b → type_refused_unless b (typed offset dst (Some name)) ≡ Err n) [
-  | true ↦ λ b. absurd (h.0 (name_from name b))
-  | false ↦ λ b. rw h.1 refl
-] refl
-
--- a name is one that a type can have, or it is none
-named_or_not : (name : List ℕ) (dst : Bool) (offset : ℤ) → ((t : LocalType) × (named_type_of name dst offset ≡ Ok t)) ⊎ (named_type_of name dst offset ≡ Err 3)
-unfolding named_type_of
-named_or_not name dst offset = elim (is_name name) as (λ b. ((t : LocalType) × (type_refused_unless b (typed offset dst (Some name)) ≡ Ok t)) ⊎ (type_refused_unless b (typed offset dst (Some name)) ≡ Err 3)) [
-  | true ↦ inl (typed offset dst (Some name), refl)
-  | false ↦ inr refl
-]
-
-types_refused : (std_name : List ℕ) (std_offset : ℤ) (dst_name : List ℕ) (dst_offset : ℤ) (n : ℕ) → IsBadName std_name n ⊎ IsBadName dst_name n → named_types_of std_name std_offset dst_name dst_offset ≡ Err n
-unfolding named_types_of
-types_refused std_name std_offset dst_name dst_offset n h = elim h [
-  | inl a ↦ rw (named_refused std_name false std_offset n a) refl
-  | inr b ↦ elim (named_or_not std_name false std_offset) [
-    | inl k ↦ rw (k.1, named_refused dst_name true dst_offset n b) refl
-    | inr k ↦ rw (k, b.1) refl
-  ]
-]
+types_law std_name std_offset dst_name dst_offset = like (bind (named_law std_name false std_offset) (λ std _. made (λ dst. (std, dst)) (named_law dst_name true dst_offset)))
+    (λ p h. let d = h.2 in subst (AreNamed std_name std_offset dst_name dst_offset) d.2 (record { std_named = h.1.0; std_offset_is = h.1.1; dst_named = d.1.0; dst_offset_is = d.1.1 }))
+    (λ p h. (p.0, (h.std_named, h.std_offset_is), (p.1, (h.dst_named, h.dst_offset_is), refl)))
+    (λ n h. elim h [ inl a ↦ inl a | inr b ↦ inr b.2 ])
+    (λ n h. elim h [
+      | inl a ↦ inl a
+      | inr b ↦ elim (either (named_law std_name false std_offset)) [ inl t ↦ inr (t.0, t.1, b) | inr k ↦ inl (k.1.0, b.1) ]
+    ])
 
 -- ---- the end
 abbrev End : List ℕ → Unit {0} → List ℕ → Type 0
@@ -112,28 +61,13 @@ End bytes unit rest = (bytes ≡ []) × (rest ≡ [])
 abbrev EndFault : List ℕ → ℕ → Type 0
 EndFault bytes n = (bytes ≢ []) × (n ≡ 6)
 
-end_takes : (bytes : List ℕ) (u : Unit {0}) (rest : List ℕ) → end_at bytes ≡ Ok (u, rest) → End bytes u rest
+end_read : (bytes : List ℕ) → Decided (Unit {0} × List ℕ) (end_at bytes) (λ p. End bytes p.0 p.1) (EndFault bytes)
 unfolding end_at
-end_takes [] u rest h = (refl, sym (ok_parts tt u [] rest h).1)
-end_takes (b ∷ bs) u rest h = cc
-
-end_again : (bytes : List ℕ) (u : Unit {0}) (rest : List ℕ) → End bytes u rest → end_at bytes ≡ Ok (u, rest)
-unfolding end_at
-end_again [] u rest h = rw h.1 refl
-end_again (b ∷ bs) u rest h = let e = h.0 in cc
-
-end_fails : (bytes : List ℕ) (n : ℕ) → end_at bytes ≡ Err n → EndFault bytes n
-unfolding end_at
-end_fails [] n h = cc
-end_fails (b ∷ bs) n h = (λ e. cc, cc)
-
-end_refuses : (bytes : List ℕ) (n : ℕ) → EndFault bytes n → end_at bytes ≡ Err n
-unfolding end_at
-end_refuses [] n h = absurd (h.0 refl)
-end_refuses (b ∷ bs) n h = rw h.1 refl
+end_read [] = like (done (tt, [])) (λ p h. (refl, sym (ap (λ (q : Unit {0} × List ℕ). q.1) h))) (λ p h. ap (λ (r : List ℕ). (tt, r)) (sym h.1)) (λ n h. absurd h) (λ n h. absurd (h.0 refl))
+end_read (b ∷ bs) = like (refused 6) (λ p h. absurd h) (λ p h. let e = h.0 in cc) (λ n h. (λ e. cc, h)) (λ n h. h.1)
 
 end_law : Law (Unit {0}) end_at End EndFault
-end_law = record { takes = end_takes; again = end_again; fails = end_fails; refuses = end_refuses }
+end_law = law_of end_read
 
 -- ---- behind the days
 abbrev turns_of : DayTime × DayTime → LocalType × LocalType → TransitionRule
@@ -146,11 +80,11 @@ abbrev TailFault : List ℕ → List ℕ → List ℕ → ℕ → Type 0
 TailFault std_name dst_name bytes n = ((bytes ≢ []) × (n ≡ 6)) ⊎ ((bytes ≡ []) × (IsBadName std_name n ⊎ IsBadName dst_name n))
 
 tail_law : (std_name : List ℕ) (std_offset : ℤ) (dst_name : List ℕ) (dst_offset : ℤ) (days : DayTime × DayTime) → Law TransitionRule (λ bytes. end_at bytes >>= λ e. (checked_at (named_types_of std_name std_offset dst_name dst_offset) e.1 >>= λ p. Ok (turns_of days p.0, p.1))) (Tail std_name std_offset dst_name dst_offset days) (TailFault std_name dst_name)
-tail_law std_name std_offset dst_name dst_offset days = like_law (then_law end_law (λ _. made_law (turns_of days) (checked_law (named_types_of std_name std_offset dst_name dst_offset))))
-    (λ bytes rule rest h. let t = h.3 in (t.0, types_ok std_name std_offset dst_name dst_offset t.0 t.1.0, h.2.0, sym t.1.1 ∙ h.2.1, t.2))
-    (λ bytes rule rest h. (tt, [], (h.2, refl), (h.0, (types_again std_name std_offset dst_name dst_offset h.0 h.1, sym h.3), h.4)))
-    (λ bytes n h. elim h [ inl a ↦ inl a | inr b ↦ inr (b.2.0, types_err std_name std_offset dst_name dst_offset n b.3) ])
-    (λ bytes n h. elim h [ inl a ↦ inl a | inr b ↦ inr (tt, [], (b.0, refl), types_refused std_name std_offset dst_name dst_offset n b.1) ])
+tail_law std_name std_offset dst_name dst_offset days = like_law (then_law end_law (λ _. made_law (turns_of days) (checked (types_law std_name std_offset dst_name dst_offset))))
+    (λ bytes rule rest h. let t = h.3 in (t.0, t.1.0, h.2.0, sym t.1.1 ∙ h.2.1, t.2))
+    (λ bytes rule rest h. (tt, [], (h.2, refl), (h.0, (h.1, sym h.3), h.4)))
+    (λ bytes n h. elim h [ inl a ↦ inl a | inr b ↦ inr (b.2.0, b.3) ])
+    (λ bytes n h. elim h [ inl a ↦ inl a | inr b ↦ inr (tt, [], (b.0, refl), b.1) ])
 
 -- ---- behind the offset of standard time
 record Turns (extended : Bool) (std_name : List ℕ) (std_offset : ℤ) (bytes : List ℕ) (a : Alternate) (rest : List ℕ) : Type 0 where
@@ -206,24 +140,9 @@ abbrev RulePiece : Bool → List ℕ → ℤ → List ℕ → TransitionRule →
 RulePiece extended std_name std_offset bytes (rules.Fixed t) rest = IsNamed std_name false t × (t.offset ≡ std_offset) × (bytes ≡ []) × (rest ≡ [])
 RulePiece extended std_name std_offset bytes (rules.Alternate a) rest = Turns extended std_name std_offset bytes a rest
 
-fixed_takes : (extended : Bool) (std_name : List ℕ) (std_offset : ℤ) (rule : TransitionRule) (rest : List ℕ) → fixed_at std_name std_offset [] ≡ Ok (rule, rest) → RulePiece extended std_name std_offset [] rule rest
+fixed_law : (name : List ℕ) (offset : ℤ) → Law TransitionRule (fixed_at name offset) (λ bytes rule rest. (t : LocalType) × ((IsNamed name false t × (t.offset ≡ offset)) × (bytes ≡ rest)) × (rules.Fixed t ≡ rule)) (λ _ n. IsBadName name n)
 unfolding fixed_at
-fixed_takes extended std_name std_offset rule rest h =
-    let m = (made_law rules.Fixed (checked_law (named_type_of std_name false std_offset))).takes [] rule rest h in
-    let t = named_ok std_name false std_offset m.0 m.1.0 in
-    subst (λ (r : TransitionRule). RulePiece extended std_name std_offset [] r rest) m.2 (t.0, t.1, refl, sym m.1.1)
-
-fixed_again : (std_name : List ℕ) (std_offset : ℤ) (t : LocalType) → IsNamed std_name false t → t.offset ≡ std_offset → fixed_at std_name std_offset [] ≡ Ok (rules.Fixed t, [])
-unfolding fixed_at
-fixed_again std_name std_offset t h e = rw (named_again std_name false std_offset t h e) refl
-
-fixed_fails : (std_name : List ℕ) (std_offset : ℤ) (n : ℕ) → fixed_at std_name std_offset [] ≡ Err n → IsBadName std_name n
-unfolding fixed_at
-fixed_fails std_name std_offset n h = named_err std_name false std_offset n ((made_law rules.Fixed (checked_law (named_type_of std_name false std_offset))).fails [] n h)
-
-fixed_refused : (std_name : List ℕ) (std_offset : ℤ) (n : ℕ) → IsBadName std_name n → fixed_at std_name std_offset [] ≡ Err n
-unfolding fixed_at
-fixed_refused std_name std_offset n h = rw (named_refused std_name false std_offset n h) refl
+fixed_law name offset = made_law rules.Fixed (checked (named_law name false offset))
 
 alternate_is_rule : (extended : Bool) (std_name : List ℕ) (std_offset : ℤ) (bytes : List ℕ) (rule : TransitionRule) (rest : List ℕ) → AlternatePiece extended std_name std_offset bytes rule rest → RulePiece extended std_name std_offset bytes rule rest
 alternate_is_rule extended std_name std_offset bytes (rules.Fixed t) rest h = absurd h
@@ -231,7 +150,9 @@ alternate_is_rule extended std_name std_offset bytes (rules.Alternate a) rest h 
 
 rule_takes : (extended : Bool) (std_name : List ℕ) (std_offset : ℤ) (bytes : List ℕ) (rule : TransitionRule) (rest : List ℕ) → rule_at extended std_name std_offset bytes ≡ Ok (rule, rest) → RulePiece extended std_name std_offset bytes rule rest
 unfolding rule_at
-rule_takes extended std_name std_offset [] rule rest h = fixed_takes extended std_name std_offset rule rest h
+rule_takes extended std_name std_offset [] rule rest h =
+    let k = (fixed_law std_name std_offset).takes [] rule rest h in
+    subst (λ (r : TransitionRule). RulePiece extended std_name std_offset [] r rest) k.2 (k.1.0.0, k.1.0.1, refl, sym k.1.1)
 rule_takes extended std_name std_offset (b ∷ bs) rule rest h = alternate_is_rule extended std_name std_offset (b ∷ bs) rule rest ((alternate_law extended std_name std_offset).takes (b ∷ bs) rule rest h)
 
 turns_again : (extended : Bool) (std_name : List ℕ) (std_offset : ℤ) (bytes : List ℕ) (a : Alternate) (rest : List ℕ) → Turns extended std_name std_offset bytes a rest → rule_at extended std_name std_offset bytes ≡ Ok (rules.Alternate a, rest)
@@ -241,7 +162,7 @@ turns_again extended std_name std_offset (b ∷ bs) a rest h = (alternate_law ex
 
 none_again : (extended : Bool) (std_name : List ℕ) (std_offset : ℤ) (t : LocalType) → IsNamed std_name false t → t.offset ≡ std_offset → rule_at extended std_name std_offset [] ≡ Ok (rules.Fixed t, [])
 unfolding rule_at
-none_again extended std_name std_offset t h e = fixed_again std_name std_offset t h e
+none_again extended std_name std_offset t h e = (fixed_law std_name std_offset).again [] (rules.Fixed t) [] (t, ((h, e), refl), refl)
 
 rule_again : (extended : Bool) (std_name : List ℕ) (std_offset : ℤ) (bytes : List ℕ) (rule : TransitionRule) (rest : List ℕ) → RulePiece extended std_name std_offset bytes rule rest → rule_at extended std_name std_offset bytes ≡ Ok (rule, rest)
 rule_again extended std_name std_offset bytes (rules.Fixed t) rest h = rw (h.2, h.3) (none_again extended std_name std_offset t h.0 h.1)
@@ -249,12 +170,12 @@ rule_again extended std_name std_offset bytes (rules.Alternate a) rest h = turns
 
 rule_fails : (extended : Bool) (std_name : List ℕ) (std_offset : ℤ) (bytes : List ℕ) (n : ℕ) → rule_at extended std_name std_offset bytes ≡ Err n → RuleFault extended std_name std_offset bytes n
 unfolding rule_at
-rule_fails extended std_name std_offset [] n h = inl (refl, fixed_fails std_name std_offset n h)
+rule_fails extended std_name std_offset [] n h = inl (refl, (fixed_law std_name std_offset).fails [] n h)
 rule_fails extended std_name std_offset (b ∷ bs) n h = inr (λ e. cc, (alternate_law extended std_name std_offset).fails (b ∷ bs) n h)
 
 rule_refuses : (extended : Bool) (std_name : List ℕ) (std_offset : ℤ) (bytes : List ℕ) (n : ℕ) → RuleFault extended std_name std_offset bytes n → rule_at extended std_name std_offset bytes ≡ Err n
 unfolding rule_at
-rule_refuses extended std_name std_offset [] n h = elim h [ inl a ↦ fixed_refused std_name std_offset n a.1 | inr b ↦ absurd (b.0 refl) ]
+rule_refuses extended std_name std_offset [] n h = elim h [ inl a ↦ (fixed_law std_name std_offset).refuses [] n a.1 | inr b ↦ absurd (b.0 refl) ]
 rule_refuses extended std_name std_offset (b ∷ bs) n h = elim h [ inl a ↦ let e = a.0 in cc | inr c ↦ (alternate_law extended std_name std_offset).refuses (b ∷ bs) n c.1 ]
 
 rule_law : (extended : Bool) (std_name : List ℕ) (std_offset : ℤ) → Law TransitionRule (rule_at extended std_name std_offset) (RulePiece extended std_name std_offset) (RuleFault extended std_name std_offset)

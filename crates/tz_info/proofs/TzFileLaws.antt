@@ -1,154 +1,236 @@
--- Files: what is read is spelled, what is spelled is read, and where it is refused its fault stands.
-use Rattle.std.proofs.Common.{◌≡◌, ℕ, ◌<◌, ◌⊎◌, List, Result, Ok, Err, Option, Some, None, Bool, IfOk, IfErr, MatchResult, refl, sym, ap, ◌∙◌, subst, arith, inl, inr}
-use Rattle.tz_info.specs.Errors.{number_of}
-use Rattle.tz_info.specs.Zones.{Zone}
-use Rattle.tz_info.specs.FileHeaders.{HeaderFault, No_magic, Other_magic, No_version, First_version, Other_version, Too_short, Counts_disagree}
-use Rattle.tz_info.specs.FilePieces.{FilePieces, HasPieces, PieceFault, First_header, First_block, More_bytes, Second_header, Second_block}
+-- The law of a whole file, and what it says of a reader: a file is a zone's or has one first fault.
+use Rattle.std.proofs.Common.{◌≡◌, ◌⊎◌, ℕ, ◌≤◌, arith, refl, sym, ap, ◌∙◌, subst, List, [], ◌∷◌, Result, Ok, Err, Option, Some, None, Bool, IfOk, IfErr, MatchResult, inl, inr}
+use Rattle.std.specs.Result.{IsErrAnd}
+use Rattle.tz_info.specs.Errors.{number_of, IsOutOfMemory}
+use Rattle.tz_info.specs.Zones.{Zone, IsValid}
+use Rattle.tz_info.specs.declared.file.header.Counts.{Counts}
+use Rattle.tz_info.specs.FileHeaders.{Short, Bytes, AreCounts, CountsFault, IsHeader, IsVersion, VersionFault, HeaderFault}
+use Rattle.tz_info.specs.FileBlocks.{IsBlock, block_size}
+use Rattle.tz_info.specs.FileContents.{TypeFault, Other_mark, No_text, Other_type, HasTypeFault, SpellTypes, SpellTransitions, IndicatorsAgree}
+use Rattle.tz_info.specs.LocalTypes.{LocalType}
+use Rattle.tz_info.specs.declared.zone.transition.Transition.{Transition}
+use Rattle.tz_info.specs.declared.zone.leap_second.LeapSecond.{LeapSecond}
+use Rattle.tz_info.specs.Footers.{FooterFault, Not_utf8, No_newlines, Colon, Zero, In_text}
+use Rattle.tz_info.specs.FilePieces.{FilePieces, HasPieces, PieceFault, SecondFault, AfterFault}
+use Rattle.tz_info.specs.declared.file.header.Version.{Version}
+use Rattle.tz_info.specs.declared.file.header.Version.TheVariants.{One, Two, Three}
 use Rattle.tz_info.specs.declared.file.header.Place.{Place}
 use Rattle.tz_info.specs.declared.file.header.Place.TheVariants.{First, Second}
 use Rattle.tz_info.specs.Steps.FileReading.{pieces_at}
-use Rattle.tz_info.specs.Steps.ContentReading.{GivesInMemory, values_below, transition_in, leap_second_in, type_in, indicators_of}
+use Rattle.tz_info.specs.Steps.ContentReading.{GivesInMemory}
 use Rattle.tz_info.specs.Steps.FooterReading.{footer_of}
-use Rattle.tz_info.specs.Steps.FileLists.{zone_of, HasLengths, with_rule, with_types, lists_in, Reads}
-use Rattle.tz_info.specs.TzFiles.{HasRule, SayZone, IsTzFile, ContentFault, In_type, In_indicators, In_footer, IsFileFault, In_piece, In_contents, No_memory}
+use Rattle.tz_info.specs.Steps.FileLists.{zone_of, HasLengths, with_rule, with_types, lists_in, file_at, Reads}
+use Rattle.tz_info.specs.TzFiles.{HasRule, SayZone, IsTzFile, ContentFault, In_type, In_indicators, In_footer, IsFileFault, In_piece, In_contents, Not_valid, IsZoneFault, In_file, No_memory}
 use Rattle.tz_info.specs.declared.error.Error.{Error}
 use Rattle.tz_info.specs.declared.error.Error.TheVariants.{OutOfMemory}
 use Rattle.tz_info.specs.declared.file.reader.Lists.{Lists}
 use Rattle.tz_info.specs.declared.rule.transition_rule.TransitionRule.{TransitionRule}
-use Rattle.tz_info.proofs.ReadLaws.{bind_ok, bind_err, ok_same}
-use Rattle.tz_info.proofs.RecordLaws.{refused_at}
-use Rattle.tz_info.proofs.FilePieceLaws.{pieces_takes, pieces_again, pieces_fails, has_lengths}
-use Rattle.tz_info.proofs.ContentLaws.{transitions_takes, transitions_again, leap_seconds_takes, leap_seconds_again, indicators_takes, indicators_again, indicators_fails}
-use Rattle.tz_info.proofs.TypeLaws.{types_takes, types_again, types_fails}
-use Rattle.tz_info.proofs.FooterLaws.{footer_takes, footer_again, footer_fails}
+use Rattle.tz_info.specs.declared.zone.time_zone.TimeZone.{TimeZone}
+use Rattle.tz_info.proofs.ContentLaws.{transitions_law, leap_seconds_law, indicators_law}
+use Rattle.tz_info.proofs.Decided.{Decided, like, bind, made, value_once, fault_once as one_fault, apart, either}
+use Rattle.tz_info.proofs.FaultNumbers.{IsLow, then_low, text_low}
+use Rattle.tz_info.proofs.FilePieceLaws.{pieces_law, has_lengths}
+use Rattle.tz_info.proofs.FooterLaws.{footer_law as footer_bytes_law}
+use Rattle.tz_info.proofs.ReadLaws.{ok_same}
+use Rattle.tz_info.proofs.TypeLaws.{types_law}
 
 -- ---- what whole pieces say
-rule_takes : (extended : Bool) (footer : Option (List ℕ)) (rule : Option TransitionRule) → footer_of extended footer ≡ Ok rule → HasRule extended footer rule
-rule_takes extended None rule h = sym (ok_same (Ok None) None rule refl h)
-rule_takes extended (Some bytes) rule h = footer_takes extended bytes rule h
+abbrev RuleFault : Bool → Option (List ℕ) → ℕ → Type 0
+RuleFault extended footer n = (bytes : List ℕ) × (footer ≡ Some bytes) × FooterFault extended bytes n
 
-rule_again : (extended : Bool) (footer : Option (List ℕ)) (rule : Option TransitionRule) → HasRule extended footer rule → footer_of extended footer ≡ Ok rule
-rule_again extended None rule h = rw h refl
-rule_again extended (Some bytes) rule h = footer_again extended bytes rule h
+footer_law : (extended : Bool) (footer : Option (List ℕ)) → Decided (Option TransitionRule) (footer_of extended footer) (HasRule extended footer) (RuleFault extended footer)
+footer_law extended None = record {
+  takes = λ rule h. sym (ok_same (Ok None) None rule refl h);
+  again = λ rule h. rw h refl;
+  fails = λ n h. cc;
+  refuses = λ n h. let e = h.1 in cc;
+}
+footer_law extended (Some bytes) = like (footer_bytes_law extended bytes) (λ rule h. h) (λ rule h. h) (λ n f. (bytes, refl, f)) (λ n f. subst (λ b. FooterFault extended b n) (sym (same bytes f.0 f.1)) f.2)
+  where
+    same : (a b : List ℕ) → Some a ≡ Some b → a ≡ b
+    same a b e = cc
 
-rule_fails : (p : FilePieces) (footer : Option (List ℕ)) (e : ℕ) → p.footer ≡ footer → footer_of p.extended footer ≡ Err e → ContentFault p e
-rule_fails p None e s h = cc
-rule_fails p (Some bytes) e s h = In_footer e bytes s (footer_fails p.extended bytes e h)
+abbrev zone_in : List LocalType → Option TransitionRule → List Transition → List LeapSecond → Zone
+zone_in types rule transitions leaps = record { transitions = transitions; types = types; leaps = leaps; rule = rule }
 
-some_bytes : (w : ℕ) → (w ≡ 4) ⊎ (w ≡ 8) → 0 < w
-some_bytes w h = elim h [ inl a ↦ omega arith | inr b ↦ omega arith ]
+abbrev ReadFault : FilePieces → ℕ → Type 0
+ReadFault p n =
+    HasTypeFault p.parts.designations p.parts.types n
+    ⊎ ((types : List LocalType) × SpellTypes p.parts.designations p.parts.types types × ((¬ (IndicatorsAgree p.parts.standard_wall p.parts.ut_local) × (n ≡ 5))
+    ⊎ ((u : Unit {0}) × IndicatorsAgree p.parts.standard_wall p.parts.ut_local × (RuleFault p.extended p.footer n
+    ⊎ ((rule : Option TransitionRule) × HasRule p.extended p.footer rule × (⊥
+    ⊎ ((ts : List Transition) × SpellTransitions p.time_size p.parts.times p.parts.type_indexes ts × ⊥)))))))
 
-say_takes : (p : FilePieces) (z : Zone) → HasLengths p → lists_in p ≡ Ok z → SayZone p z
-unfolding lists_in with_types with_rule
-say_takes p z l h =
-    let t = bind_ok (values_below p.counts.types (type_in p.parts.designations p.parts.types)) _ z h in
-    let i = bind_ok (indicators_of p.parts.standard_wall p.parts.ut_local) _ z t.2 in
-    let r = bind_ok (footer_of p.extended p.footer) _ z i.2 in
-    let c = bind_ok (values_below p.counts.transitions (transition_in p.time_size p.parts.times p.parts.type_indexes)) _ z r.2 in
-    let s = bind_ok (values_below p.counts.leap_seconds (leap_second_in p.time_size p.parts.leap_seconds)) _ z c.2 in
-    subst (λ (y : Zone). SayZone p y) (ok_same (Ok (record { transitions = c.0; types = t.0; leaps = s.0; rule = r.0 })) _ z refl s.2) (record {
-      transitions = transitions_takes p.counts.transitions p.time_size p.parts.times p.parts.type_indexes c.0 l.times l.type_indexes c.1;
-      types = types_takes p.counts.types p.parts.designations p.parts.types t.0 l.types t.1;
-      leaps = leap_seconds_takes p.counts.leap_seconds p.time_size p.parts.leap_seconds s.0 l.leap_seconds s.1;
-      indicators = indicators_takes p.parts.standard_wall p.parts.ut_local i.0 i.1;
-      rule = rule_takes p.extended p.footer r.0 r.1;
-    })
-
-say_again : (p : FilePieces) (z : Zone) → HasLengths p → SayZone p z → lists_in p ≡ Ok z
-unfolding lists_in with_types with_rule
-say_again p z l s =
-    rw (
-      types_again p.counts.types p.parts.designations p.parts.types z.types l.types s.types,
-      indicators_again p.parts.standard_wall p.parts.ut_local s.indicators,
-      rule_again p.extended p.footer z.rule s.rule,
-      transitions_again p.counts.transitions p.time_size p.parts.times p.parts.type_indexes z.transitions l.type_indexes s.transitions,
-      leap_seconds_again p.counts.leap_seconds p.time_size p.parts.leap_seconds z.leaps (some_bytes p.time_size l.time_size) l.leap_seconds s.leaps,
-    ) refl
-
-transition_stands : (w : ℕ) (times indexes : List ℕ) (k e : ℕ) → transition_in w times indexes k ≡ Err e → ⊥
-transition_stands w times indexes k e h = cc
-
-leap_stands : (w : ℕ) (part : List ℕ) (k e : ℕ) → leap_second_in w part k ≡ Err e → ⊥
-leap_stands w part k e h = cc
-
-say_fails : (p : FilePieces) (e : ℕ) → HasLengths p → lists_in p ≡ Err e → ContentFault p e
-unfolding lists_in with_types with_rule
-say_fails p e l h = elim (bind_err (values_below p.counts.types (type_in p.parts.designations p.parts.types)) _ e h) [
-  | inl k ↦ In_type e (types_fails p.counts.types p.parts.designations p.parts.types e l.types k)
-  | inr t ↦ elim (bind_err (indicators_of p.parts.standard_wall p.parts.ut_local) _ e t.2) [
-    | inl k ↦ let f = indicators_fails p.parts.standard_wall p.parts.ut_local e k in subst (λ n. ContentFault p n) (sym f.0) (In_indicators f.1 f.2 f.3)
-    | inr i ↦ elim (bind_err (footer_of p.extended p.footer) _ e i.2) [
-      | inl k ↦ rule_fails p p.footer e refl k
-      | inr r ↦ elim (bind_err (values_below p.counts.transitions (transition_in p.time_size p.parts.times p.parts.type_indexes)) _ e r.2) [
-        | inl k ↦ let f = refused_at p.counts.transitions (transition_in p.time_size p.parts.times p.parts.type_indexes) e k in absurd (transition_stands p.time_size p.parts.times p.parts.type_indexes f.0 e f.2)
-        | inr c ↦ elim (bind_err (values_below p.counts.leap_seconds (leap_second_in p.time_size p.parts.leap_seconds)) _ e c.2) [
-          | inl k ↦ let f = refused_at p.counts.leap_seconds (leap_second_in p.time_size p.parts.leap_seconds) e k in absurd (leap_stands p.time_size p.parts.leap_seconds f.0 e f.2)
-          | inr s ↦ let q = s.2 in cc
-        ]
-      ]
-    ]
+content_fault : (p : FilePieces) (n : ℕ) → ReadFault p n → ContentFault p n
+content_fault p n (inl f) = In_type n f
+content_fault p n (inr t) = elim t.2 [
+  | inl f ↦ subst (λ k. ContentFault p k) (sym f.1) (In_indicators t.0 t.1 f.0)
+  | inr i ↦ elim i.2 [
+    | inl f ↦ In_footer t.0 f.0 n t.1 i.1 f.1 f.2
+    | inr r ↦ elim r.2 [ inl f ↦ absurd f | inr s ↦ absurd s.2 ]
   ]
 ]
 
--- ---- what the reader answers
-pub reads : (bytes : List ℕ) (p : FilePieces) (r : Result Lists Error) → pieces_at bytes ≡ Ok p → GivesInMemory zone_of r (lists_in p) → Reads r (pieces_at bytes)
-reads bytes p (Ok lists) h g = (p, h, g)
-reads bytes p (Err e) h g = inr (p, h, g)
+fault_again : (p : FilePieces) (n : ℕ) → ContentFault p n → ReadFault p n
+fault_again p n (In_type m f) = inl f
+fault_again p n (In_indicators types spelled bad) = inr (types, spelled, inl (bad, refl))
+fault_again p n (In_footer types footer m spelled agree is f) = inr (types, spelled, inr (tt, agree, inl (footer, is, f)))
 
-pub found : (bytes : List ℕ) (r : Result Lists Error) → Reads r (pieces_at bytes) → IfOk r (λ lists. IsTzFile bytes (zone_of lists))
-found bytes (Ok lists) s = let whole = pieces_takes bytes s.0 s.1 in (s.0, whole, say_takes s.0 (zone_of lists) (has_lengths bytes s.0 whole) s.2)
-found bytes (Err e) s = tt
+say_law : (p : FilePieces) → HasLengths p → Decided Zone (lists_in p) (SayZone p) (ContentFault p)
+unfolding lists_in with_types with_rule
+say_law p l = like
+    (bind (types_law p.counts.types p.parts.designations p.parts.types l.types) (λ types _.
+    bind (indicators_law p.parts.standard_wall p.parts.ut_local) (λ _ _.
+    bind (footer_law p.extended p.footer) (λ rule _.
+    bind (transitions_law p.counts.transitions p.time_size p.parts.times p.parts.type_indexes l.times l.type_indexes) (λ transitions _.
+    made (zone_in types rule transitions) (leap_seconds_law p.counts.leap_seconds p.time_size p.parts.leap_seconds l.leap_seconds))))))
+    (λ z h.
+    let i = h.2 in let r = i.2 in let t = r.2 in let s = t.2 in
+    subst (λ (y : Zone). SayZone p y) s.2 (record { transitions = t.1; types = h.1; leaps = s.1; indicators = i.1; rule = r.1 }))
+    (λ z s. (z.types, s.types, (tt, s.indicators, (z.rule, s.rule, (z.transitions, s.transitions, (z.leaps, s.leaps, refl))))))
+    (content_fault p)
+    (fault_again p)
 
-pub only : (bytes : List ℕ) (r : Result Lists Error) → Reads r (pieces_at bytes) → (z : Zone) → IsTzFile bytes z → MatchResult r (λ lists. zone_of lists ≡ z) (λ e. e ≡ OutOfMemory)
-only bytes (Ok lists) s z d =
-    let same : s.0 ≡ d.0 = ok_same _ _ _ s.1 (pieces_again bytes d.0 d.1) in
-    ok_same _ _ _ (ap lists_in (sym same) ∙ s.2) (say_again d.0 z (has_lengths bytes d.0 d.1) d.2)
-only bytes (Err e) s z d = let again = pieces_again bytes d.0 d.1 in let said = say_again d.0 z (has_lengths bytes d.0 d.1) d.2 in elim s [
-  | inl k ↦ cc
-  | inr k ↦ let same : k.0 ≡ d.0 = ok_same _ _ _ k.1 again in elim k.2 [
-    | inl m ↦ m
-    | inr m ↦ let x : lists_in k.0 ≡ Ok z = ap lists_in same ∙ said in cc
-  ]
-]
+-- ---- the whole
+-- a fault of a piece, or of what whole pieces say
+abbrev SpellingFault : List ℕ → ℕ → Type 0
+SpellingFault bytes n = PieceFault bytes n ⊎ ((p : FilePieces) × HasPieces bytes p × ContentFault p n)
 
-pub fault : (bytes : List ℕ) (r : Result Lists Error) → Reads r (pieces_at bytes) → IfErr r (λ e. IsFileFault bytes (number_of e))
-fault bytes (Ok lists) s = tt
-fault bytes (Err e) s = elim s [
-  | inl k ↦ In_piece (number_of e) (pieces_fails bytes (number_of e) k)
-  | inr k ↦ let whole = pieces_takes bytes k.0 k.1 in elim k.2 [
-    | inl m ↦ subst (λ n. IsFileFault bytes n) (sym (ap number_of m)) (No_memory k.0 whole)
-    | inr m ↦ In_contents (number_of e) k.0 whole (say_fails k.0 (number_of e) (has_lengths bytes k.0 whole) m)
-  ]
-]
-
-not_17 : (n : ℕ) → n ≡ 7 → n ≡ 17 → ⊥
-not_17 n a b = absurd (omega arith)
-
-header_not_17 : (place : Place) (bytes : List ℕ) (n : ℕ) → HeaderFault place bytes n → n ≡ 17 → ⊥
-header_not_17 place bytes n (No_magic _) q = cc
-header_not_17 place bytes n (Other_magic _ _ _ _ _) q = cc
-header_not_17 place bytes n (No_version _) q = cc
-header_not_17 place bytes n (First_version _ _ _) q = cc
-header_not_17 place bytes n (Other_version _ _ _ _) q = cc
-header_not_17 place bytes n (Too_short _ _ _ _ _ _ _) q = cc
-header_not_17 place bytes n (Counts_disagree _ _ _ _ _ _ _ _ _ _ _ _) q = cc
-
-piece_not_17 : (bytes : List ℕ) (n : ℕ) → PieceFault bytes n → n ≡ 17 → ⊥
-piece_not_17 bytes n (First_header m h) q = header_not_17 First bytes m h q
-piece_not_17 bytes n (First_block m _ _ _ b) q = not_17 m b.0 q
-piece_not_17 bytes n (More_bytes _ _ _ _ _ _ _ _) q = cc
-piece_not_17 bytes n (Second_header m _ _ _ rest _ _ _ h) q = header_not_17 Second rest m h q
-piece_not_17 bytes n (Second_block m _ _ _ _ _ _ _ _ _ _ b) q = not_17 m b.0 q
-
-pub memory : (bytes : List ℕ) (r : Result Lists Error) → Reads r (pieces_at bytes) → IfErr r (λ e. e ≡ OutOfMemory → (p : FilePieces) × HasPieces bytes p)
-memory bytes (Ok lists) s = tt
-memory bytes (Err e) s = λ m. elim s [
-  | inl k ↦ absurd (piece_not_17 bytes (number_of e) (pieces_fails bytes (number_of e) k) (ap number_of m))
-  | inr k ↦ (k.0, pieces_takes bytes k.0 k.1)
-]
+file_law : (bytes : List ℕ) → Decided Zone (file_at bytes) (IsTzFile bytes) (SpellingFault bytes)
+unfolding file_at
+file_law bytes = bind (pieces_law bytes) (λ p whole. say_law p (has_lengths bytes p whole))
 
 -- no bytes spell two zones
 pub one_zone : (bytes : List ℕ) (y z : Zone) → IsTzFile bytes y → IsTzFile bytes z → y ≡ z
-one_zone bytes y z a b =
-    let same : a.0 ≡ b.0 = ok_same _ _ _ (pieces_again bytes a.0 a.1) (pieces_again bytes b.0 b.1) in
-    ok_same _ _ _ (ap lists_in (sym same) ∙ say_again a.0 y (has_lengths bytes a.0 a.1) a.2) (say_again b.0 z (has_lengths bytes b.0 b.1) b.2)
+one_zone bytes = value_once (file_law bytes)
+
+-- ---- the first fault
+spelling_fault : (bytes : List ℕ) (n : ℕ) → SpellingFault bytes n → IsFileFault bytes n
+spelling_fault bytes n (inl f) = In_piece n f
+spelling_fault bytes n (inr f) = In_contents n f.0 f.1 f.2
+
+abbrev ValidityFault : List ℕ → ℕ → Type 0
+ValidityFault bytes n = (z : Zone) × IsTzFile bytes z × ¬ (IsValid z) × (n ≡ 12)
+
+kind_of : (bytes : List ℕ) (n : ℕ) → IsFileFault bytes n → SpellingFault bytes n ⊎ ValidityFault bytes n
+kind_of bytes n (In_piece m f) = inl (inl f)
+kind_of bytes n (In_contents m p whole f) = inl (inr (p, whole, f))
+kind_of bytes n (Not_valid z file bad) = inr (z, file, bad, refl)
+
+pub fault_once : (bytes : List ℕ) (m n : ℕ) → IsFileFault bytes m → IsFileFault bytes n → m ≡ n
+fault_once bytes m n f g = elim (kind_of bytes m f) [
+  | inl a ↦ elim (kind_of bytes n g) [
+    | inl b ↦ one_fault (file_law bytes) m n a b
+    | inr b ↦ absurd (apart (file_law bytes) b.0 m b.1 a)
+  ]
+  | inr a ↦ elim (kind_of bytes n g) [
+    | inl b ↦ absurd (apart (file_law bytes) a.0 n a.1 b)
+    | inr b ↦ a.3 ∙ sym b.3
+  ]
+]
+
+pub fault_or_zone : (bytes : List ℕ) (n : ℕ) (z : Zone) → IsFileFault bytes n → IsTzFile bytes z → IsValid z → ⊥
+fault_or_zone bytes n z f file valid = elim (kind_of bytes n f) [
+  | inl a ↦ apart (file_law bytes) z n file a
+  | inr a ↦ a.2 (subst (λ y. IsValid y) (one_zone bytes z a.0 file a.1) valid)
+]
+
+pub has_fault : (bytes : List ℕ) → ((z : Zone) → IsTzFile bytes z → ¬ (IsValid z)) → (n : ℕ) × IsFileFault bytes n
+has_fault bytes none = elim (either (file_law bytes)) [
+  | inl z ↦ (12, Not_valid z.0 z.1 (none z.0 z.1))
+  | inr f ↦ (f.0, spelling_fault bytes f.0 f.1)
+]
+
+-- ---- want of memory is no fault
+short_low : (count : ℕ) → IsLow (Short count)
+short_low count bytes n h = let e = h.0 in omega arith
+
+version_low : (place : Place) → IsLow (VersionFault place)
+version_low place [] n h = omega arith
+version_low place (byte ∷ rest) n h = elim h [ inl k ↦ let e = k.2 in omega arith | inr k ↦ let e = k.1 in omega arith ]
+
+counts_low : (c : Counts) → IsLow (CountsFault c)
+counts_low c bytes n h = let e = h.1 in omega arith
+
+header_low : (place : Place) → IsLow (HeaderFault place)
+header_low place bytes n h = elim h [
+  | inl m ↦ elim m [ inl s ↦ short_low 4 bytes n s | inr o ↦ let e = o.1 in omega arith ]
+  | inr r ↦ then_low (IsVersion place) (version_low place) (λ v. then_low (Bytes 15) (short_low 15) (λ _. then_low AreCounts (short_low 24) counts_low)) r.0 n r.2
+]
+
+second_low : IsLow SecondFault
+second_low = then_low (IsHeader Second) (header_low Second) (λ h. short_low (block_size 8 h.counts))
+
+after_low : (v : Version) → IsLow (AfterFault v)
+after_low One bytes n h = let e = h.1 in omega arith
+after_low Two bytes n h = second_low bytes n h
+after_low Three bytes n h = second_low bytes n h
+
+piece_low : IsLow PieceFault
+piece_low = then_low (IsHeader First) (header_low First) (λ h. then_low (IsBlock 4 h.counts) (short_low (block_size 4 h.counts)) (λ _. after_low h.version))
+
+type_low : (names bytes : List ℕ) (n : ℕ) → TypeFault names bytes n → n ≤ 16
+type_low names bytes n (Other_mark _) = omega arith
+type_low names bytes n (No_text _ _ _) = omega arith
+type_low names bytes n (Other_type _ _ _ _ _) = omega arith
+
+footer_low : (extended : Bool) (bytes : List ℕ) (n : ℕ) → FooterFault extended bytes n → n ≤ 16
+footer_low extended bytes n (Not_utf8 _) = omega arith
+footer_low extended bytes n (No_newlines _ _) = omega arith
+footer_low extended bytes n (Colon _ _ _) = omega arith
+footer_low extended bytes n (Zero _ _ _) = omega arith
+footer_low extended bytes n (In_text text m _ _ _ _ f) = text_low extended text m f
+
+content_low : (p : FilePieces) (n : ℕ) → ContentFault p n → n ≤ 16
+content_low p n (In_type m f) = type_low p.parts.designations f.faulty m f.fault
+content_low p n (In_indicators _ _ _) = omega arith
+content_low p n (In_footer _ footer m _ _ _ f) = footer_low p.extended footer m f
+
+pub fault_low : (bytes : List ℕ) (n : ℕ) → IsFileFault bytes n → n ≤ 16
+fault_low bytes n (In_piece m f) = piece_low bytes m f
+fault_low bytes n (In_contents m p _ f) = content_low p m f
+fault_low bytes n (Not_valid _ _ _) = omega arith
+
+-- ---- what the reader of the lists answers
+pub reads : (bytes : List ℕ) (p : FilePieces) (r : Result Lists Error) → pieces_at bytes ≡ Ok p → GivesInMemory zone_of r (lists_in p) → Reads r bytes
+unfolding file_at
+reads bytes p (Ok lists) h g = rw h g
+reads bytes p (Err e) h g = elim g [ inl memory ↦ inr (memory, p, h) | inr refused ↦ inl (rw h refused) ]
+
+pub no_pieces : (bytes : List ℕ) (e : Error) → pieces_at bytes ≡ Err (number_of e) → Reads (Err e) bytes
+unfolding file_at
+no_pieces bytes e h = inl (rw h refl)
+
+pub found : (bytes : List ℕ) (r : Result Lists Error) → Reads r bytes → IfOk r (λ lists. IsTzFile bytes (zone_of lists))
+found bytes (Ok lists) s = (file_law bytes).takes (zone_of lists) s
+found bytes (Err e) s = tt
+
+pub only : (bytes : List ℕ) (r : Result Lists Error) → Reads r bytes → (z : Zone) → IsTzFile bytes z → MatchResult r (λ lists. zone_of lists ≡ z) (λ e. e ≡ OutOfMemory)
+only bytes (Ok lists) s z file = ok_same _ _ _ s ((file_law bytes).again z file)
+only bytes (Err e) s z file = elim s [ inl refused ↦ let read = (file_law bytes).again z file in cc | inr memory ↦ memory.0 ]
+
+pub fault : (bytes : List ℕ) (r : Result Lists Error) → Reads r bytes → IfErr r (λ e. IsZoneFault bytes (number_of e))
+fault bytes (Ok lists) s = tt
+fault bytes (Err e) s = elim s [
+  | inl refused ↦ In_file (number_of e) (spelling_fault bytes (number_of e) ((file_law bytes).fails (number_of e) refused))
+  | inr memory ↦ rw memory.0 (No_memory memory.1 ((pieces_law bytes).takes memory.1 memory.2))
+]
+
+pub memory : (bytes : List ℕ) (r : Result Lists Error) → Reads r bytes → IfErr r (λ e. e ≡ OutOfMemory → (p : FilePieces) × HasPieces bytes p)
+memory bytes (Ok lists) s = tt
+memory bytes (Err e) s = λ is. elim s [
+  | inl refused ↦
+      let low = fault_low bytes (number_of e) (spelling_fault bytes (number_of e) ((file_law bytes).fails (number_of e) refused)) in
+      let n : number_of e ≡ 17 = ap number_of is in absurd (omega arith)
+  | inr whole ↦ (whole.1, (pieces_law bytes).takes whole.1 whole.2)
+]
+
+-- ---- what a reader of zones answers
+-- of a file with a fault that one is named, unless memory ran out
+pub named : (bytes : List ℕ) (r : Result TimeZone Error) → IfOk r (λ z. IsTzFile bytes z × IsValid z) → IfErr r (λ e. IsZoneFault bytes (number_of e))
+    → (n : ℕ) → IsFileFault bytes n → IsErrAnd r (λ e. (number_of e ≡ n) ⊎ IsOutOfMemory e)
+named bytes (Ok z) ok err n f = absurd (fault_or_zone bytes n z f ok.0 ok.1)
+named bytes (Err e) ok err n f = by bytes (number_of e) n err f where
+  by : (bytes : List ℕ) (m n : ℕ) → IsZoneFault bytes m → IsFileFault bytes n → (m ≡ n) ⊎ (m ≡ 17)
+  by bytes m n (In_file k g) f = inl (fault_once bytes k n g f)
+  by bytes m n (No_memory p whole) f = inr refl

@@ -25,8 +25,8 @@ made_only bytes lists (Err e) f (inr m) z g v = m.0
 
 pub made_fault : (bytes : List ℕ) (lists : Zone) (r : Result TimeZone Error) → IsTzFile bytes lists → Makes lists r → IfErr r (λ e. IsZoneFault bytes (number_of e))
 made_fault bytes lists (Ok y) f m = tt
-made_fault bytes lists (Err e) f (inl m) = subst (λ n. IsZoneFault bytes n) (sym m.0) (Not_valid lists f m.1)
-made_fault bytes lists (Err e) f (inr m) = rw m.0 (In_file 17 (No_memory f.0 f.1))
+made_fault bytes lists (Err e) f (inl m) = subst (λ n. IsZoneFault bytes n) (sym m.0) (In_file 12 (Not_valid lists f m.1))
+made_fault bytes lists (Err e) f (inr m) = rw m.0 (No_memory f.0 f.1)
 
 pub made_memory : (bytes : List ℕ) (lists : Zone) (r : Result TimeZone Error) → IsTzFile bytes lists → IfErr r (λ e. e ≡ OutOfMemory → (p : FilePieces) × HasPieces bytes p)
 made_memory bytes lists (Ok y) f = tt

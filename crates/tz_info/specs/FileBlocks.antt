@@ -1,5 +1,6 @@
 -- The data blocks of a TZif file (RFC 8536 section 3.2).
-use Rattle.std.specs.Prelude.{ℕ, ◌≡◌, ◌<◌, ◌+◌, ◌*◌, List, [], ◌∷◌, ◌++◌, length}
+use Rattle.std.specs.Prelude.{ℕ, ◌≡◌, ◌+◌, ◌*◌, List, [], ◌∷◌, ◌++◌, length}
+use Rattle.tz_info.specs.FileHeaders.{Short}
 use Rattle.tz_info.specs.declared.file.header.Counts.{Counts}
 use Rattle.tz_info.specs.declared.file.block.Block.{Block}
 
@@ -48,6 +49,6 @@ total_of (n ∷ ns) = n + total_of ns
 abbrev pub block_size : ℕ → Counts → ℕ
 block_size time_size c = total_of (c.transitions * time_size ∷ c.transitions ∷ c.types * 6 ∷ c.designations ∷ c.leap_seconds * (time_size + 4) ∷ c.standard_wall ∷ c.ut_local ∷ [])
 
--- there are fewer bytes, and the number of that refusal
+-- 7: there are fewer
 abbrev pub BlockFault : ℕ → Counts → List ℕ → ℕ → Type 0
-BlockFault time_size c bytes n = (n ≡ 7) × (length bytes < block_size time_size c)
+BlockFault time_size c = Short (block_size time_size c)

@@ -1,5 +1,5 @@
 -- What the parts of a data block say (RFC 8536 section 3.2).
-use Rattle.std.specs.Prelude.{ℕ, ℤ, pos, neg_ℤ, ◌<ℤ◌, ◌≡◌, ◌≢◌, ◌==◌, ◌<◌, ◌≤◌, ◌+◌, ◌*◌, Bool, true, false, if◌then◌else◌, List, [], ◌∷◌, ◌++◌, length, take, slice_index, map, Option, Some, None}
+use Rattle.std.specs.Prelude.{ℕ, ℤ, pos, neg_ℤ, ◌<ℤ◌, ◌≡◌, ◌≢◌, ◌==◌, ◌+◌, Bool, true, false, if◌then◌else◌, List, [], ◌∷◌, ◌++◌, length, take, slice_index, map, Option, Some, None}
 use Rattle.std.specs.Int.{Width, w32, w64, from_be_bytes, cast_signed}
 use Rattle.tz_info.specs.LocalTypes.{LocalType}
 use Rattle.tz_info.specs.Names.{IsNameOrNone}
@@ -18,6 +18,17 @@ time_of size bytes = if size == 4 then signed w32 bytes else signed w64 bytes
 abbrev pub AreRecords : {X : Type 0} → ℕ → (List ℕ → X → Type 0) → List ℕ → List X → Type 0
 AreRecords size Spells bytes [] = bytes ≡ []
 AreRecords size Spells bytes (x ∷ xs) = (first : List ℕ) × (rest : List ℕ) × (bytes ≡ first ++ rest) × (length first ≡ size) × Spells first x × AreRecords size Spells rest xs
+
+-- the first record that spells nothing has that fault
+pub record HasRecordFault {X : Type 0} (size : ℕ) (Spells : List ℕ → X → Type 0) (Fault : List ℕ → ℕ → Type 0) (bytes : List ℕ) (n : ℕ) : Type 0 where
+  pub before : List ℕ
+  pub faulty : List ℕ
+  pub after : List ℕ
+  pub whole : bytes ≡ before ++ (faulty ++ after)
+  pub earlier : List X
+  pub spelled : AreRecords size Spells before earlier
+  pub size_is : length faulty ≡ size
+  pub fault : Fault faulty n
 
 -- ---- transitions and leap seconds
 -- the times in one part, in the other a byte for each type index
@@ -85,24 +96,16 @@ pub record SpellsType (designations bytes : List ℕ) (t : LocalType) : Type 0 w
 abbrev pub SpellTypes : List ℕ → List ℕ → List LocalType → Type 0
 SpellTypes designations bytes types = AreRecords 6 (SpellsType designations) bytes types
 
--- what is wrong with a type's record, and the number of the refusal
+-- what is wrong with a type's record, and the number of the refusal: its mark; else the place of its text, from which on no 0
+-- byte comes; else its offset or its name
 pub data TypeFault (designations bytes : List ℕ) : ℕ → Type 0 where
   Other_mark : ((dst : Bool) → ¬ (IsMark (mark_in bytes) dst)) → TypeFault designations bytes 5
-  Place_behind : length designations ≤ place_in bytes → TypeFault designations bytes 5
-  No_end : ((k : ℕ) → place_in bytes ≤ k → k < length designations → slice_index designations k ≢ 0) → TypeFault designations bytes 5
-  Least_offset : ¬ (least_offset <ℤ offset_in bytes) → TypeFault designations bytes 3
-  Other_name : (text : List ℕ) → StandsAt designations (place_in bytes) text → ¬ (IsNameOrNone (designation_of text)) → TypeFault designations bytes 3
+  No_text : (dst : Bool) → IsMark (mark_in bytes) dst → ((text : List ℕ) → ¬ (StandsAt designations (place_in bytes) text)) → TypeFault designations bytes 5
+  Other_type : (dst : Bool) (text : List ℕ) → IsMark (mark_in bytes) dst → StandsAt designations (place_in bytes) text
+      → ¬ ((least_offset <ℤ offset_in bytes) × IsNameOrNone (designation_of text)) → TypeFault designations bytes 3
 
--- a record of such a fault stands in the part at a whole number of records
-pub record HasTypeFault (designations bytes : List ℕ) (n : ℕ) : Type 0 where
-  pub place : ℕ
-  pub before : List ℕ
-  pub faulty : List ℕ
-  pub after : List ℕ
-  pub whole : bytes ≡ before ++ (faulty ++ after)
-  pub at : length before ≡ place * 6
-  pub size : length faulty ≡ 6
-  pub fault : TypeFault designations faulty n
+abbrev pub HasTypeFault : List ℕ → List ℕ → ℕ → Type 0
+HasTypeFault designations bytes n = HasRecordFault 6 (SpellsType designations) (TypeFault designations) bytes n
 
 -- ---- indicators
 -- where a type's time is given in UT, it is given in standard time; an indicator left out is 0

@@ -1,6 +1,7 @@
 -- The headers of a TZif file (RFC 8536 section 3.1).
 use Rattle.std.specs.Prelude.{ℕ, ◌≡◌, ◌≢◌, ◌<◌, ◌≤◌, List, [], ◌∷◌, ◌++◌, length, take, ◌⊎◌}
 use Rattle.std.specs.Int.{w32, from_be_bytes}
+use Rattle.tz_info.specs.TzFaults.{ThenFault}
 use Rattle.tz_info.specs.declared.file.header.Place.{Place}
 use Rattle.tz_info.specs.declared.file.header.Place.TheVariants.{First, Second}
 use Rattle.tz_info.specs.declared.file.header.Version.{Version}
@@ -67,13 +68,36 @@ pub record IsHeader (place : Place) (bytes : List ℕ) (h : Header) (rest : List
   pub counts : AreCounts numbers h.counts rest
   pub agree : CountsAgree h.counts
 
--- what is wrong where a header should begin, and the number of the refusal
-pub data HeaderFault (place : Place) (bytes : List ℕ) : ℕ → Type 0 where
-  No_magic : length bytes < 4 → HeaderFault place bytes 7
-  Other_magic : (four rest : List ℕ) → bytes ≡ four ++ rest → length four ≡ 4 → four ≢ magic → HeaderFault place bytes 5
-  No_version : bytes ≡ magic → HeaderFault place bytes 7
-  First_version : (rest : List ℕ) → bytes ≡ magic ++ (0 ∷ rest) → place ≡ Second → HeaderFault place bytes 5
-  Other_version : (version : ℕ) (rest : List ℕ) → bytes ≡ magic ++ (version ∷ rest) → ((v : Version) → ¬ (StandsFor version v)) → HeaderFault place bytes 14
-  Too_short : (version : ℕ) (v : Version) (rest : List ℕ) → bytes ≡ magic ++ (version ∷ rest) → StandsFor version v → MayStand place v → length rest < 39 → HeaderFault place bytes 7
-  Counts_disagree : (version : ℕ) (v : Version) (unused numbers rest : List ℕ) (c : Counts) → bytes ≡ magic ++ (version ∷ (unused ++ numbers)) → StandsFor version v → MayStand place v → length unused ≡ 15
-      → AreCounts numbers c rest → ¬ (CountsAgree c) → HeaderFault place bytes 5
+-- ---- faults
+-- 7: fewer bytes
+abbrev pub Short : ℕ → List ℕ → ℕ → Type 0
+Short count bytes n = (n ≡ 7) × (length bytes < count)
+
+-- 5: four other bytes
+abbrev pub MagicFault : List ℕ → ℕ → Type 0
+MagicFault bytes n = Short 4 bytes n ⊎ (HasOtherMagic bytes × (n ≡ 5))
+
+-- 5: a 0 byte in a second header; 14: a byte that stands for no version; 7: no byte
+abbrev pub VersionFault : Place → List ℕ → ℕ → Type 0
+VersionFault place [] n = n ≡ 7
+VersionFault place (byte ∷ rest) n = ((byte ≡ 0) × (place ≡ Second) × (n ≡ 5)) ⊎ (((v : Version) → ¬ (StandsFor byte v)) × (n ≡ 14))
+
+-- so many bytes of any value
+abbrev pub Bytes : ℕ → List ℕ → List ℕ → List ℕ → Type 0
+Bytes count bytes some rest = (bytes ≡ some ++ rest) × (length some ≡ count)
+
+-- 5: counts that do not agree
+abbrev pub CountsFault : Counts → List ℕ → ℕ → Type 0
+CountsFault c rest n = ¬ (CountsAgree c) × (n ≡ 5)
+
+-- the byte of a version that may stand there
+abbrev pub IsVersion : Place → List ℕ → Version → List ℕ → Type 0
+IsVersion place [] v rest = ⊥
+IsVersion place (byte ∷ bytes) v rest = StandsFor byte v × MayStand place v × (bytes ≡ rest)
+
+-- what is wrong where a header should begin: with `TZif`; else with the version; else with the fifteen bytes; else with the counts
+abbrev pub HeaderFault : Place → List ℕ → ℕ → Type 0
+HeaderFault place bytes n =
+    MagicFault bytes n
+    ⊎ ((rest : List ℕ) × (bytes ≡ magic ++ rest)
+    × ThenFault (IsVersion place) (VersionFault place) (λ v. ThenFault (Bytes 15) (Short 15) (λ _. ThenFault AreCounts (Short 24) CountsFault)) rest n)

@@ -1,5 +1,6 @@
 -- The pieces of a TZif file laid end to end (RFC 8536 section 3).
-use Rattle.std.specs.Prelude.{ℕ, ◌≡◌, ◌≢◌, Bool, true, false, List, [], ◌∷◌, Option, Some, None}
+use Rattle.std.specs.Prelude.{ℕ, ◌≡◌, ◌≢◌, Bool, true, false, List, [], Option, Some, None}
+use Rattle.tz_info.specs.TzFaults.{ThenFault}
 use Rattle.tz_info.specs.FileHeaders.{IsHeader, HeaderFault}
 use Rattle.tz_info.specs.FileBlocks.{Parts, IsBlock, BlockFault}
 use Rattle.tz_info.specs.declared.file.header.Place.TheVariants.{First, Second}
@@ -55,11 +56,17 @@ pub record HasPieces (bytes : List ℕ) (pieces : FilePieces) : Type 0 where
   pub block : IsBlock 4 header.counts after parts rest
   pub tail : IsAfterFirstBlock header.version header.counts parts rest pieces
 
--- which piece is not there or has a fault, and the number of the refusal
-pub data PieceFault (bytes : List ℕ) : ℕ → Type 0 where
-  First_header : (n : ℕ) → HeaderFault First bytes n → PieceFault bytes n
-  First_block : (n : ℕ) (h : Header) (after : List ℕ) → IsHeader First bytes h after → BlockFault 4 h.counts after n → PieceFault bytes n
-  More_bytes : (h : Header) (after : List ℕ) (p : Parts) (b : ℕ) (rest : List ℕ) → IsHeader First bytes h after → h.version ≡ One → IsBlock 4 h.counts after p (b ∷ rest) → PieceFault bytes 5
-  Second_header : (n : ℕ) (h : Header) (after : List ℕ) (p : Parts) (rest : List ℕ) → IsHeader First bytes h after → h.version ≢ One → IsBlock 4 h.counts after p rest → HeaderFault Second rest n → PieceFault bytes n
-  Second_block : (n : ℕ) (h : Header) (after : List ℕ) (p : Parts) (rest : List ℕ) (k : Header) (after_second : List ℕ) → IsHeader First bytes h after → h.version ≢ One → IsBlock 4 h.counts after p rest
-      → IsHeader Second rest k after_second → BlockFault 8 k.counts after_second n → PieceFault bytes n
+-- ---- faults
+-- of a second header, or of its block
+abbrev pub SecondFault : List ℕ → ℕ → Type 0
+SecondFault = ThenFault (IsHeader Second) (HeaderFault Second) (λ h. BlockFault 8 h.counts)
+
+-- 5: more bytes after the block of version 1; else of the second half
+abbrev pub AfterFault : Version → List ℕ → ℕ → Type 0
+AfterFault One bytes n = (bytes ≢ []) × (n ≡ 5)
+AfterFault Two bytes n = SecondFault bytes n
+AfterFault Three bytes n = SecondFault bytes n
+
+-- which piece is not there or has a fault: the first header; else its block; else what follows
+abbrev pub PieceFault : List ℕ → ℕ → Type 0
+PieceFault = ThenFault (IsHeader First) (HeaderFault First) (λ h. ThenFault (IsBlock 4 h.counts) (BlockFault 4 h.counts) (λ _. AfterFault h.version))

@@ -19,6 +19,15 @@ pub record IsBeforeGap (in_force : ℤ → LocalType → Type 0) (local : ℤ) (
   pub least : (u : ℤ) → ShowsMore in_force local u → first ≤ℤ u
   pub before : in_force (first -ℤ pos 1) t
 
+-- No second shows the local time, and at the second `at` clocks jump over it: it is the least of the seconds at which clocks show
+-- more. `after` is the type in force then, and `before` the one at the second before.
+pub record HasGap (in_force : ℤ → LocalType → Type 0) (local : ℤ) (before after : LocalType) (at : ℤ) : Type 0 where
+  pub never : IsNeverShown (Shows in_force local)
+  pub here : in_force at after
+  pub more : local <ℤ (at +ℤ after.offset)
+  pub least : (u : ℤ) → ShowsMore in_force local u → at ≤ℤ u
+  pub earlier : in_force (at -ℤ pos 1) before
+
 -- some second shows the local time
 abbrev pub IsShown : (ℤ → LocalType → Type 0) → ℤ → Type 0
 IsShown in_force local = (u : ℤ) × (t : LocalType) × Shows in_force local u t

@@ -15,6 +15,8 @@ pub mod Transitions
 pub mod Zones
 pub mod WallClocks
 pub mod Gaps
+pub mod Around
+pub mod Changes
 pub mod Windows
 pub mod Looks
 pub mod Questions

@@ -3,6 +3,7 @@
 pub mod Extremes
 pub mod Below
 pub mod Turns
+pub mod NextMoments
 pub mod Seasons
 pub mod Answers
 pub mod Segments
@@ -19,6 +20,7 @@ pub mod FooterReading
 pub mod FileLists
 pub mod StoredNames
 pub mod Gaps
+pub mod Changes
 pub mod Search
 pub mod Looks
 pub mod Hints

@@ -1,5 +1,6 @@
 -- The lists that the bytes of a TZif file spell (RFC 8536 section 3).
-use Rattle.std.specs.Prelude.{ℕ, ◌≡◌, Bool, List, slice_index, Option, Some, None}
+use Rattle.std.specs.Prelude.{ℕ, ◌≡◌, Bool, List, Option, Some, None}
+use Rattle.tz_info.specs.LocalTypes.{LocalType}
 use Rattle.tz_info.specs.Zones.{Zone, IsValid}
 use Rattle.tz_info.specs.FileContents.{SpellTransitions, SpellLeapSeconds, SpellTypes, HasTypeFault, IndicatorsAgree}
 use Rattle.tz_info.specs.Footers.{IsFooter, FooterFault}
@@ -23,19 +24,22 @@ pub record SayZone (p : FilePieces) (z : Zone) : Type 0 where
 abbrev pub IsTzFile : List ℕ → Zone → Type 0
 IsTzFile bytes z = (p : FilePieces) × HasPieces bytes p × SayZone p z
 
--- what is wrong with what whole pieces say, and the number of the refusal
+-- what is wrong with what whole pieces say, and the number of the refusal: the first type's record that spells no type; else
+-- the indicators of some type; else the footer
 pub data ContentFault (p : FilePieces) : ℕ → Type 0 where
   In_type : (n : ℕ) → HasTypeFault p.parts.designations p.parts.types n → ContentFault p n
-  In_indicators : (k : ℕ) → slice_index p.parts.standard_wall k ≡ 0 → slice_index p.parts.ut_local k ≡ 1 → ContentFault p 5
-  In_footer : (n : ℕ) (footer : List ℕ) → p.footer ≡ Some footer → FooterFault p.extended footer n → ContentFault p n
+  In_indicators : (types : List LocalType) → SpellTypes p.parts.designations p.parts.types types → ¬ (IndicatorsAgree p.parts.standard_wall p.parts.ut_local) → ContentFault p 5
+  In_footer : (types : List LocalType) (footer : List ℕ) (n : ℕ) → SpellTypes p.parts.designations p.parts.types types → IndicatorsAgree p.parts.standard_wall p.parts.ut_local
+      → p.footer ≡ Some footer → FooterFault p.extended footer n → ContentFault p n
 
--- why bytes are refused: a piece, what whole pieces say, or no memory for a file whose pieces are all there
+-- the first fault of bytes that spell no valid zone, and its number: of a piece; else of what the pieces say; else the lists that
+-- they say are not valid
 pub data IsFileFault (bytes : List ℕ) : ℕ → Type 0 where
   In_piece : (n : ℕ) → PieceFault bytes n → IsFileFault bytes n
   In_contents : (n : ℕ) (p : FilePieces) → HasPieces bytes p → ContentFault p n → IsFileFault bytes n
-  No_memory : (p : FilePieces) → HasPieces bytes p → IsFileFault bytes 17
+  Not_valid : (z : Zone) → IsTzFile bytes z → ¬ (IsValid z) → IsFileFault bytes 12
 
--- why no zone is made of bytes: they are refused, or they spell lists that make no valid zone
+-- why no zone is made of bytes: by their first fault, or for want of memory, where all pieces are there
 pub data IsZoneFault (bytes : List ℕ) : ℕ → Type 0 where
   In_file : (n : ℕ) → IsFileFault bytes n → IsZoneFault bytes n
-  Not_valid : (z : Zone) → IsTzFile bytes z → ¬ (IsValid z) → IsZoneFault bytes 12
+  No_memory : (p : FilePieces) → HasPieces bytes p → IsZoneFault bytes 17

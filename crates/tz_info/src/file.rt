@@ -1,11 +1,11 @@
 //! Time zone files (TZif, RFC 8536): the zone that the bytes of a file spell.
 
-ghost use Rattle.std.specs.Prelude.{◌≡◌, IfOk, IfErr, MatchResult};
+ghost use Rattle.std.specs.Prelude.{◌≡◌, ◌⊎◌, ℕ, IfOk, IfErr, MatchResult};
 ghost use Rattle.std.specs.Result.{IsErrAnd};
-ghost use Rattle.tz_info.specs.Errors.{number_of};
+ghost use Rattle.tz_info.specs.Errors.{number_of, IsOutOfMemory};
 ghost use Rattle.tz_info.specs.FileHeaders.{HasOtherMagic};
 ghost use Rattle.tz_info.specs.FilePieces.{FilePieces, HasPieces};
-ghost use Rattle.tz_info.specs.TzFiles.{IsTzFile, IsZoneFault};
+ghost use Rattle.tz_info.specs.TzFiles.{IsTzFile, IsFileFault, IsZoneFault};
 ghost use Rattle.tz_info.specs.Zones.{Zone, IsValid};
 ghost use Rattle.tz_info.specs.declared.error.Error.TheVariants.{InvalidTzFile, OutOfMemory};
 ghost use Rattle.tz_info.specs.declared.error.Expected.TheVariants.{TZifAtFrontOfHeader};
@@ -39,7 +39,7 @@ impl TimeZone {
     ///
     /// # Errors
     ///
-    /// Of several faults the first of these, from the front on; that order is tested, not proved.
+    /// Of several faults the first of these, from the front on.
     /// [`Error::UnexpectedEnd`] where bytes are missing; [`Error::UnsupportedTzFile`] for another
     /// version; [`Error::InvalidTzFile`] for any other fault of the file's form, such as bytes
     /// after a file of version 1. Then, once both blocks are there: [`Error::InvalidTzFile`] and
@@ -55,8 +55,11 @@ impl TimeZone {
         // A file that has a valid zone gives it, unless memory runs out.
         ensures only { (z : Zone) → IsTzFile bytes.now z → IsValid z
             → MatchResult result (λ y. y ≡ z) (λ e. e ≡ OutOfMemory) }
-        // An error names a fault that is in the file, or that memory ran out.
+        // An error names the first fault of the file, or that memory ran out.
         ensures fault { IfErr result (λ e. IsZoneFault bytes.now (number_of e)) }
+        // A file with a fault is refused by its first one, unless memory runs out.
+        ensures first { (n : ℕ) → IsFileFault bytes.now n
+            → IsErrAnd result (λ e. (number_of e ≡ n) ⊎ IsOutOfMemory e) }
         // Running out of memory is answered only where every piece of the file is there.
         ensures memory { IfErr result
             (λ e. e ≡ OutOfMemory → (p : FilePieces) × HasPieces bytes.now p) }

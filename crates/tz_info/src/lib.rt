@@ -1,6 +1,7 @@
 //! Time zones: the types of local time, the rules of TZ texts, and the zones made of both.
 #![tactic(auto)]
 
+mod change;
 mod cursor;
 mod error;
 mod file;
@@ -11,10 +12,12 @@ mod rule;
 mod span;
 mod zone;
 
+pub use change::Change;
 pub use cursor::Cursor;
 pub use error::{Error, Expected};
 pub use local_time_type::LocalTimeType;
 pub use name::TimeZoneName;
 pub use rule::{AlternateTime, RuleDay, TransitionRule};
+pub use zone::around::{Gap, TypesAround};
 pub use zone::probes::Probes;
 pub use zone::{LeapSecond, TimeZone, Transition};

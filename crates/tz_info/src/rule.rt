@@ -1,13 +1,16 @@
 //! The rule of a TZ text: one type for ever, or two that take turns each year.
 
 mod alternate;
+mod changes;
 mod day;
 mod kinds;
+mod next_moment;
 pub(crate) mod reader;
 mod transition_rule;
 mod wall_clock;
 
 pub use alternate::AlternateTime;
 pub(crate) use alternate::Season;
+pub(crate) use changes::later_of;
 pub use day::RuleDay;
 pub use transition_rule::TransitionRule;

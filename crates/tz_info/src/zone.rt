@@ -1,6 +1,8 @@
 //! Time zones.
 
 mod answers;
+pub(crate) mod around;
+mod changes;
 mod extremes;
 mod gap;
 mod hints;

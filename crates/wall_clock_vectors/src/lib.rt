@@ -3,6 +3,8 @@
 #![tactic(auto)]
 
 #[cfg(test)]
+mod gaps;
+#[cfg(test)]
 mod local_search;
 #[cfg(test)]
 mod values;

@@ -9,6 +9,7 @@ use Rattle.zoned_time.specs.Choice.{IsTaken, IsResolved, IsUnresolved}
 use Rattle.zoned_time.specs.ResolveNumbers.{number_of}
 use Rattle.zoned_time.specs.Zone.{Meaning, Law}
 use Rattle.zoned_time.specs.Zoned.{Zoned, in_seconds}
+use Rattle.zoned_time.proofs.ForCallers.{same_itself}
 use Rattle.zoned_time.specs.declared.resolve_error.ResolveError.{ResolveError}
 use Rattle.zoned_ref.specs.Offsets.{IsNarrow, AreOffsetsOf}
 use Rattle.zoned_ref.proofs.ForCallers.{choice_covered}
@@ -19,7 +20,7 @@ use Rattle.zone_query.proofs.Showing.{narrow_or_not}
 taken_instant : (off : ℤ → ℤ) (l : Reading) (choice : Choice) (k : ℤ) → IsTaken off l.s choice k → IsInRange (l.s -ℤ k) → (d : Zoned ℤ) × IsResolved (law_by off) l choice d
 taken_instant off l choice k taken inside = (
   record { utc = behind l k; offset = off (l.s -ℤ k) },
-  record { offset = k; taken = taken; in_range = inside; at = record { utc = refl; offset = record { there = refl; same_home = λ u h. refl } } },
+  record { offset = k; taken = taken; in_range = inside; at = record { utc = refl; offset = record { there = refl; in_force = refl; same_home = same_itself (law_by off) } } },
 )
 
 pub resolve_covered : (z : Zone) (l : Reading) (choice : Choice) → IsValid z → IsRuleOrNone z.rule → IsInRange l.s → (answer : List ℕ) × AnswersResolve (Some z) l choice answer
@@ -44,7 +45,7 @@ resolved_instant {O} {m} z law l choice d narrow offsets h =
       offset = h.offset;
       taken = h.taken;
       in_range = h.in_range;
-      at = record { utc = h.at.utc; offset = record { there = h.at.offset.there; same_home = λ u inside. refl } };
+      at = record { utc = h.at.utc; offset = record { there = h.at.offset.there; in_force = h.at.offset.there; same_home = same_itself (law_by law.off) } };
     } in
     inr (narrow, law.off, offsets, inl (in_seconds m.seconds d, resolved, refl))
 

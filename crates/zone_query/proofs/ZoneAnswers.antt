@@ -1,10 +1,9 @@
 -- The answer to what sets the zone, by what was read.
-use Rattle.std.proofs.Common.{◌≡◌, ◌≢◌, ℕ, ◌⊎◌, inl, inr, List, Option, Some, Result, Ok, Err, IfOk, IfErr, MatchResult}
-use Rattle.std.proofs.lemmas.Bool.{cases_eq}
+use Rattle.std.proofs.Common.{◌≡◌, ℕ, ◌⊎◌, refl, inl, inr, List, Option, Some, Result, Ok, Err, IfOk, IfErr, MatchResult}
 use Rattle.tz_info.proofs.ForCallers.{text_fault_or_zone, file_fault_or_zone}
 use Rattle.tz_info.specs.Errors.{number_of}
 use Rattle.tz_info.specs.PosixZones.{IsPosixZone, IsPosixFault}
-use Rattle.tz_info.specs.TzFiles.{IsTzFile, IsZoneFault}
+use Rattle.tz_info.specs.TzFiles.{IsTzFile, IsFileFault, IsZoneFault, In_file, No_memory}
 use Rattle.tz_info.specs.Zones.{Zone, IsValid}
 use Rattle.tz_info.specs.declared.error.Error.{Error}
 use Rattle.tz_info.specs.declared.zone.time_zone.TimeZone.{TimeZone}
@@ -15,16 +14,18 @@ abbrev Sets : Option Zone → Result TimeZone Error → List ℕ → Option Zone
 Sets before read answer after =
     MatchResult read (λ found. (answer ≡ zone_text found) × (after ≡ Some found)) (λ fault. (answer ≡ refusal_text (number_of fault)) × (after ≡ before))
 
--- a fault other than running out of memory leaves no zone
-told : (is_zone : Zone → Type 0) (is_fault : ℕ → Type 0) → ((n : ℕ) → is_fault n → n ≢ 17 → (z : Zone) → ¬ (is_zone z)) → (n : ℕ)
+-- a file's number is that of running out of memory, or of its first fault
+pub memory_or_fault : (bytes : List ℕ) (n : ℕ) → IsZoneFault bytes n → (n ≡ 17) ⊎ IsFileFault bytes n
+memory_or_fault bytes n (In_file m fault) = inr fault
+memory_or_fault bytes n (No_memory pieces whole) = inl refl
+
+-- what has a fault spells no zone
+told : (is_zone : Zone → Type 0) (is_fault : ℕ → Type 0) → ((n : ℕ) → is_fault n → (z : Zone) → ¬ (is_zone z)) → (n : ℕ)
     → (n ≡ 17) ⊎ is_fault n → (n ≡ 17) ⊎ (is_fault n × ((z : Zone) → ¬ (is_zone z)))
 told is_zone is_fault apart n (inl memory) = inl memory
-told is_zone is_fault apart n (inr fault) = elim (cases_eq n 17) [
-  | inl same ↦ inl same
-  | inr other ↦ inr (fault, apart n fault other)
-]
+told is_zone is_fault apart n (inr fault) = inr (fault, apart n fault)
 
-read_answered : (is_zone : Zone → Type 0) (is_fault : ℕ → Type 0) → ((n : ℕ) → is_fault n → n ≢ 17 → (z : Zone) → ¬ (is_zone z))
+read_answered : (is_zone : Zone → Type 0) (is_fault : ℕ → Type 0) → ((n : ℕ) → is_fault n → (z : Zone) → ¬ (is_zone z))
     → (before : Option Zone) (read : Result TimeZone Error) (answer : List ℕ) (after : Option Zone) → IfOk read is_zone → IfErr read (λ e. (number_of e ≡ 17) ⊎ is_fault (number_of e)) → Sets before read answer after → AnswersRead is_zone is_fault before answer after
 read_answered is_zone is_fault apart before (Ok found) answer after ok err sets = inl (found, ok, sets.0, sets.1)
 read_answered is_zone is_fault apart before (Err fault) answer after ok err sets =
@@ -32,10 +33,10 @@ read_answered is_zone is_fault apart before (Err fault) answer after ok err sets
 
 pub text_answered : (zone : Option Zone) (text : List ℕ) (read : Result TimeZone Error) (answer : List ℕ) (after : Option Zone)
     → IfOk read (λ z. IsPosixZone text z) → IfErr read (λ e. (number_of e ≡ 17) ⊎ IsPosixFault text (number_of e)) → Sets zone read answer after → AnswersText zone text answer after
-text_answered zone text read answer after ok err sets = read_answered (IsPosixZone text) (IsPosixFault text) (λ n fault _ z. text_fault_or_zone text n z fault) zone read answer after ok err sets
+text_answered zone text read answer after ok err sets = read_answered (IsPosixZone text) (IsPosixFault text) (λ n fault z. text_fault_or_zone text n z fault) zone read answer after ok err sets
 
 pub data_answered : (zone : Option Zone) (bytes : List ℕ) (read : Result TimeZone Error) (answer : List ℕ) (after : Option Zone)
-    → IfOk read (λ z. IsTzFile bytes z × IsValid z) → IfErr read (λ e. (number_of e ≡ 17) ⊎ IsZoneFault bytes (number_of e)) → Sets zone read answer after → AnswersData zone bytes answer after
+    → IfOk read (λ z. IsTzFile bytes z × IsValid z) → IfErr read (λ e. (number_of e ≡ 17) ⊎ IsFileFault bytes (number_of e)) → Sets zone read answer after → AnswersData zone bytes answer after
 data_answered zone bytes read answer after ok err sets =
-    read_answered (λ found. IsTzFile bytes found × IsValid found) (IsZoneFault bytes)
-    (λ n fault other z is. file_fault_or_zone bytes n z fault other is.0 is.1) zone read answer after ok err sets
+    read_answered (λ found. IsTzFile bytes found × IsValid found) (IsFileFault bytes)
+    (λ n fault z is. file_fault_or_zone bytes n z fault is.0 is.1) zone read answer after ok err sets

@@ -10,14 +10,14 @@ use Rattle.naive_base.specs.Reading.{Reading, ahead}
 use Rattle.naive_base.specs.Text.{reading_text}
 use Rattle.tz_info.specs.LocalTypes.{LocalType}
 use Rattle.tz_info.specs.PosixZones.{IsPosixZone, IsPosixFault}
-use Rattle.tz_info.specs.TzFiles.{IsTzFile, IsZoneFault}
+use Rattle.tz_info.specs.TzFiles.{IsTzFile, IsFileFault}
 use Rattle.tz_info.specs.WallClocks.{Shows}
 use Rattle.tz_info.specs.Zones.{Zone, IsValid, TypeAt, IsTypeRefused}
 use Rattle.tz_info.specs.declared.rule.transition_rule.TransitionRule.{TransitionRule}
 use Rattle.tz_info.specs.declared.rule.transition_rule.TransitionRule.TheVariants as rules
 use Rattle.zoned_time.specs.Choice.{IsResolved, IsUnresolved}
 use Rattle.zoned_time.specs.ResolveNumbers.{number_of as resolve_number}
-use Rattle.zoned_time.specs.Zone.{Meaning, Law}
+use Rattle.zoned_time.specs.Zone.{Meaning, Law, meaning_by_seconds, law_by_seconds}
 use Rattle.zoned_time.specs.Zoned.{Zoned}
 use Rattle.zoned_time.specs.declared.resolve_error.ResolveError.{ResolveError}
 use Rattle.zoned_ref.specs.Offsets.{IsNarrow, AreOffsetsOf}
@@ -60,7 +60,7 @@ abbrev pub refusal_text : ℕ → List ℕ
 refusal_text number = codes "refused " ++ decimal number
 
 -- a zone is read, which is the zone from here on; or it is refused, and the earlier zone stays: for running out of memory (17), or
--- by a fault that stands in what was to be read, and then no zone is spelled there
+-- by the fault of what was to be read, its first one, and then no zone is spelled there
 abbrev pub AnswersRead : (Zone → Type 0) → (ℕ → Type 0) → Option Zone → List ℕ → Option Zone → Type 0
 AnswersRead is_zone is_fault zone answer after =
     ((found : Zone) × is_zone found × (answer ≡ zone_text found) × (after ≡ Some found))
@@ -73,7 +73,7 @@ AnswersText zone text answer after = AnswersRead (IsPosixZone text) (IsPosixFaul
 
 -- the bytes of a file are read
 abbrev pub AnswersData : Option Zone → List ℕ → List ℕ → Option Zone → Type 0
-AnswersData zone bytes answer after = AnswersRead (λ found. IsTzFile bytes found × IsValid found) (IsZoneFault bytes) zone answer after
+AnswersData zone bytes answer after = AnswersRead (λ found. IsTzFile bytes found × IsValid found) (IsFileFault bytes) zone answer after
 
 -- the type in force at that second, or the refusal of the second
 abbrev pub AnswersAt : Option Zone → ℤ → List ℕ → Type 0
@@ -90,10 +90,10 @@ AnswersWall (Some zone) local answer =
 
 -- the law of a zone with these offsets, each of them nothing but its seconds
 abbrev pub seconds_in : (ℤ → ℤ) → Meaning ℤ
-seconds_in off = record { seconds = λ k. k; home = λ _. off }
+seconds_in off = meaning_by_seconds (λ k. k) (λ _. off)
 
 abbrev pub law_by : (off : ℤ → ℤ) → Law (seconds_in off)
-law_by off = record { off = off }
+law_by off = law_by_seconds off
 
 -- the instant that the choice takes for that reading, as `show` prints it; or the number of why there is none
 abbrev pub AnswersChoice : (ℤ → ℤ) → Reading → Choice → List ℕ → Type 0

@@ -6,7 +6,7 @@ ghost use Rattle.naive_base.specs.Text.{reading_text};
 ghost use Rattle.zoned_time.specs.DateTime.{zoned};
 ghost use Rattle.zoned_time.specs.Zoned.{local_of};
 ghost use Rattle.tz_info.specs.Errors.{number_of};
-ghost use Rattle.tz_info.specs.TzFiles.{IsTzFile, IsZoneFault};
+ghost use Rattle.tz_info.specs.TzFiles.{IsTzFile, IsFileFault};
 ghost use Rattle.tz_info.specs.Zones.{IsValid};
 ghost use Rattle.zone_query.specs.Steps.HexBytes.{bytes_of};
 ghost use Rattle.zone_query.specs.Answers.{AnswersLine, AnswersText, AnswersData, AnswersAt, AnswersWall, AnswersResolve, AnswersShow, type_text, wall_text, zone_text, rule_text, refusal_text};
@@ -81,7 +81,7 @@ fn take_file(
 fn read_file(alloc: Global, digits: &[u8]) -> Result<TimeZone, Error>
     ensures found { IfOk result (λ z. IsTzFile (bytes_of digits.now) z × IsValid z) }
     ensures fault { IfErr result (λ e.
-        (number_of e ≡ 17) ⊎ IsZoneFault (bytes_of digits.now) (number_of e)) }
+        (number_of e ≡ 17) ⊎ IsFileFault (bytes_of digits.now) (number_of e)) }
 {
     match hex::decode(alloc, digits) {
         Ok(bytes) => TimeZone::from_tz_data(alloc, bytes.as_slice()),

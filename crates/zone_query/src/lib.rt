@@ -29,6 +29,3 @@ pub use program::report;
 pub use run_error::RunError;
 pub use runs::run;
 pub use watched::Watched;
-
-#[cfg(test)]
-mod tests;

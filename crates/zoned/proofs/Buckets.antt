@@ -1,12 +1,12 @@
 -- Instants that went back.
-use Rattle.std.proofs.Common.{◌≡◌, ◌∙◌, ap, inl, inr, ℕ, ◌<◌, arith, ℤ, pos, negsuc, ◌+ℤ◌, ◌-ℤ◌, ◌*ℤ◌, ◌≤ℤ◌, ◌<ℤ◌, unsigned_abs}
+use Rattle.std.proofs.Common.{◌≡◌, ◌∙◌, sym, subst, refl, ap, inl, inr, ℕ, zero, suc, ◌<◌, arith, ℤ, pos, negsuc, ◌+ℤ◌, ◌-ℤ◌, ◌*ℤ◌, ◌≤ℤ◌, ◌<ℤ◌, unsigned_abs}
 use Rattle.std.proofs.lemmas.Bool.{cases_lt}
 use Rattle.std.proofs.lemmas.Int.{ints, by_lt_z}
 use Rattle.naive_base.specs.Reading.{Reading, total, of_total, moved, moved_leap, ahead}
 use Rattle.naive_base.proofs.ForCallers.{floors, floor_mod_parts, moved-leap, moved_leap-within, total-moved}
 use Rattle.naive_base.proofs.Moves.{moved_leap-before}
 use Rattle.zoned_round.specs.Durations.{IsGone}
-use Rattle.zoned_round.specs.Multiples.{multiple_below}
+use Rattle.zoned_round.specs.Multiples.{multiple_below, IsItselfOr}
 
 total-of : (n : ℤ) → total (of_total n) ≡ n
 total-of n = let parts = floor_mod_parts n 1_000_000_000 (omega arith) in omega (arith, floors)
@@ -33,6 +33,19 @@ gone-back instant IsMoved value answer way moves short back gone =
     (λ late. let none : way ≡ pos 0 = omega (arith, floors) in
     let stays : total (instant answer) ≡ total (instant value) = ap (λ v. total (instant v)) (gone.itself none) in
     omega (arith, floors))
+
+-- what holds of the value and of each that went from it
+pub gone-in : {T : Type 0} (P : T → Type 0) (IsMoved : ℤ → T → Type 0) (value answer : T) (way : ℤ)
+    → P value → ((d : ℤ) (new : T) → IsMoved d new → P new) → IsGone IsMoved way value answer → P answer
+gone-in P IsMoved value answer way here moves gone =
+    by_lt_z {P = P answer} way (pos 0) (λ back. moves way answer (gone.other (λ none. absurd (omega (arith, ints, back, none))))) (λ late.
+    by_lt_z {P = P answer} (pos 0) way (λ forth. moves way answer (gone.other (λ none. absurd (omega (arith, ints, forth, none))))) (λ early.
+    subst P (sym (gone.itself (omega (arith, ints, late, early)))) here))
+
+pub itself-in : {T : Type 0} (P Other : T → Type 0) (value answer : T) (n : ℕ)
+    → P value → ((new : T) → Other new → P new) → IsItselfOr (n ≡ 0) Other value answer → P answer
+itself-in P Other value answer zero here moves h = subst P (sym (h.itself refl)) here
+itself-in P Other value answer (suc n) here moves h = moves answer (h.other (λ none. absurd (omega (arith, none))))
 
 -- the multiple below is less than a span away
 near-below : (n : ℤ) (span : ℕ) → 0 < span → (multiple_below n span ≤ℤ n) × (n <ℤ (multiple_below n span +ℤ pos span))

@@ -1,22 +1,28 @@
-//! Theorems for a client's own contracts: those that say that a question has one answer, passed on,
-//! and two in the shape of a client's clauses. A call of one gives its caller's proof what it says,
-//! and does nothing when it runs.
-ghost use Rattle.std.specs.Prelude.{◌≡◌, ℕ, pos, ◌+ℤ◌, ◌≤ℤ◌, ◌<ℤ◌, Ok};
+//! Theorems for a client's own contracts: those that say that a question has one answer, and that an
+//! instant made of one of a zone is one of that zone, passed on; and some in the shape of a client's
+//! clauses. A call of one gives its caller's proof what it says, and does nothing when it runs.
+ghost use Rattle.std.specs.Prelude.{◌≡◌, ℕ, ℤ, pos, ◌+ℤ◌, ◌≤ℤ◌, ◌<ℤ◌, Ok, Some};
+ghost use Rattle.offset_core.specs.LocalResult.{map_of};
 ghost use Rattle.offset_core.specs.TimeDelta.{nanos_of};
 ghost use Rattle.naive_base.specs.NaiveDateTime.{reading};
-ghost use Rattle.naive_base.specs.Reading.{total};
+ghost use Rattle.naive_base.specs.Reading.{Reading, total};
 ghost use Rattle.zoned_time.specs.Choice.{IsResolved};
-ghost use Rattle.zoned_time.specs.DateTime.{zoned, wall_of};
-ghost use Rattle.zoned_time.specs.Zoned.{in_seconds};
+ghost use Rattle.zoned_time.specs.DateTime.{zoned, wall_of, home_of, IsIn, IsDaysAdded};
+ghost use Rattle.zoned_time.specs.Relocal.{IsRelocal};
+ghost use Rattle.zoned_time.specs.Zone.{Each};
+ghost use Rattle.zoned_time.specs.Zoned.{in_seconds, IsAt};
 ghost use Rattle.zoned_round.specs.Durations.{IsRoundedTo};
 ghost use Rattle.zoned_round.specs.Laws.{IsMultiple};
-ghost use Rattle.zoned_round.specs.Multiples.{multiple_below};
+ghost use Rattle.zoned_round.specs.Multiples.{multiple_below, IsItselfOr};
 
-use crate::{Choice, DateTime, DurationRound, NaiveDateTime, Offset, TimeDelta, TimeZone};
+use crate::{
+    Choice, DateTime, DurationRound, LocalResult, NaiveDateTime, Offset, TimeDelta, TimeZone,
+};
 pub use zoned_round::laws::one_rounded_value;
 pub use zoned_series::laws::one_item;
 pub use zoned_time::laws::{
-    one_offset_before_gap, one_relocal, one_resolution, resolution_decided,
+    in_zone_after_move, in_zone_at_time, in_zone_on_day, one_offset_before_gap, one_relocal,
+    one_resolution, resolution_decided,
 };
 
 /// Two instants that one choice takes for one reading are the same, at offsets of the same seconds.
@@ -58,4 +64,74 @@ pub fn truncated<Tz: TimeZone>(instant: &DateTime<Tz>, length: TimeDelta, start:
     ensures multiple { (span : ℕ) → nanos_of length ≡ pos span
         → Tz.Offset.seconds (zoned start.now).offset ≡ Tz.Offset.seconds (zoned instant.now).offset
         → IsMultiple span (total (wall_of start.now)) }
+{}
+
+/// The instants at which the clocks of a zone show a reading are ones of that zone: their offsets are
+/// in force there, with all that they tell beside their seconds. Of what `resolve`, a series and
+/// `with_timezone` give, their own clauses say so.
+///
+/// ```
+/// let instants = new_york.from_local_datetime(&local);
+/// client_laws::in_zone_by_clock(&new_york, &local, &instants);
+/// ```
+pub fn in_zone_by_clock<Tz: TimeZone>(
+    zone: &Tz,
+    local: &NaiveDateTime,
+    instants: &LocalResult<DateTime<Tz>>,
+)
+    requires { IsRelocal (Tz.law zone.now) (reading local.now)
+        (map_of (λ d. zoned d) instants.now) }
+    ensures { Each (λ d. IsIn (Tz.law zone.now) d) instants.now }
+{}
+
+/// So is what `checked_add_days` makes of an instant of a zone, which for no days is that instant.
+pub fn in_zone_after_days<Tz: TimeZone>(zone: &Tz, before: &DateTime<Tz>, after: &DateTime<Tz>)
+    requires before { IsIn (Tz.law zone.now) before.now }
+    requires after { (days : ℕ) × IsDaysAdded Tz.meaning before.now days (Some after.now) }
+    ensures { IsIn (Tz.law zone.now) after.now }
+{}
+
+/// An instant that `duration_trunc` makes of one of a zone is one of that zone: its offset is in
+/// force there, with all that it tells beside its seconds.
+///
+/// ```
+/// let hour = TimeDelta::hours(1);
+/// let start = instant.duration_trunc(hour)?;
+/// client_laws::in_zone_after_truncation(&new_york, &instant, hour, &start);
+/// start.offset().name() // the abbreviation in force at that start
+/// ```
+pub fn in_zone_after_truncation<Tz: TimeZone>(
+    zone: &Tz,
+    before: &DateTime<Tz>,
+    length: TimeDelta,
+    after: &DateTime<Tz>,
+)
+    requires before { IsIn (Tz.law zone.now) before.now }
+    requires after { let round = ⟦<DateTime<Tz> as DurationRound>⟧ in
+        IsRoundedTo multiple_below round.fault (round.IsMoved before.now)
+        (total (wall_of before.now)) (nanos_of length) before.now (Ok after.now) }
+    ensures { IsIn (Tz.law zone.now) after.now }
+{}
+
+/// And so is one that `duration_round` or `duration_round_up` makes.
+pub fn in_zone_after_rounding<Tz: TimeZone>(
+    zone: &Tz,
+    before: &DateTime<Tz>,
+    length: TimeDelta,
+    after: &DateTime<Tz>,
+)
+    requires before { IsIn (Tz.law zone.now) before.now }
+    requires after { let round = ⟦<DateTime<Tz> as DurationRound>⟧ in (choose : ℤ → ℕ → ℤ)
+        × IsRoundedTo choose round.fault (round.IsMoved before.now)
+        (total (wall_of before.now)) (nanos_of length) before.now (Ok after.now) }
+    ensures { IsIn (Tz.law zone.now) after.now }
+{}
+
+/// And so is one that `round_subsecs` or `trunc_subsecs` makes.
+pub fn in_zone_after_digits<Tz: TimeZone>(zone: &Tz, before: &DateTime<Tz>, after: &DateTime<Tz>)
+    requires before { IsIn (Tz.law zone.now) before.now }
+    requires after { (behind : ℕ) × (r : Reading) × IsItselfOr (behind ≡ 0)
+        (λ e. IsAt (home_of Tz.meaning before.now) r (zoned e))
+        before.now after.now }
+    ensures { IsIn (Tz.law zone.now) after.now }
 {}

@@ -4,7 +4,7 @@
 //! Where a function is empty its contract is the theorem. The others make the calls one after
 //! another, so that nobody has to join their contracts by hand.
 
-ghost use Rattle.std.specs.Prelude.{◌≡◌, ◌≢◌, ◌↔◌, ℕ, ℤ, List, IfOk, IfErr, IfSome, IsSome, MatchResult, ◌⊎◌};
+ghost use Rattle.std.specs.Prelude.{◌≡◌, ◌↔◌, ℕ, ℤ, List, IfOk, IfErr, IfSome, IsSome, MatchResult, ◌⊎◌};
 ghost use Rattle.offset_core.specs.LocalResult.{map_of};
 ghost use Rattle.offset_core.specs.Offset.{IsWithinDay};
 ghost use Rattle.offset_core.specs.WallAnswer.{IsWallAnswer};
@@ -17,7 +17,7 @@ ghost use Rattle.tz_info.specs.FilePieces.{FilePieces, HasPieces};
 ghost use Rattle.tz_info.specs.LocalTypes.{LocalType};
 ghost use Rattle.tz_info.specs.Looks.{RoseByWallClock};
 ghost use Rattle.tz_info.specs.PosixZones.{IsPosixZone, IsPosixFault};
-ghost use Rattle.tz_info.specs.TzFiles.{IsTzFile, IsZoneFault};
+ghost use Rattle.tz_info.specs.TzFiles.{IsTzFile, IsFileFault, IsZoneFault};
 ghost use Rattle.tz_info.specs.WallClocks.{Shows};
 ghost use Rattle.tz_info.specs.Zones.{Zone, IsValid, TypeAt};
 ghost use Rattle.tz_info.specs.declared.error.Error.TheVariants.{OutOfMemory};
@@ -32,12 +32,16 @@ use crate::{KeepError, KeptZone, LocalResult, NaiveDateTime, TimeZoneRef};
 use std::alloc::Global;
 use tz_info::{Error, LocalTimeType, Probes};
 
-/// No bytes spell two zones. A file with a fault, running out of memory aside, spells no valid zone,
-/// and a text with a fault none at all; a text's zone is valid.
+/// No bytes spell two zones. A file spells no valid zone if and only if it has a fault, and one of
+/// its faults is the first. A text with a fault spells no zone at all; a text's zone is valid.
 pub fn one_zone()
     ensures files { (bytes : List ℕ) (y z : Zone) → IsTzFile bytes y → IsTzFile bytes z → y ≡ z }
-    ensures file_or_fault { (bytes : List ℕ) (n : ℕ) (z : Zone) → IsZoneFault bytes n → n ≢ 17
+    ensures file_or_fault { (bytes : List ℕ) (n : ℕ) (z : Zone) → IsFileFault bytes n
         → IsTzFile bytes z → ¬ (IsValid z) }
+    ensures file_has_fault { (bytes : List ℕ) → ((z : Zone) → IsTzFile bytes z → ¬ (IsValid z))
+        → (n : ℕ) × IsFileFault bytes n }
+    ensures one_file_fault { (bytes : List ℕ) (m n : ℕ) → IsFileFault bytes m → IsFileFault bytes n
+        → m ≡ n }
     ensures texts { (text : List ℕ) (y z : Zone) → IsPosixZone text y → IsPosixZone text z
         → y ≡ z }
     ensures text_or_fault { (text : List ℕ) (n : ℕ) (z : Zone) → IsPosixFault text n

@@ -2,8 +2,9 @@
 ghost use Rattle.std.specs.Prelude.{◌≡◌, pos, ◌+ℤ◌, ◌≤ℤ◌, ◌<ℤ◌, IfErr, IfOk, IfSome, option_map, FitsSigned};
 ghost use Rattle.std.specs.Int.{w64};
 ghost use Rattle.zoned.specs.Choice.{IsUnresolved};
-ghost use Rattle.zoned.specs.DateTime.{zoned, wall_of};
+ghost use Rattle.zoned.specs.DateTime.{zoned, wall_of, IsIn};
 ghost use Rattle.zoned.specs.InstantFields.{IsOnly};
+ghost use Rattle.zoned.specs.KeptOffset.{law_of};
 ghost use Rattle.zoned.specs.KeptZone.{zone_of};
 ghost use Rattle.zoned.specs.Laws.{IsMultiple};
 ghost use Rattle.zoned.specs.LocalTypes.{LocalType};
@@ -15,8 +16,8 @@ ghost use Rattle.zoned.specs.Zones.{TypeAt};
 
 use zoned::tz_info::TimeZoneName;
 use zoned::{
-    Choice, DateTime, DurationRound, KeptZone, NaiveDate, NaiveDateTime, ResolveError,
-    RoundingError, TimeDelta, TimeZone, Utc, client_laws,
+    Choice, DailySeries, DateTime, DurationRound, KeptZone, Months, NaiveDate, NaiveDateTime,
+    NaiveTime, ResolveError, RoundingError, TimeDelta, TimeZone, Timelike, Utc, client_laws,
 };
 
 /// The seconds from 1970-01-01 00:00:00 UTC to an instant.
@@ -67,6 +68,74 @@ pub fn abbreviation(zone: &KeptZone, utc: &NaiveDateTime) -> Option<TimeZoneName
         × (t.name ≡ result) }
 {
     zone.offset_from_utc_datetime(utc).name().copied()
+}
+
+/// The abbreviation that an instant of a zone shows, and whether it is daylight saving time: those
+/// of the type of local time in force at its second.
+pub fn clock_of(zone: &KeptZone, instant: &DateTime<KeptZone>) -> (Option<TimeZoneName>, bool)
+    ensures { IsIn (law_of zone.now) instant.now
+        → (t : LocalType) × TypeAt (zone_of zone.now) (zoned instant.now).utc.s t
+        × (t.name ≡ result.0) × (t.dst ≡ result.1) }
+{
+    let offset = instant.offset();
+    (offset.name().copied(), offset.is_dst())
+}
+
+/// The instant so long after the one that a choice takes for a reading.
+pub fn later<Tz: TimeZone>(
+    zone: &Tz,
+    local: &NaiveDateTime,
+    choice: Choice,
+    length: TimeDelta,
+) -> Option<DateTime<Tz>>
+    // Its offset is in force then, with all that it tells; so in those below.
+    ensures { IfSome result (IsIn (Tz.law zone.now)) }
+{
+    let first = zone.resolve(local, choice).ok()?;
+    let later = first.checked_add_signed(length)?;
+    client_laws::in_zone_after_move(zone, &first, &later);
+    Some(later)
+}
+
+/// So many months after an instant, at an hour.
+pub fn months_later<Tz: TimeZone>(
+    zone: &Tz,
+    instant: &DateTime<Tz>,
+    months: Months,
+    hour: u32,
+) -> Option<DateTime<Tz>>
+    requires { IsIn (Tz.law zone.now) instant.now }
+    ensures { IfSome result (IsIn (Tz.law zone.now)) }
+{
+    let there = instant.checked_add_months(months)?;
+    client_laws::in_zone_on_day(zone, instant, &there);
+    let then = there.with_hour(hour)?;
+    client_laws::in_zone_at_time(zone, &there, &then);
+    Some(then)
+}
+
+/// The start of the hour in which an instant lies.
+pub fn start_of_hour<Tz: TimeZone>(zone: &Tz, instant: &DateTime<Tz>) -> Option<DateTime<Tz>>
+    requires { IsIn (Tz.law zone.now) instant.now }
+    ensures { IfSome result (IsIn (Tz.law zone.now)) }
+{
+    let hour = TimeDelta::hours(1);
+    let start = instant.duration_trunc(hour).ok()?;
+    client_laws::in_zone_after_truncation(zone, instant, hour, &start);
+    Some(start)
+}
+
+/// The instant of a daily job on the day so many days after its first.
+pub fn on_day<Tz: TimeZone>(
+    zone: &Tz,
+    first: NaiveDate,
+    time: NaiveTime,
+    choice: Choice,
+    days: u32,
+) -> Option<DateTime<Tz>>
+    ensures { IfSome result (IsIn (Tz.law zone.now)) }
+{
+    DailySeries::new(*zone, first, time, choice).at(days).ok()
 }
 
 /// The start of the five minutes in which an instant lies.

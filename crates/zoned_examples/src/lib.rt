@@ -11,12 +11,13 @@ mod facts;
 mod front_page;
 mod own_zone;
 mod readme;
-#[cfg(test)]
-mod tests;
 
 pub use borrowed::{by_clock, earliest_first, keep, line};
 pub use error::MyError;
-pub use facts::{abbreviation, bucket, elsewhere, fire, seconds, twice};
+pub use facts::{
+    abbreviation, bucket, clock_of, elsewhere, fire, later, months_later, on_day, seconds,
+    start_of_hour, twice,
+};
 pub use front_page::{Alarm, alarm_at, daily, outcome, reading, shown};
 pub use own_zone::Nepal;
 pub use readme::{FirstLines, half_past_two};

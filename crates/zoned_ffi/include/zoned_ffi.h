@@ -1,39 +1,78 @@
 /* zoned_ffi.h: time zones for C. When do the clocks of a zone show a time, and at what offset from UTC?
 
-   Each call is given the bytes of a zone and reads them anew. `zoned_parse` says whether they are a zone; the others answer a
-   whole array of questions. Nothing is kept between calls: there is no handle to open or to free. So ask many questions in
-   one call. What reading costs is in docs/SPEED.md.
+   There are two ways to ask. Open a zone once and ask it by its handle, as often as you like:
+
+     struct zoned_zone paris = {0};
+     uint32_t number = zoned_open(ZONED_FILE, bytes, len, &paris);
+     int32_t offset;
+     if (number == ZONED_OK) number = zoned_zone_offset(&paris, 1615705200, &offset);
+     zoned_close(&paris);
+
+   Or give the bytes of a zone with an array of questions, and keep nothing: `zoned_at`, `zoned_wall`, `zoned_wall_instants`.
+   Such a call reads the zone anew, so ask many questions in one. What reading costs is in docs/SPEED.md.
 
    The number that a call returns
    ------------------------------
-   ZONED_OK (0): the zone was read, and every element of the answers is written.
-   Any other number: the call returned an error, and no answer is written. The first of these that holds:
+   ZONED_OK (0): every answer is written. Any other number: the call returned an error, and neither an answer nor a handle
+   that it was to open is changed. The first of these that holds (those of a handle, and of a choice, where there is one):
 
-     ZONED_UNKNOWN_KIND   `kind` is neither ZONED_FILE nor ZONED_TEXT
-     ZONED_OTHER_SIZE     the count of answers is not the one that is stated below
-     1 .. 17              the bytes have a fault; docs/ZONEQ.md has the table of these numbers:
-        5, 12, 14         a fault of a TZif file: in its form, in its lists, its version
-        6, 8, 10, 13, 15  a fault of a TZ text, or of the one at the end of a file
-        3, 7              in either: an offset or a name that can't be; fewer bytes than must come
-       16                 a text, or the end of a file, that is not UTF-8
-       17                 no memory for the zone
+     ZONED_UNKNOWN_KIND    `kind` is neither ZONED_FILE nor ZONED_TEXT
+     ZONED_UNKNOWN_CHOICE  `gap` or `fold` is none of its enum
+     ZONED_NOT_OPEN        the handle has no zone open
+     ZONED_OTHER_SIZE      the count of answers is not the one that is stated below
+     1 .. 17               the bytes have a fault; docs/ZONEQ.md has the table of these numbers:
+        5, 12, 14          a fault of a TZif file: in its form, in its lists, its version
+        6, 8, 10, 13, 15   a fault of a TZ text, or of the one at the end of a file
+        3, 7               in either: an offset or a name that can't be; fewer bytes than must come
+       16                  a text, or the end of a file, that is not UTF-8
+       17                  no memory for the zone, or for a share of it
+
+   Handles
+   -------
+   A handle is a struct zoned_zone in your memory. Start it as {0}: no zone is open, and every call takes that too.
+
+   - Its field is the library's: compare it with NULL if you like, and write it never but to make the struct {0}.
+   - It may be moved. But after `b = a` only one of the two may be used again: make the other {0}.
+   - An open handle that is overwritten or forgotten leaks its zone. A call that opens a handle closes what it had open.
+   - One call at a time has a handle, and nothing else reads or writes it meanwhile: every call writes it, also one that only
+     asks. Threads that ask at once have a handle each, by `zoned_share`.
+   - A handle may go to another thread. Order the calls of the two by a lock, by the start or the join of a thread, or by a
+     sequentially consistent atomic.
+   - Handles of busy threads lie best in different cache lines (64 bytes apart).
+
+   A pool of threads that share one zone:
+
+     struct worker { struct zoned_zone zone; char apart[56]; };
+
+     static void *work(void *given) {
+         struct worker *worker = given;              // its handle is its own
+         .. zoned_zone_offset(&worker->zone, instant, &offset) ..
+         zoned_close(&worker->zone);                 // the last close frees the zone
+         return NULL;
+     }
+
+     for (int i = 0; i < count; i++)                 // before the threads start
+         if (zoned_share(&zone, &workers[i].zone) == ZONED_OK) pthread_create(&threads[i], NULL, work, &workers[i]);
+     zoned_close(&zone);
 
    Arrays
    ------
-   An array is a pointer and a count of elements. A pointer is never null and is aligned for its elements, also where the
-   count is 0: pass the address of any element then. Within a call the answers overlap neither the bytes nor the questions,
-   and nobody else changes any of the three. What stands in the answers before a call doesn't matter: they need not be
-   initialised.
+   An array is a pointer and a count of elements. Pointers, also those to one value, are never null and are aligned for what
+   they point to, also where a count is 0: pass the address of any element then. Within a call the answers overlap neither
+   the bytes, nor the questions, nor a handle, two handles are two structs, and nobody else changes any of them. What stands
+   in the answers before a call doesn't matter: they need not be initialised.
 
    Threads
    -------
-   Calls share nothing, so several threads may call at once, each with answers of its own. (That is by design: no clause
-   speaks of threads.) Don't call from a signal handler, nor in the forked child of a process with threads.
+   Calls share nothing but the zones that handles share, which no call changes. So several threads may call at once, each with
+   answers and handles of its own. (That is by design: no clause speaks of threads.) Don't call from a signal handler, nor in
+   the forked child of a process with threads.
 
    Memory
    ------
-   Memory is taken by malloc and realloc, and given back by free before a call returns. The three come from one allocator,
-   and a block is aligned to each power of two up to 16 that divides its size, as those of the C library do.
+   Memory is taken by malloc and realloc, and given back by free: before a call returns, or for an open zone when its last
+   handle is closed. Asking by a handle takes none. The three come from one allocator, and a block is aligned to each power of
+   two up to 16 that divides its size, as those of the C library do.
 
    Link
    ----
@@ -60,7 +99,9 @@ enum {
 enum {
     ZONED_OK = 0,
     ZONED_UNKNOWN_KIND = 31,
-    ZONED_OTHER_SIZE = 32
+    ZONED_OTHER_SIZE = 32,
+    ZONED_NOT_OPEN = 33,
+    ZONED_UNKNOWN_CHOICE = 34
 };
 
 /* The offset of an instant at which the zone has none. No zone has it as an offset. */
@@ -116,6 +157,100 @@ typedef struct zoned_wall_clock {
 uint32_t zoned_wall_instants(uint32_t kind, const uint8_t *zone, size_t zone_len,
                              const int64_t *locals, size_t locals_len,
                              zoned_wall_clock *answers, size_t answers_len);
+
+/* A zone that you keep: a handle. Start it as {0}. */
+struct zoned_zone {
+    void *zone; /* NULL where none is open */
+};
+
+/* Reads a zone, and opens it: ZONED_OK, or why the bytes are refused, and then `out` is as it was. */
+uint32_t zoned_open(uint32_t kind, const uint8_t *zone, size_t zone_len, struct zoned_zone *out);
+
+/* Opens the zone of `zone` in `out` too, another struct, without reading it anew: ZONED_OK, ZONED_NOT_OPEN, or 17 where there
+   is no memory, and then `out` is as it was. */
+uint32_t zoned_share(struct zoned_zone *zone, struct zoned_zone *out);
+
+/* Closes the zone, if one is open. The last handle that is closed frees it. To close twice does no harm. */
+void zoned_close(struct zoned_zone *zone);
+
+/* *offset is the offset in force at the instant, and offsets[i] that at instants[i], as in zoned_at.
+
+   offsets_len is instants_len. */
+uint32_t zoned_zone_offset(struct zoned_zone *zone, int64_t instant, int32_t *offset);
+uint32_t zoned_zone_at(struct zoned_zone *zone,
+                       const int64_t *instants, size_t instants_len,
+                       int32_t *offsets, size_t offsets_len);
+
+/* A local time type: what is in force at an instant. */
+typedef struct zoned_local_type {
+    int32_t offset;       /* seconds east of UTC; ZONED_NO_OFFSET where the zone has none */
+    int32_t is_dst;       /* 1: daylight saving time, 0: not */
+    char abbreviation[8]; /* such as CEST: three to seven letters, digits, + and -, and zero bytes after them; empty where the
+                             type has no name, or the zone no type */
+} zoned_local_type;
+
+/* *local_type is the type in force at the instant, and types[i] that at instants[i].
+
+   types_len is instants_len. */
+uint32_t zoned_zone_type(struct zoned_zone *zone, int64_t instant, zoned_local_type *local_type);
+uint32_t zoned_zone_types(struct zoned_zone *zone,
+                          const int64_t *instants, size_t instants_len,
+                          zoned_local_type *types, size_t types_len);
+
+/* *clock says when the zone's clocks show the local time, and clocks[i] when they show locals[i], as in zoned_wall_instants.
+
+   clocks_len is locals_len. */
+uint32_t zoned_zone_wall_clock(struct zoned_zone *zone, int64_t local, zoned_wall_clock *clock);
+uint32_t zoned_zone_wall_instants(struct zoned_zone *zone,
+                                  const int64_t *locals, size_t locals_len,
+                                  zoned_wall_clock *clocks, size_t clocks_len);
+
+/* Three numbers for each local time, as in zoned_wall.
+
+   answers_len is 3 * locals_len. */
+uint32_t zoned_zone_wall(struct zoned_zone *zone,
+                         const int64_t *locals, size_t locals_len,
+                         int32_t *answers, size_t answers_len);
+
+/* What to take of a local time in a gap, which the clocks skipped: `gap`. */
+enum {
+    ZONED_GAP_REFUSE = 0,       /* nothing */
+    ZONED_GAP_SHIFT_FORWARD = 1 /* the instant at which a clock that was not set forward shows it. New York's clocks skipped
+                                   02:30 on 2021-03-14: it is the instant at which they showed 03:30 */
+};
+
+/* What to take of a local time in a fold, which they show several times: `fold`. */
+enum {
+    ZONED_FOLD_REFUSE = 0,   /* nothing */
+    ZONED_FOLD_EARLIEST = 1, /* the first instant */
+    ZONED_FOLD_LATEST = 2    /* the last */
+};
+
+/* Why a local time gives no instant: `number`. */
+enum {
+    ZONED_IN_GAP = 21,            /* it lies in a gap, and `gap` is ZONED_GAP_REFUSE */
+    ZONED_IN_FOLD = 22,           /* it lies in a fold, and `fold` is ZONED_FOLD_REFUSE */
+    ZONED_INSTANT_OUT_OF_RANGE = 23 /* it or the instant lies outside the years -262143 to 262142 */
+};
+
+/* The instant of a local time. */
+typedef struct zoned_resolved {
+    uint32_t number; /* ZONED_OK, or ZONED_IN_GAP, ZONED_IN_FOLD or ZONED_INSTANT_OUT_OF_RANGE: then the others are 0 */
+    int32_t offset;  /* the offset in force at the instant, in seconds east of UTC; in a gap that after it */
+    int64_t instant; /* a Unix second */
+} zoned_resolved;
+
+/* *resolved is the instant of the local time under the choice, and resolved[i] that of locals[i].
+
+   resolved_len is locals_len. */
+uint32_t zoned_zone_instant(struct zoned_zone *zone, uint32_t gap, uint32_t fold, int64_t local, zoned_resolved *resolved);
+uint32_t zoned_zone_resolve(struct zoned_zone *zone, uint32_t gap, uint32_t fold,
+                            const int64_t *locals, size_t locals_len,
+                            zoned_resolved *resolved, size_t resolved_len);
+
+/* Writes what a number of this header means, in English, as far as it fits into `text` before a zero byte, which is written
+   too unless text_len is 0. Returns the length of the whole text. 128 bytes are enough for each. */
+size_t zoned_error_text(uint32_t number, uint8_t *text, size_t text_len);
 
 #ifdef __cplusplus
 }

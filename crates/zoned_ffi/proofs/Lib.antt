@@ -1,3 +1,6 @@
+pub mod Handles
 pub mod Slices
+pub mod Slots
 pub mod Reading
+pub mod Resolving
 pub mod Telling

@@ -1,13 +1,15 @@
 -- What comes of reading, as a call tells it.
-use Rattle.std.proofs.Common.{◌≡◌, ◌≢◌, ◌⊎◌, ◌↔◌, Bool, IsTrue, IsFalse, ℕ, List, IfErr, Result, Ok, Err, subst, sym, inl, inr, arith}
+use Rattle.std.proofs.Common.{◌≡◌, ◌≢◌, ◌⊎◌, ◌↔◌, Bool, IsTrue, IsFalse, ℕ, List, IfErr, Result, Ok, Err, subst, sym, inl, inr, arith, refl}
 use Rattle.tz_info.specs.Errors.{number_of}
 use Rattle.tz_info.specs.PosixZones.{IsPosixZone, IsPosixFault}
+use Rattle.tz_info.specs.TzFiles.{IsZoneFault}
 use Rattle.tz_info.specs.Zones.{Zone}
 use Rattle.tz_info.specs.declared.error.Error.{Error}
 use Rattle.tz_info.specs.declared.error.Error.TheVariants as errors
-use Rattle.zoned_ffi.specs.Kinds.{number_of as kind_number}
+use Rattle.zoned_ffi.specs.Kinds.{number_of as kind_number, IsZoneOf, Spells}
 use Rattle.zoned_ffi.specs.Refusals.{IsFault, IsReaderNumber, IsRefusal, IsTextFault, refusal_number}
 use Rattle.zoned_ffi.specs.declared.kind.Kind.{Kind}
+use Rattle.zoned_ffi.specs.declared.kind.Kind.TheVariants as kinds
 use Rattle.zoned_ffi.specs.declared.refusal.Refusal.{Refusal}
 
 -- the number of a text that is refused tells its fault
@@ -39,6 +41,15 @@ reader_number errors.OutOfMemory = (omega arith, omega arith)
 -- answers that don't fit are wanted in another count than there is room for
 pub not_fitting : (fits : Bool) (wanted room : ℕ) → IsFalse fits → IsTrue fits ↔ wanted ≡ room → wanted ≢ room
 not_fitting fits wanted room is same equal = absurd (grind (arith, is, same.1 equal))
+
+-- where there is no memory for a zone that is spelled, that is the fault
+no_memory : (kind : Kind) (bytes : List ℕ) (z : Zone) → Spells kind bytes z → IsFault kind bytes 17
+no_memory kinds.File bytes z spells = IsZoneFault.No_memory spells.0.0 spells.0.1
+no_memory kinds.Text bytes z spells = IsTextFault.No_memory z spells.1
+
+pub no_memory_refused : (number : ℕ) (bytes : List ℕ) (z : Zone) → IsZoneOf number bytes z → IsRefusal number bytes 0 0 17
+no_memory_refused number bytes z of_kind =
+    IsRefusal.Not_read of_kind.0 17 of_kind.1 refl (no_memory of_kind.0 bytes z of_kind.2) (omega arith, omega arith)
 
 -- bytes that are refused are why the call is
 pub not_read : (number : ℕ) (bytes : List ℕ) (fits : Bool) (kind : Kind) (read : Result Zone Refusal) → number ≡ kind_number kind → IsTrue fits → IfErr read (λ e. IsFault kind bytes (refusal_number e)) → IfErr read (λ e. IsReaderNumber (refusal_number e)) → IfErr read (λ e. (wanted room : ℕ) → IsTrue fits ↔ wanted ≡ room → IsRefusal number bytes wanted room (refusal_number e))

@@ -2,4 +2,9 @@ pub mod Kinds
 pub mod Refusals
 pub mod Instants
 pub mod WallClocks
+pub mod WrittenTypes
+pub mod Resolved
+pub mod Texts
+pub mod Owned
+pub mod Handles
 pub mod Steps

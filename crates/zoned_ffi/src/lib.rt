@@ -9,11 +9,18 @@ ghost use Rattle.zoned_ffi.specs.Kinds.{IsZoneOf};
 ghost use Rattle.zoned_ffi.specs.Refusals.{IsRefusal};
 ghost use Rattle.zoned_ffi.specs.WallClocks.{AreTriples, AreWallClocks};
 
+mod asking;
+mod handle;
 mod instants;
 mod kind;
+mod local_type;
+mod opening;
 mod refusal;
+mod resolved;
+mod slot;
 #[cfg(test)]
 mod tests;
+mod texts;
 mod wall_clock;
 
 use instants::write_offsets;

@@ -5,6 +5,18 @@ ghost use Rattle.zoned_ffi.specs.Refusals.{refusal_number};
 
 use tz_info::Error;
 
+/// What a question by a handle returns where no zone is open.
+pub const NOT_OPEN: u32 = 33;
+
+/// What it returns where there is room for another count of answers.
+pub const OTHER_SIZE: u32 = 32;
+
+/// What it returns where no choice for gaps and folds has these numbers.
+pub const UNKNOWN_CHOICE: u32 = 34;
+
+/// What a call returns where memory runs out.
+pub const OUT_OF_MEMORY: u32 = 17;
+
 /// Why a call is refused.
 #[derive(Clone, Copy)]
 pub enum Refusal {

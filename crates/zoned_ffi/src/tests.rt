@@ -1,6 +1,15 @@
 //! Calls as a C program makes them. Expected offsets and instants are those of the tz database;
 //! numbers of refusals are those of its header.
 
+use crate::asking::{
+    zoned_zone_at, zoned_zone_instant, zoned_zone_offset, zoned_zone_resolve, zoned_zone_type,
+    zoned_zone_types, zoned_zone_wall, zoned_zone_wall_clock, zoned_zone_wall_instants,
+};
+use crate::handle::Handle;
+use crate::local_type::WrittenType;
+use crate::opening::{zoned_close, zoned_open, zoned_share};
+use crate::resolved::Resolved;
+use crate::texts::zoned_error_text;
 use crate::{WallClock, zoned_at, zoned_parse, zoned_wall, zoned_wall_instants};
 use std::alloc::Global;
 use std::process::Abort;
@@ -161,4 +170,126 @@ fn refuses_another_size(rt: HostRuntime) {
     // The kind is asked first, then the size, then the zone.
     assert_eq!(rt; zoned_at(alloc, 2, b"FOO25", &[], &mut offsets), 31);
     assert_eq!(rt; zoned_at(alloc, TEXT, b"FOO25", &[], &mut offsets), 32);
+}
+
+#[test]
+fn keeps_zones(rt: HostRuntime) {
+    let alloc = rt.alloc();
+    let mut first = Handle::closed(alloc);
+    let mut zone = Handle::closed(alloc);
+    let mut offset = UNTOUCHED;
+    assert_eq!(rt; zoned_zone_offset(alloc, &mut zone, 0, &mut offset), 33);
+    assert_eq!(rt; zoned_share(alloc, &mut first, &mut zone), 33);
+    assert_eq!(rt; zoned_open(alloc, TEXT, NEW_YORK, &mut first), 0);
+    assert_eq!(rt; zoned_open(alloc, TEXT, b"FOO25", &mut first), 6);
+    assert_eq!(rt; zoned_share(alloc, &mut first, &mut zone), 0);
+    zoned_close(alloc, &mut first);
+    assert_eq!(rt; zoned_zone_offset(alloc, &mut first, 0, &mut offset), 33);
+    assert_eq!(rt; offset, UNTOUCHED);
+    assert_eq!(rt;
+        zoned_zone_offset(alloc, &mut zone, 1_615_705_200, &mut offset),
+        0
+    );
+    assert_eq!(rt; offset, -14_400);
+    let mut offsets = [UNTOUCHED; 2];
+    assert_eq!(rt;
+        zoned_zone_at(alloc, &mut zone, &[0, i64::MAX], &mut offsets),
+        0
+    );
+    assert_eq!(rt; offsets, [-18_000, i32::MIN]);
+    let mut triples = [UNTOUCHED; 3];
+    assert_eq!(rt;
+        zoned_zone_wall(alloc, &mut zone, &[1_636_248_600], &mut triples),
+        0
+    );
+    assert_eq!(rt; triples, [2, -14_400, -18_000]);
+    let mut clocks = [UNTOUCHED_CLOCK; 1];
+    assert_eq!(rt;
+        zoned_zone_wall_instants(alloc, &mut zone, &[1_636_248_600], &mut clocks),
+        0
+    );
+    assert_eq!(rt;
+        (clocks[0].first, clocks[0].last),
+        (1_636_263_000, 1_636_266_600)
+    );
+    assert_eq!(rt;
+        zoned_zone_wall_clock(alloc, &mut zone, 1_615_689_000, &mut clocks[0]),
+        0
+    );
+    assert_eq!(rt; clocks[0].shown, 0);
+    zoned_close(alloc, &mut zone);
+    zoned_close(alloc, &mut zone);
+}
+
+#[test]
+fn tells_types_and_instants(rt: HostRuntime) {
+    let alloc = rt.alloc();
+    let mut zone = Handle::closed(alloc);
+    assert_eq!(rt; zoned_open(alloc, TEXT, NEW_YORK, &mut zone), 0);
+    let untouched = WrittenType {
+        offset: UNTOUCHED,
+        is_dst: UNTOUCHED,
+        abbreviation: [0; 8],
+    };
+    let mut types = [untouched; 2];
+    assert_eq!(rt;
+        zoned_zone_types(alloc, &mut zone, &[0, i64::MAX], &mut types),
+        0
+    );
+    assert_eq!(rt; (types[0].offset, types[0].is_dst), (-18_000, 0));
+    assert_eq!(rt; types[0].abbreviation, *b"EST\0\0\0\0\0");
+    assert_eq!(rt;
+        (types[1].offset, types[1].abbreviation),
+        (i32::MIN, [0; 8])
+    );
+    assert_eq!(rt;
+        zoned_zone_type(alloc, &mut zone, 1_615_705_200, &mut types[0]),
+        0
+    );
+    assert_eq!(rt; (types[0].offset, types[0].is_dst), (-14_400, 1));
+    let untouched = Resolved {
+        number: 77,
+        offset: UNTOUCHED,
+        instant: 77,
+    };
+    let mut taken = [untouched; 4];
+    assert_eq!(rt;
+        zoned_zone_resolve(alloc, &mut zone, 0, 0, &LOCALS, &mut taken),
+        0
+    );
+    for (resolved, number) in taken.iter().zip([21, 22, 0, 23]) {
+        assert_eq!(rt; resolved.number, number);
+    }
+    // (gap, fold, local time, the instant, the offset there)
+    let rows = [
+        (1, 0, LOCALS[0], 1_615_707_000, -14_400),
+        (0, 1, LOCALS[1], 1_636_263_000, -14_400),
+        (0, 2, LOCALS[1], 1_636_266_600, -18_000),
+        (1, 2, LOCALS[2], 1_636_304_400, -18_000),
+    ];
+    for (gap, fold, local, instant, offset) in rows {
+        assert_eq!(rt;
+            zoned_zone_instant(alloc, &mut zone, gap, fold, local, &mut taken[0]),
+            0
+        );
+        assert_eq!(rt; (taken[0].number, taken[0].instant), (0, instant));
+        assert_eq!(rt; taken[0].offset, offset);
+    }
+    for (gap, fold) in [(2, 0), (0, 3)] {
+        assert_eq!(rt;
+            zoned_zone_instant(alloc, &mut zone, gap, fold, 0, &mut taken[0]),
+            34
+        );
+    }
+}
+
+#[test]
+fn tells_numbers_in_words(rt: HostRuntime) {
+    let mut text = *b"12345678";
+    assert_eq!(rt; zoned_error_text(17, &mut text), 13);
+    assert_eq!(rt; text, *b"out of \0");
+    let mut text = *b"1234567890123456";
+    assert_eq!(rt; zoned_error_text(17, &mut text), 13);
+    assert_eq!(rt; text, *b"out of memory\x0056");
+    assert_eq!(rt; zoned_error_text(17, &mut []), 13);
 }

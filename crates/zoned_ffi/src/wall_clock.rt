@@ -1,10 +1,11 @@
 //! When wall clocks show local times.
 
-ghost use Rattle.std.specs.Prelude.{◌≡◌, ◌↔◌, IsTrue, ◌*◌, ◌-ℤ◌, pos, length};
+ghost use Rattle.std.specs.Prelude.{◌≡◌, ◌≢◌, ◌↔◌, IsTrue, ◌*◌, ◌-ℤ◌, pos, length};
 ghost use Rattle.naive_base.specs.Range.{IsInRange};
 ghost use Rattle.zoned_ffi.specs.Steps.Told.{told_of};
 ghost use Rattle.zoned_ffi.specs.WallClocks.{AreTriples, AreWallClocks, IsWallClockAt, written};
 
+use crate::refusal::OTHER_SIZE;
 use naive_base::NaiveDateTime;
 use offset_core::MappedLocalTime;
 use tz_info::{LocalTimeType, TimeZone};
@@ -40,9 +41,10 @@ pub struct WallClock {
 }
 
 impl WallClock {
-    // When the zone's clocks show the local time: so many seconds after 1970-01-01 00:00:00 on a
-    // clock, every day counted as 86,400.
-    fn at(zone: &TimeZone, local: i64) -> WallClock
+    /// When the zone's clocks show the local time: so many seconds after 1970-01-01 00:00:00 on a
+    /// clock, every day counted as 86,400.
+    #[inline(always)]
+    pub fn at(zone: &TimeZone, local: i64) -> WallClock
         ensures { IsWallClockAt zone.now local result }
     {
         let Some(reading) = NaiveDateTime::from_timestamp_opt(local, 0) else {
@@ -110,6 +112,19 @@ impl WallClock {
     }
 }
 
+/// Writes what is told of each local time, where there is room for as many: 0, or why not.
+pub fn answer_wall_clocks(zone: &TimeZone, locals: &[i64], clocks: &mut [WallClock]) -> u32
+    ensures answered { result ≡ 0 → AreWallClocks zone.now locals.now clocks.new }
+    ensures refused { result ≢ 0 → (result ≡ 32)
+        × (length locals.now ≢ length clocks.old) × (clocks.new ≡ clocks.old) }
+{
+    if locals.len() != clocks.len() {
+        return OTHER_SIZE;
+    }
+    write_wall_clocks(zone, locals, clocks);
+    0
+}
+
 /// Writes what is told of each local time.
 pub fn write_wall_clocks(zone: &TimeZone, locals: &[i64], clocks: &mut [WallClock])
     requires { length locals.now ≡ length clocks.old }
@@ -126,6 +141,19 @@ pub fn has_room_for_triples(locals: &[i64], numbers: &[i32]) -> bool
     ensures { IsTrue result ↔ (3 * length locals.now ≡ length numbers.now) }
 {
     numbers.len() % 3 == 0 && numbers.len() / 3 == locals.len()
+}
+
+/// Writes three numbers of each local time, where there is room for as many: 0, or why not.
+pub fn answer_triples(zone: &TimeZone, locals: &[i64], numbers: &mut [i32]) -> u32
+    ensures answered { result ≡ 0 → AreTriples zone.now locals.now numbers.new }
+    ensures refused { result ≢ 0 → (result ≡ 32)
+        × (3 * length locals.now ≢ length numbers.old) × (numbers.new ≡ numbers.old) }
+{
+    if !has_room_for_triples(locals, numbers) {
+        return OTHER_SIZE;
+    }
+    write_triples(zone, locals, numbers);
+    0
 }
 
 /// Writes three numbers of each local time: how often it is shown, and the offsets at the first and

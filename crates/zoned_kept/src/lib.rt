@@ -11,8 +11,6 @@ mod kept_offset;
 mod kept_zone;
 pub mod laws;
 mod lookup;
-#[cfg(test)]
-mod tests;
 
 pub use keep_error::KeepError;
 pub use kept_offset::KeptOffset;

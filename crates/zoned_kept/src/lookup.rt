@@ -6,7 +6,7 @@ ghost use Rattle.naive_base.specs.NaiveDateTime.{reading};
 ghost use Rattle.tz_info.specs.Gaps.{IsBeforeGap, IsShown};
 ghost use Rattle.tz_info.specs.WallClocks.{Shows};
 ghost use Rattle.tz_info.specs.Zones.{TypeAt};
-ghost use Rattle.zoned_time.specs.Choice.{IsOffsetBeforeGap};
+ghost use Rattle.zoned_time.specs.Choice.{AreOffsetsAround, IsOffsetBeforeGap};
 ghost use Rattle.zoned_time.specs.Zone.{IsOffsetAt, AreOffsetsFor, midnight_of};
 ghost use Rattle.zoned_kept.specs.KeptOffset.{meaning_of, law_of, type_of};
 ghost use Rattle.zoned_kept.specs.KeptZone.{zone_of};
@@ -14,7 +14,7 @@ ghost use Rattle.zoned_kept.specs.KeptZone.{zone_of};
 use crate::{KeptOffset, KeptZone};
 use naive_base::{NaiveDate, NaiveDateTime, NaiveTime};
 use offset_core::LocalResult;
-use zoned_time::TimeZone;
+use zoned_time::{OffsetsAround, TimeZone};
 
 impl TimeZone for KeptZone {
     type Offset = KeptOffset;
@@ -74,6 +74,25 @@ impl TimeZone for KeptZone {
             (map_of type_of result) }
     {
         self.offset_from_local_datetime(&midnight(local))
+    }
+
+    fn offsets_around(&self, local: &NaiveDateTime) -> OffsetsAround<KeptOffset>
+        ensures { AreOffsetsAround (law_of self.now) (reading local.now).s result }
+    {
+        match self.borrowed.offsets_around(local) {
+            OffsetsAround::Single(only) => OffsetsAround::Single(KeptOffset::of(
+                self,
+                only.local_type(),
+            )),
+            OffsetsAround::Ambiguous(first, last) => OffsetsAround::Ambiguous(
+                KeptOffset::of(self, first.local_type()),
+                KeptOffset::of(self, last.local_type()),
+            ),
+            OffsetsAround::BeforeGap(before) => OffsetsAround::BeforeGap(KeptOffset::of(
+                self,
+                before.local_type(),
+            )),
+        }
     }
 
     fn offset_before_gap(&self, local: &NaiveDateTime) -> Option<KeptOffset>

@@ -1,4 +1,5 @@
 pub mod ForCallers
+mod Homes
 pub mod Instants
 pub mod Offsets
 pub mod Walls

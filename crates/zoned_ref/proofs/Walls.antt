@@ -1,6 +1,6 @@
 -- The wall clock's answer over all seconds of 64 bits is the one over the range that zones answer in: whoever shows a
 -- reading is less than a day away from it.
-use Rattle.std.proofs.Common.{◌≡◌, ℤ, ◌+ℤ◌, arith, refl, sym, ap, ◌∙◌}
+use Rattle.std.proofs.Common.{◌≡◌, ℤ, ◌+ℤ◌, ◌-ℤ◌, arith, sym, ap, ◌∙◌}
 use Rattle.std.proofs.lemmas.Int.{ints}
 use Rattle.offset_core.specs.declared.local_result.LocalResult.{LocalResult}
 use Rattle.offset_core.specs.declared.local_result.LocalResult.TheVariants.{Single, Ambiguous, None}
@@ -42,14 +42,31 @@ each_within z l narrow None wall = tt
 each_within z l narrow (Single t) wall = type_within z wall.second t narrow wall.shown.type
 each_within z l narrow (Ambiguous a b) wall = (type_within z wall.first a narrow wall.at_first.type, type_within z wall.last b narrow wall.at_last.type)
 
--- and their offsets are what the zone gives
-pub one_given : {O : Type 0} (m : offsets.Meaning O) (z : Zone) (off : ℤ → ℤ) (l : ℤ) (t : LocalType) (o : O) → IsNarrow z → AreOffsetsOf z off → IsWide l
-    → m.seconds o ≡ t.offset → m.home o ≡ off → IsWallAnswer (types.Shows (TypeAt z) l) (Single t) → offsets.AreOffsetsFor {m = m} (record { off = off }) l (Single o)
-one_given m z off l t o narrow of_zone wide same home_is wall =
-    record { wall = rw same (zone_wall z off l narrow of_zone wide (Single t) wall); same_home = λ u inside. rw home_is refl }
+-- which is in force at the second that shows l by it
+shown_in_force : (z : Zone) (l k u : ℤ) (t : LocalType) → k ≡ t.offset → types.Shows (TypeAt z) l u t → TypeAt z (l -ℤ k) t
+shown_in_force z l k u t same s =
+    let second : l -ℤ k ≡ u = let shown : u +ℤ t.offset ≡ l = s.shown in omega (arith, ints, same) in rw second s.type
 
-pub two_given : {O : Type 0} (m : offsets.Meaning O) (z : Zone) (off : ℤ → ℤ) (l : ℤ) (a b : LocalType) (o p : O) → IsNarrow z → AreOffsetsOf z off → IsWide l
-    → m.seconds o ≡ a.offset → m.seconds p ≡ b.offset → m.home o ≡ off → m.home p ≡ off
-    → IsWallAnswer (types.Shows (TypeAt z) l) (Ambiguous a b) → offsets.AreOffsetsFor {m = m} (record { off = off }) l (Ambiguous o p)
-two_given m z off l a b o p narrow of_zone wide first last first_home last_home wall =
-    record { wall = rw (first, last) (zone_wall z off l narrow of_zone wide (Ambiguous a b) wall); same_home = ((λ u inside. rw first_home refl), (λ u inside. rw last_home refl)) }
+-- and their offsets are what the zone gives
+pub one_given : {O : Type 0} {m : offsets.Meaning O} (law : offsets.Law m) (z : Zone) (l : ℤ) (t : LocalType) (o : O) → IsNarrow z → AreOffsetsOf z law.off → IsWide l
+    → m.seconds o ≡ t.offset → ((u : ℤ) → TypeAt z u t → law.in_force u o) → offsets.SameLaw (offsets.home_law m o) law
+    → IsWallAnswer (types.Shows (TypeAt z) l) (Single t) → offsets.AreOffsetsFor law l (Single o)
+one_given {m = m} law z l t o narrow of_zone wide same in_force home wall = record {
+  wall = rw same (zone_wall z law.off l narrow of_zone wide (Single t) wall);
+  in_force = in_force (l -ℤ m.seconds o) (shown_in_force z l (m.seconds o) wall.second t same wall.shown);
+  same_home = home;
+}
+
+pub two_given : {O : Type 0} {m : offsets.Meaning O} (law : offsets.Law m) (z : Zone) (l : ℤ) (a b : LocalType) (o p : O) → IsNarrow z → AreOffsetsOf z law.off → IsWide l
+    → m.seconds o ≡ a.offset → m.seconds p ≡ b.offset
+    → ((u : ℤ) → TypeAt z u a → law.in_force u o) → ((u : ℤ) → TypeAt z u b → law.in_force u p)
+    → offsets.SameLaw (offsets.home_law m o) law → offsets.SameLaw (offsets.home_law m p) law
+    → IsWallAnswer (types.Shows (TypeAt z) l) (Ambiguous a b) → offsets.AreOffsetsFor law l (Ambiguous o p)
+two_given {m = m} law z l a b o p narrow of_zone wide first last first_in_force last_in_force first_home last_home wall = record {
+  wall = rw (first, last) (zone_wall z law.off l narrow of_zone wide (Ambiguous a b) wall);
+  in_force = (
+    first_in_force (l -ℤ m.seconds o) (shown_in_force z l (m.seconds o) wall.first a first wall.at_first),
+    last_in_force (l -ℤ m.seconds p) (shown_in_force z l (m.seconds p) wall.last b last wall.at_last),
+  );
+  same_home = (first_home, last_home);
+}

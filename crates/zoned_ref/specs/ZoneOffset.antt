@@ -3,8 +3,9 @@ use Rattle.std.specs.Prelude.{ℤ}
 use Rattle.offset_core.specs.declared.fixed_offset.FixedOffset.{FixedOffset}
 use Rattle.offset_core.specs.FixedOffset.{seconds_of}
 use Rattle.tz_info.specs.LocalTypes.{LocalType}
+use Rattle.tz_info.specs.Zones.{TypeAt}
 use Rattle.zoned_time.specs.Zone.{Meaning, Law}
-use Rattle.zoned_ref.specs.TimeZoneRef.{off_of}
+use Rattle.zoned_ref.specs.TimeZoneRef.{zone_of, off_of}
 use Rattle.zoned_ref.specs.declared.time_zone_ref.TimeZoneRef.{TimeZoneRef}
 use Rattle.zoned_ref.specs.declared.zone_offset.ZoneOffset.{ZoneOffset}
 
@@ -24,10 +25,14 @@ type_of o = o.local_type
 abbrev pub home_of : ZoneOffset → ℤ → ℤ
 home_of o = off_of o.zone
 
+-- at the second u it is the offset of the type in force in that zone
+abbrev pub IsInForce : TimeZoneRef → ℤ → ZoneOffset → Type 0
+IsInForce r u o = TypeAt (zone_of r) u (type_of o)
+
 -- what its offsets mean
 abbrev pub meaning_of : Meaning ZoneOffset
-meaning_of = record { seconds = ahead_of; home = home_of }
+meaning_of = record { seconds = ahead_of; home = home_of; home_in_force = λ o. IsInForce o.zone }
 
 -- the law of a zone
 abbrev pub law_of : TimeZoneRef → Law meaning_of
-law_of r = record { off = off_of r }
+law_of r = record { off = off_of r; in_force = IsInForce r }

@@ -8,8 +8,6 @@
 
 pub mod laws;
 mod lookup;
-#[cfg(test)]
-mod tests;
 mod time_zone_ref;
 mod wall_clock;
 mod zone_offset;

@@ -6,7 +6,7 @@ ghost use Rattle.naive_base.specs.NaiveDateTime.{reading};
 ghost use Rattle.tz_info.specs.Gaps.{IsBeforeGap, IsShown};
 ghost use Rattle.tz_info.specs.WallClocks.{Shows};
 ghost use Rattle.tz_info.specs.Zones.{TypeAt};
-ghost use Rattle.zoned_time.specs.Choice.{IsOffsetBeforeGap};
+ghost use Rattle.zoned_time.specs.Choice.{AreOffsetsAround, IsOffsetBeforeGap};
 ghost use Rattle.zoned_time.specs.Zone.{IsZoneSecond, IsOffsetAt, AreOffsetsFor, midnight_of};
 ghost use Rattle.zoned_ref.specs.TimeZoneRef.{zone_of};
 ghost use Rattle.zoned_ref.specs.ZoneOffset.{meaning_of, law_of, type_of};
@@ -14,7 +14,8 @@ ghost use Rattle.zoned_ref.specs.ZoneOffset.{meaning_of, law_of, type_of};
 use crate::{TimeZoneRef, ZoneOffset};
 use naive_base::{NaiveDate, NaiveDateTime, NaiveTime};
 use offset_core::LocalResult;
-use zoned_time::TimeZone;
+use tz_info::TypesAround;
+use zoned_time::{OffsetsAround, TimeZone};
 
 impl<'a> TimeZone for TimeZoneRef<'a> {
     type Offset = ZoneOffset<'a>;
@@ -72,6 +73,19 @@ impl<'a> TimeZone for TimeZoneRef<'a> {
             (map_of type_of result) }
     {
         self.offset_from_local_datetime(&midnight(local))
+    }
+
+    fn offsets_around(&self, local: &NaiveDateTime) -> OffsetsAround<ZoneOffset<'a>>
+        ensures { AreOffsetsAround (law_of self.now) (reading local.now).s result }
+    {
+        match self.zone().find_local_time_type_around(*local) {
+            TypesAround::Single(only) => OffsetsAround::Single(ZoneOffset::new(*self, &only)),
+            TypesAround::Ambiguous(first, last) => OffsetsAround::Ambiguous(
+                ZoneOffset::new(*self, &first),
+                ZoneOffset::new(*self, &last),
+            ),
+            TypesAround::Gap(gap) => OffsetsAround::BeforeGap(ZoneOffset::new(*self, &gap.before)),
+        }
     }
 
     fn offset_before_gap(&self, local: &NaiveDateTime) -> Option<ZoneOffset<'a>>

@@ -166,6 +166,3 @@ fn instant_after<Tz: TimeZone>(instant: DateTime<Tz>, way: TimeDelta) -> DateTim
     }
     instant.checked_add_signed(way).unwrap()
 }
-
-#[cfg(test)]
-mod tests;

@@ -29,6 +29,3 @@ impl fmt::Display for RoundingError {
         })
     }
 }
-
-#[cfg(test)]
-mod tests;

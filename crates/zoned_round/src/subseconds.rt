@@ -177,6 +177,3 @@ fn instant_cut<Tz: TimeZone>(here: DateTime<Tz>, behind: u32) -> DateTime<Tz>
     here.checked_sub_signed(TimeDelta::nanoseconds(behind as i64))
         .unwrap()
 }
-
-#[cfg(test)]
-mod tests;

@@ -9,24 +9,24 @@ use Rattle.zoned_time.specs.declared.resolve_error.ResolveError.TheVariants.{Out
 use Rattle.zoned_time.specs.Choice.{IsTaken, shifted, IsResolved, IsUnresolved, out_of_range}
 use Rattle.zoned_time.specs.Steps.Shifts.{IsShifted, IsShiftOutOfRange}
 use Rattle.zoned_time.specs.Relocal.{HasInstant, instant_of}
-use Rattle.zoned_time.specs.Zone.{Meaning, Law, SameOffsets, Shows}
+use Rattle.zoned_time.specs.Zone.{Meaning, Law, home_law, SameLaw, Shows}
 use Rattle.zoned_time.specs.Zoned.{Zoned, IsAt}
 use Rattle.zoned_time.proofs.Relocals.{at_shown}
 
 -- by an offset that clocks show
 pub taken_resolved : {O D : Type 0} {m : Meaning O} {seconds : O → ℤ} → ((o : O) → m.seconds o ≡ seconds o)
     → (law : Law m) (l : Reading) (choice : Choice) (o : O) (show : D → Zoned O) (result : Result D ResolveError) (u : ℤ)
-    → Shows law.off l.s u (m.seconds o) → SameOffsets (m.home o) law.off → IsTaken law.off l.s choice (m.seconds o)
+    → Shows law.off l.s u (m.seconds o) → law.in_force (l.s -ℤ m.seconds o) o → SameLaw (home_law m o) law → IsTaken law.off l.s choice (m.seconds o)
     → MatchResult result (λ d. HasInstant seconds l o × (show d ≡ instant_of seconds l o)) (λ e. (e ≡ OutOfRange) × ¬ (HasInstant seconds l o))
     → MatchResult result (λ d. IsResolved law l choice (show d)) (λ e. IsUnresolved law.off l.s choice e)
-taken_resolved {O} {D} {m} {seconds} told law l choice o show (Ok d) u shows same taken h =
+taken_resolved {O} {D} {m} {seconds} told law l choice o show (Ok d) u shows there same taken h =
     let is : show d ≡ instant_of m.seconds l o = subst (λ k. show d ≡ record { utc = behind l k; offset = o }) (sym (told o)) h.1 in record {
       offset = m.seconds o;
       taken = taken;
       in_range = subst (λ k. IsInRange (l.s -ℤ k)) (sym (told o)) h.0;
-      at = subst (λ e. IsAt law (behind l (m.seconds o)) e) (sym is) (at_shown law l o (instant_of m.seconds l o) u shows same refl).1;
+      at = subst (λ e. IsAt law (behind l (m.seconds o)) e) (sym is) (at_shown law l o (instant_of m.seconds l o) u shows there same refl).1;
     }
-taken_resolved {O} {D} {m} {seconds} told law l choice o show (Err e) u shows same taken h =
+taken_resolved {O} {D} {m} {seconds} told law l choice o show (Err e) u shows there same taken h =
     out_of_range (m.seconds o) taken (λ inside. h.1 (subst (λ k. IsInRange (l.s -ℤ k)) (told o) inside)) h.0
 
 -- by the offset before a gap

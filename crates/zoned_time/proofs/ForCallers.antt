@@ -1,8 +1,11 @@
 -- Lemmas for the crates above.
 pub use Rattle.zoned_time.proofs.Answered.{choice_decided}
-pub use Rattle.zoned_time.proofs.Homes.{at_home, offsets_home, relocal_home}
+pub use Rattle.zoned_time.proofs.Homes.{same_itself, same_through, offset_home, at_home, offsets_home, relocal_home}
 pub use Rattle.zoned_time.proofs.Instants.{told_in_seconds, relocal_once, given_some}
 pub use Rattle.zoned_time.proofs.Relocals.{relocal_shown}
+-- of a zone whose offsets are told by their seconds
+pub use Rattle.zoned_time.proofs.Walls.{wall_by_seconds, gap_by_seconds}
 -- of a zone whose offset never changes: its wall clock's answer, and that it has no gap; and that midnights are in the range
 pub use Rattle.zoned_time.proofs.Walls.{constant_wall, constant_no_gap, midnight_wide}
 pub use Rattle.zoned_time.proofs.Once.{resolved_once, not_resolved, unresolved_once}
+pub use Rattle.zoned_time.proofs.Stays.{stays}

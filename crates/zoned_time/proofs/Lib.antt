@@ -4,5 +4,6 @@ pub mod Homes
 pub mod Instants
 pub mod Once
 pub mod Relocals
+pub mod Stays
 pub mod Walls
 mod Choices

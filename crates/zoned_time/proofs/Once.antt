@@ -98,7 +98,7 @@ taken_once off l choice j k p q =
 
 at_told : {O : Type 0} {m : Meaning O} (law : Law m) (r : Reading) (d : Zoned O) → IsAt law r d
     → in_seconds m.seconds d ≡ record { utc = r; offset = law.off r.s }
-at_told law r d at = rw (at.utc, at.offset.there) refl
+at_told law r d at = rw (at.offset.there, at.utc) refl
 
 pub resolved_once : {O : Type 0} {m : Meaning O} {seconds : O → ℤ} → ((o : O) → m.seconds o ≡ seconds o)
     → (law : Law m) (l : Reading) (choice : Choice) (d e : Zoned O) → IsResolved law l choice d → IsResolved law l choice e

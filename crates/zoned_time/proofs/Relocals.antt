@@ -13,7 +13,7 @@ use Rattle.naive_base.specs.Reading.{Reading}
 use Rattle.zoned_time.specs.declared.utc.Utc.{Utc}
 use Rattle.zoned_time.specs.Relocal.{IsRelocal, AreInstantsOf, HasInstant, instant_of, SingleIff}
 use Rattle.zoned_time.specs.Stamps.{in_utc}
-use Rattle.zoned_time.specs.Zone.{Meaning, Law, IsFixed, IsZoneSecond, Shows, SameOffsets, IsOffsetAt, AreOffsetsFor, Each}
+use Rattle.zoned_time.specs.Zone.{Meaning, Law, home_law, IsFixed, IsZoneSecond, Shows, SameLaw, IsOffsetAt, AreOffsetsFor, Each}
 use Rattle.zoned_time.specs.Zoned.{Zoned, local_of, IsAt}
 
 -- one offset gives one instant, or none
@@ -97,14 +97,14 @@ utc_instant l answer h =
 
 -- an instant of an offset that a zone gives at the second u for the wall clock l
 pub at_shown : {O : Type 0} {m : Meaning O} (law : Law m) (l : Reading) (o : O) (d : Zoned O) (u : ℤ)
-    → Shows law.off l.s u (m.seconds o) → SameOffsets (m.home o) law.off → d ≡ instant_of m.seconds l o
+    → Shows law.off l.s u (m.seconds o) → law.in_force (l.s -ℤ m.seconds o) o → SameLaw (home_law m o) law → d ≡ instant_of m.seconds l o
     → (local_of m.seconds d ≡ l) × IsAt law d.utc d
-at_shown {O} {m} law l o d u shows same is =
+at_shown {O} {m} law l o d u shows in_force same is =
     let Good : Zoned O → Type 0 = λ e. (local_of m.seconds e ≡ l) × IsAt law e.utc e in
     let second : l.s -ℤ m.seconds o ≡ u = let shown : u +ℤ m.seconds o ≡ l.s = shows.shown in omega (arith, ints) in
     let back : (l.s -ℤ m.seconds o) +ℤ m.seconds o ≡ l.s = omega (arith, ints) in
     let there : m.seconds o ≡ law.off (l.s -ℤ m.seconds o) = rw second shows.offset in
-    let at : IsOffsetAt law (l.s -ℤ m.seconds o) o = record { there = there; same_home = same } in
+    let at : IsOffsetAt law (l.s -ℤ m.seconds o) o = record { there = there; in_force = in_force; same_home = same } in
     subst Good (sym is) (ap (λ s. record { s = s; f = l.f }) back, record { utc = refl; offset = at })
 
 -- what holds of each instant holds of those that are kept
@@ -119,21 +119,22 @@ two_kept G (Some d) None p q v w h i g j = tt
 two_kept G None b p q v w h i g j = tt
 
 instants_shown : {O : Type 0} {m : Meaning O} (law : Law m) (l : Reading) (offsets : LocalResult O) (answer : LocalResult (Zoned O))
-    → IsWallAnswer (Shows law.off l.s) (map_of m.seconds offsets) → Each (λ o. SameOffsets (m.home o) law.off) offsets → AreInstantsOf m.seconds l offsets answer
+    → IsWallAnswer (Shows law.off l.s) (map_of m.seconds offsets) → Each (λ o. law.in_force (l.s -ℤ m.seconds o) o) offsets
+    → Each (λ o. SameLaw (home_law m o) law) offsets → AreInstantsOf m.seconds l offsets answer
     → Each (λ d. (local_of m.seconds d ≡ l) × IsAt law d.utc d) answer
-instants_shown law l none answer wall same h = rw (h.kept, h.asked) tt
-instants_shown {O} {m} law l (Single o) answer wall same h =
+instants_shown law l none answer wall there same h = rw (h.kept, h.asked) tt
+instants_shown {O} {m} law l (Single o) answer wall there same h =
     let Good : Zoned O → Type 0 = λ d. (local_of m.seconds d ≡ l) × IsAt law d.utc d in
-    rw (h.kept, h.asked.3) (one_kept Good h.asked.0 _ _ h.asked.2 (at_shown law l o _ wall.second wall.shown same refl))
-instants_shown {O} {m} law l (Ambiguous o p) answer wall same h =
+    rw (h.kept, h.asked.3) (one_kept Good h.asked.0 _ _ h.asked.2 (at_shown law l o _ wall.second wall.shown there same refl))
+instants_shown {O} {m} law l (Ambiguous o p) answer wall there same h =
     let Good : Zoned O → Type 0 = λ d. (local_of m.seconds d ≡ l) × IsAt law d.utc d in
     rw (h.kept, h.asked.6) (two_kept Good h.asked.0 h.asked.1 _ _ _ _ h.asked.4 h.asked.5
-    (at_shown law l o _ wall.first wall.at_first same.0 refl) (at_shown law l p _ wall.last wall.at_last same.1 refl))
+    (at_shown law l o _ wall.first wall.at_first there.0 same.0 refl) (at_shown law l p _ wall.last wall.at_last there.1 same.1 refl))
 
 -- the instants that a zone gives for a wall clock show it
 pub relocal_shown : {O : Type 0} {m : Meaning O} (law : Law m) (l : Reading) (answer : LocalResult (Zoned O))
     → IsRelocal law l answer → Each (λ d. (local_of m.seconds d ≡ l) × IsAt law d.utc d) answer
-relocal_shown law l answer h = instants_shown law l h.offsets answer h.wall.wall h.wall.same_home h.instants
+relocal_shown law l answer h = instants_shown law l h.offsets answer h.wall.wall h.wall.in_force h.wall.same_home h.instants
 
 -- by seconds that agree
 pub shown_by : {O : Type 0} {m : Meaning O} {seconds : O → ℤ} → ((o : O) → m.seconds o ≡ seconds o)

@@ -1,14 +1,38 @@
--- Wall clocks of a zone whose offset never changes.
+-- Wall clocks of a zone whose offsets are told by their seconds, and of one whose offset never changes.
 use Rattle.std.proofs.Common.{◌≡◌, ℤ, ◌+ℤ◌, ◌-ℤ◌, arith, refl}
 use Rattle.std.proofs.lemmas.Int.{ints}
-use Rattle.offset_core.specs.declared.local_result.LocalResult.TheVariants.{Single}
+use Rattle.offset_core.specs.declared.local_result.LocalResult.{LocalResult}
+use Rattle.offset_core.specs.declared.local_result.LocalResult.TheVariants.{Single, Ambiguous, None}
+use Rattle.offset_core.specs.LocalResult.{map_of}
 use Rattle.offset_core.specs.Offset.{IsWithinDay}
-use Rattle.offset_core.specs.WallAnswer.{IsShownOnce}
+use Rattle.offset_core.specs.WallAnswer.{IsWallAnswer, IsShownOnce}
 use Rattle.naive_base.specs.declared.date.NaiveDate.{NaiveDate}
 use Rattle.naive_base.specs.Range.{IsWide}
-use Rattle.std.specs.Prelude.{None}
-use Rattle.zoned_time.specs.Choice.{IsOffsetBeforeGap}
-use Rattle.zoned_time.specs.Zone.{Meaning, Shows, SameOffsets, AreOffsetsFor, midnight_of}
+use Rattle.std.specs.Prelude.{Some, None as none}
+use Rattle.zoned_time.specs.Choice.{IsBeforeGap, IsOffsetBeforeGap}
+use Rattle.zoned_time.specs.Zone.{Meaning, home_law, law_by_seconds, Shows, Each, SameLaw, AreOffsetsFor, midnight_of}
+
+-- the offsets of the seconds that show a wall clock are in force then, where seconds are all that is told of them
+shown_in_force : (off : ℤ → ℤ) (l u k : ℤ) → Shows off l u k → k ≡ off (l -ℤ k)
+shown_in_force off l u k s =
+    let second : l -ℤ k ≡ u = let shown : u +ℤ k ≡ l = s.shown in omega (arith, ints) in rw second s.offset
+
+each_in_force : {O : Type 0} (m : Meaning O) (off : ℤ → ℤ) (l : ℤ) (offsets : LocalResult O) → IsWallAnswer (Shows off l) (map_of m.seconds offsets)
+    → Each (λ o. m.seconds o ≡ off (l -ℤ m.seconds o)) offsets
+each_in_force m off l None wall = tt
+each_in_force m off l (Single a) wall = shown_in_force off l wall.second (m.seconds a) wall.shown
+each_in_force m off l (Ambiguous a b) wall =
+    (shown_in_force off l wall.first (m.seconds a) wall.at_first, shown_in_force off l wall.last (m.seconds b) wall.at_last)
+
+pub wall_by_seconds : {O : Type 0} {m : Meaning O} (off : ℤ → ℤ) (l : ℤ) (offsets : LocalResult O) → IsWallAnswer (Shows off l) (map_of m.seconds offsets)
+    → Each (λ o. SameLaw (home_law m o) (law_by_seconds off)) offsets → AreOffsetsFor {m = m} (law_by_seconds off) l offsets
+wall_by_seconds {m = m} off l offsets wall same =
+    record { wall = wall; in_force = each_in_force m off l offsets wall; same_home = same }
+
+-- and so is the one before a gap at the second before it
+pub gap_by_seconds : {O : Type 0} {m : Meaning O} (off : ℤ → ℤ) (l : ℤ) (o : O) → IsBeforeGap off l (m.seconds o)
+    → SameLaw (home_law m o) (law_by_seconds off) → IsOffsetBeforeGap {m = m} (law_by_seconds off) l (Some o)
+gap_by_seconds off l o gap same = (gap, gap.before, same)
 
 -- what a clock may show, it shows once
 pub shown_once : (k l : ℤ) → IsWithinDay k → IsWide l → IsShownOnce (Shows (λ _. k) l) k
@@ -20,14 +44,14 @@ shown_once k l day wide = record {
 
 -- so the answer is the offset itself
 pub constant_wall : {O : Type 0} (m : Meaning O) (offset : O) (k l : ℤ)
-    → m.seconds offset ≡ k → SameOffsets (m.home offset) (λ _. k) → IsWithinDay k → IsWide l
-    → AreOffsetsFor {m = m} (record { off = λ _. k }) l (Single offset)
+    → m.seconds offset ≡ k → SameLaw (home_law m offset) (law_by_seconds (λ _. k)) → IsWithinDay k → IsWide l
+    → AreOffsetsFor {m = m} (law_by_seconds (λ _. k)) l (Single offset)
 constant_wall m offset k l is same day wide =
-    record { wall = rw is (shown_once k l day wide); same_home = same }
+    wall_by_seconds (λ _. k) l (Single offset) (rw is (shown_once k l day wide)) same
 
 -- and no reading lies in a gap
 pub constant_no_gap : {O : Type 0} (m : Meaning O) (k l : ℤ)
-    → IsWithinDay k → IsWide l → IsOffsetBeforeGap {m = m} (record { off = λ _. k }) l None
+    → IsWithinDay k → IsWide l → IsOffsetBeforeGap {m = m} (law_by_seconds (λ _. k)) l none
 constant_no_gap m k l day wide = let once = shown_once k l day wide in (once.second, k, once.shown)
 
 -- the midnight of a date is a reading's second

@@ -6,9 +6,12 @@ use Rattle.offset_core.specs.declared.choice.FoldChoice.TheVariants.{Refuse as R
 use Rattle.offset_core.specs.WallAnswer.{IsNeverShown, IsShownOnce, IsShownBetween}
 use Rattle.naive_base.specs.Range.{IsInRange}
 use Rattle.naive_base.specs.Reading.{Reading, behind}
+use Rattle.offset_core.specs.declared.local_result.LocalResult.TheVariants.{Single as Once, Ambiguous as Twice}
+use Rattle.zoned_time.specs.declared.around.OffsetsAround.{OffsetsAround}
+use Rattle.zoned_time.specs.declared.around.OffsetsAround.TheVariants.{Single, Ambiguous, BeforeGap}
 use Rattle.zoned_time.specs.declared.resolve_error.ResolveError.{ResolveError}
 use Rattle.zoned_time.specs.declared.resolve_error.ResolveError.TheVariants.{Gap, Fold, OutOfRange}
-use Rattle.zoned_time.specs.Zone.{Meaning, Law, IsZoneSecond, SameOffsets, Shows}
+use Rattle.zoned_time.specs.Zone.{Meaning, Law, home_law, IsZoneSecond, SameLaw, Shows, AreOffsetsFor}
 use Rattle.zoned_time.specs.Zoned.{Zoned, IsAt}
 
 -- No clock shows l, `first` is the first second at which one shows more, and k is the offset at the second before it.
@@ -20,10 +23,17 @@ pub record IsBeforeGap (off : ℤ → ℤ) (l k : ℤ) : Type 0 where
   pub least : (u : ℤ) → IsZoneSecond u → l <ℤ (u +ℤ off u) → first ≤ℤ u
   pub before : k ≡ off (first -ℤ pos 1)
 
--- an offset of the zone before the gap of l; none where a clock shows l
+-- an offset of the zone before the gap of l, in force at the second before its first; none where a clock shows l
 abbrev pub IsOffsetBeforeGap : {O : Type 0} {m : Meaning O} → Law m → ℤ → Option O → Type 0
-IsOffsetBeforeGap {m = m} law l (Some o) = IsBeforeGap law.off l (m.seconds o) × SameOffsets (m.home o) law.off
+IsOffsetBeforeGap {m = m} law l (Some o) =
+    (gap : IsBeforeGap law.off l (m.seconds o)) × law.in_force (gap.first -ℤ pos 1) o × SameLaw (home_law m o) law
 IsOffsetBeforeGap law l None = (u : ℤ) × (k : ℤ) × Shows law.off l u k
+
+-- the offsets that a zone gives for the wall clock l, or the one before the gap
+abbrev pub AreOffsetsAround : {O : Type 0} {m : Meaning O} → Law m → ℤ → OffsetsAround O → Type 0
+AreOffsetsAround law l (Single a) = AreOffsetsFor law l (Once a)
+AreOffsetsAround law l (Ambiguous a b) = AreOffsetsFor law l (Twice a b)
+AreOffsetsAround law l (BeforeGap a) = IsOffsetBeforeGap law l (Some a)
 
 -- the offset by which a choice takes l for an instant: that of the only second which shows l; in a fold that of the first, or
 -- of the last; in a gap the one before it

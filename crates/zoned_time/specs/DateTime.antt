@@ -7,7 +7,7 @@ use Rattle.naive_base.specs.Range.{IsInRange}
 use Rattle.naive_base.specs.Reading.{Reading, reading_at, day_at, second_at, moved}
 use Rattle.zoned_time.specs.declared.datetime.Instant.{Instant}
 use Rattle.zoned_time.specs.Fields.{IsOnlyWhere}
-use Rattle.zoned_time.specs.Zone.{Meaning, Law}
+use Rattle.zoned_time.specs.Zone.{Meaning, Law, home_law, IsOffsetAt}
 use Rattle.zoned_time.specs.Zoned.{Zoned, shown, local_of, IsAt}
 
 -- its reading of UTC, and its offset
@@ -20,7 +20,11 @@ wall_of {f = f} d = local_of f.seconds (zoned d)
 
 -- the law of the zone that its offset came from, which need not be the zone's offset at that instant
 abbrev pub home_of : {Tz O : Type 0} {f : offset.Ghosts O} {g : debug.Ghosts O} (m : Meaning O) → Instant Tz O f g → Law m
-home_of m d = record { off = m.home (zoned d).offset }
+home_of m d = home_law m (zoned d).offset
+
+-- its offset is one that a zone gives at that instant
+abbrev pub IsIn : {Tz O : Type 0} {f : offset.Ghosts O} {g : debug.Ghosts O} {m : Meaning O} → Law m → Instant Tz O f g → Type 0
+IsIn law d = IsOffsetAt law (zoned d).utc.s (zoned d).offset
 
 -- so many nanoseconds later, or earlier for a negative number, the reading of UTC is in range
 abbrev pub CanMove : {Tz O : Type 0} {f : offset.Ghosts O} {g : debug.Ghosts O} → Instant Tz O f g → ℤ → Type 0

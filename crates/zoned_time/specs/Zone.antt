@@ -1,5 +1,5 @@
--- Lawful zones: the offset function of a zone, and what its clocks show. Seconds count from 1970-01-01 00:00:00.
-use Rattle.std.specs.Prelude.{◌≡◌, ℤ, pos, neg_ℤ, ◌+ℤ◌, ◌*ℤ◌, ◌≤ℤ◌}
+-- Lawful zones: the offsets of a zone, and what its clocks show. Seconds count from 1970-01-01 00:00:00.
+use Rattle.std.specs.Prelude.{◌≡◌, ◌↔◌, ℤ, pos, neg_ℤ, ◌+ℤ◌, ◌-ℤ◌, ◌*ℤ◌, ◌≤ℤ◌}
 use Rattle.offset_core.specs.declared.local_result.LocalResult.{LocalResult}
 use Rattle.offset_core.specs.declared.local_result.LocalResult.TheVariants.{Single, Ambiguous, None}
 use Rattle.offset_core.specs.LocalResult.{map_of}
@@ -19,14 +19,38 @@ SameOffsets f g = (u : ℤ) → IsZoneSecond u → f u ≡ g u
 abbrev pub midnight_of : NaiveDate → ℤ
 midnight_of date = day_of date *ℤ pos 86_400
 
--- what offsets mean: how many seconds local time is ahead of UTC, and the offset function of the zone that each came from
-pub record Meaning (O : Type 0) : Type 0 where
+-- what offsets mean: how many seconds local time is ahead of UTC; and, of the zone that each came from, its offset at each
+-- second and which offsets are in force then
+pub record Meaning (O : Type 0) : Type 1 where
   pub seconds : O → ℤ
   pub home : O → ℤ → ℤ
+  pub home_in_force : O → ℤ → O → Type 0
 
--- the law of a zone: its offset at each second
-pub record Law {O : Type 0} (meaning : Meaning O) : Type 0 where
+-- the law of a zone: its offset at each second, and which offsets are in force then
+pub record Law {O : Type 0} (meaning : Meaning O) : Type 1 where
   pub off : ℤ → ℤ
+  pub in_force : ℤ → O → Type 0
+
+-- the law of the zone that an offset came from
+abbrev pub home_law : {O : Type 0} (m : Meaning O) → O → Law m
+home_law m offset = record { off = m.home offset; in_force = m.home_in_force offset }
+
+-- the same of offsets that are told by their seconds alone: those in force are those of the zone's seconds
+abbrev pub meaning_by_seconds : {O : Type 0} → (O → ℤ) → (O → ℤ → ℤ) → Meaning O
+meaning_by_seconds seconds home =
+    record { seconds = seconds; home = home; home_in_force = λ o u p. seconds p ≡ home o u }
+
+abbrev pub law_by_seconds : {O : Type 0} {m : Meaning O} → (ℤ → ℤ) → Law m
+law_by_seconds {m = m} off = record { off = off; in_force = λ u o. m.seconds o ≡ off u }
+
+-- of a law the seconds alone
+abbrev pub seconds_alone : {O : Type 0} {m : Meaning O} → Law m → Law (meaning_by_seconds m.seconds m.home)
+seconds_alone law = law_by_seconds law.off
+
+-- two laws have the same offset at each second, and the same offsets in force then
+pub record SameLaw {O : Type 0} {m : Meaning O} (a b : Law m) : Type 0 where
+  pub offsets : SameOffsets a.off b.off
+  pub in_force : (u : ℤ) → IsZoneSecond u → (o : O) → a.in_force u o ↔ b.in_force u o
 
 -- a zone whose clocks are never set
 abbrev pub IsFixed : {O : Type 0} {m : Meaning O} → Law m → Type 0
@@ -36,10 +60,11 @@ IsFixed law = (u v : ℤ) → IsZoneSecond u → IsZoneSecond v → law.off u �
 abbrev pub IsUtc : {O : Type 0} {m : Meaning O} → Law m → Type 0
 IsUtc law = (u : ℤ) → IsZoneSecond u → law.off u ≡ pos 0
 
--- an offset that the zone gives at second u
+-- an offset that the zone gives at second u: one in force then, which knows that zone
 pub record IsOffsetAt {O : Type 0} {m : Meaning O} (law : Law m) (u : ℤ) (offset : O) : Type 0 where
   pub there : m.seconds offset ≡ law.off u
-  pub same_home : SameOffsets (m.home offset) law.off
+  pub in_force : law.in_force u offset
+  pub same_home : SameLaw (home_law m offset) law
 
 -- at second u a clock of the zone shows l, and is k seconds ahead of UTC
 pub record Shows (off : ℤ → ℤ) (l u k : ℤ) : Type 0 where
@@ -54,7 +79,8 @@ Each p (Single a) = p a
 Each p (Ambiguous a b) = p a × p b
 
 -- the offsets that a zone gives for the wall clock l: the one at the only second at which its clocks show l, or those at
--- the first and at the last of several
+-- the first and at the last of several, each in force when a clock with it shows l
 pub record AreOffsetsFor {O : Type 0} {m : Meaning O} (law : Law m) (l : ℤ) (offsets : LocalResult O) : Type 0 where
   pub wall : IsWallAnswer (Shows law.off l) (map_of m.seconds offsets)
-  pub same_home : Each (λ o. SameOffsets (m.home o) law.off) offsets
+  pub in_force : Each (λ o. law.in_force (l -ℤ m.seconds o) o) offsets
+  pub same_home : Each (λ o. SameLaw (home_law m o) law) offsets

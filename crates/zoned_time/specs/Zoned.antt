@@ -28,7 +28,7 @@ in_seconds seconds d = record { utc = d.utc; offset = seconds d.offset }
 -- the reading r of UTC with the offset that the zone gives there
 pub record IsAt {O : Type 0} {m : Meaning O} (law : Law m) (r : Reading) (d : Zoned O) : Type 0 where
   pub utc : d.utc ≡ r
-  pub offset : IsOffsetAt law r.s d.offset
+  pub offset : IsOffsetAt law d.utc.s d.offset
 
 -- that, if and only if r is in range
 abbrev pub IsAtInRange : {O : Type 0} {m : Meaning O} → Law m → Reading → Option (Zoned O) → Type 0

@@ -1,6 +1,7 @@
 //! Zones of one offset.
 ghost use Rattle.std.specs.Prelude.{◌≡◌, ℤ, refl};
 ghost use Rattle.offset_core.specs.FixedOffset.{seconds_of};
+ghost use Rattle.zoned_time.specs.Zone.{meaning_by_seconds, law_by_seconds};
 
 use crate::{Offset, TimeZone};
 use naive_base::{NaiveDate, NaiveDateTime};
@@ -17,9 +18,9 @@ impl Offset for FixedOffset {
 impl TimeZone for FixedOffset {
     type Offset = FixedOffset;
 
-    ghost meaning = { record { seconds = seconds_of; home = λ offset _. seconds_of offset } };
+    ghost meaning = { meaning_by_seconds seconds_of (λ offset _. seconds_of offset) };
 
-    ghost law = { λ zone. record { off = λ _. seconds_of zone } };
+    ghost law = { λ zone. law_by_seconds (λ _. seconds_of zone) };
 
     ghost within_day = { λ zone _ _. zone.within_day };
 

@@ -8,6 +8,7 @@ ghost use Rattle.offset_core.specs.declared.fixed_offset.FixedOffset.{FixedOffse
 ghost use Rattle.offset_core.specs.declared.local_result.LocalResult.{LocalResult};
 ghost use Rattle.offset_core.specs.FixedOffset.{seconds_of};
 ghost use Rattle.offset_core.specs.LocalResult.{map_of};
+ghost use Rattle.naive_base.specs.Fields.{TimeOfDay};
 ghost use Rattle.naive_base.specs.NaiveDateTime.{reading};
 ghost use Rattle.naive_base.specs.Range.{IsInRange};
 ghost use Rattle.naive_base.specs.Reading.{Reading, IsEarlier, total, of_total};
@@ -17,9 +18,9 @@ ghost use Rattle.zoned_time.specs.declared.utc.Utc.{Utc as TheUtc};
 ghost use Rattle.zoned_time.specs.Choice.{IsBeforeGap, IsResolved, IsUnresolved};
 ghost use Rattle.zoned_time.specs.Relocal.{IsRelocal, HasInstant, instant_of, SingleIff};
 ghost use Rattle.zoned_time.specs.Stamps.{millis_of, micros_of, of_millis, of_micros, in_utc};
-ghost use Rattle.zoned_time.specs.DateTime.{zoned};
+ghost use Rattle.zoned_time.specs.DateTime.{zoned, home_of, IsIn, IsOnlyOnDay, IsOnlyAtTime};
 ghost use Rattle.zoned_time.specs.Order.{compared};
-ghost use Rattle.zoned_time.specs.Zone.{Each, SameOffsets};
+ghost use Rattle.zoned_time.specs.Zone.{Each, SameOffsets, SameLaw, seconds_alone};
 ghost use Rattle.zoned_time.specs.Zoned.{Zoned, local_of, in_seconds, IsAt, IsFixedFrom};
 
 use crate::{DateTime, Offset, ResolveError, TimeZone, Utc};
@@ -65,14 +66,21 @@ pub fn one_utc(a: &Utc, b: &Utc)
     ensures infallible { ⟦<Utc as Clone>⟧.is_infallible a.now }
 {}
 
-/// What a zone gives depends on its offsets alone.
+/// What a zone gives depends on its law alone, and in seconds on its offsets in seconds.
 pub fn zones_of_the_same_offsets<Tz: TimeZone>()
     ensures at { (zone other : Tz) (r : Reading) (d : Zoned Tz.Offset)
-        → SameOffsets (Tz.law zone).off (Tz.law other).off → IsInRange r.s
+        → SameLaw (Tz.law zone) (Tz.law other) → IsInRange r.s
         → IsAt (Tz.law zone) r d → IsAt (Tz.law other) r d }
     ensures relocal { (zone other : Tz) (l : Reading) (answer : LocalResult (Zoned Tz.Offset))
-        → SameOffsets (Tz.law zone).off (Tz.law other).off
+        → SameLaw (Tz.law zone) (Tz.law other)
         → IsRelocal (Tz.law zone) l answer → IsRelocal (Tz.law other) l answer }
+    ensures at_in_seconds { (zone other : Tz) (r : Reading) (d : Zoned Tz.Offset)
+        → SameOffsets (Tz.law zone).off (Tz.law other).off → IsInRange r.s
+        → IsAt (Tz.law zone) r d → IsAt (seconds_alone (Tz.law other)) r d }
+    ensures relocal_in_seconds { (zone other : Tz) (l : Reading)
+        → (answer : LocalResult (Zoned Tz.Offset))
+        → SameOffsets (Tz.law zone).off (Tz.law other).off
+        → IsRelocal (Tz.law zone) l answer → IsRelocal (seconds_alone (Tz.law other)) l answer }
 {}
 
 /// The instant of a timestamp has that timestamp.
@@ -98,6 +106,32 @@ pub fn local_times_come_back<Tz: TimeZone>()
     ensures { (zone : Tz) (l : Reading) (answer : LocalResult (Zoned Tz.Offset))
         → IsRelocal (Tz.law zone) l answer
         → Each (λ d. (local_of Tz.Offset.seconds d ≡ l) × IsAt (Tz.law zone) d.utc d) answer }
+{}
+
+/// An instant that is moved is one of the zone that it was one of: its offset is in force there, with
+/// all that it tells beside its seconds. So it is after `+`, and where a call gives what the zone
+/// that the offset came from has then.
+pub fn in_zone_after_move<Tz: TimeZone>(zone: &Tz, before: &DateTime<Tz>, after: &DateTime<Tz>)
+    requires before { IsIn (Tz.law zone.now) before.now }
+    requires after { IsIn (home_of Tz.meaning before.now) after.now }
+    ensures { IsIn (Tz.law zone.now) after.now }
+{}
+
+/// So is one that shows another day at its time: after `checked_add_months`, `checked_add_days` or
+/// a change of a field of its date.
+pub fn in_zone_on_day<Tz: TimeZone>(zone: &Tz, before: &DateTime<Tz>, after: &DateTime<Tz>)
+    requires before { IsIn (Tz.law zone.now) before.now }
+    requires after { (day : Option ℤ)
+        × IsOnlyOnDay Tz.meaning before.now day (Some after.now) }
+    ensures { IsIn (Tz.law zone.now) after.now }
+{}
+
+/// And so is one that shows another time on its day: after a change of a field of its time.
+pub fn in_zone_at_time<Tz: TimeZone>(zone: &Tz, before: &DateTime<Tz>, after: &DateTime<Tz>)
+    requires before { IsIn (Tz.law zone.now) before.now }
+    requires after { (time : Option TimeOfDay)
+        × IsOnlyAtTime Tz.meaning before.now time (Some after.now) }
+    ensures { IsIn (Tz.law zone.now) after.now }
 {}
 
 /// The clocks of UTC and of a fixed offset show each reading once: `from_local_datetime` gives its

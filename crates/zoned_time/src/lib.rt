@@ -2,6 +2,7 @@
 //! UTC and fixed offsets, and `DateTime`.
 #![tactic(auto)]
 
+mod around;
 mod datetime;
 mod fixed;
 pub mod laws;
@@ -9,11 +10,10 @@ mod naive_zoned;
 mod offset;
 mod resolve;
 mod resolve_error;
-#[cfg(test)]
-mod tests;
 mod time_zone;
 mod utc;
 
+pub use around::OffsetsAround;
 pub use datetime::{DateTime, MAX_DATETIME, MIN_DATETIME};
 pub use naive_zoned::NaiveZoned;
 pub use offset::Offset;

@@ -1,11 +1,10 @@
 //! The instants that a choice takes.
-ghost use Rattle.std.specs.Prelude.{◌≡◌, MatchResult};
-ghost use Rattle.offset_core.specs.WallAnswer.{IsNeverShown};
+ghost use Rattle.std.specs.Prelude.{◌≡◌, MatchResult, Some};
 ghost use Rattle.naive_base.specs.NaiveDateTime.{reading};
+ghost use Rattle.zoned_time.specs.Choice.{IsOffsetBeforeGap};
 ghost use Rattle.zoned_time.specs.DateTime.{zoned};
 ghost use Rattle.zoned_time.specs.Relocal.{HasInstant, instant_of};
 ghost use Rattle.zoned_time.specs.Steps.Shifts.{IsShifted, IsShiftOutOfRange};
-ghost use Rattle.zoned_time.specs.Zone.{Shows};
 ghost use Rattle.zoned_time.specs.declared.resolve_error.ResolveError.TheVariants.{OutOfRange};
 
 use crate::{DateTime, Offset, ResolveError, TimeZone};
@@ -31,15 +30,13 @@ pub(crate) fn instant_by<Tz: TimeZone>(
 pub(crate) fn shifted<Tz: TimeZone>(
     zone: &Tz,
     local: &NaiveDateTime,
+    before: Tz::Offset,
 ) -> Result<DateTime<Tz>, ResolveError>
-    requires { IsNeverShown (Shows (Tz.law zone.now).off (reading local.now).s) }
+    requires { IsOffsetBeforeGap (Tz.law zone.now) (reading local.now).s (Some before) }
     ensures { MatchResult result
         (λ d. IsShifted (Tz.law zone.now) (reading local.now) (zoned d))
         (λ e. (e ≡ OutOfRange) × IsShiftOutOfRange (Tz.law zone.now).off (reading local.now).s) }
 {
-    let Some(before) = zone.offset_before_gap(local) else {
-        unreachable!()
-    };
     match local.checked_sub_offset(before.fix()) {
         Some(utc) => Ok(zone.from_utc_datetime(&utc)),
         None => Err(ResolveError::OutOfRange),

@@ -8,22 +8,22 @@ ghost use Rattle.naive_base.specs.NaiveDateTime.{reading};
 ghost use Rattle.naive_base.specs.Range.{IsInRange, IsYearInRange, IsInnerYear};
 ghost use Rattle.naive_base.specs.Reading.{reading_at, behind, of_total};
 ghost use Rattle.naive_base.specs.Stamp.{of_secs, IsStamp};
-ghost use Rattle.zoned_time.specs.Choice.{IsOffsetBeforeGap, IsResolved, IsUnresolved};
+ghost use Rattle.zoned_time.specs.Choice.{AreOffsetsAround, IsOffsetBeforeGap, IsResolved, IsUnresolved};
 ghost use Rattle.zoned_time.specs.Relocal.{IsRelocal};
 ghost use Rattle.zoned_time.specs.Stamps.{IsAtWhere, of_millis, of_micros};
-ghost use Rattle.zoned_time.specs.Zone.{Meaning, Law, IsFixed, IsUtc, IsZoneSecond, SameOffsets, IsOffsetAt, AreOffsetsFor, midnight_of};
+ghost use Rattle.zoned_time.specs.Zone.{Meaning, Law, home_law, IsFixed, IsUtc, IsZoneSecond, SameLaw, IsOffsetAt, AreOffsetsFor, midnight_of};
 ghost use Rattle.zoned_time.specs.Zoned.{shown, IsAt};
 
 use crate::resolve::{instant_by, shifted};
-use crate::{DateTime, Offset, ResolveError, Utc};
+use crate::{DateTime, Offset, OffsetsAround, ResolveError, Utc};
 use naive_base::{NaiveDate, NaiveDateTime};
 use offset_core::{Choice, FoldChoice, GapChoice, LocalResult};
 
 /// A time zone: an offset for each second.
 ///
 /// An implementation writes [`TimeZone::from_offset`], the four `offset_from_*` and
-/// [`TimeZone::offset_before_gap`]. It can't replace the other calls, which mean the same in every
-/// zone.
+/// [`TimeZone::offset_before_gap`], and [`TimeZone::offsets_around`] where the zone has a shorter
+/// way to it. It can't replace the other calls, which mean the same in every zone.
 ///
 /// A wall clock needn't show each reading once. In New York clocks were set forward on 2021-03-14
 /// at 02:00:00, to 03:00:00: no clock showed 02:30:00, which lies in a gap. On 2021-11-07 they were
@@ -36,12 +36,13 @@ pub trait TimeZone: Sized + Copy {
     // what an offset means
     ghost meaning: { Meaning Self.Offset };
 
-    // how many seconds the zone's clocks are ahead of UTC, at each second
+    // how many seconds the zone's clocks are ahead of UTC at each second, and which offsets are in
+    // force then
     ghost law: { Self → Law meaning };
 
     /// A zone of the same offsets as the one that gave this offset.
     fn from_offset(offset: &Self::Offset) -> Self
-        ensures { SameOffsets (law result).off (meaning.home offset.now) };
+        ensures { SameLaw (law result) (home_law meaning offset.now) };
 
     /// The offset at an instant, given by its UTC reading.
     fn offset_from_utc_datetime(&self, utc: &NaiveDateTime) -> Self::Offset
@@ -64,6 +65,21 @@ pub trait TimeZone: Sized + Copy {
     /// the zone shows a later reading. `None` if and only if a clock shows the reading.
     fn offset_before_gap(&self, local: &NaiveDateTime) -> Option<Self::Offset>
         ensures { IsOffsetBeforeGap (law self.now) (reading local.now).s result };
+
+    /// What [`TimeZone::offset_from_local_datetime`] and [`TimeZone::offset_before_gap`] give, in
+    /// one call.
+    fn offsets_around(&self, local: &NaiveDateTime) -> OffsetsAround<Self::Offset>
+        ensures { AreOffsetsAround (law self.now) (reading local.now).s result }
+    {
+        match self.offset_from_local_datetime(local) {
+            LocalResult::Single(only) => OffsetsAround::Single(only),
+            LocalResult::Ambiguous(first, last) => OffsetsAround::Ambiguous(first, last),
+            LocalResult::None => match self.offset_before_gap(local) {
+                Some(before) => OffsetsAround::BeforeGap(before),
+                None => unreachable!(),
+            },
+        }
+    }
 
     // clocks are never a day or more away from UTC
     ghost within_day: { (zone : Self) (u : ℤ) → IsZoneSecond u → IsWithinDay ((law zone).off u) };
@@ -124,16 +140,16 @@ pub trait TimeZone: Sized + Copy {
             (λ d. IsResolved (law self.now) (reading local.now) choice (shown d.datetime d.offset))
             (λ e. IsUnresolved (law self.now).off (reading local.now).s choice e) }
     {
-        match self.offset_from_local_datetime(local) {
-            LocalResult::Single(only) => { instant_by(local, only) }
-            LocalResult::Ambiguous(first, last) => match choice.fold {
+        match self.offsets_around(local) {
+            OffsetsAround::Single(only) => { instant_by(local, only) }
+            OffsetsAround::Ambiguous(first, last) => match choice.fold {
                 FoldChoice::Refuse => Err(ResolveError::Fold),
                 FoldChoice::Earliest => { instant_by(local, first) }
                 FoldChoice::Latest => { instant_by(local, last) }
             },
-            LocalResult::None => match choice.gap {
+            OffsetsAround::BeforeGap(before) => match choice.gap {
                 GapChoice::Refuse => Err(ResolveError::Gap),
-                GapChoice::ShiftForward => shifted(self, local),
+                GapChoice::ShiftForward => shifted(self, local, before),
             },
         }
     }

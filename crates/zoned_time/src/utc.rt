@@ -1,6 +1,7 @@
 //! Coordinated universal time.
 ghost use Rattle.std.specs.Prelude.{◌≡◌, ℤ, pos, codes, Some, refl};
 ghost use Rattle.std.proofs.Common.{rules};
+ghost use Rattle.zoned_time.specs.Zone.{meaning_by_seconds, law_by_seconds};
 
 use crate::{Offset, TimeZone};
 use naive_base::{NaiveDate, NaiveDateTime};
@@ -24,9 +25,9 @@ impl Offset for Utc {
 impl TimeZone for Utc {
     type Offset = Utc;
 
-    ghost meaning = { record { seconds = λ _. pos 0; home = λ _ _. pos 0 } };
+    ghost meaning = { meaning_by_seconds (λ _. pos 0) (λ _ _. pos 0) };
 
-    ghost law = { λ _. record { off = λ _. pos 0 } };
+    ghost law = { λ _. law_by_seconds (λ _. pos 0) };
 
     ghost within_day = { Prim.search rules };
 

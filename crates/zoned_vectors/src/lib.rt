@@ -2,12 +2,4 @@
 //! at instants, and the texts of errors. The files stand in [`vectors`].
 #![tactic(auto)]
 
-#[cfg(test)]
-mod errors;
-#[cfg(test)]
-mod files;
-#[cfg(test)]
-mod lists;
-#[cfg(test)]
-mod values;
 pub mod vectors;

@@ -7,6 +7,7 @@ use Rattle.tz_info.specs.Fronts.{◌>>=◌}
 use Rattle.tz_info.specs.FileBlocks.{parts_of}
 use Rattle.tz_info.specs.FilePieces.{FilePieces}
 use Rattle.tz_info.specs.Steps.ContentReading.{values_below, transition_in, leap_second_in, type_in, indicators_of}
+use Rattle.tz_info.specs.Steps.FileReading.{pieces_at}
 use Rattle.tz_info.specs.Steps.FooterReading.{footer_of}
 use Rattle.tz_info.specs.declared.error.Error.{Error}
 use Rattle.tz_info.specs.declared.error.Error.TheVariants.{OutOfMemory}
@@ -49,7 +50,11 @@ with_types p types = do
 unfoldable pub lists_in : FilePieces → Result Zone ℕ
 lists_in p = values_below p.counts.types (type_in p.parts.designations p.parts.types) >>= λ types. with_types p types
 
--- what the pieces of a file say, unless memory runs out, which is answered only where every piece is there
-abbrev pub Reads : Result Lists Error → Result FilePieces ℕ → Type 0
-Reads (Ok lists) read = (p : FilePieces) × (read ≡ Ok p) × (lists_in p ≡ Ok (zone_of lists))
-Reads (Err e) read = (read ≡ Err (number_of e)) ⊎ ((p : FilePieces) × (read ≡ Ok p) × ((e ≡ OutOfMemory) ⊎ (lists_in p ≡ Err (number_of e))))
+-- the lists of a file
+unfoldable pub file_at : List ℕ → Result Zone ℕ
+file_at bytes = pieces_at bytes >>= lists_in
+
+-- they are read, unless memory runs out, which is answered only where every piece is there
+abbrev pub Reads : Result Lists Error → List ℕ → Type 0
+Reads (Ok lists) bytes = file_at bytes ≡ Ok (zone_of lists)
+Reads (Err e) bytes = (file_at bytes ≡ Err (number_of e)) ⊎ ((e ≡ OutOfMemory) × (p : FilePieces) × (pieces_at bytes ≡ Ok p))

@@ -1,8 +1,7 @@
 -- The way to the first second at which clocks show more than a local time that they never show.
-use Rattle.std.specs.Prelude.{ℕ, ◌≡◌, ◌≤◌, ◌⊎◌, ◌↔◌, ℤ, pos, ◌+ℤ◌, ◌-ℤ◌, ◌≤ℤ◌, ◌<ℤ◌}
+use Rattle.std.specs.Prelude.{ℕ, ◌≤◌, ◌↔◌, ℤ, pos, ◌+ℤ◌, ◌-ℤ◌, ◌≤ℤ◌, ◌<ℤ◌}
 use Rattle.tz_info.specs.Leaps.{IsNear}
 use Rattle.tz_info.specs.LocalTypes.{LocalType}
-use Rattle.tz_info.specs.Rules.{Alternate as AlternateRule}
 use Rattle.tz_info.specs.Segments.{segment_of}
 use Rattle.tz_info.specs.Windows.{IsGreatest, IsLeast, offsets}
 use Rattle.tz_info.specs.Zones.{Zone, TypeAt}
@@ -28,7 +27,3 @@ pub record IsReach (z : Zone) (local low high : ℤ) : Type 0 where
 -- of the near seconds, those from `start` on lie in segment i or in a later one
 abbrev pub Starts : Zone → ℕ → ℤ → Type 0
 Starts z i start = (u : ℤ) → IsNear u → (i ≤ segment_of z u) ↔ (start ≤ℤ u)
-
--- the type of the rule with the lesser offset
-abbrev pub IsLesserOf : AlternateRule → LocalType → Type 0
-IsLesserOf a t = ((t ≡ a.std) × (a.std.offset ≤ℤ a.dst.offset)) ⊎ ((t ≡ a.dst) × (a.dst.offset ≤ℤ a.std.offset))

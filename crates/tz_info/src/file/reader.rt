@@ -12,7 +12,7 @@ ghost use Rattle.tz_info.specs.Steps.FooterReading.{footer_of};
 ghost use Rattle.tz_info.specs.Steps.FileLists.{pieces_of, zone_of, lists_in, with_types, with_rule, HasLengths, Reads};
 ghost use Rattle.tz_info.specs.FileHeaders.{HasOtherMagic};
 ghost use Rattle.tz_info.specs.FilePieces.{FilePieces, HasPieces, is_extended};
-ghost use Rattle.tz_info.specs.TzFiles.{IsTzFile, IsFileFault};
+ghost use Rattle.tz_info.specs.TzFiles.{IsTzFile, IsZoneFault};
 ghost use Rattle.tz_info.specs.declared.error.Error.TheVariants.{InvalidTzFile, OutOfMemory};
 ghost use Rattle.tz_info.specs.declared.error.Expected.TheVariants.{TZifAtFrontOfHeader};
 
@@ -63,7 +63,7 @@ pub fn read_lists(alloc: Global, bytes: &[u8]) -> Result<Lists, Error>
     ensures only { (z : Zone) → IsTzFile bytes.now z
         → MatchResult result (λ lists. zone_of lists ≡ z) (λ e. e ≡ OutOfMemory) }
     // A refusal names a fault that is there.
-    ensures fault { IfErr result (λ e. IsFileFault bytes.now (number_of e)) }
+    ensures fault { IfErr result (λ e. IsZoneFault bytes.now (number_of e)) }
     // Running out of memory is answered only where every piece of the file is there.
     ensures memory { IfErr result
         (λ e. e ≡ OutOfMemory → (p : FilePieces) × HasPieces bytes.now p) }
@@ -75,7 +75,7 @@ pub fn read_lists(alloc: Global, bytes: &[u8]) -> Result<Lists, Error>
 
 // The same by one relation, from which the four clauses follow.
 fn read_file(alloc: Global, bytes: &[u8]) -> Result<Lists, Error>
-    ensures lists { Reads result (pieces_at bytes.now) }
+    ensures lists { Reads result bytes.now }
     ensures magic { HasOtherMagic bytes.now
         → IsErrAnd result (λ e. e ≡ InvalidTzFile TZifAtFrontOfHeader) }
 {

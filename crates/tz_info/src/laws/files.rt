@@ -1,7 +1,7 @@
 //! Theorems of time zone files: each function is empty, its contract is proved; never called.
 
-ghost use Rattle.std.specs.Prelude.{◌≡◌, ◌≢◌, List, ℕ};
-ghost use Rattle.tz_info.specs.TzFiles.{IsTzFile, IsZoneFault};
+ghost use Rattle.std.specs.Prelude.{◌≡◌, ◌≤◌, List, ℕ};
+ghost use Rattle.tz_info.specs.TzFiles.{IsTzFile, IsFileFault};
 ghost use Rattle.tz_info.specs.Zones.{Zone, IsValid, IsRuleOrNone};
 
 /// No bytes spell two zones.
@@ -14,8 +14,13 @@ pub fn rule_is_in_limits()
     ensures { (bytes : List ℕ) (zone : Zone) → IsTzFile bytes zone → IsRuleOrNone zone.rule }
 {}
 
-/// A file with a fault, except running out of memory, spells no valid zone.
+/// A file has a fault if and only if it spells no valid zone. Of its faults one is the first: that
+/// fault has one number, which is not that of running out of memory.
 pub fn fault_or_zone()
-    ensures { (bytes : List ℕ) (n : ℕ) (zone : Zone) → IsZoneFault bytes n → n ≢ 17
+    ensures apart { (bytes : List ℕ) (n : ℕ) (zone : Zone) → IsFileFault bytes n
         → IsTzFile bytes zone → ¬ (IsValid zone) }
+    ensures once { (bytes : List ℕ) (m n : ℕ) → IsFileFault bytes m → IsFileFault bytes n → m ≡ n }
+    ensures some { (bytes : List ℕ) → ((zone : Zone) → IsTzFile bytes zone → ¬ (IsValid zone))
+        → (n : ℕ) × IsFileFault bytes n }
+    ensures low { (bytes : List ℕ) (n : ℕ) → IsFileFault bytes n → n ≤ 16 }
 {}

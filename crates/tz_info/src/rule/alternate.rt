@@ -20,9 +20,9 @@ use std::fmt;
 use std::marker::Model;
 
 // The first and the last second of the years that a rule answers in.
-const FIRST_RULE_TIME: i64 = -67_768_100_504_812_800;
+pub(super) const FIRST_RULE_TIME: i64 = -67_768_100_504_812_800;
 
-const LAST_RULE_TIME: i64 = 67_767_976_170_460_799;
+pub(super) const LAST_RULE_TIME: i64 = 67_767_976_170_460_799;
 
 // How long before 1970 they begin, in seconds and in days.
 const SECONDS_BEFORE_1970: i64 = 67_768_100_504_812_800;
@@ -46,9 +46,9 @@ pub struct AlternateTime {
 
 // The seconds at which daylight saving time starts and ends in one year.
 #[derive(Clone, Copy)]
-struct Turns {
-    start: i64,
-    end: i64,
+pub(super) struct Turns {
+    pub(super) start: i64,
+    pub(super) end: i64,
 }
 
 // The moments of one year, and from when until when these alone decide.
@@ -301,7 +301,7 @@ impl AlternateTime {
 
     // The moments of the year, by its kind.
     #[inline(always)]
-    fn turns(&self, year: i32) -> Turns
+    pub(super) fn turns(&self, year: i32) -> Turns
         ensures start { result.start ≡ start_in self.now year }
         ensures end { result.end ≡ end_in self.now year }
         ensures rule { IsAlternateRule self.now }
@@ -452,7 +452,7 @@ fn day_from_first(days: u64) -> i64
 // The day number of the second. Counted from the first of those years no second is negative, so
 // that one division is enough.
 #[inline(always)]
-fn day_of(unix_time: i64) -> i64
+pub(super) fn day_of(unix_time: i64) -> i64
     requires { IsRuleTime unix_time }
     ensures value { result ≡ floor_div unix_time 86_400 }
     ensures bound { IsDay result }

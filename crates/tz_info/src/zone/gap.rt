@@ -1,20 +1,23 @@
-//! Gaps: what is in force before a local time that no clock shows.
+//! Gaps: what is in force around a local time that no clock shows.
 
 ghost use Rattle.std.specs.Prelude.{◌≡◌, ◌<◌, ◌+◌, length, pos, ◌+ℤ◌, ◌-ℤ◌, MatchOption, Some};
 ghost use Rattle.naive_base.specs.NaiveDateTime.{reading};
 ghost use Rattle.naive_base.specs.Range.{IsWide};
 ghost use Rattle.offset_core.specs.WallAnswer.{IsNeverShown};
+ghost use Rattle.tz_info.specs.Around.{IsAround};
 ghost use Rattle.tz_info.specs.Steps.Looks.{HasRoomFor};
-ghost use Rattle.tz_info.specs.Gaps.{IsBeforeGap, IsShown};
+ghost use Rattle.tz_info.specs.Gaps.{IsBeforeGap, HasGap, IsShown};
 ghost use Rattle.tz_info.specs.Leaps.{IsNear};
-ghost use Rattle.tz_info.specs.Steps.Gaps.{AreLessInto, IsReach, Starts, IsLesserOf};
+ghost use Rattle.tz_info.specs.Steps.Gaps.{AreLessInto, IsReach, Starts};
 ghost use Rattle.tz_info.specs.WallClocks.{Shows};
 ghost use Rattle.tz_info.specs.Zones.{IsValid, IsRuleOrNone, TypeAt};
+ghost use Rattle.tz_info.specs.declared.rule.transition_rule.TransitionRule.TheVariants.{Alternate};
 
 use crate::local_time_type::LocalTimeType;
 use crate::rule::{AlternateTime, TransitionRule};
+use crate::zone::around::{Gap, TypesAround};
 use crate::zone::probes::Probes;
-use crate::zone::starts::first_second;
+use crate::zone::starts::{first_second, later};
 use crate::zone::time_zone::TimeZone;
 use naive_base::NaiveDateTime;
 use offset_core::MappedLocalTime;
@@ -28,6 +31,23 @@ struct Reach {
 }
 
 impl TimeZone {
+    /// The types in force at the instants at which a clock of this zone shows the reading; in a gap
+    /// the types before and after it, and the second at which clocks jumped over the reading: of
+    /// all seconds the first at which they show more.
+    ///
+    /// In New York clocks were set forward from 02:00 to 03:00 on 14 March 2021. Of 02:30 that day
+    /// it tells EST, EDT and 1615705200; of 03:30 EDT alone.
+    pub fn find_local_time_type_around(&self, local: NaiveDateTime) -> TypesAround
+        ensures { IsAround (TypeAt self.now) (reading local).s result }
+    {
+        let second = local.secs_since_epoch();
+        match self.wall_answer(second, &mut Probes::new()) {
+            MappedLocalTime::None => TypesAround::Gap(self.gap_at(second)),
+            MappedLocalTime::Single(only) => TypesAround::Single(only),
+            MappedLocalTime::Ambiguous(first, last) => TypesAround::Ambiguous(first, last),
+        }
+    }
+
     /// In a gap the type in force before it: of all seconds take the first at which clocks show
     /// more than the reading; it is the type at the second before that one. `None` if and only if
     /// some second shows the reading.
@@ -39,20 +59,19 @@ impl TimeZone {
             (IsShown (TypeAt self.now) (reading local).s)
             (λ t. IsBeforeGap (TypeAt self.now) (reading local).s t) }
     {
-        let second = local.secs_since_epoch();
-        match self.wall_answer(second, &mut Probes::new()) {
-            MappedLocalTime::None => Some(self.type_before_gap(second)),
-            MappedLocalTime::Single(_) => None,
-            MappedLocalTime::Ambiguous(_, _) => None,
+        match self.find_local_time_type_around(local) {
+            TypesAround::Gap(gap) => Some(gap.before),
+            TypesAround::Single(_) => None,
+            TypesAround::Ambiguous(_, _) => None,
         }
     }
 
     // Looks at the second at which each segment begins, from the one of the earliest second that
     // may show the local time on.
-    fn type_before_gap(&self, local: i64) -> LocalTimeType
+    fn gap_at(&self, local: i64) -> Gap
         requires local { IsWide local }
         requires never { IsNeverShown (Shows (TypeAt self.now) local) }
-        ensures { IsBeforeGap (TypeAt self.now) local result }
+        ensures { HasGap (TypeAt self.now) local result.before result.after result.at }
     {
         let mut probes = Probes::new();
         let _types = self.local_time_types();
@@ -63,10 +82,14 @@ impl TimeZone {
             let start = self.start_behind(place, &mut probes);
             let here = self.type_near(start);
             if local < shown_at(here, start) {
-                return *self.type_before(start);
+                return Gap {
+                    before: *self.type_before(start),
+                    after: *here,
+                    at: start,
+                };
             }
         }
-        self.type_before_turn(local, reach)
+        self.gap_of_rule(local, reach)
     }
 
     fn reach(&self, local: i64) -> Reach
@@ -114,35 +137,55 @@ impl TimeZone {
 
     // After the last transition clocks come to show more only where a rule turns from its lesser
     // offset to the greater.
-    fn type_before_turn(&self, local: i64, reach: Reach) -> LocalTimeType
+    fn gap_of_rule(&self, local: i64, reach: Reach) -> Gap
+        requires local { IsWide local }
         requires never { IsNeverShown (Shows (TypeAt self.now) local) }
         requires reach { IsReach self.now local reach.low reach.high }
         requires less { AreLessInto self.now local (length self.now.transitions) }
-        ensures { IsBeforeGap (TypeAt self.now) local result }
+        ensures { HasGap (TypeAt self.now) local result.before result.after result.at }
     {
         let _types = self.local_time_types();
         match &self.last_rule {
             None => unreachable!(),
-            Some(rule) => self.type_before_rule_turn(rule, local, reach),
+            Some(rule) => self.gap_by_rule(rule, local, reach),
         }
     }
 
-    fn type_before_rule_turn(
-        &self,
-        rule: &TransitionRule,
-        local: i64,
-        reach: Reach,
-    ) -> LocalTimeType
+    fn gap_by_rule(&self, rule: &TransitionRule, local: i64, reach: Reach) -> Gap
+        requires local { IsWide local }
         requires rule { self.now.rule ≡ Some rule.now }
         requires never { IsNeverShown (Shows (TypeAt self.now) local) }
         requires reach { IsReach self.now local reach.low reach.high }
         requires less { AreLessInto self.now local (length self.now.transitions) }
-        ensures { IsBeforeGap (TypeAt self.now) local result }
+        ensures { HasGap (TypeAt self.now) local result.before result.after result.at }
     {
         let _types = self.local_time_types();
         match rule {
             TransitionRule::Fixed(_) => unreachable!(),
-            TransitionRule::Alternate(turns) => lesser(turns),
+            TransitionRule::Alternate(turns) => self.gap_by_turns(turns, local, reach),
+        }
+    }
+
+    // Goes from moment to moment of the rule, until clocks show more.
+    fn gap_by_turns(&self, turns: &AlternateTime, local: i64, reach: Reach) -> Gap
+        requires local { IsWide local }
+        requires rule { self.now.rule ≡ Some (Alternate turns.now) }
+        requires never { IsNeverShown (Shows (TypeAt self.now) local) }
+        requires reach { IsReach self.now local reach.low reach.high }
+        requires less { AreLessInto self.now local (length self.now.transitions) }
+        ensures { HasGap (TypeAt self.now) local result.before result.after result.at }
+    {
+        let _types = self.local_time_types();
+        let mut last = later(reach.low, self.index.rule_from());
+        let mut next = turns.next_moment(last);
+        while shown_at(turns.type_at(next), next) <= local {
+            last = next;
+            next = turns.next_moment(last);
+        }
+        Gap {
+            before: *turns.type_at(last),
+            after: *turns.type_at(next),
+            at: next,
         }
     }
 }
@@ -153,15 +196,4 @@ fn shown_at(local_type: &LocalTimeType, second: i64) -> i64
     ensures { result ≡ second +ℤ local_type.now.offset }
 {
     second + local_type.offset() as i64
-}
-
-// The type with the lesser offset.
-fn lesser(turns: &AlternateTime) -> LocalTimeType
-    ensures { IsLesserOf turns.now result }
-{
-    if turns.std().offset() <= turns.dst().offset() {
-        *turns.std()
-    } else {
-        *turns.dst()
-    }
 }

@@ -29,14 +29,14 @@ pub(super) fn first_second(leaps: &[LeapSecond], leap_time: i64) -> i64
     later(passed, led_back)
 }
 
-fn later(a: i64, b: i64) -> i64
+pub(super) fn later(a: i64, b: i64) -> i64
     ensures { (u : ℤ) → (result ≤ℤ u) ↔ ((a ≤ℤ u) × (b ≤ℤ u)) }
 {
     if a < b { b } else { a }
 }
 
 // The correction after the first entries, of which there are so many.
-fn correction_behind(leaps: &[LeapSecond], count: usize) -> i64
+pub(super) fn correction_behind(leaps: &[LeapSecond], count: usize) -> i64
     requires { count ≤ length leaps.now }
     ensures { result ≡ last_else (pos 0) (corrections (take count leaps.now)) }
 {
@@ -47,7 +47,7 @@ fn correction_behind(leaps: &[LeapSecond], count: usize) -> i64
 }
 
 // How many entries come at or before the leap time.
-fn entries_come(leaps: &[LeapSecond], leap_time: i64) -> usize
+pub(super) fn entries_come(leaps: &[LeapSecond], leap_time: i64) -> usize
     requires { AreLeapSeconds leaps.now }
     ensures { HaveCome leaps.now leap_time result }
 {

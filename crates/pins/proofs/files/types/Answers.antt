@@ -1,4 +1,5 @@
 use Rattle.std.proofs.Common.{refl, arith, [], ◌∷◌}
+use Rattle.std.proofs.lemmas.Int.{ints}
 use Rattle.tz_info.specs.FileContents.{signed}
 use Rattle.pins.proofs.FileParts.{no_flag}
 use Rattle.pins.proofs.SpelledPieces.{is_name_3}
@@ -22,5 +23,6 @@ returns c = record {
     name = refl;
     name_fits = is_name_3 72 83 84 refl refl refl;
   };
+  least_offset = λ t h. let above = h.above_least in let is = h.offset in absurd (omega (arith, ints, above, is));
   flag_2 = λ t h. no_flag t.dst h.mark;
 }

@@ -1,5 +1,6 @@
-use Rattle.std.proofs.Common.{codes, inl, inr, refl, to_z-of_z}
+use Rattle.std.proofs.Common.{codes, inl, inr, refl, ap, ◌∙◌, to_z-of_z}
 use Rattle.std.proofs.lemmas.Result.{on_ok_weaker}
+use Rattle.naive_base.specs.Reading.{Reading}
 use Rattle.zoned_time.specs.DateTime.{zoned}
 use Rattle.zoned_ref.specs.TimeZoneRef.{off_of}
 use Rattle.zoned_ref.specs.ZoneOffset.{ahead_of}
@@ -21,10 +22,11 @@ returns-in-Single c =
     let at = simp to_z-of_z at c.in-Single.ensures in
     let d = zoned c.in-Single.instant in
     let of_zone = c.in-Some-new.ensures in
+    let there = at.1.offset.there ∙ ap (λ (k : Reading). off_of r k.s) at.1.utc in
     on_ok_weaker c.write_instant.result (λ bytes. (
       instant_text d.utc (ahead_of d.offset),
       bytes,
-      rw c.in-Some.is (shown_instant c.in-Some.zone (off_of r) c.args.seconds c.args.nanoseconds d.utc (ahead_of d.offset) (of_zone.some.0 refl) of_zone.offsets at.0 at.1.utc at.1.offset.there),
+      rw c.in-Some.is (shown_instant c.in-Some.zone (off_of r) c.args.seconds c.args.nanoseconds d.utc (ahead_of d.offset) (of_zone.some.0 refl) of_zone.offsets at.0 at.1.utc there),
     )) c.write_instant.ensures
 
 pub returns-in_default-timestamp_opt : goal.returns-in_default-timestamp_opt

@@ -1,5 +1,4 @@
-use Rattle.tz_info.proofs.TzFileLaws.{one_zone as one_file_zone}
-use Rattle.tz_info.proofs.FileFaults.{fault_or_zone as file_fault_or_zone}
+use Rattle.tz_info.proofs.TzFileLaws.{one_zone as one_file_zone, fault_or_zone as file_fault_or_zone, has_fault, fault_once}
 use Rattle.tz_info.proofs.PosixLaws.{one_zone as one_text_zone, fault_or_zone as text_fault_or_zone}
 use Rattle.tz_info.proofs.PosixZoneLaws.{posix_zone_valid}
 use Rattle.zoned.proofs.headline.one_zone.Goals as goal
@@ -8,6 +7,8 @@ pub returns : goal.returns
 returns c = record {
   files = one_file_zone;
   file_or_fault = file_fault_or_zone;
+  file_has_fault = has_fault;
+  one_file_fault = fault_once;
   texts = one_text_zone;
   text_or_fault = text_fault_or_zone;
   text_is_valid = λ text z h. (posix_zone_valid text z h).0;

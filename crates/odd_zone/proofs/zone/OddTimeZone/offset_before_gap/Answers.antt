@@ -1,4 +1,8 @@
-use Rattle.std.proofs.Common.{pos, rules, refl}
+use Rattle.std.proofs.Common.{pos, rules}
+use Rattle.zoned_time.proofs.ForCallers.{same_itself, gap_by_seconds}
+use Rattle.odd_zone.specs.Odd.{odd_offset}
+use Rattle.odd_zone.specs.OddOffset.{law_of}
+use Rattle.odd_zone.specs.declared.offset.OddOffset.TheVariants.{Even}
 use Rattle.odd_zone.proofs.Walls.{shown_twice, shown_never}
 use Rattle.odd_zone.proofs.zone.OddTimeZone.offset_before_gap.Goals as goal
 
@@ -8,4 +12,4 @@ returns-in-Even c = let local = c.args.local.now in
 
 pub returns-in-Odd : goal.returns-in-Odd
 returns-in-Odd c = let local = c.args.local.now in
-    (shown_never local.secs local.in_range.0 (search rules), λ _ _. refl)
+    gap_by_seconds odd_offset local.secs Even (shown_never local.secs local.in_range.0 (search rules)) (same_itself (law_of c.args.self.now))

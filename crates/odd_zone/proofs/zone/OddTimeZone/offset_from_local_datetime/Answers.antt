@@ -1,10 +1,13 @@
-use Rattle.std.proofs.Common.{rules, refl}
+use Rattle.std.proofs.Common.{rules}
+use Rattle.offset_core.specs.declared.local_result.LocalResult.TheVariants.{Ambiguous}
+use Rattle.zoned_time.proofs.ForCallers.{same_itself, wall_by_seconds}
+use Rattle.odd_zone.specs.Odd.{odd_offset}
+use Rattle.odd_zone.specs.OddOffset.{law_of}
+use Rattle.odd_zone.specs.declared.offset.OddOffset.TheVariants.{Even, Odd}
 use Rattle.odd_zone.proofs.Walls.{shown_twice}
 use Rattle.odd_zone.proofs.zone.OddTimeZone.offset_from_local_datetime.Goals as goal
 
 pub returns-in-Even : goal.returns-in-Even
 returns-in-Even c = let local = c.args.local.now in
-    record {
-      wall = shown_twice local.secs local.in_range.0 (search rules);
-      same_home = (λ _ _. refl, λ _ _. refl);
-    }
+    let same = same_itself (law_of c.args.self.now) in
+    wall_by_seconds odd_offset local.secs (Ambiguous Odd Even) (shown_twice local.secs local.in_range.0 (search rules)) (same, same)

@@ -1,15 +1,14 @@
-use Rattle.std.proofs.Common.{inl}
 use Rattle.std.proofs.lemmas.Result.{err_from_is_err_and}
 use Rattle.tz_info.specs.Steps.FileLists.{pieces_of}
-use Rattle.tz_info.proofs.FilePieceLaws.{pieces_takes, has_lengths}
-use Rattle.tz_info.proofs.TzFileLaws.{reads}
+use Rattle.tz_info.proofs.FilePieceLaws.{pieces_law, has_lengths}
+use Rattle.tz_info.proofs.TzFileLaws.{reads, no_pieces}
 use Rattle.tz_info.proofs.file.reader.read_file.Goals as goal
 
 pub lists_of-requires : goal.lists_of-requires
-lists_of-requires c = has_lengths c.args.bytes.now _ (pieces_takes c.args.bytes.now _ c.in_ok-pieces.ensures.pieces)
+lists_of-requires c = has_lengths c.args.bytes.now _ ((pieces_law c.args.bytes.now).takes _ c.in_ok-pieces.ensures.pieces)
 
 pub returns-clause-lists : goal.returns-clause-lists
 returns-clause-lists c = reads c.args.bytes.now (pieces_of c.in_ok-pieces.pieces) c.lists_of.result c.in_ok-pieces.ensures.pieces c.lists_of.ensures
 
 pub returns-in_err-pieces-clause-lists : goal.returns-in_err-pieces-clause-lists
-returns-in_err-pieces-clause-lists c = let p = err_from_is_err_and c.from_residual.result c.from_residual.ensures.1 in rw (p.1, p.2) (inl c.in_err-pieces.ensures.pieces)
+returns-in_err-pieces-clause-lists c = let p = err_from_is_err_and c.from_residual.result c.from_residual.ensures.1 in rw (p.1, p.2) (no_pieces c.args.bytes.now _ c.in_err-pieces.ensures.pieces)

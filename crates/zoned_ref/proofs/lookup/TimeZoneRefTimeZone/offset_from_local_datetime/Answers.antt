@@ -1,8 +1,7 @@
-use Rattle.std.proofs.Common.{ap}
 use Rattle.offset_core.specs.declared.local_result.LocalResult.TheVariants.{Single, Ambiguous}
 use Rattle.naive_base.specs.NaiveDateTime.{reading}
-use Rattle.zoned_ref.specs.TimeZoneRef.{off_of}
-use Rattle.zoned_ref.specs.ZoneOffset.{meaning_of}
+use Rattle.zoned_ref.specs.ZoneOffset.{law_of}
+use Rattle.zoned_ref.proofs.Homes.{in_force_by, same_law}
 use Rattle.zoned_ref.proofs.Walls.{each_within, one_given, two_given}
 use Rattle.zoned_ref.proofs.lookup.TimeZoneRefTimeZone.offset_from_local_datetime.Goals as goal
 
@@ -18,11 +17,16 @@ new-requires-in-Ambiguous-2 c = let both = c.in-Ambiguous in
     (each_within c.zone.result.now (reading c.args.local.now).s c.zone.ensures.narrow (Ambiguous both.first both.last) (rw both.is at c.in-Ok.ensures)).1
 
 pub returns-in-Single-clause-offsets : goal.returns-in-Single-clause-offsets
-returns-in-Single-clause-offsets c = let local = c.args.local.now in
-    one_given meaning_of c.zone.result.now (off_of c.args.self.now) (reading local).s c.in-Single.only c.new.result c.zone.ensures.narrow c.zone.ensures.offsets local.in_range.0
-    c.new.ensures.seconds (ap off_of c.new.ensures.zone) (rw c.in-Single.is at c.in-Ok.ensures)
+returns-in-Single-clause-offsets c = let local = c.args.local.now in let zone = c.args.self.now in let z = c.zone.result.now in
+    one_given (law_of zone) z (reading local).s c.in-Single.only c.new.result c.zone.ensures.narrow c.zone.ensures.offsets local.in_range.0
+    c.new.ensures.seconds (in_force_by zone z c.in-Single.only c.new.result c.zone.ensures.zone c.new.ensures.local_type)
+    (same_law c.new.result zone c.new.ensures.zone) (rw c.in-Single.is at c.in-Ok.ensures)
 
 pub returns-in-Ambiguous-clause-offsets : goal.returns-in-Ambiguous-clause-offsets
-returns-in-Ambiguous-clause-offsets c = let local = c.args.local.now in let first = c.new-in-Ambiguous in let last = c.new-in-Ambiguous-2 in
-    two_given meaning_of c.zone.result.now (off_of c.args.self.now) (reading local).s c.in-Ambiguous.first c.in-Ambiguous.last first.result last.result c.zone.ensures.narrow c.zone.ensures.offsets local.in_range.0
-    first.ensures.seconds last.ensures.seconds (ap off_of first.ensures.zone) (ap off_of last.ensures.zone) (rw c.in-Ambiguous.is at c.in-Ok.ensures)
+returns-in-Ambiguous-clause-offsets c =
+    let local = c.args.local.now in let zone = c.args.self.now in let z = c.zone.result.now in
+    let both = c.in-Ambiguous in let first = c.new-in-Ambiguous in let last = c.new-in-Ambiguous-2 in
+    two_given (law_of zone) z (reading local).s both.first both.last first.result last.result c.zone.ensures.narrow c.zone.ensures.offsets local.in_range.0
+    first.ensures.seconds last.ensures.seconds
+    (in_force_by zone z both.first first.result c.zone.ensures.zone first.ensures.local_type) (in_force_by zone z both.last last.result c.zone.ensures.zone last.ensures.local_type)
+    (same_law first.result zone first.ensures.zone) (same_law last.result zone last.ensures.zone) (rw both.is at c.in-Ok.ensures)

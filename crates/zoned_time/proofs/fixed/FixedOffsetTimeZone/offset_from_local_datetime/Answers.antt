@@ -1,9 +1,11 @@
 use Rattle.std.proofs.Common.{refl}
 use Rattle.offset_core.specs.FixedOffset.{seconds_of}
 use Rattle.naive_base.specs.NaiveDateTime.{reading}
+use Rattle.zoned_time.specs.Zone.{meaning_by_seconds, law_by_seconds}
+use Rattle.zoned_time.proofs.Homes.{same_itself}
 use Rattle.zoned_time.proofs.Walls.{constant_wall}
 use Rattle.zoned_time.proofs.fixed.FixedOffsetTimeZone.offset_from_local_datetime.Goals as goal
 
 pub returns : goal.returns
 returns c = let zone = c.args.self.now in let local = c.args._local.now in
-    constant_wall (record { seconds = seconds_of; home = λ o _. seconds_of o }) zone (seconds_of zone) (reading local).s refl (λ _ _. refl) zone.within_day local.in_range.0
+    constant_wall (meaning_by_seconds seconds_of (λ o _. seconds_of o)) zone (seconds_of zone) (reading local).s refl (same_itself (law_by_seconds (λ _. seconds_of zone))) zone.within_day local.in_range.0

@@ -1,6 +1,7 @@
 use Rattle.std.proofs.lemmas.Result.{err_from_is_err_and}
 use Rattle.tz_info.specs.Steps.FileLists.{zone_of}
-use Rattle.tz_info.specs.TzFiles.{In_file}
+use Rattle.std.proofs.Common.{Err}
+use Rattle.tz_info.proofs.TzFileLaws.{named}
 use Rattle.tz_info.proofs.ZoneFileLaws.{made_found, made_only, made_fault, made_memory}
 use Rattle.tz_info.proofs.zone.time_zone.TimeZone.from_tz_data.Goals as goal
 
@@ -13,6 +14,11 @@ returns-clause-only c = made_only c.args.bytes.now (zone_of c.in_ok-lists.lists)
 pub returns-clause-fault : goal.returns-clause-fault
 returns-clause-fault c = made_fault c.args.bytes.now (zone_of c.in_ok-lists.lists) c.into_zone.result c.in_ok-lists.ensures.found c.into_zone.ensures
 
+pub returns-clause-first : goal.returns-clause-first
+returns-clause-first c =
+    let lists = zone_of c.in_ok-lists.lists in let spelled = c.in_ok-lists.ensures.found in let makes = c.into_zone.ensures in
+    named c.args.bytes.now c.into_zone.result (made_found c.args.bytes.now lists c.into_zone.result spelled makes) (made_fault c.args.bytes.now lists c.into_zone.result spelled makes)
+
 pub returns-clause-memory : goal.returns-clause-memory
 returns-clause-memory c = made_memory c.args.bytes.now (zone_of c.in_ok-lists.lists) c.into_zone.result c.in_ok-lists.ensures.found
 
@@ -22,7 +28,11 @@ returns-in_err-lists-clause-only c z file valid =
 
 pub returns-in_err-lists-clause-fault : goal.returns-in_err-lists-clause-fault
 returns-in_err-lists-clause-fault c =
-    let p = err_from_is_err_and c.from_residual.result c.from_residual.ensures.1 in rw (p.1, p.2) (In_file _ c.in_err-lists.ensures.fault)
+    let p = err_from_is_err_and c.from_residual.result c.from_residual.ensures.1 in rw (p.1, p.2) c.in_err-lists.ensures.fault
+
+pub returns-in_err-lists-clause-first : goal.returns-in_err-lists-clause-first
+returns-in_err-lists-clause-first c =
+    let p = err_from_is_err_and c.from_residual.result c.from_residual.ensures.1 in rw (p.1, p.2) (named c.args.bytes.now (Err _) tt c.in_err-lists.ensures.fault)
 
 pub returns-in_err-lists-clause-memory : goal.returns-in_err-lists-clause-memory
 returns-in_err-lists-clause-memory c =

@@ -1,0 +1,26 @@
+use Rattle.std.proofs.Common.{◌≡◌, w32, w64, arith, to_z-of_z, rules}
+use mir.Val.{SFits}
+use Rattle.naive_base.specs.Year.{floor_div}
+use Rattle.naive_base.proofs.ForCallers.{floors}
+use Rattle.tz_info.proofs.RuleLaws.{year_found}
+use Rattle.tz_info.proofs.rule.changes.rule_year_of.Goals as goal
+
+pub returns-clause-year : goal.returns-clause-year
+returns-clause-year c =
+    let fs = c.ranges.second in
+    let at_day : SFits w64 c.day_of-day.result = omega (arith, floors, c.day_of-day.ensures.bound) in
+    let day : c.day_of-day.result ≡ floor_div c.args.second 86_400 = simp to_z-of_z at c.day_of-day.ensures.value in
+    let found = year_found c.args.second c.day_of-day.result c.year_of.result day (simp to_z-of_z at c.year_of.ensures) c.requires in
+    let at_year : SFits w32 c.year_of.result = omega (arith, floors, found.1) in
+    let wide : SFits w64 c.year_of.result = omega (arith, floors, found.1) in
+    simp to_z-of_z (rw day at found.0)
+
+pub returns-clause-bound : goal.returns-clause-bound
+returns-clause-bound c =
+    let fs = c.ranges.second in
+    let at_day : SFits w64 c.day_of-day.result = omega (arith, floors, c.day_of-day.ensures.bound) in
+    let day : c.day_of-day.result ≡ floor_div c.args.second 86_400 = simp to_z-of_z at c.day_of-day.ensures.value in
+    let found = year_found c.args.second c.day_of-day.result c.year_of.result day (simp to_z-of_z at c.year_of.ensures) c.requires in
+    let at_year : SFits w32 c.year_of.result = omega (arith, floors, found.1) in
+    let wide : SFits w64 c.year_of.result = omega (arith, floors, found.1) in
+    simp to_z-of_z found.1

@@ -1,0 +1,18 @@
+use Rattle.std.proofs.Common.{arith, w64, to_z-of_z, rules}
+use mir.Val.{SFits}
+use mir.Syntax.{w128}
+use Rattle.std.proofs.lemmas.Int.{ints}
+use Rattle.tz_info.proofs.ZoneChanges.{none_outside, with_start}
+use Rattle.tz_info.proofs.zone.time_zone.TimeZone.change_with.Goals as goal
+
+pub returns-then-start : goal.returns-then-start
+returns-then-start c =
+    let fs : SFits w128 c.start_of-start.result = search rules in
+    none_outside c.args.self.now c.args.place c.start_of-start.result c.local_time_types-types.ensures.valid c.requires c.start_of-start.ensures.comes (λ f. omega (arith, ints))
+
+pub returns : goal.returns
+returns c =
+    let fw : SFits w128 c.start_of-start.result = search rules in
+    let least = c.start_of-start.ensures.bound in
+    let fs : SFits w64 c.start_of-start.result = omega (arith, ints) in
+    with_start c.args.self.now c.args.place c.start_of-start.result c.change_at.result c.local_time_types-types.ensures.valid c.requires c.start_of-start.ensures.comes (simp to_z-of_z at c.change_at.ensures)

@@ -1,0 +1,29 @@
+use Rattle.std.proofs.Common.{◌≡◌, ◌+◌, ◌-◌, arith, length, w64, to_z-of_z, rules}
+use Rattle.tz_info.proofs.ZoneChanges.{ahead_less, ahead_none, table_last}
+use Rattle.tz_info.proofs.zone.time_zone.TimeZone.last_with.Goals as goal
+
+pub loop-back-init : goal.loop-back-init
+loop-back-init c = let fa = c.ranges.last in let e : c.args.count - 0 ≡ c.args.count = omega arith in simp to_z-of_z (rw e c.requires)
+
+pub change_with-requires : goal.change_with-requires
+change_with-requires c = let w = c.requires.within in omega arith
+
+pub returns-in-Some : goal.returns-in-Some
+returns-in-Some c =
+    let fa = c.ranges.last in
+    let k = c.in-Some.ensures in
+    let e : c.args.count - c.loop-back.back ≡ (c.args.count - 1 - c.loop-back.back) + 1 = omega arith in
+    table_last c.args.self.now c.args.last (c.args.count - 1 - c.loop-back.back) c.in-Some.change c.local_time_types-types.ensures.valid (rw e at (simp to_z-of_z at c.loop-back.invariant)) k.0 k.1
+
+pub loop-back-preserved : goal.loop-back-preserved
+loop-back-preserved c =
+    let fa = c.ranges.last in
+    let e : c.args.count - c.loop-back.back ≡ (c.args.count - 1 - c.loop-back.back) + 1 = omega arith in
+    let f : c.args.count - (c.loop-back.back + 1) ≡ c.args.count - 1 - c.loop-back.back = omega arith in
+    simp to_z-of_z (rw f (ahead_less c.args.self.now c.args.last (c.args.count - 1 - c.loop-back.back) (rw e at (simp to_z-of_z at c.loop-back.invariant)) c.in-None.ensures))
+
+pub returns : goal.returns
+returns c =
+    let fa = c.ranges.last in
+    let e : c.args.count - c.loop-back.back ≡ 0 = omega arith in
+    ahead_none c.args.self.now c.args.last (rw e at (simp to_z-of_z at c.loop-back.invariant))

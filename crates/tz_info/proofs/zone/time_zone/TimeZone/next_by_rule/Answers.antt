@@ -1,0 +1,13 @@
+use Rattle.std.proofs.Common.{◌≡◌, ap, sym, ◌∙◌, None, to_z-of_z}
+use Rattle.tz_info.specs.Zones.{Zone}
+use Rattle.tz_info.proofs.ZoneChanges.{steady_after, none_steady}
+use Rattle.tz_info.proofs.zone.time_zone.TimeZone.next_by_rule.Goals as goal
+
+pub returns-in-None : goal.returns-in-None
+returns-in-None c =
+    let fa = c.ranges.after in
+    let none : c.args.self.now.rule ≡ None = ap (λ (z : Zone). z.rule) (sym c.self.view_is) ∙ c.in-None.is in
+    steady_after c.args.self.now c.args.after c.local_time_types-types.ensures.valid (none_steady c.args.self.now.rule none)
+
+pub returns-in-Some : goal.returns-in-Some
+returns-in-Some c = let fa = c.ranges.after in simp to_z-of_z at c.next_by.ensures

@@ -1,0 +1,17 @@
+-- From one moment of a rule to the next.
+use Rattle.std.specs.Prelude.{ℤ, ◌≤ℤ◌, ◌<ℤ◌, ◌⊎◌}
+use Rattle.tz_info.specs.LocalTypes.{LocalType}
+use Rattle.tz_info.specs.Moments.{AlternateAt}
+use Rattle.tz_info.specs.Rules.{Alternate}
+
+-- `next` comes after u, and not after those of the two moments that come after u, and not after `last`
+pub record IsNextAfter (first second u last next : ℤ) : Type 0 where
+  pub later : u <ℤ next
+  pub not_after : next ≤ℤ last
+  pub of_first : (first ≤ℤ u) ⊎ (next ≤ℤ first)
+  pub of_second : (second ≤ℤ u) ⊎ (next ≤ℤ second)
+
+-- from u on and before `next` the rule has one type
+pub record IsSteadyUntil (a : Alternate) (u next : ℤ) : Type 0 where
+  pub later : u <ℤ next
+  pub same : (v : ℤ) → u ≤ℤ v → v <ℤ next → (t : LocalType) → AlternateAt a u t → AlternateAt a v t

@@ -1,0 +1,86 @@
+//! Changes of the clocks.
+
+ghost use Rattle.std.specs.Prelude.{◌≡◌, ◌≢◌, ◌≤ℤ◌, ◌<ℤ◌, IsTrue, ◌↔◌, MatchOption};
+
+use crate::local_time_type::LocalTimeType;
+
+/// A change of the clocks: up to the second before `at` one type of local time is in force, and
+/// from `at` on another one, which differs in its offset, in whether it is daylight saving time, or
+/// in its name.
+#[derive(Clone, Copy, Debug, PartialEq, Eq)]
+pub struct Change {
+    /// The first second at which the new type is in force, as a Unix time.
+    pub at: i64,
+    /// The type in force at the second before.
+    pub before: LocalTimeType,
+    /// The type in force at that second.
+    pub after: LocalTimeType,
+}
+
+impl Change {
+    ghost use Rattle.tz_info.specs.Steps.Changes.{first_one, last_one};
+
+    // The change at that second, if the types differ.
+    pub(crate) fn between(at: i64, before: LocalTimeType, after: LocalTimeType) -> Option<Change>
+        ensures { MatchOption result (before ≡ after) (λ c. (before ≢ after)
+            × (c ≡ record { at = at; before = before; after = after })) }
+    {
+        if is_same_type(&before, &after) {
+            return None;
+        }
+        Some(Change { at, before, after })
+    }
+
+    // The one that comes first.
+    pub(crate) fn sooner(found: Option<Change>, other: Option<Change>) -> Option<Change>
+        ensures { result ≡ first_one found other }
+    {
+        let Some(one) = found else {
+            return other;
+        };
+        let Some(second) = other else {
+            return Some(one);
+        };
+        if second.at < one.at {
+            Some(second)
+        } else {
+            Some(one)
+        }
+    }
+
+    // The one that comes last.
+    pub(crate) fn later(found: Option<Change>, other: Option<Change>) -> Option<Change>
+        ensures { result ≡ last_one found other }
+    {
+        let Some(one) = found else {
+            return other;
+        };
+        let Some(second) = other else {
+            return Some(one);
+        };
+        if one.at < second.at {
+            Some(second)
+        } else {
+            Some(one)
+        }
+    }
+}
+
+impl Change {
+    // The change, if it comes after that second.
+    pub(crate) fn if_after(self, second: i128) -> Option<Change>
+        ensures { MatchOption result (self.at ≤ℤ second) (λ c. (second <ℤ self.at) × (c ≡ self)) }
+    {
+        if second < self.at as i128 {
+            Some(self)
+        } else {
+            None
+        }
+    }
+}
+
+fn is_same_type(a: &LocalTimeType, b: &LocalTimeType) -> bool
+    ensures { IsTrue result ↔ (a.now ≡ b.now) }
+{
+    *a == *b
+}

@@ -1,0 +1,296 @@
+//! When clocks change: the next change of the type in force, and the previous one.
+//!
+//! Before the last transition only a transition can change the type, and after it only the rule. A
+//! transition need not: two of them may come at one second, or name types that are equal. So each
+//! second at which one comes is asked.
+
+ghost use Rattle.std.specs.Prelude.{◌≡◌, ◌<◌, length, ℤ, pos, neg_ℤ, ◌<ℤ◌, ◌-ℤ◌, ◌≤ℤ◌, ◌↔◌, FitsSigned, MatchOption, Some};
+ghost use Rattle.std.specs.Int.{w64};
+ghost use Rattle.tz_info.specs.Changes.{IsChange, HasNoChange, IsFirst, IsLast};
+ghost use Rattle.tz_info.specs.Leaps.{AreLeapSeconds, IsLeapTime, IsLeapTimeRefused};
+ghost use Rattle.tz_info.specs.Steps.Changes.{AreAhead, ComesAt, HasNoneAt, IsBegin, IsByRuleAfter, IsByRuleUpTo, IsInTableAfter, IsInTableUpTo};
+ghost use Rattle.tz_info.specs.Zones.{TypeAt};
+ghost use Rattle.tz_info.specs.declared.rule.transition_rule.TransitionRule.TheVariants.{Alternate};
+
+use crate::change::Change;
+use crate::local_time_type::LocalTimeType;
+use crate::rule::{AlternateTime, TransitionRule, later_of};
+use crate::zone::leap_second::LeapSecond;
+use crate::zone::probes::Probes;
+use crate::zone::starts::{correction_behind, entries_come};
+use crate::zone::time_zone::TimeZone;
+
+impl TimeZone {
+    /// The first change of the clocks after that second, or `None` if none comes at a later second
+    /// of 64 bits.
+    ///
+    /// A transition that changes nothing is no change, and what a rule does after the last
+    /// transition is. It takes no memory.
+    ///
+    /// ```text
+    /// let zone = TimeZone::from_posix_tz(alloc, "EST5EDT,M3.2.0,M11.1.0")?;
+    /// let change = zone.next_change(1_609_459_200)?;    // from 2021-01-01 00:00:00 UTC on
+    /// let at = change.at;                               // 1615705200: 14 March, 02:00 EST
+    /// let name = change.after.name();                   // EDT
+    /// ```
+    pub fn next_change(&self, after: i64) -> Option<Change>
+        ensures { IsFirst (TypeAt self.now) (λ u. after <ℤ u) result }
+    {
+        let _types = self.local_time_types();
+        match self.next_in_table(after) {
+            Some(change) => Some(change),
+            None => self.next_by_rule(after),
+        }
+    }
+
+    // The first change after that second that comes with a transition.
+    fn next_in_table(&self, after: i64) -> Option<Change>
+        ensures { IsFirst (TypeAt self.now) (IsInTableAfter self.now after) result }
+    {
+        let _types = self.local_time_types();
+        let count = self.transition_count();
+        let leap_time = match self.unix_time_to_unix_leap_time(after) {
+            Ok(leap_time) => leap_time,
+            Err(_) => return None,
+        };
+        let mut probes = Probes::new();
+        let first = self.passed_count(leap_time, &mut probes);
+        for place in first..count {
+            match self.change_with(place) {
+                Some(change) => return Some(change),
+                None => {}
+            }
+        }
+        None
+    }
+
+    // The first change after that second that comes after all transitions.
+    fn next_by_rule(&self, after: i64) -> Option<Change>
+        ensures { IsFirst (TypeAt self.now) (IsByRuleAfter self.now after) result }
+    {
+        let _types = self.local_time_types();
+        match &self.last_rule {
+            None => None,
+            Some(rule) => self.next_by(rule, after),
+        }
+    }
+
+    fn next_by(&self, rule: &TransitionRule, after: i64) -> Option<Change>
+        requires { self.now.rule ≡ Some rule.now }
+        ensures { IsFirst (TypeAt self.now) (IsByRuleAfter self.now after) result }
+    {
+        let _types = self.local_time_types();
+        match rule {
+            TransitionRule::Fixed(_) => None,
+            TransitionRule::Alternate(turns) => self.next_by_turns(turns, after),
+        }
+    }
+
+    fn next_by_turns(&self, turns: &AlternateTime, after: i64) -> Option<Change>
+        requires { self.now.rule ≡ Some (Alternate turns.now) }
+        ensures { IsFirst (TypeAt self.now) (IsByRuleAfter self.now after) result }
+    {
+        let _types = self.local_time_types();
+        let begin = self.rule_begin();
+        if begin > i64::MAX as i128 {
+            return None;
+        }
+        let from = later_of(after, begin as i64);
+        turns.next_change(from)
+    }
+
+    /// The last change of the clocks at that second or before it, or `None` if none comes at such a
+    /// second of 64 bits.
+    ///
+    /// ```text
+    /// let zone = TimeZone::from_posix_tz(alloc, "EST5EDT,M3.2.0,M11.1.0")?;
+    /// let change = zone.previous_change(1_609_459_200)?; // up to 2021-01-01 00:00:00 UTC
+    /// let at = change.at;                                // 1604210400: 1 November, 02:00 EDT
+    /// ```
+    pub fn previous_change(&self, before_or_at: i64) -> Option<Change>
+        ensures { IsLast (TypeAt self.now) (λ u. u ≤ℤ before_or_at) result }
+    {
+        let _types = self.local_time_types();
+        match self.previous_by_rule(before_or_at) {
+            Some(change) => Some(change),
+            None => self.previous_in_table(before_or_at),
+        }
+    }
+
+    // The last change up to that second that comes with a transition.
+    fn previous_in_table(&self, last: i64) -> Option<Change>
+        ensures { IsLast (TypeAt self.now) (IsInTableUpTo self.now last) result }
+    {
+        let _types = self.local_time_types();
+        match self.unix_time_to_unix_leap_time(last) {
+            Ok(leap_time) => {
+                let _most = self.transition_count();
+                let mut probes = Probes::new();
+                let count = self.passed_count(leap_time, &mut probes);
+                self.last_with(count, last)
+            }
+            Err(_) => self.last_of_all(last),
+        }
+    }
+
+    // The same where the second's leap time leaves 64 bits: each transition that comes at a second
+    // comes before it.
+    fn last_of_all(&self, last: i64) -> Option<Change>
+        requires { IsLeapTimeRefused self.now.leaps last }
+        ensures { IsLast (TypeAt self.now) (IsInTableUpTo self.now last) result }
+    {
+        let _types = self.local_time_types();
+        let all = self.transition_count();
+        self.last_with(all, last)
+    }
+
+    // The last change up to that second that comes with one of the first transitions, of which
+    // there are so many.
+    fn last_with(&self, count: usize, last: i64) -> Option<Change>
+        requires { AreAhead self.now last count }
+        ensures { IsLast (TypeAt self.now) (IsInTableUpTo self.now last) result }
+    {
+        let _types = self.local_time_types();
+        for back in 0..count {
+            match self.change_with(count - 1 - back) {
+                Some(change) => return Some(change),
+                None => {}
+            }
+        }
+        None
+    }
+
+    // The last change up to that second that comes after all transitions.
+    fn previous_by_rule(&self, last: i64) -> Option<Change>
+        ensures { IsLast (TypeAt self.now) (IsByRuleUpTo self.now last) result }
+    {
+        let _types = self.local_time_types();
+        match &self.last_rule {
+            None => None,
+            Some(rule) => self.previous_by(rule, last),
+        }
+    }
+
+    fn previous_by(&self, rule: &TransitionRule, last: i64) -> Option<Change>
+        requires { self.now.rule ≡ Some rule.now }
+        ensures { IsLast (TypeAt self.now) (IsByRuleUpTo self.now last) result }
+    {
+        let _types = self.local_time_types();
+        match rule {
+            TransitionRule::Fixed(_) => None,
+            TransitionRule::Alternate(turns) => self.previous_by_turns(turns, last),
+        }
+    }
+
+    fn previous_by_turns(&self, turns: &AlternateTime, last: i64) -> Option<Change>
+        requires { self.now.rule ≡ Some (Alternate turns.now) }
+        ensures { IsLast (TypeAt self.now) (IsByRuleUpTo self.now last) result }
+    {
+        let _types = self.local_time_types();
+        let begin = self.rule_begin();
+        match turns.previous_change(last) {
+            None => None,
+            Some(change) => change.if_after(begin),
+        }
+    }
+
+    // The change that comes with the transition at that place, if it changes the type.
+    fn change_with(&self, place: usize) -> Option<Change>
+        requires { place < length self.now.transitions }
+        ensures { MatchOption result (HasNoneAt self.now place)
+            (λ c. IsChange (TypeAt self.now) c × ComesAt self.now place c.at) }
+    {
+        let _types = self.local_time_types();
+        let start = self.start_of(place);
+        if start > i64::MAX as i128 {
+            return None;
+        }
+        self.change_at(start as i64)
+    }
+
+    // The change at that second, if there is one.
+    fn change_at(&self, second: i64) -> Option<Change>
+        ensures { MatchOption result
+            (HasNoChange (TypeAt self.now) (λ u. u ≡ second))
+            (λ c. IsChange (TypeAt self.now) c × (c.at ≡ second)) }
+    {
+        match second.checked_sub(1) {
+            Some(second_before) => self.change_after(second_before, second),
+            None => None,
+        }
+    }
+
+    // The change at that second, where the second before it is given.
+    fn change_after(&self, second_before: i64, second: i64) -> Option<Change>
+        requires { second_before ≡ second -ℤ pos 1 }
+        ensures { MatchOption result
+            (HasNoChange (TypeAt self.now) (λ u. u ≡ second))
+            (λ c. IsChange (TypeAt self.now) c × (c.at ≡ second)) }
+    {
+        match self.find_local_time_type(second_before) {
+            Ok(before) => self.change_from(*before, second),
+            Err(_) => None,
+        }
+    }
+
+    // The change at that second, where the type a second before is given.
+    fn change_from(&self, before: LocalTimeType, second: i64) -> Option<Change>
+        requires fits { FitsSigned w64 (second -ℤ pos 1) }
+        requires before { TypeAt self.now (second -ℤ pos 1) before }
+        ensures { MatchOption result
+            (HasNoChange (TypeAt self.now) (λ u. u ≡ second))
+            (λ c. IsChange (TypeAt self.now) c × (c.at ≡ second)) }
+    {
+        match self.find_local_time_type(second) {
+            Ok(after) => Change::between(second, before, *after),
+            Err(_) => None,
+        }
+    }
+
+    // The first second at which all transitions have come, or the first one of 64 bits if there is
+    // no transition.
+    fn rule_begin(&self) -> i128
+        ensures begin { IsBegin self.now result }
+        ensures bound { neg_ℤ (pos 9_223_372_036_854_775_808) ≤ℤ result }
+    {
+        let count = self.transition_count();
+        if count == 0 {
+            return i64::MIN as i128;
+        }
+        self.start_of(count - 1)
+    }
+
+    // The first second at which the transition at that place has come.
+    fn start_of(&self, place: usize) -> i128
+        requires { place < length self.now.transitions }
+        ensures comes { ComesAt self.now place result }
+        ensures bound { neg_ℤ (pos 9_223_372_036_854_775_808) ≤ℤ result }
+    {
+        let _types = self.local_time_types();
+        let mut probes = Probes::new();
+        let transition = self.transition(place, &mut probes);
+        first_second(&self.leap_seconds, transition.unix_leap_time)
+    }
+}
+
+// The first second at which the leap time has come: also one that 64 bits don't hold.
+fn first_second(leaps: &[LeapSecond], leap_time: i64) -> i128
+    requires { AreLeapSeconds leaps.now }
+    ensures reached { (u y : ℤ) → IsLeapTime leaps.now u y → (leap_time ≤ℤ y) ↔ (result ≤ℤ u) }
+    ensures bound { neg_ℤ (pos 9_223_372_036_854_775_808) ≤ℤ result }
+{
+    let come = entries_come(leaps, leap_time);
+    if come == 0 {
+        return leap_time as i128;
+    }
+    let passed = leaps[come - 1].unix_leap_time as i128
+        - correction_behind(leaps, come - 1) as i128;
+    let led_back = leap_time as i128 - correction_behind(leaps, come) as i128;
+    later(passed, led_back)
+}
+
+fn later(a: i128, b: i128) -> i128
+    ensures { (u : ℤ) → (result ≤ℤ u) ↔ ((a ≤ℤ u) × (b ≤ℤ u)) }
+{
+    if a < b { b } else { a }
+}

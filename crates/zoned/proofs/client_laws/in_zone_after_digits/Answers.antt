@@ -1,0 +1,11 @@
+use Rattle.zoned_time.specs.DateTime.{zoned, home_of, IsIn}
+use Rattle.zoned_time.specs.Zoned.{IsAt}
+use Rattle.zoned_time.specs.declared.datetime.Instant.{Instant}
+use Rattle.zoned_time.proofs.ForCallers.{stays}
+use Rattle.zoned.proofs.Buckets.{itself-in}
+use Rattle.zoned.proofs.client_laws.in_zone_after_digits.Goals as goal
+
+pub returns : goal.returns
+returns g c = let d = c.args.before.now in let law = g.Tz.TimeZone.law c.args.zone.now in
+    itself-in {T = Instant _ _ _ _} (λ e. IsIn law e) (λ e. IsAt (home_of g.Tz.TimeZone.meaning d) c.requires.after.1 (zoned e)) d c.args.after.now c.requires.after.0
+    c.requires.before (λ e is. stays law (zoned d).utc.s (zoned e).utc.s (zoned d).offset (zoned e).offset e.in_range c.requires.before is.offset) c.requires.after.2

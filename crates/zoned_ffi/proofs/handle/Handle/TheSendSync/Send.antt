@@ -1,0 +1,30 @@
+use mir.Raw.{raw}
+use base.Shift.{Keyless}
+use denote.Memory.{lone}
+use denote.RawPtr.{Ptr}
+use denote.Param.Send.{IsSend, owning_send, struct_send, sendable}
+use denote.Builtin.{RawPtr}
+use denote.Struct.Struct.{exits_of}
+use denote.Struct.Owning.{shape, fields, to}
+use Rattle.std_alloc.proofs.SendSync.{quiet, lies}
+use Rattle.std.proofs.Crossing as crossing
+use Rattle.std.proofs.alloc.Global.TheSendSync as heap
+use Rattle.std.specs.declared.option.Option.{Option}
+use Rattle.std.specs.declared.option.Option.TheVariants.{None, Some}
+use Rattle.std.specs.declared.alloc.Global.{Global}
+use Rattle.tz_info.proofs.zone.time_zone.TimeZone.TheSendSync as zone_crosses
+use Rattle.tz_info.specs.contracts.zone.time_zone.TimeZone as zone
+use Rattle.zoned_ffi.specs.Owned.{held, shared_row}
+use Rattle.zoned_ffi.specs.contracts.handle.Handle.{the_row, the_type}
+
+a_share : IsSend shared_row
+a_share = crossing.Arc-send zone.the_row zone_crosses.the_send zone_crosses.the_sync
+
+held_keyless : (a : Global) (p : Ptr) (k : Option shared_row.Denot) → Keyless (held shared_row a p k)
+held_keyless a p None = λ e. tt
+held_keyless a p (Some x) = (lies shared_row a_share p x, crossing.frees.frees a (raw (lone shared_row.mir)) p)
+
+pub send : IsSend the_row
+send = let O = the_type in let ps : IsSend RawPtr = search sendable in
+    owning_send O (ps, (heap.the_field_send, tt)) (λ d. held_keyless d.alloc d.at d.shared)
+    (λ k. quiet (to O) (exits_of k (fields O)) ((struct_send (shape O) (ps, (heap.the_field_send, tt))).leaving k))

@@ -1,0 +1,74 @@
+-- `into_slot` tests the pointer, and gives the slot back where there is one.
+use Rattle.std.proofs.Common.{◌≡◌, List, [], ◌∷◌, ◌++◌, refl, sym, ap, ◌∙◌, subst, lit<}
+use mir.Val.{Val, vptr, vcons, vnil}
+use base.Logic.{SProp, ent, emp, id⊢}
+use base.Fml.{ftrue, fsep}
+use prog.Wp.{WpFn}
+use types.Kit.{‵, raw, ◌⊛◌, at_ret, ◌$◌, ◌∵◌, !, qed, by, move, keep, split, fsplit, fjoin, suffices, use0, use1}
+use types.Run.{stop, fld, lit, of_opd, bin, no_more, and_then, first, branches, exec, returns, enter}
+use types.ByLocal.{alloc_all, pass_all, free_all, look_at, get, get_in, sets, sets_last, env}
+use types.Part.{agg, sub, whole}
+use types.Match.{live}
+use contract.Monad.{fact, fact_i}
+use contract.Running.{tables}
+use denote.Exit.{yes}
+use denote.RattleType.{RattleType}
+use denote.Param.{layout}
+use denote.Signature.{type_at, plain}
+use denote.RawPtr.{Ptr, block_ptr, null_ptr, ptr_val, tests_null}
+use denote.Steps.{nothing}
+use denote.Triple.Walked.{Stays, stay_dropped, walk_of, Goes-dropped}
+use Rattle.std.specs.declared.option.Option.TheVariants.{None, Some}
+use Rattle.std.specs.contracts.impls.GlobalAllocator.TheImpl.{ghosts}
+use Rattle.std.proofs.alloc.Shapes.{after}
+use Rattle.std.proofs.cell.Inside.{Good}
+use Rattle.std.proofs.option.Made.{Some-of, none_of}
+use Rattle.std.proofs.ResultValues.{and_tt}
+use Rattle.std.proofs.raw_atomic.Walks.{proved_at, leaves}
+use Rattle.zoned_ffi.proofs.Slots.{two, Slot, slot_fits, slot_in}
+use Rattle.zoned_ffi.proofs.Handles.{R, Z, LZ, Hd, null_fits_word, null_fits, handle_out, null_or_block}
+use Rattle.zoned_ffi.specs.contracts.handle.Handle.into_slot as f
+use Rattle.zoned_ffi.proofs.handle.Handle.into_slot.Statement.{statement}
+use Rattle.zoned_ffi.proofs.handle.Handle.into_slot.Code as code
+
+abbrev Sl : RattleType
+Sl = Slot R Z LZ ghosts
+
+abbrev stayed : Stays f.ended.signature.params f.ended.kept
+stayed = (stay_dropped (plain (λ _. Hd)) yes, tt)
+
+pub into_slot_spec : {M : Type 1} → statement M
+into_slot_spec 𝓤 𝓛 𝓜 𝓡 wired =
+    let H = 𝓛.H in let 𝓣 = tables 𝓤 H 𝓜 𝓡 𝓡.env in let c = f.clauses 𝓛 𝓜.mem 𝓡.returns in let fn = code.function in
+    proved_at 𝓛 f.ended stayed c 𝓜 𝓡 (Goes-dropped 𝓛 0 (plain (λ _. Hd)) yes (λ κs x l. refl), tt) f.Key.name fn (code.unfolded 𝓤 H 𝓜 𝓡 wired) (λ z are.
+    let v = z.0.3.0 in let a = v.alloc in let Post : Val → SProp 𝓤 = (walk_of 𝓛 f.ended stayed c).post z in let Run : List Val → SProp 𝓤 = λ ws. WpFn 𝓤 H 𝓣.C 𝓣.Λ fn ws Post in let Out : RattleType = type_at f.ended.signature.result z.0.0 in
+    qed 𝓛 ((‵ ftrue ⊛ ‵ (fsep (Hd.own_val v z.0.4.0) ftrue)) ∷ ‵ ftrue ∷ []) ∵ split ! $ move ! (1 ∷ []) $ fsplit ! $
+    handle_out ! v z.0.4.0 (λ h ws fits. null_or_block ! a v.at v.shared
+    (λ e none. let w : Val = two (ptr_val null_ptr) h in let typed = null_fits h fits in let is : z.0.4.0 ≡ w ∷ [] = ws ∙ ap (λ (p : Ptr). two (ptr_val p) h ∷ []) e in
+    suffices ! (Run (w ∷ [])) (subst (λ (us : List Val). ent 𝓤 (Run (w ∷ [])) (Run us)) (sym (λ i. is i ++ [])) (id⊢ 𝓤 (Run (w ∷ [])))) $
+    enter ! 𝓣.C 𝓣.Λ fn (w ∷ []) Post $ alloc_all ! (λ l. pass_all ! refl (typed, tt) $ let Ev = env fn.locals l in
+    sets ! (of_opd ! (get_in ! (fld ! refl (stop !)) (sub ! 0 refl (whole !)))) refl (tt, null_fits_word) $
+    sets ! (of_opd ! (get_in ! (fld ! refl (stop !)) (sub ! 1 refl (whole !)))) refl fits $
+    sets ! (bin ! (get ! refl) (lit ! tt) tt) refl (tt, tt) $
+    first ! $ branches ! (get ! refl)
+    (λ _. sets_last ! (agg ! (and_then ! (lit ! tt) (no_more !))) refl (tt, (record { fits = lit< tt }, tt)) $
+    exec ! 𝓣.C 𝓣.Λ Ev (after 4 fn.body) (at_ret Ev Post) $ sets ! (of_opd ! (get ! refl)) refl (tt, (record { fits = lit< tt }, tt)) $
+    use0 𝓛 (‵ (Out.own_val None (live 0 vnil ∷ []))) (none_of 𝓛 Sl) $
+    use0 𝓛 (raw (fact 𝓤 (v.shared ≡ None))) (fact_i 𝓤 (v.shared ≡ None) (emp 𝓤) none) $ nothing ! $ nothing ! $ nothing ! $ fjoin ! $
+    returns ! (look_at ! 0 refl) $ free_all ! refl $ keep ! (1 ∷ 0 ∷ 3 ∷ 2 ∷ []) $ by ! (leaves 𝓛 f.ended stayed c z (live 0 vnil) None (tt, tt) (tt, tt)))
+    (λ wrong. absurd wrong)))
+    (λ b o x e some t. let w : Val = two (vptr b o) h in let typed = slot_fits R Z LZ ghosts b o h fits in let is : z.0.4.0 ≡ w ∷ [] = ws ∙ ap (λ (p : Ptr). two (ptr_val p) h ∷ []) e in
+    let u : Val = live 1 (vcons w vnil) in let d : Sl.Denot = record { at = block_ptr b o; alloc = a; value = x } in
+    let good : Good (layout Out) u = (and_tt _ typed.0, (record { fits = lit< tt }, (typed.1, tt))) in
+    move ! (0 ∷ 1 ∷ []) $ slot_in R Z LZ ghosts ! b o h a x $ use1 𝓛 (‵ (Out.own_val (Some d) (u ∷ []))) (Some-of 𝓛 Sl d w) $
+    suffices ! (Run (w ∷ [])) (subst (λ (us : List Val). ent 𝓤 (Run (w ∷ [])) (Run us)) (sym (λ i. is i ++ [])) (id⊢ 𝓤 (Run (w ∷ [])))) $
+    enter ! 𝓣.C 𝓣.Λ fn (w ∷ []) Post $ alloc_all ! (λ l. pass_all ! refl (typed, tt) $ let Ev = env fn.locals l in
+    sets ! (of_opd ! (get_in ! (fld ! refl (stop !)) (sub ! 0 refl (whole !)))) refl (tt, tt) $
+    sets ! (of_opd ! (get_in ! (fld ! refl (stop !)) (sub ! 1 refl (whole !)))) refl fits $
+    sets ! (bin ! (get ! refl) (lit ! tt) (tests_null (block_ptr b o) t)) refl (tt, tt) $
+    first ! $ branches ! (get ! refl) (λ wrong. absurd wrong)
+    (λ _. sets ! (agg ! (and_then ! (get ! refl) (and_then ! (get ! refl) (no_more !)))) refl typed $
+    sets_last ! (agg ! (and_then ! (lit ! tt) (and_then ! (get ! refl) (no_more !)))) refl good $
+    exec ! 𝓣.C 𝓣.Λ Ev (after 4 fn.body) (at_ret Ev Post) $ sets ! (of_opd ! (get ! refl)) refl good $
+    use0 𝓛 (raw (fact 𝓤 (v.shared ≡ Some x))) (fact_i 𝓤 (v.shared ≡ Some x) (emp 𝓤) some) $ nothing ! $ nothing ! $ nothing ! $ fjoin ! $
+    returns ! (look_at ! 0 refl) $ free_all ! refl $ keep ! (1 ∷ 0 ∷ 3 ∷ 2 ∷ []) $ by ! (leaves 𝓛 f.ended stayed c z u (Some d) (tt, tt) (tt, tt)))))))

@@ -1,0 +1,7 @@
+use Rattle.std.proofs.Common.{◌≡◌, length, take}
+use Rattle.zoned_ffi.specs.WrittenTypes.{AreWrittenTypesAt}
+use Rattle.zoned_ffi.proofs.local_type.write_types.Given as goal
+
+-- what is told so far
+abbrev pub invariant-loop-i : goal.invariant-loop-i
+invariant-loop-i l = (length l.types ≡ length l.instants) × AreWrittenTypesAt l.zone (take l.i l.instants) (take l.i l.types)

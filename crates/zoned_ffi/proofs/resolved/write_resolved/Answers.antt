@@ -1,0 +1,12 @@
+use Rattle.std.proofs.Common.{◌∙◌, FitsSigned, arith, get_or, pos, rules, to_z-of_z, w64}
+use Rattle.std.proofs.lemmas.List.{length-set}
+use Rattle.zoned_ffi.specs.Resolved.{IsResolvedAt}
+use Rattle.zoned_ffi.proofs.Slices.{zip_more}
+use Rattle.zoned_ffi.proofs.resolved.write_resolved.Goals as goal
+
+pub loop-i-preserved : goal.loop-i-preserved
+loop-i-preserved c =
+    let at = c.loop-i in
+    let asked : FitsSigned w64 (get_or c.args.locals.now at.i (pos 0)) = search rules in
+    let told = simp to_z-of_z at c.at.ensures in
+    (length-set at.resolved at.i c.at.result ∙ at.invariant.0, zip_more (IsResolvedAt c.args.zone.now c.args.choice) c.args.locals.now at.resolved at.i (pos 0) c.at.result at.invariant.0 (omega arith) at.invariant.1 told)

@@ -1,0 +1,27 @@
+-- The zone that a handle has open, and why a question by a handle is refused.
+use Rattle.std.specs.Prelude.{ℕ, ◌≡◌, ◌≢◌, ◌⊎◌}
+use Rattle.std.specs.Arc.{arc_value}
+use Rattle.std.specs.declared.alloc.Global.{Global}
+use Rattle.std.specs.declared.option.Option.{Option}
+use Rattle.std.specs.declared.option.Option.TheVariants.{None, Some}
+use Rattle.std.specs.declared.sync.Arc.{Arc}
+use Rattle.tz_info.specs.Zones.{Zone}
+use Rattle.zoned_ffi.specs.declared.handle.Handle.{Handle}
+
+-- the zone of a share
+abbrev pub zone_of : Option (Arc Zone Global) → Option Zone
+zone_of None = None
+zone_of (Some share) = Some (arc_value share)
+
+-- the zone is open
+abbrev pub IsOpen : Handle → Zone → Type 0
+IsOpen handle z = zone_of handle.shared ≡ Some z
+
+-- none is
+abbrev pub IsClosed : Handle → Type 0
+IsClosed handle = handle.shared ≡ None
+
+-- why a question is refused: no zone is open; or as many answers are wanted, and there is room for another count of them
+abbrev pub IsUnanswered : Handle → ℕ → ℕ → ℕ → Type 0
+IsUnanswered handle wanted room n =
+    ((n ≡ 33) × IsClosed handle) ⊎ ((n ≡ 32) × ((z : Zone) × IsOpen handle z) × (wanted ≢ room))

@@ -1,0 +1,63 @@
+-- The instants that a choice takes for local times that clocks show never, once or several times.
+use Rattle.std.specs.Prelude.{ℕ, ℤ, ◌≡◌, ◌-ℤ◌, pos, List}
+use Rattle.std.specs.List.{AllZip}
+use Rattle.naive_base.specs.Range.{IsInRange}
+use Rattle.offset_core.specs.WallAnswer.{IsNeverShown, IsShownOnce, IsShownBetween}
+use Rattle.offset_core.specs.declared.choice.Choice.{Choice}
+use Rattle.offset_core.specs.declared.choice.GapChoice.{GapChoice}
+use Rattle.offset_core.specs.declared.choice.GapChoice.TheVariants as gaps
+use Rattle.offset_core.specs.declared.choice.FoldChoice.{FoldChoice}
+use Rattle.offset_core.specs.declared.choice.FoldChoice.TheVariants as folds
+use Rattle.tz_info.specs.Gaps.{IsBeforeGap}
+use Rattle.tz_info.specs.LocalTypes.{LocalType}
+use Rattle.tz_info.specs.WallClocks.{Shows}
+use Rattle.tz_info.specs.Zones.{Zone, TypeAt}
+use Rattle.zoned_ffi.specs.Instants.{IsOffsetAt}
+use Rattle.zoned_ffi.specs.declared.resolved.Resolved.{Resolved}
+
+abbrev pub gap_number : GapChoice → ℕ
+gap_number gaps.Refuse = 0
+gap_number gaps.ShiftForward = 1
+
+abbrev pub fold_number : FoldChoice → ℕ
+fold_number folds.Refuse = 0
+fold_number folds.Earliest = 1
+fold_number folds.Latest = 2
+
+-- the choice of those numbers
+abbrev pub IsChoiceOf : ℕ → ℕ → Choice → Type 0
+IsChoiceOf gap fold choice = (gap ≡ gap_number choice.gap) × (fold ≡ fold_number choice.fold)
+
+-- there is one
+abbrev pub IsChoice : ℕ → ℕ → Type 0
+IsChoice gap fold = (choice : Choice) × IsChoiceOf gap fold choice
+
+-- the type by whose offset a choice takes the local time for an instant: that of the only second which shows it; in a fold that
+-- of the first, or of the last; in a gap the one before it
+pub data IsTaken (z : Zone) (local : ℤ) (choice : Choice) (t : LocalType) : Type 0 where
+  once : IsShownOnce (Shows (TypeAt z) local) t → IsTaken z local choice t
+  earliest : (last : LocalType) → IsShownBetween (Shows (TypeAt z) local) t last → choice.fold ≡ folds.Earliest → IsTaken z local choice t
+  latest : (first : LocalType) → IsShownBetween (Shows (TypeAt z) local) first t → choice.fold ≡ folds.Latest → IsTaken z local choice t
+  shifted : IsBeforeGap (TypeAt z) local t → choice.gap ≡ gaps.ShiftForward → IsTaken z local choice t
+
+-- why the choice takes none, by its number: a gap, or a fold, is refused
+pub data IsNoneTaken (z : Zone) (local : ℤ) (choice : Choice) : ℕ → Type 0 where
+  gap : IsNeverShown (Shows (TypeAt z) local) → choice.gap ≡ gaps.Refuse → IsNoneTaken z local choice 21
+  fold : (first last : LocalType) → IsShownBetween (Shows (TypeAt z) local) first last → choice.fold ≡ folds.Refuse → IsNoneTaken z local choice 22
+
+-- what is written where there is no instant: the number that says why
+abbrev pub unresolved : ℕ → Resolved
+unresolved n = record { number = n; offset = pos 0; instant = pos 0 }
+
+-- What is written of a local time. The instant is the local time less the offset that is taken, and the offset is the one in force
+-- there: in a gap the one after it. The number is 23 where the local time or the instant is outside the calendar's range.
+pub data IsResolvedAt (z : Zone) (choice : Choice) (local : ℤ) (w : Resolved) : Type 0 where
+  found : (t : LocalType) (offset : ℤ) → IsInRange local → IsTaken z local choice t → IsInRange (local -ℤ t.offset) → IsOffsetAt z (local -ℤ t.offset) offset
+      → w ≡ record { number = 0; offset = offset; instant = local -ℤ t.offset } → IsResolvedAt z choice local w
+  none : (n : ℕ) → IsInRange local → IsNoneTaken z local choice n → w ≡ unresolved n → IsResolvedAt z choice local w
+  outside : ¬ (IsInRange local) → w ≡ unresolved 23 → IsResolvedAt z choice local w
+  taken_outside : (t : LocalType) → IsInRange local → IsTaken z local choice t → ¬ (IsInRange (local -ℤ t.offset)) → w ≡ unresolved 23 → IsResolvedAt z choice local w
+
+-- one for each local time, in their order
+abbrev pub AreResolved : Zone → Choice → List ℤ → List Resolved → Type 0
+AreResolved z choice locals resolved = AllZip (IsResolvedAt z choice) locals resolved

@@ -1,0 +1,240 @@
+//! Questions to a zone that C keeps.
+
+ghost use Rattle.std.specs.Prelude.{◌≡◌, ◌≢◌, ◌*◌, ◌⊎◌, length};
+ghost use Rattle.offset_core.specs.declared.choice.Choice.{Choice as AnyChoice};
+ghost use Rattle.tz_info.specs.Zones.{Zone};
+ghost use Rattle.zoned_ffi.specs.Handles.{IsClosed, IsOpen, IsUnanswered};
+ghost use Rattle.zoned_ffi.specs.Instants.{AreOffsetsAt, IsOffsetAt};
+ghost use Rattle.zoned_ffi.specs.Resolved.{AreResolved, IsChoice, IsChoiceOf, IsResolvedAt};
+ghost use Rattle.zoned_ffi.specs.WallClocks.{AreTriples, AreWallClocks, IsWallClockAt};
+ghost use Rattle.zoned_ffi.specs.WrittenTypes.{AreWrittenTypesAt, IsWrittenTypeAt};
+
+use crate::handle::Handle;
+use crate::instants::{answer_instants, offset_at};
+use crate::local_type::{WrittenType, answer_types};
+use crate::refusal::{NOT_OPEN, UNKNOWN_CHOICE};
+use crate::resolved::{Resolved, answer_resolved, choice_of};
+use crate::wall_clock::{WallClock, answer_triples, answer_wall_clocks};
+use std::alloc::Global;
+
+/// Writes the offset in force at the instant, as [`crate::zoned_at`] does.
+#[unsafe(no_mangle)]
+pub extern "C" fn zoned_zone_offset(
+    alloc: Global,
+    zone: &mut Handle,
+    instant: i64,
+    offset: &mut i32,
+) -> u32
+    // 0: what is written is told of the zone.
+    ensures answered { result ≡ 0 → (z : Zone) × IsOpen zone.old z × IsOffsetAt z instant offset.new }
+    // 33: no zone is open, and nothing is written.
+    ensures refused { result ≢ 0 → (result ≡ 33) × IsClosed zone.old × (offset.new ≡ offset.old) }
+    ensures kept { zone.new.shared ≡ zone.old.shared }
+{
+    let Some(share) = zone.take(alloc) else {
+        return NOT_OPEN;
+    };
+    *offset = offset_at(&share, instant);
+    zone.put(share);
+    0
+}
+
+/// Writes the offset in force at each instant, as [`crate::zoned_at`] does.
+#[unsafe(no_mangle)]
+pub extern "C" fn zoned_zone_at(
+    alloc: Global,
+    zone: &mut Handle,
+    instants: &[i64],
+    offsets: &mut [i32],
+) -> u32
+    // 0: each answer is told of the zone.
+    ensures answered { result ≡ 0
+        → (z : Zone) × IsOpen zone.old z × AreOffsetsAt z instants.now offsets.new }
+    // Another number says what is wrong, and nothing is written.
+    ensures refused { result ≢ 0 → IsUnanswered zone.old (length instants.now) (length offsets.old) result
+        × (offsets.new ≡ offsets.old) }
+    ensures kept { zone.new.shared ≡ zone.old.shared }
+{
+    let Some(share) = zone.take(alloc) else {
+        return NOT_OPEN;
+    };
+    let number = answer_instants(&share, instants, offsets);
+    zone.put(share);
+    number
+}
+
+/// Writes the local time type in force at the instant.
+#[unsafe(no_mangle)]
+pub extern "C" fn zoned_zone_type(
+    alloc: Global,
+    zone: &mut Handle,
+    instant: i64,
+    local_type: &mut WrittenType,
+) -> u32
+    // 0: what is written is told of the zone.
+    ensures answered { result ≡ 0 → (z : Zone) × IsOpen zone.old z × IsWrittenTypeAt z instant local_type.new }
+    // 33: no zone is open, and nothing is written.
+    ensures refused { result ≢ 0 → (result ≡ 33) × IsClosed zone.old × (local_type.new ≡ local_type.old) }
+    ensures kept { zone.new.shared ≡ zone.old.shared }
+{
+    let Some(share) = zone.take(alloc) else {
+        return NOT_OPEN;
+    };
+    *local_type = WrittenType::at(&share, instant);
+    zone.put(share);
+    0
+}
+
+/// Writes the local time type in force at each instant.
+#[unsafe(no_mangle)]
+pub extern "C" fn zoned_zone_types(
+    alloc: Global,
+    zone: &mut Handle,
+    instants: &[i64],
+    types: &mut [WrittenType],
+) -> u32
+    // 0: each answer is told of the zone.
+    ensures answered { result ≡ 0
+        → (z : Zone) × IsOpen zone.old z × AreWrittenTypesAt z instants.now types.new }
+    // Another number says what is wrong, and nothing is written.
+    ensures refused { result ≢ 0 → IsUnanswered zone.old (length instants.now) (length types.old) result
+        × (types.new ≡ types.old) }
+    ensures kept { zone.new.shared ≡ zone.old.shared }
+{
+    let Some(share) = zone.take(alloc) else {
+        return NOT_OPEN;
+    };
+    let number = answer_types(&share, instants, types);
+    zone.put(share);
+    number
+}
+
+/// Writes when the zone's clocks show the local time.
+#[unsafe(no_mangle)]
+pub extern "C" fn zoned_zone_wall_clock(
+    alloc: Global,
+    zone: &mut Handle,
+    local: i64,
+    clock: &mut WallClock,
+) -> u32
+    // 0: what is written is told of the zone.
+    ensures answered { result ≡ 0 → (z : Zone) × IsOpen zone.old z × IsWallClockAt z local clock.new }
+    // 33: no zone is open, and nothing is written.
+    ensures refused { result ≢ 0 → (result ≡ 33) × IsClosed zone.old × (clock.new ≡ clock.old) }
+    ensures kept { zone.new.shared ≡ zone.old.shared }
+{
+    let Some(share) = zone.take(alloc) else {
+        return NOT_OPEN;
+    };
+    *clock = WallClock::at(&share, local);
+    zone.put(share);
+    0
+}
+
+/// Writes when the zone's clocks show each local time.
+#[unsafe(no_mangle)]
+pub extern "C" fn zoned_zone_wall_instants(
+    alloc: Global,
+    zone: &mut Handle,
+    locals: &[i64],
+    clocks: &mut [WallClock],
+) -> u32
+    // 0: each answer is told of the zone.
+    ensures answered { result ≡ 0
+        → (z : Zone) × IsOpen zone.old z × AreWallClocks z locals.now clocks.new }
+    // Another number says what is wrong, and nothing is written.
+    ensures refused { result ≢ 0 → IsUnanswered zone.old (length locals.now) (length clocks.old) result
+        × (clocks.new ≡ clocks.old) }
+    ensures kept { zone.new.shared ≡ zone.old.shared }
+{
+    let Some(share) = zone.take(alloc) else {
+        return NOT_OPEN;
+    };
+    let number = answer_wall_clocks(&share, locals, clocks);
+    zone.put(share);
+    number
+}
+
+/// Writes three numbers for each local time, as [`crate::zoned_wall`] does.
+#[unsafe(no_mangle)]
+pub extern "C" fn zoned_zone_wall(
+    alloc: Global,
+    zone: &mut Handle,
+    locals: &[i64],
+    answers: &mut [i32],
+) -> u32
+    // 0: each answer is told of the zone.
+    ensures answered { result ≡ 0
+        → (z : Zone) × IsOpen zone.old z × AreTriples z locals.now answers.new }
+    // Another number says what is wrong, and nothing is written.
+    ensures refused { result ≢ 0 → IsUnanswered zone.old (3 * length locals.now) (length answers.old) result
+        × (answers.new ≡ answers.old) }
+    ensures kept { zone.new.shared ≡ zone.old.shared }
+{
+    let Some(share) = zone.take(alloc) else {
+        return NOT_OPEN;
+    };
+    let number = answer_triples(&share, locals, answers);
+    zone.put(share);
+    number
+}
+
+/// Writes the instant that a choice takes for the local time.
+#[unsafe(no_mangle)]
+pub extern "C" fn zoned_zone_instant(
+    alloc: Global,
+    zone: &mut Handle,
+    gap: u32,
+    fold: u32,
+    local: i64,
+    resolved: &mut Resolved,
+) -> u32
+    // 0: what is written is told of the zone, under the choice of those numbers.
+    ensures answered { result ≡ 0 → (choice : AnyChoice) × IsChoiceOf gap fold choice
+        × ((z : Zone) × IsOpen zone.old z × IsResolvedAt z choice local resolved.new) }
+    // 34: no choice has these numbers. 33: no zone is open. Nothing is written.
+    ensures refused { result ≢ 0 → (((result ≡ 34) × ¬ (IsChoice gap fold))
+        ⊎ ((result ≡ 33) × IsChoice gap fold × IsClosed zone.old)) × (resolved.new ≡ resolved.old) }
+    ensures kept { zone.new.shared ≡ zone.old.shared }
+{
+    let Some(choice) = choice_of(gap, fold) else {
+        return UNKNOWN_CHOICE;
+    };
+    let Some(share) = zone.take(alloc) else {
+        return NOT_OPEN;
+    };
+    *resolved = Resolved::at(&share, choice, local);
+    zone.put(share);
+    0
+}
+
+/// Writes the instant that a choice takes for each local time.
+#[unsafe(no_mangle)]
+pub extern "C" fn zoned_zone_resolve(
+    alloc: Global,
+    zone: &mut Handle,
+    gap: u32,
+    fold: u32,
+    locals: &[i64],
+    resolved: &mut [Resolved],
+) -> u32
+    // 0: each answer is told of the zone, under the choice of those numbers.
+    ensures answered { result ≡ 0 → (choice : AnyChoice) × IsChoiceOf gap fold choice
+        × ((z : Zone) × IsOpen zone.old z × AreResolved z choice locals.now resolved.new) }
+    // 34: no choice has these numbers. Others as in the calls above. Nothing is written.
+    ensures refused { result ≢ 0 → (((result ≡ 34) × ¬ (IsChoice gap fold))
+        ⊎ (IsChoice gap fold
+        × IsUnanswered zone.old (length locals.now) (length resolved.old) result))
+        × (resolved.new ≡ resolved.old) }
+    ensures kept { zone.new.shared ≡ zone.old.shared }
+{
+    let Some(choice) = choice_of(gap, fold) else {
+        return UNKNOWN_CHOICE;
+    };
+    let Some(share) = zone.take(alloc) else {
+        return NOT_OPEN;
+    };
+    let number = answer_resolved(&share, choice, locals, resolved);
+    zone.put(share);
+    number
+}

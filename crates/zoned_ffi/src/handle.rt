@@ -1,0 +1,105 @@
+//! A zone that C keeps: a pointer in C's memory, to a zone that several of them may share.
+
+ghost use Rattle.std.specs.Prelude.{◌≡◌, None, Some};
+ghost use Rattle.std.specs.Option.{MatchOption};
+ghost use Rattle.std.specs.declared.alloc.Global.{Global as Heap};
+ghost use Rattle.std.specs.declared.option.Option.{Option};
+ghost use Rattle.std.specs.declared.sync.Arc.{Arc};
+ghost use Rattle.tz_info.specs.Zones.{Zone};
+ghost use Rattle.zoned_ffi.specs.Owned.{held, shared_row};
+
+use crate::slot::Slot;
+use std::alloc::Global;
+use std::marker::Model;
+use std::mem::replace;
+use std::ptr::null_mut;
+use std::sync::Arc;
+use tz_info::TimeZone;
+
+/// A zone that C keeps. Null where none is open.
+#[repr(C)]
+pub struct Handle {
+    at: *mut u8,
+    alloc: Global,
+    pub ghost shared: { Option (Arc Zone Heap) },
+}
+
+impl Model for Handle {
+    ghost also_owns = { λ handle. held shared_row handle.alloc handle.at handle.shared };
+}
+
+impl Handle {
+    /// None is open.
+    pub fn closed(alloc: Global) -> Handle
+        ensures { result.shared ≡ None }
+    {
+        Handle {
+            at: null_mut(),
+            alloc,
+        }
+    }
+
+    /// The zone of the box is open.
+    pub fn of(shared: Box<Arc<TimeZone>>) -> Handle
+        ensures { result.shared ≡ Some shared.value }
+    {
+        Handle::from_slot(Slot::from_box(shared))
+    }
+
+    fn from_slot(slot: Slot<Arc<TimeZone>, Global>) -> Handle
+        ensures { result.shared ≡ Some slot.value }
+    {
+        let Slot { at, alloc } = slot;
+        Handle {
+            at: at.cast::<u8>(),
+            alloc,
+        }
+    }
+
+    fn into_slot(self) -> Option<Slot<Arc<TimeZone>, Global>>
+        ensures { MatchOption result (self.shared ≡ None) (λ s. self.shared ≡ Some s.value) }
+    {
+        let Handle { at, alloc } = self;
+        if at == null_mut() {
+            None
+        } else {
+            Some(Slot {
+                at: at.cast::<Arc<TimeZone>>(),
+                alloc,
+            })
+        }
+    }
+
+    /// Takes the zone out, if one is open: none is open then.
+    pub fn take(&mut self, alloc: Global) -> Option<Box<Arc<TimeZone>>>
+        ensures taken { MatchOption result (self.old.shared ≡ None)
+            (λ b. self.old.shared ≡ Some b.value) }
+        ensures closed { self.new.shared ≡ None }
+    {
+        match replace(self, Handle::closed(alloc)).into_slot() {
+            Some(slot) => Some(slot.into_box()),
+            None => None,
+        }
+    }
+
+    /// Puts a zone in where none is open.
+    pub fn put(&mut self, shared: Box<Arc<TimeZone>>)
+        requires { self.old.shared ≡ None }
+        ensures { self.new.shared ≡ Some shared.value }
+    {
+        match replace(self, Handle::of(shared)).into_slot() {
+            Some(_) => unreachable!(),
+            None => {}
+        }
+    }
+}
+
+impl Drop for Handle {
+    fn drop(self) {
+        if let Some(slot) = self.into_slot() {
+            drop(slot.into_box());
+        }
+    }
+}
+
+unsafe impl Send for Handle {}

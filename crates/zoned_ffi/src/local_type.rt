@@ -1,0 +1,100 @@
+//! The local time types at instants, as C reads them.
+
+ghost use Rattle.std.specs.Prelude.{◌≡◌, ◌≢◌, Some, length};
+ghost use Rattle.zoned_ffi.specs.WrittenTypes.{AreWrittenTypesAt, IsWrittenTypeAt, mark, no_type, written_type, zero_ended};
+
+use crate::instants::NO_OFFSET;
+use crate::refusal::OTHER_SIZE;
+use tz_info::{LocalTimeType, TimeZone, TimeZoneName};
+
+/// A local time type.
+#[repr(C)]
+#[derive(Clone, Copy)]
+pub struct WrittenType {
+    /// Seconds east of UTC; `i32::MIN` where the zone has no type.
+    pub offset: i32,
+    /// 1 if it is daylight saving time, else 0.
+    pub is_dst: i32,
+    /// Its name, of at most seven bytes, and zeros after it; zeros alone where it has none.
+    pub abbreviation: [u8; 8],
+}
+
+impl WrittenType {
+    /// That in force at the instant.
+    pub fn at(zone: &TimeZone, instant: i64) -> WrittenType
+        ensures { IsWrittenTypeAt zone.now instant result }
+    {
+        match zone.find_local_time_type(instant) {
+            Ok(found) => WrittenType::of(found),
+            Err(_) => WrittenType::none(),
+        }
+    }
+
+    fn of(local_type: &LocalTimeType) -> WrittenType
+        ensures { result ≡ written_type local_type.now }
+    {
+        WrittenType {
+            offset: local_type.offset(),
+            is_dst: mark(local_type.is_dst()),
+            abbreviation: zero_ended(local_type),
+        }
+    }
+
+    fn none() -> WrittenType
+        ensures { result ≡ no_type }
+    {
+        WrittenType {
+            offset: NO_OFFSET,
+            is_dst: 0,
+            abbreviation: [0; 8],
+        }
+    }
+}
+
+fn mark(is_dst: bool) -> i32
+    ensures { result ≡ mark is_dst }
+{
+    if is_dst { 1 } else { 0 }
+}
+
+// The bytes of the type's name, and zeros after them.
+fn zero_ended(local_type: &LocalTimeType) -> [u8; 8]
+    ensures { result ≡ zero_ended local_type.now.name }
+{
+    match local_type.name() {
+        Some(name) => padded(name),
+        None => [0; 8],
+    }
+}
+
+fn padded(name: &TimeZoneName) -> [u8; 8]
+    ensures { result ≡ zero_ended (Some name.now) }
+{
+    let name = name.as_bytes();
+    let mut bytes = [0; 8];
+    bytes[..name.len()].copy_from_slice(name);
+    bytes
+}
+
+/// Writes the type at each instant, where there is room for as many: 0, or why not.
+pub fn answer_types(zone: &TimeZone, instants: &[i64], types: &mut [WrittenType]) -> u32
+    ensures answered { result ≡ 0 → AreWrittenTypesAt zone.now instants.now types.new }
+    ensures refused { result ≢ 0 → (result ≡ 32)
+        × (length instants.now ≢ length types.old) × (types.new ≡ types.old) }
+{
+    if instants.len() != types.len() {
+        return OTHER_SIZE;
+    }
+    write_types(zone, instants, types);
+    0
+}
+
+// Writes the type at each instant.
+fn write_types(zone: &TimeZone, instants: &[i64], types: &mut [WrittenType])
+    requires { length instants.now ≡ length types.old }
+    ensures { AreWrittenTypesAt zone.now instants.now types.new }
+{
+    for (i, instant) in instants.iter().enumerate() {
+        types[i] = WrittenType::at(zone, *instant);
+    }
+}

@@ -1,0 +1,101 @@
+//! Zones that C keeps: opened, shared and closed.
+
+ghost use Rattle.std.specs.Prelude.{◌≡◌, ◌≢◌, ◌⊎◌, IfErr, IfOk, IfSome};
+ghost use Rattle.std.specs.Arc.{arc_value};
+ghost use Rattle.tz_info.specs.Zones.{Zone};
+ghost use Rattle.zoned_ffi.specs.Handles.{IsClosed, IsOpen};
+ghost use Rattle.zoned_ffi.specs.Kinds.{IsZoneOf};
+ghost use Rattle.zoned_ffi.specs.Refusals.{IsRefusal, refusal_number};
+
+use crate::handle::Handle;
+use crate::kind::read_zone;
+use crate::refusal::{NOT_OPEN, OUT_OF_MEMORY, Refusal};
+use std::alloc::Global;
+use std::sync::Arc;
+use tz_info::{Error, TimeZone};
+
+/// Reads the zone, and opens it. A zone that `out` had open is closed.
+#[unsafe(no_mangle)]
+pub extern "C" fn zoned_open(alloc: Global, kind: u32, zone: &[u8], out: &mut Handle) -> u32
+    // 0: the zone that the bytes spell is open.
+    ensures opened { result ≡ 0 → (z : Zone) × IsZoneOf kind zone.now z × IsOpen out.new z }
+    // Another number says what is wrong, and `out` is as it was.
+    ensures refused { result ≢ 0 → IsRefusal kind zone.now 0 0 result × (out.new ≡ out.old) }
+    // The zone that is spelled is opened, unless memory runs out.
+    ensures only { (z : Zone) → IsZoneOf kind zone.now z → (result ≡ 0) ⊎ (result ≡ 17) }
+{
+    match opened(alloc, kind, zone) {
+        Ok(handle) => {
+            *out = handle;
+            0
+        }
+        Err(refusal) => refusal.number(),
+    }
+}
+
+// The zone of the bytes.
+fn opened(alloc: Global, kind: u32, bytes: &[u8]) -> Result<Handle, Refusal>
+    ensures found { IfOk result (λ handle. (z : Zone) × IsZoneOf kind bytes.now z × IsOpen handle z) }
+    ensures only { (z : Zone) → IsZoneOf kind bytes.now z
+        → IfErr result (λ e. refusal_number e ≡ 17) }
+    ensures fault { IfErr result (λ e. IsRefusal kind bytes.now 0 0 (refusal_number e)) }
+{
+    match read_zone(alloc, kind, bytes, true) {
+        Ok(zone) => match boxed(alloc, zone) {
+            Some(handle) => Ok(handle),
+            None => Err(Refusal::Reader(Error::OutOfMemory)),
+        },
+        Err(refusal) => Err(refusal),
+    }
+}
+
+// The zone, of which there is one share.
+fn boxed(alloc: Global, zone: TimeZone) -> Option<Handle>
+    ensures { IfSome result (λ handle. IsOpen handle zone) }
+{
+    let share = Arc::new(alloc, zone).ok()?;
+    let share = Box::new(alloc, share).ok()?;
+    Some(Handle::of(share))
+}
+
+/// Opens the zone of `zone` in `out` too, without reading it anew. A zone that `out` had open is
+/// closed.
+#[unsafe(no_mangle)]
+pub extern "C" fn zoned_share(alloc: Global, zone: &mut Handle, out: &mut Handle) -> u32
+    // 0: both have the zone open.
+    ensures shared { result ≡ 0 → (z : Zone) × IsOpen zone.old z × IsOpen out.new z }
+    // Another number: 33 where none is open, 17 where memory ran out; `out` is as it was.
+    ensures refused { result ≢ 0 → ((result ≡ 33) × IsClosed zone.old
+        ⊎ (result ≡ 17) × ((z : Zone) × IsOpen zone.old z)) × (out.new ≡ out.old) }
+    ensures kept { zone.new.shared ≡ zone.old.shared }
+{
+    let Some(share) = zone.take(alloc) else {
+        return NOT_OPEN;
+    };
+    let second = second(alloc, &share);
+    zone.put(share);
+    match second {
+        Some(handle) => {
+            *out = handle;
+            0
+        }
+        None => OUT_OF_MEMORY,
+    }
+}
+
+// One more share of the zone.
+fn second(alloc: Global, share: &Arc<TimeZone>) -> Option<Handle>
+    ensures { IfSome result (λ handle. IsOpen handle (arc_value share.now)) }
+{
+    let share = Arc::try_clone(share).ok()?;
+    let share = Box::new(alloc, share).ok()?;
+    Some(Handle::of(share))
+}
+
+/// Closes the zone, if one is open. Its last share frees it.
+#[unsafe(no_mangle)]
+pub extern "C" fn zoned_close(alloc: Global, zone: &mut Handle)
+    ensures { IsClosed zone.new }
+{
+    *zone = Handle::closed(alloc);
+}

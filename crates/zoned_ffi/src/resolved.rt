@@ -1,0 +1,182 @@
+//! The instants that a choice takes for local times.
+
+ghost use Rattle.std.specs.Prelude.{◌≡◌, ◌≢◌, ◌-ℤ◌, pos, length, MatchOption, MatchResult};
+ghost use Rattle.naive_base.specs.NaiveDateTime.{reading};
+ghost use Rattle.naive_base.specs.Range.{IsInRange};
+ghost use Rattle.offset_core.specs.WallAnswer.{IsNeverShown};
+ghost use Rattle.offset_core.specs.declared.choice.FoldChoice.{FoldChoice as AnyFold};
+ghost use Rattle.offset_core.specs.declared.choice.GapChoice.{GapChoice as AnyGap};
+ghost use Rattle.tz_info.specs.Gaps.{IsBeforeGap};
+ghost use Rattle.tz_info.specs.WallClocks.{Shows};
+ghost use Rattle.tz_info.specs.Zones.{TypeAt};
+ghost use Rattle.zoned_ffi.specs.Resolved.{AreResolved, IsChoice, IsChoiceOf, IsNoneTaken, IsResolvedAt, IsTaken, fold_number, gap_number, unresolved};
+ghost use Rattle.zoned_ffi.specs.Steps.ResolvedInstants.{IsInstant};
+
+use crate::instants::offset_at;
+use crate::refusal::OTHER_SIZE;
+use naive_base::NaiveDateTime;
+use offset_core::{Choice, FoldChoice, GapChoice, MappedLocalTime};
+use tz_info::{LocalTimeType, TimeZone};
+
+// The local time lies in a gap, and the choice refuses gaps.
+const GAP: u32 = 21;
+
+// It lies in a fold, and the choice refuses folds.
+const FOLD: u32 = 22;
+
+// It or the instant is outside the calendar's range.
+const OUT_OF_RANGE: u32 = 23;
+
+/// The choice of those numbers: of a gap 0 is refused, and 1 shifted forward; of a fold 0 is
+/// refused, 1 the earliest and 2 the latest.
+pub fn choice_of(gap: u32, fold: u32) -> Option<Choice>
+    ensures { MatchOption result (¬ (IsChoice gap fold)) (λ choice. IsChoiceOf gap fold choice) }
+{
+    Some(Choice {
+        gap: gap_choice_of(gap)?,
+        fold: fold_choice_of(fold)?,
+    })
+}
+
+fn gap_choice_of(number: u32) -> Option<GapChoice>
+    ensures { MatchOption result ((choice : AnyGap) → number ≢ gap_number choice)
+        (λ choice. number ≡ gap_number choice) }
+{
+    match number {
+        0 => Some(GapChoice::Refuse),
+        1 => Some(GapChoice::ShiftForward),
+        _ => None,
+    }
+}
+
+fn fold_choice_of(number: u32) -> Option<FoldChoice>
+    ensures { MatchOption result ((choice : AnyFold) → number ≢ fold_number choice)
+        (λ choice. number ≡ fold_number choice) }
+{
+    match number {
+        0 => Some(FoldChoice::Refuse),
+        1 => Some(FoldChoice::Earliest),
+        2 => Some(FoldChoice::Latest),
+        _ => None,
+    }
+}
+
+/// The instant that a choice takes for a local time.
+#[repr(C)]
+#[derive(Clone, Copy)]
+pub struct Resolved {
+    /// 0, or why there is none.
+    pub number: u32,
+    /// The offset in force at the instant, in seconds east of UTC.
+    pub offset: i32,
+    /// The instant, in Unix seconds.
+    pub instant: i64,
+}
+
+impl Resolved {
+    /// That of the local time: so many seconds after 1970-01-01 00:00:00 on a clock, every day
+    /// counted as 86,400.
+    pub fn at(zone: &TimeZone, choice: Choice, local: i64) -> Resolved
+        ensures { IsResolvedAt zone.now choice local result }
+    {
+        let Some(reading) = NaiveDateTime::from_timestamp_opt(local, 0) else {
+            return Resolved::none(OUT_OF_RANGE);
+        };
+        match taken(zone, choice, reading) {
+            Ok(local_type) => Resolved::of_instant(zone, instant_by(local, local_type.offset())),
+            Err(number) => Resolved::none(number),
+        }
+    }
+
+    // That instant, where it is in range.
+    fn of_instant(zone: &TimeZone, instant: i64) -> Resolved
+        ensures { IsInstant zone.now instant result }
+    {
+        match NaiveDateTime::from_timestamp_opt(instant, 0) {
+            Some(_) => Resolved {
+                number: 0,
+                offset: offset_at(zone, instant),
+                instant,
+            },
+            None => Resolved::none(OUT_OF_RANGE),
+        }
+    }
+
+    fn none(number: u32) -> Resolved
+        ensures { result ≡ unresolved number }
+    {
+        Resolved {
+            number,
+            offset: 0,
+            instant: 0,
+        }
+    }
+}
+
+// The second at which a clock of that offset shows the local time.
+fn instant_by(local: i64, offset: i32) -> i64
+    requires { IsInRange local }
+    ensures { result ≡ local -ℤ offset }
+{
+    local - i64::from(offset)
+}
+
+// The type by whose offset the choice takes the reading for an instant, or why it takes none.
+fn taken(zone: &TimeZone, choice: Choice, local: NaiveDateTime) -> Result<LocalTimeType, u32>
+    ensures { MatchResult result (λ t. IsTaken zone.now (reading local).s choice t)
+        (λ n. IsNoneTaken zone.now (reading local).s choice n) }
+{
+    match zone.find_local_time_type_from_local(local) {
+        Ok(MappedLocalTime::None) => taken_in_gap(zone, choice, local),
+        Ok(MappedLocalTime::Single(only)) => Ok(only),
+        Ok(MappedLocalTime::Ambiguous(first, last)) => match choice.fold {
+            FoldChoice::Refuse => Err(FOLD),
+            FoldChoice::Earliest => Ok(first),
+            FoldChoice::Latest => Ok(last),
+        },
+        Err(_) => unreachable!(),
+    }
+}
+
+fn taken_in_gap(zone: &TimeZone, choice: Choice, local: NaiveDateTime) -> Result<LocalTimeType, u32>
+    requires { IsNeverShown (Shows (TypeAt zone.now) (reading local).s) }
+    ensures { MatchResult result (λ t. IsTaken zone.now (reading local).s choice t)
+        (λ n. IsNoneTaken zone.now (reading local).s choice n) }
+{
+    match choice.gap {
+        GapChoice::Refuse => Err(GAP),
+        GapChoice::ShiftForward => match zone.find_local_time_type_before_gap(local) {
+            Some(before) => Ok(before),
+            None => unreachable!(),
+        },
+    }
+}
+
+/// Writes what the choice takes for each local time, where there is room for as many: 0, or why
+/// not.
+pub fn answer_resolved(
+    zone: &TimeZone,
+    choice: Choice,
+    locals: &[i64],
+    resolved: &mut [Resolved],
+) -> u32
+    ensures answered { result ≡ 0 → AreResolved zone.now choice locals.now resolved.new }
+    ensures refused { result ≢ 0 → (result ≡ 32)
+        × (length locals.now ≢ length resolved.old) × (resolved.new ≡ resolved.old) }
+{
+    if locals.len() != resolved.len() {
+        return OTHER_SIZE;
+    }
+    write_resolved(zone, choice, locals, resolved);
+    0
+}
+
+// Writes what the choice takes for each local time.
+fn write_resolved(zone: &TimeZone, choice: Choice, locals: &[i64], resolved: &mut [Resolved])
+    requires { length locals.now ≡ length resolved.old }
+    ensures { AreResolved zone.now choice locals.now resolved.new }
+{
+    for (i, local) in locals.iter().enumerate() {
+        resolved[i] = Resolved::at(zone, choice, *local);
+    }
+}

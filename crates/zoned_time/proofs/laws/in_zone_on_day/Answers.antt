@@ -1,0 +1,8 @@
+use Rattle.zoned_time.specs.DateTime.{zoned, home_of}
+use Rattle.zoned_time.proofs.Stays.{stays, only_where_in}
+use Rattle.zoned_time.proofs.laws.in_zone_on_day.Goals as goal
+
+pub returns : goal.returns
+returns g c = let d = zoned c.args.before.now in let e = zoned c.args.after.now in
+    stays (g.Tz.TimeZone.law c.args.zone.now) d.utc.s e.utc.s d.offset e.offset c.args.after.now.in_range c.requires.before
+    (only_where_in (home_of g.Tz.TimeZone.meaning c.args.before.now) _ e c.requires.after.1)

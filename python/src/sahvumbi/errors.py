@@ -1,0 +1,96 @@
+"""What is wrong with a zone or with a row of a column: the refusal's number, and its words.
+
+>>> import sahvumbi
+>>> try:
+...     sahvumbi.Zone.from_text("EST5EDT")
+... except sahvumbi.ZoneRefusedError as refused:
+...     print(refused.number, refused.words)
+15 a TZ text that names daylight saving time, and ends after the name or the offset
+"""
+
+from __future__ import annotations
+
+from typing import Any
+
+NO_OFFSET = 2
+GAP = 21
+FOLD = 22
+OUT_OF_RANGE = 23
+
+#: The words of each number that a zone is refused with, and of each that a row is.
+WORDS = {
+    NO_OFFSET: "the zone has no offset at this instant",
+    3: "an offset or a name that no local time type can have",
+    5: "a fault in the form of a TZif file",
+    6: "hours, minutes, seconds or an offset of a TZ text above their limits, or bytes left over",
+    7: "fewer bytes than must come",
+    8: "another byte than the one that must come",
+    10: "no digit where a number must come, or a number above its limit",
+    12: "lists that make no valid zone",
+    13: "a value out of its limits in a rule",
+    14: "a TZif version other than 1, 2 and 3",
+    15: "a TZ text that names daylight saving time, and ends after the name or the offset",
+    16: "a text that is not UTF-8",
+    17: "no memory for the zone",
+    GAP: "no clock of the zone shows that time",
+    FOLD: "clocks of the zone show that time more than once",
+    OUT_OF_RANGE: "the instant is out of range",
+}
+
+
+class ZoneError(ValueError):
+    """An error of this package: `number` is the refusal's number, `words` say what it means."""
+
+    number: int
+    words: str
+
+
+class ZoneRefusedError(ZoneError):
+    """The bytes are no zone."""
+
+    def __init__(self, number: int, what: str = "the zone"):
+        self.number = number
+        self.words = WORDS.get(number, "a fault of another kind")
+        self.what = what
+        super().__init__(number, what)
+
+    def __str__(self) -> str:
+        return f"{self.what} is refused: {self.words} ({self.number})"
+
+
+class RowError(ZoneError):
+    """A row that has no answer. No row is answered then.
+
+    `row` is its place from 0 on, in the order of the rows (of an array of several dimensions in C
+    order), `value` is what stands there, and `label` is its label in the index of a pandas Series,
+    else None.
+    """
+
+    def __init__(
+        self, row: int, value: Any, number: int, words: str | None = None, label: Any = None
+    ):
+        self.row, self.value, self.number, self.label = row, value, number, label
+        self.words = words or WORDS[number]
+        super().__init__(row, value, number, self.words, label)
+
+    def __str__(self) -> str:
+        place = (
+            f"row {self.row}" if self.label is None else f"row {self.row} (label {self.label!r})"
+        )
+        return f"{place}: {self.value}: {self.words} ({self.number})"
+
+
+class GapError(RowError):
+    """The zone's clocks skipped that local time (21)."""
+
+
+class FoldError(RowError):
+    """The zone's clocks showed that local time more than once (22)."""
+
+
+class OutOfRangeError(RowError):
+    """The answer is out of range, or doesn't fit the type of the column (23)."""
+
+
+class NoOffsetError(RowError):
+    """The zone has no offset at that instant (2)."""

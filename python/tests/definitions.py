@@ -1,0 +1,73 @@
+"""What is right, by the definitions: zones made of lists, and answers by looking at each second."""
+
+from __future__ import annotations
+
+import itertools
+import struct
+from bisect import bisect_right
+
+NEVER, ONCE, SEVERAL_TIMES = 0, 1, 2
+
+
+def tzif(transitions, offsets, footer=""):
+    """A TZif file of version 2 (RFC 8536); transitions are (second, place in offsets)."""
+    types = b"".join(struct.pack(">lBB", offset, 0, 0) for offset in offsets)
+    empty = (
+        b"TZif2"
+        + bytes(15)
+        + struct.pack(">6L", 0, 0, 0, 0, 1, 4)
+        + struct.pack(">lBB", 0, 0, 0)
+        + b"UTC\0"
+    )
+    head = b"TZif2" + bytes(15) + struct.pack(">6L", 0, 0, 0, len(transitions), len(offsets), 4)
+    times = b"".join(struct.pack(">q", second) for second, _ in transitions)
+    places = bytes(place for _, place in transitions)
+    return empty + head + times + places + types + b"UTC\0" + b"\n" + footer.encode() + b"\n"
+
+
+class Lists:
+    """A zone without a rule: the first offset, and from each transition on its own."""
+
+    def __init__(self, transitions, offsets):
+        self.transitions, self.offsets = transitions, offsets
+        self.seconds = [second for second, _ in transitions]
+
+    def file(self):
+        return tzif(self.transitions, self.offsets)
+
+    def offset(self, instant):
+        come = bisect_right(self.seconds, instant)
+        return self.offsets[self.transitions[come - 1][1] if come else 0]
+
+    def shown_at(self, local, window):
+        """Each second of the window at which a clock shows the local time."""
+        return [second for second in window if second + self.offset(second) == local]
+
+    def before_gap(self, local, window):
+        """The offset at the second before the first of those at which clocks show more."""
+        first = next(second for second in window if second + self.offset(second) > local)
+        return self.offset(first - 1)
+
+
+def shown_times(seconds):
+    return min(len(seconds), SEVERAL_TIMES)
+
+
+def inferred(candidates):
+    """Each row's instant if one choice keeps the order, or the first row that none or two tell."""
+    for count in range(1, len(candidates) + 1):
+        if not choices_in_order(candidates[:count]):
+            return None, count - 1
+    choices = choices_in_order(candidates)
+    for row in range(len(candidates)):
+        if len({choice[row] for choice in choices}) > 1:
+            return None, row
+    return list(choices[0]) if choices else [], None
+
+
+def choices_in_order(candidates):
+    return [
+        each
+        for each in itertools.product(*candidates)
+        if all(a <= b for a, b in zip(each, each[1:]))
+    ]

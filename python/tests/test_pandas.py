@@ -1,0 +1,156 @@
+"""Series: name, index and NaT are kept."""
+
+import numpy as np
+import pandas as pd
+import pytest
+
+import sahvumbi
+from sahvumbi import Zone
+
+NEW_YORK = Zone.from_text("EST5EDT,M3.2.0,M11.1.0")
+INDEX = pd.Index(["a", "b", "b"], name="row")
+LOCALS = pd.Series(
+    pd.to_datetime(["2021-07-01 08:00:00.5", None, "2021-01-01 07:00"]), index=INDEX, name="when"
+)
+INSTANTS = pd.Series(
+    pd.to_datetime(["2021-07-01 12:00:00.5", None, "2021-01-01 12:00"], utc=True),
+    index=INDEX,
+    name="when",
+)
+GAP = pd.Series(
+    pd.to_datetime(["2021-07-01 08:00", "2021-03-14 02:30"]), index=["x", "y"], name="when"
+)
+
+
+def test_localize():
+    pd.testing.assert_series_equal(NEW_YORK.localize(LOCALS), INSTANTS)
+    pd.testing.assert_series_equal(NEW_YORK.localize(LOCALS, fold="infer"), INSTANTS)
+
+
+def test_to_local():
+    pd.testing.assert_series_equal(NEW_YORK.to_local(INSTANTS), LOCALS)
+    pd.testing.assert_series_equal(NEW_YORK.to_local(INSTANTS.dt.tz_localize(None)), LOCALS)
+    pd.testing.assert_series_equal(NEW_YORK.to_local(INSTANTS.dt.tz_convert("Asia/Tokyo")), LOCALS)
+
+
+def test_offsets():
+    expected = pd.Series(pd.to_timedelta([-4, None, -5], "h"), index=INDEX, name="when")
+    pd.testing.assert_series_equal(NEW_YORK.offsets(INSTANTS), expected)
+    seconds = pd.Series([0, 1_625_140_800], index=["x", "y"], name="when")
+    expected = pd.Series(np.array([-18_000, -14_400], np.int32), index=["x", "y"], name="when")
+    pd.testing.assert_series_equal(NEW_YORK.offsets(seconds), expected)
+
+
+def test_explain():
+    column = pd.Series(
+        pd.to_datetime(["2021-11-07 01:30", "2021-03-14 02:30", None]), index=INDEX, name="when"
+    )
+    frame = NEW_YORK.explain(column)
+    assert list(frame.columns) == list(sahvumbi.WallClocks._fields)
+    assert frame.index.equals(INDEX) and frame["shown"].tolist() == [2, 0, -1]
+    assert frame["first"].tolist()[0] == pd.Timestamp("2021-11-07 05:30", tz="UTC")
+    assert frame["last"].tolist()[0] == pd.Timestamp("2021-11-07 06:30", tz="UTC")
+    assert (
+        frame["first"].isna().tolist()
+        == frame["last_offset"].isna().tolist()
+        == [False, True, True]
+    )
+    assert frame["last_offset"].tolist()[0] == pd.Timedelta(-5, "h")
+
+
+def test_errors_tell_row_and_label():
+    with pytest.raises(sahvumbi.GapError) as raised:
+        NEW_YORK.localize(GAP)
+    assert (raised.value.row, raised.value.label, raised.value.value) == (
+        1,
+        "y",
+        np.datetime64("2021-03-14T02:30", "ns"),
+    )
+    assert "row 1 (label 'y')" in str(raised.value)
+    with pytest.raises(sahvumbi.OutOfRangeError) as raised:
+        NEW_YORK.offsets(pd.Series([0, 2**63], index=["x", "y"], dtype="uint64"))
+    assert (raised.value.row, raised.value.label, raised.value.value) == (1, "y", 2**63)
+
+
+def test_choices():
+    assert NEW_YORK.localize(GAP, gap="nat").isna().tolist() == [False, True]
+    assert NEW_YORK.localize(GAP, gap="shift").tolist()[1] == pd.Timestamp(
+        "2021-03-14 03:30", tz="America/New_York"
+    )
+
+
+def test_what_is_no_column_is_refused():
+    for column in (
+        INSTANTS,
+        pd.Series([1.5]),
+        pd.Series(["2021-01-01"]),
+        pd.Series([1, None], dtype="Int64"),
+        LOCALS.dt.to_period("D"),
+    ):
+        with pytest.raises(TypeError):
+            NEW_YORK.localize(column)
+    with pytest.raises(TypeError, match="to_series"):
+        NEW_YORK.to_local(pd.DatetimeIndex(["2021-01-01"]))
+
+
+def test_empty_and_views():
+    empty = LOCALS[:0]
+    answer = NEW_YORK.localize(empty)
+    assert len(answer) == 0 and answer.name == "when" and answer.dtype == INSTANTS.dtype
+    frame = pd.DataFrame({"a": LOCALS.to_numpy(), "b": LOCALS.to_numpy()[::-1]})
+    pd.testing.assert_series_equal(
+        NEW_YORK.localize(frame["b"][::-1]).reset_index(drop=True),
+        NEW_YORK.localize(frame["a"]),
+        check_names=False,
+    )
+    before = LOCALS.copy()
+    NEW_YORK.localize(LOCALS)
+    pd.testing.assert_series_equal(LOCALS, before)
+
+
+@pytest.mark.parametrize(
+    "key",
+    [
+        "America/New_York",
+        "Europe/London",
+        "Australia/Lord_Howe",
+        "Africa/Casablanca",
+        "Pacific/Apia",
+    ],
+)
+def test_beside_pandas(key):
+    """From 1970 to 2036, where pandas is right, in each quarter of an hour of each third day."""
+    zone = Zone.from_file(f"/usr/share/zoneinfo/{key}")
+    days = np.arange("1970-01-05", "2036-12-25", 3, dtype="M8[D]").astype("M8[ns]")
+    instants = pd.Series(
+        (days[:, None] + np.arange(0, 86_400, 900) * np.timedelta64(1, "s")).reshape(-1)
+    ).dt.tz_localize("UTC")
+    local = instants.dt.tz_convert(key).dt.tz_localize(None)
+    pd.testing.assert_series_equal(zone.to_local(instants), local)
+    theirs = local.dt.tz_localize(key, ambiguous="NaT", nonexistent="NaT").dt.tz_convert("UTC")
+    pd.testing.assert_series_equal(zone.localize(local, gap="nat", fold="nat"), theirs)
+
+
+@pytest.mark.parametrize("key", ["America/New_York", "Europe/London", "Australia/Lord_Howe"])
+def test_infer_beside_pandas(key):
+    """Each ten minutes of four years, in order."""
+    zone = Zone.from_file(f"/usr/share/zoneinfo/{key}")
+    instants = pd.Series(pd.date_range("2018-01-01", "2022-01-01", freq="10min", tz="UTC"))
+    local = zone.to_local(instants)
+    pd.testing.assert_series_equal(zone.localize(local, fold="infer"), instants)
+    theirs = local.dt.tz_localize(key, ambiguous="infer").dt.tz_convert("UTC")
+    pd.testing.assert_series_equal(zone.localize(local, fold="infer"), theirs)
+
+
+def test_partitions_of_dask():
+    """A zone goes to the partitions of a data frame of Dask as it is."""
+    frames = pytest.importorskip("dask.dataframe")
+    instants = pd.Series(
+        pd.date_range("2021-01-01", "2021-12-31", freq="1h", tz="UTC"), name="when"
+    )
+    answer = frames.from_pandas(instants, npartitions=3).map_partitions(
+        NEW_YORK.to_local, meta=("when", "M8[ns]")
+    )
+    pd.testing.assert_series_equal(
+        answer.compute(scheduler="synchronous"), NEW_YORK.to_local(instants)
+    )

@@ -1,0 +1,82 @@
+#!/usr/bin/env bash
+# Builds and installs the Python package of python/, and tries it.
+#
+# usage: tools/python_tests.sh
+#
+# It needs crates/zoned_ffi/out/libzoned_ffi.a, which `rt lib` builds in crates/zoned_ffi, gcc, and
+# Debian's packages below, for Debian's own python3. What of them is missing is installed by
+# apt-get, as root. Nothing else is fetched. It tries, in a minute or less,
+#
+# - the lines of README.md that build the library and install the package, in an environment of its
+#   own;
+# - the tests of python/tests, by pytest and hypothesis, with the same examples in each run;
+# - the examples in docstrings;
+# - examples/at_scale.py on 100,000 rows, with one of its workers ended midway.
+set -euo pipefail
+cd "$(dirname "$0")/.."
+PACKAGES=(gcc libc6-dev tzdata python3 python3-venv python3-pip python3-setuptools python3-wheel
+  python3-numpy python3-pandas python3-pytest python3-hypothesis python3-dask python3-distributed)
+ARCHIVE=crates/zoned_ffi/out/libzoned_ffi.a
+
+fail() {
+  printf 'tools/python_tests.sh: %s\n' "$1" >&2
+  exit 1
+}
+
+# Runs a command quietly; where it fails, prints the end of what it said.
+quietly() {
+  "$@" </dev/null >"$room/log" 2>&1 || {
+    tail -n 20 "$room/log" >&2
+    fail "this failed: $*"
+  }
+}
+
+is_installed() {
+  [ "$(dpkg-query -W -f '${db:Status-Status}' "$1" 2>/dev/null)" = installed ]
+}
+
+install_packages() {
+  command -v apt-get >/dev/null || fail "needs Debian's packages: ${PACKAGES[*]}"
+  local missing=()
+  for package in "${PACKAGES[@]}"; do
+    is_installed "$package" || missing+=("$package")
+  done
+  [ ${#missing[@]} -eq 0 ] && return
+  [ "$(id -u)" -eq 0 ] || fail "as root: apt-get install ${missing[*]}"
+  echo "installing ${missing[*]}"
+  export DEBIAN_FRONTEND=noninteractive
+  quietly apt-get -q update
+  quietly apt-get -q -y install --no-install-recommends "${missing[@]}"
+}
+
+[ $# -eq 0 ] || fail 'takes no arguments'
+room=$(mktemp -d)
+trap 'rm -rf "$room"' EXIT
+install_packages
+[ -f "$ARCHIVE" ] || fail "$ARCHIVE is missing: (cd crates/zoned_ffi && rt lib)"
+
+# The lines of README, with an environment that is thrown away.
+line() {
+  local found
+  found=$(grep -m 1 "^$1" README.md) || fail "README.md has no line: $1"
+  grep -qxF -- "$found" python/README.md || fail "python/README.md has not the line: $found"
+  sed "s|\.venv|$room/venv|" <<<"$found"
+}
+for start in 'gcc -shared -o python/' '/usr/bin/python3 -m venv' '\.venv/bin/pip install'; do
+  found=$(line "$start")
+  quietly bash -c "$found"
+done
+
+export PYTHONDONTWRITEBYTECODE=1
+python() {
+  "$room/venv/bin/python" "$@" </dev/null
+}
+where=$(cd "$room" && python -c 'import sahvumbi; print(sahvumbi.__file__)')
+case $where in
+  "$room"/venv/*) ;;
+  *) fail "the package is taken from $where" ;;
+esac
+python -m pytest -q -p no:cacheprovider python/tests
+python -m pytest -q -p no:cacheprovider --doctest-modules --pyargs sahvumbi
+timeout 120 "$room/venv/bin/python" examples/at_scale.py --rows 100000 --partition 5000 \
+  --workers 1,2 --kill --folder "$room/at_scale" </dev/null || fail 'examples/at_scale.py failed'

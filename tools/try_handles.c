@@ -1,0 +1,490 @@
+/* Tries the calls of zoned_ffi.h by handle, as a C program makes them. tools/try_handles.py builds and runs it.
+
+     try_handles CALLS SEED FILE ..       of these TZif files, and of TZ texts
+
+   Random calls: handles are opened on zones, on parts of their bytes and on bytes with faults, by kinds that are and that
+   aren't, shared, closed and asked, with counts that fit and that don't. What a handle answers is compared with what the calls
+   without a handle say of the bytes that it was opened on. Then eight threads ask one zone, each by a share of its own; the
+   shares of a zone are closed in every order; and each request for memory of a call that opens is refused in turn. It prints a
+   line, and ends with 0 if nothing differs. Linked with --wrap=malloc and --wrap=realloc. */
+#include "../crates/zoned_ffi/include/zoned_ffi.h"
+
+#include <inttypes.h>
+#include <pthread.h>
+#include <stdio.h>
+#include <stdlib.h>
+#include <string.h>
+
+#define EXPECT(what)                                                                                                       \
+    do {                                                                                                                   \
+        if (!(what)) {                                                                                                     \
+            fprintf(stderr, "try_handles.c:%d: not so: %s (call %" PRIu64 ")\n", __LINE__, #what, calls);                  \
+            exit(1);                                                                                                       \
+        }                                                                                                                  \
+    } while (0)
+
+enum { HANDLES = 12, MOST = 6, THREADS = 8, NONE = -1, SIZE_OF_RANDOM_BYTES = 300 };
+
+static uint64_t calls;
+
+/* Requests for memory: how many are granted before one is refused, or all where it is negative. */
+static long granted = -1;
+
+void *__real_malloc(size_t size);
+void *__real_realloc(void *block, size_t size);
+
+static int is_refused(void) {
+    if (granted < 0) return 0;
+    if (granted == 0) return 1;
+    granted--;
+    return 0;
+}
+
+void *__wrap_malloc(size_t size) { return is_refused() ? NULL : __real_malloc(size); }
+
+void *__wrap_realloc(void *block, size_t size) { return is_refused() ? NULL : __real_realloc(block, size); }
+
+/* The bytes of a zone, and how they are read. */
+struct bytes {
+    uint32_t kind;
+    uint8_t *at;
+    size_t len;
+};
+
+static const char *const TEXTS[] = {"UTC0", "EST5EDT,M3.2.0,M11.1.0", "<-03>3", "LHST-10:30LHDT-11,M10.1.0,M4.1.0", ""};
+
+static struct bytes zones[64];
+static size_t zone_count;
+
+/* A handle, and the bytes that it was opened on: none where `of.at` is NULL. */
+struct tried {
+    struct zoned_zone zone;
+    struct bytes of;
+};
+
+static struct tried tried[HANDLES];
+
+static uint64_t state;
+
+static uint64_t next(void) {
+    state ^= state << 13;
+    state ^= state >> 7;
+    state ^= state << 17;
+    return state;
+}
+
+static uint64_t below(uint64_t limit) { return next() % limit; }
+
+static struct bytes copy(struct bytes bytes) {
+    struct bytes copied = bytes;
+    copied.at = malloc(bytes.len + 1);
+    if (!copied.at) exit(2);
+    if (bytes.len) memcpy(copied.at, bytes.at, bytes.len);
+    return copied;
+}
+
+static void forget(struct tried *of) {
+    free(of->of.at);
+    of->of.at = NULL;
+}
+
+/* Local times in gaps and folds of New York, Dublin, Tehran, Apia and the texts. */
+static const int64_t SKIPPED_OR_REPEATED[] = {1615689000, 1636248600, 1616895000, 1635643800,
+                                              1616373000, 1632266100, 1325246400, 1633230000};
+
+/* Seconds near these, of the years 1850 to 2150, of the whole of 64 bits, and of both ends of the range. */
+static int64_t second(void) {
+    switch (below(8)) {
+    case 0: return (int64_t)next();
+    case 1: return INT64_MAX - (int64_t)below(3);
+    case 2: return INT64_MIN + (int64_t)below(3);
+    case 3: return (below(2) ? 8210266876799 : -8334601228800) + (int64_t)below(200000) - 100000;
+    case 4:
+    case 5: return SKIPPED_OR_REPEATED[below(8)] + (int64_t)below(7200) - 3600;
+    default: return (int64_t)below(9467280000) - 3786912000;
+    }
+}
+
+/* A zone's bytes: whole, or cut short, or with a byte changed, or no zone at all; by a kind that may be another. */
+static struct bytes some_bytes(void) {
+    struct bytes bytes = copy(zones[below(zone_count)]);
+    switch (below(8)) {
+    case 0:
+        bytes.len = below(bytes.len + 1);
+        break;
+    case 1:
+        if (bytes.len) bytes.at[below(bytes.len)] = (uint8_t)next();
+        break;
+    case 2:
+        free(bytes.at);
+        bytes.len = below(SIZE_OF_RANDOM_BYTES);
+        bytes.at = malloc(bytes.len + 1);
+        if (!bytes.at) exit(2);
+        for (size_t i = 0; i < bytes.len; i++) bytes.at[i] = (uint8_t)next();
+        break;
+    case 3:
+        bytes.kind = (uint32_t)below(4);
+        break;
+    default:
+        break;
+    }
+    return bytes;
+}
+
+static void try_open(struct tried *to) {
+    struct bytes bytes = some_bytes();
+    void *before = to->zone.zone;
+    uint32_t number = zoned_open(bytes.kind, bytes.at, bytes.len, &to->zone);
+    EXPECT(number == zoned_parse(bytes.kind, bytes.at, bytes.len));
+    if (number) {
+        EXPECT(to->zone.zone == before);
+        free(bytes.at);
+        return;
+    }
+    EXPECT(to->zone.zone != NULL);
+    forget(to);
+    to->of = bytes;
+}
+
+static void try_share(struct tried *from, struct tried *to) {
+    if (from == to) return;
+    void *before = to->zone.zone;
+    uint32_t number = zoned_share(&from->zone, &to->zone);
+    EXPECT(number == (from->of.at ? ZONED_OK : ZONED_NOT_OPEN));
+    if (number) {
+        EXPECT(to->zone.zone == before);
+        return;
+    }
+    EXPECT(to->zone.zone != NULL && to->zone.zone != from->zone.zone);
+    forget(to);
+    to->of = copy(from->of);
+}
+
+static void try_close(struct tried *of) {
+    zoned_close(&of->zone);
+    EXPECT(of->zone.zone == NULL);
+    if (below(2)) zoned_close(&of->zone);
+    EXPECT(of->zone.zone == NULL);
+    forget(of);
+}
+
+/* What a call returns for `wanted` answers where there is room for so many. */
+static uint32_t due(const struct tried *of, size_t wanted, size_t room) {
+    return !of->of.at ? ZONED_NOT_OPEN : wanted != room ? ZONED_OTHER_SIZE : ZONED_OK;
+}
+
+static int is_same_clock(const zoned_wall_clock *a, const zoned_wall_clock *b) {
+    return a->shown == b->shown && a->first_offset == b->first_offset && a->last_offset == b->last_offset && a->first == b->first && a->last == b->last;
+}
+
+/* Whether each byte is still 0x55. */
+static int is_untouched(const void *at, size_t size) {
+    const uint8_t *bytes = at;
+    for (size_t i = 0; i < size; i++)
+        if (bytes[i] != 0x55) return 0;
+    return 1;
+}
+
+static void try_instants(struct tried *of) {
+    int64_t instants[MOST];
+    int32_t offsets[MOST], expected[MOST] = {0};
+    zoned_local_type types[MOST];
+    size_t count = below(MOST + 1), room = below(4) ? count : below(MOST + 1);
+    for (size_t i = 0; i < MOST; i++) instants[i] = second();
+    if (of->of.at) EXPECT(zoned_at(of->of.kind, of->of.at, of->of.len, instants, MOST, expected, MOST) == ZONED_OK);
+    memset(offsets, 0x55, sizeof offsets);
+    memset(types, 0x55, sizeof types);
+    uint32_t number = zoned_zone_at(&of->zone, instants, count, offsets, room);
+    EXPECT(number == due(of, count, room));
+    EXPECT(number == zoned_zone_types(&of->zone, instants, count, types, room));
+    size_t written = number ? 0 : count;
+    EXPECT(is_untouched(offsets + written, (MOST - written) * sizeof *offsets));
+    EXPECT(is_untouched(types + written, (MOST - written) * sizeof *types));
+    for (size_t i = 0; i < written; i++) {
+        size_t len = strlen(types[i].abbreviation);
+        EXPECT(offsets[i] == expected[i] && types[i].offset == expected[i]);
+        EXPECT((types[i].is_dst == 0 || types[i].is_dst == 1) && (len == 0 || (3 <= len && len <= 7)));
+        for (size_t k = len; k < sizeof types[i].abbreviation; k++) EXPECT(types[i].abbreviation[k] == 0);
+    }
+    number = zoned_zone_offset(&of->zone, instants[0], &offsets[0]);
+    EXPECT(number == due(of, 0, 0) && number == zoned_zone_type(&of->zone, instants[0], &types[0]));
+    if (!number) EXPECT(offsets[0] == expected[0] && types[0].offset == expected[0]);
+}
+
+/* The clock's answer under a choice. In a gap: the instant by an offset before it, which is less than the one after it. */
+static void expect_resolved(struct tried *of, const zoned_wall_clock *clock, uint32_t gap, uint32_t fold, int64_t local, const zoned_resolved *resolved) {
+    int64_t instant = clock->first;
+    int32_t offset = clock->first_offset;
+    uint32_t number = clock->shown == ZONED_OUT_OF_RANGE ? ZONED_INSTANT_OUT_OF_RANGE : ZONED_OK;
+    if (clock->shown == ZONED_SEVERAL_TIMES && fold == ZONED_FOLD_REFUSE) number = ZONED_IN_FOLD;
+    if (clock->shown == ZONED_SEVERAL_TIMES && fold == ZONED_FOLD_LATEST) {
+        instant = clock->last;
+        offset = clock->last_offset;
+    }
+    if (clock->shown == ZONED_NEVER && gap == ZONED_GAP_REFUSE) number = ZONED_IN_GAP;
+    if (clock->shown == ZONED_NEVER && gap == ZONED_GAP_SHIFT_FORWARD && !resolved->number) {
+        instant = resolved->instant;
+        EXPECT(zoned_at(of->of.kind, of->of.at, of->of.len, &instant, 1, &offset, 1) == ZONED_OK);
+        EXPECT(offset > local - instant);
+    }
+    if (!number && (instant < -8334601228800 || instant > 8210266876799)) number = ZONED_INSTANT_OUT_OF_RANGE;
+    EXPECT(resolved->number == number);
+    EXPECT(resolved->instant == (number ? 0 : instant) && resolved->offset == (number ? 0 : offset));
+}
+
+static void try_locals(struct tried *of) {
+    int64_t locals[MOST];
+    zoned_wall_clock clocks[MOST], expected[MOST] = {{0}};
+    int32_t triples[3 * MOST];
+    zoned_resolved resolved[MOST];
+    size_t count = below(MOST + 1), room = below(4) ? count : below(MOST + 1), triple_room = below(4) ? 3 * count : below(3 * MOST + 1);
+    uint32_t gap = (uint32_t)below(below(8) ? 2 : 4), fold = (uint32_t)below(below(8) ? 3 : 5);
+    int is_choice = gap <= ZONED_GAP_SHIFT_FORWARD && fold <= ZONED_FOLD_LATEST;
+    for (size_t i = 0; i < MOST; i++) locals[i] = second();
+    if (of->of.at) EXPECT(zoned_wall_instants(of->of.kind, of->of.at, of->of.len, locals, MOST, expected, MOST) == ZONED_OK);
+    memset(clocks, 0x55, sizeof clocks);
+    memset(triples, 0x55, sizeof triples);
+    memset(resolved, 0x55, sizeof resolved);
+    uint32_t number = zoned_zone_wall_instants(&of->zone, locals, count, clocks, room);
+    EXPECT(number == due(of, count, room));
+    size_t written = number ? 0 : count;
+    EXPECT(is_untouched(clocks + written, (MOST - written) * sizeof *clocks));
+    for (size_t i = 0; i < written; i++) EXPECT(is_same_clock(&clocks[i], &expected[i]));
+
+    number = zoned_zone_wall(&of->zone, locals, count, triples, triple_room);
+    EXPECT(number == due(of, 3 * count, triple_room));
+    written = number ? 0 : count;
+    EXPECT(is_untouched(triples + 3 * written, (3 * MOST - 3 * written) * sizeof *triples));
+    for (size_t i = 0; i < written; i++)
+        EXPECT(triples[3 * i] == expected[i].shown && triples[3 * i + 1] == expected[i].first_offset && triples[3 * i + 2] == expected[i].last_offset);
+
+    number = zoned_zone_resolve(&of->zone, gap, fold, locals, count, resolved, room);
+    EXPECT(number == (is_choice ? due(of, count, room) : ZONED_UNKNOWN_CHOICE));
+    written = number ? 0 : count;
+    EXPECT(is_untouched(resolved + written, (MOST - written) * sizeof *resolved));
+    for (size_t i = 0; i < written; i++) expect_resolved(of, &expected[i], gap, fold, locals[i], &resolved[i]);
+
+    zoned_wall_clock clock;
+    zoned_resolved one;
+    number = zoned_zone_wall_clock(&of->zone, locals[0], &clock);
+    EXPECT(number == due(of, 0, 0));
+    if (!number) EXPECT(is_same_clock(&clock, &expected[0]));
+    number = zoned_zone_instant(&of->zone, gap, fold, locals[0], &one);
+    EXPECT(number == (is_choice ? due(of, 0, 0) : ZONED_UNKNOWN_CHOICE));
+    if (!number) expect_resolved(of, &expected[0], gap, fold, locals[0], &one);
+}
+
+/* A count whose product by three wraps to the room is told, and nothing is written. */
+static void try_wrapping_count(void) {
+    struct zoned_zone zone = {0};
+    int32_t guarded[4] = {77, 77, 77, 77};
+    int64_t locals[1] = {0};
+    EXPECT(zoned_open(zones[0].kind, zones[0].at, zones[0].len, &zone) == ZONED_OK);
+    EXPECT(zoned_zone_wall(&zone, locals, (size_t)0x5555555555555556, guarded + 1, 2) == ZONED_OTHER_SIZE);
+    for (int i = 0; i < 4; i++) EXPECT(guarded[i] == 77);
+    zoned_close(&zone);
+}
+
+static void try_texts(void) {
+    for (uint32_t number = 0; number < 40; number++) {
+        uint8_t text[160], whole[160];
+        size_t len = zoned_error_text(number, whole, sizeof whole);
+        EXPECT(0 < len && len < 128 && strlen((char *)whole) == len);
+        for (size_t room = 0; room < sizeof text; room++) {
+            memset(text, 0x55, sizeof text);
+            EXPECT(zoned_error_text(number, text, room) == len);
+            size_t cut = room == 0 ? 0 : len < room - 1 ? len : room - 1;
+            EXPECT(memcmp(text, whole, cut) == 0);
+            if (room) EXPECT(text[cut] == 0);
+            EXPECT(is_untouched(text + cut + (room != 0), sizeof text - cut - (room != 0)));
+        }
+    }
+}
+
+static void try_calls(uint64_t count) {
+    for (calls = 0; calls < count;) {
+        struct tried *one = &tried[below(HANDLES)];
+        switch (below(16)) {
+        case 0:
+        case 1:
+            try_open(one);
+            calls++;
+            break;
+        case 2:
+        case 3:
+            try_share(one, &tried[below(HANDLES)]);
+            calls++;
+            break;
+        case 4:
+            try_close(one);
+            calls++;
+            break;
+        case 5: /* a handle that moves */
+            if (!tried[0].of.at) {
+                tried[0] = *one;
+                *one = one == &tried[0] ? *one : (struct tried){0};
+            }
+            break;
+        case 6:
+        case 7:
+        case 8:
+        case 9:
+            try_instants(one);
+            calls += 4;
+            break;
+        default:
+            try_locals(one);
+            calls += 5;
+            break;
+        }
+    }
+    for (size_t i = 0; i < HANDLES; i++) try_close(&tried[i]);
+}
+
+struct worker {
+    struct zoned_zone zone;
+    pthread_t thread;
+    uint64_t seed, count;
+    int64_t sum;
+    char apart[64];
+};
+
+static int64_t ask(struct zoned_zone *zone, uint64_t seed, uint64_t count) {
+    int64_t sum = 0;
+    for (uint64_t i = 0; i < count; i++) {
+        seed = seed * 6364136223846793005u + 1442695040888963407u;
+        int64_t at = (int64_t)(seed >> 31) - 2147483648;
+        int32_t offset;
+        zoned_wall_clock clock;
+        if (zoned_zone_offset(zone, at, &offset) || zoned_zone_wall_clock(zone, at, &clock)) return INT64_MIN;
+        sum += offset + clock.first;
+    }
+    return sum;
+}
+
+static void *work(void *given) {
+    struct worker *worker = given;
+    for (int round = 0; round < 8; round++) { /* shares come and go while others ask */
+        struct zoned_zone more = {0};
+        if (zoned_share(&worker->zone, &more)) return worker;
+        worker->sum += ask(round % 2 ? &more : &worker->zone, worker->seed + (uint64_t)round, worker->count / 8);
+        if (round % 3 == 0) {
+            zoned_close(&worker->zone);
+            worker->zone = more;
+        } else
+            zoned_close(&more);
+    }
+    zoned_close(&worker->zone);
+    return NULL;
+}
+
+static void try_threads(uint64_t count) {
+    static struct worker workers[THREADS];
+    for (size_t z = 0; z < zone_count; z += 3) {
+        struct zoned_zone zone = {0};
+        EXPECT(zoned_open(zones[z].kind, zones[z].at, zones[z].len, &zone) == ZONED_OK);
+        for (uint64_t i = 0; i < THREADS; i++) {
+            workers[i] = (struct worker){.seed = 100 * i, .count = count};
+            EXPECT(zoned_share(&zone, &workers[i].zone) == ZONED_OK);
+        }
+        for (int i = 0; i < THREADS; i++) EXPECT(pthread_create(&workers[i].thread, NULL, work, &workers[i]) == 0);
+        if (z % 2) zoned_close(&zone); /* before the threads end, or after it */
+        for (int i = 0; i < THREADS; i++) {
+            void *failed;
+            EXPECT(pthread_join(workers[i].thread, &failed) == 0 && failed == NULL && workers[i].zone.zone == NULL);
+        }
+        zoned_close(&zone);
+        EXPECT(zoned_open(zones[z].kind, zones[z].at, zones[z].len, &zone) == ZONED_OK);
+        for (uint64_t i = 0; i < THREADS; i++) {
+            int64_t sum = 0;
+            for (uint64_t round = 0; round < 8; round++) sum += ask(&zone, 100 * i + round, count / 8);
+            EXPECT(sum == workers[i].sum);
+        }
+        zoned_close(&zone);
+    }
+}
+
+/* Four shares of a zone, closed in each of the 24 orders: those that are left still answer. */
+static void try_orders(void) {
+    for (int order = 0; order < 24; order++) {
+        struct zoned_zone shares[4] = {{0}};
+        int32_t offset = 1;
+        EXPECT(zoned_open(zones[0].kind, zones[0].at, zones[0].len, &shares[0]) == ZONED_OK);
+        for (int i = 1; i < 4; i++) EXPECT(zoned_share(&shares[(order + i) % i], &shares[i]) == ZONED_OK);
+        int left[4] = {0, 1, 2, 3}, rest = order;
+        for (int count = 4; count > 0; count--) {
+            int k = rest % count;
+            rest /= count;
+            zoned_close(&shares[left[k]]);
+            EXPECT(zoned_zone_offset(&shares[left[k]], 0, &offset) == ZONED_NOT_OPEN);
+            left[k] = left[count - 1];
+            for (int i = 0; i < count - 1; i++) EXPECT(zoned_zone_offset(&shares[left[i]], 0, &offset) == ZONED_OK);
+        }
+    }
+}
+
+/* Each request for memory of opening and of sharing is refused in turn: 17, and the handle is as it was. */
+static void try_refusals(void) {
+    for (size_t z = 0; z < zone_count; z++)
+        for (int open = 0; open < 2; open++)
+            for (int shared = 0; shared < 2; shared++)
+                for (long request = 0;; request++) {
+                    struct zoned_zone from = {0}, zone = {0};
+                    struct bytes other = zones[(z + 1) % zone_count];
+                    int32_t before = 1, after = 2;
+                    if (open) EXPECT(zoned_open(other.kind, other.at, other.len, &zone) == ZONED_OK);
+                    if (open) EXPECT(zoned_zone_offset(&zone, 0, &before) == ZONED_OK);
+                    if (shared) EXPECT(zoned_open(zones[z].kind, zones[z].at, zones[z].len, &from) == ZONED_OK);
+                    void *pointer = zone.zone;
+                    granted = request;
+                    uint32_t number = shared ? zoned_share(&from, &zone) : zoned_open(zones[z].kind, zones[z].at, zones[z].len, &zone);
+                    granted = -1;
+                    EXPECT(number == ZONED_OK || number == 17);
+                    if (number) {
+                        EXPECT(zone.zone == pointer);
+                        EXPECT(zoned_zone_offset(&zone, 0, &after) == (open ? ZONED_OK : ZONED_NOT_OPEN));
+                        if (open) EXPECT(after == before);
+                    }
+                    if (shared) EXPECT(zoned_zone_offset(&from, 0, &after) == ZONED_OK);
+                    zoned_close(&from);
+                    zoned_close(&zone);
+                    if (!number) {
+                        EXPECT(request > 0);
+                        break;
+                    }
+                }
+}
+
+static struct bytes read_file(const char *path) {
+    struct bytes bytes = {ZONED_FILE, malloc(1 << 20), 0};
+    FILE *file = fopen(path, "rb");
+    if (!file || !bytes.at) {
+        fprintf(stderr, "no file %s\n", path);
+        exit(2);
+    }
+    bytes.len = fread(bytes.at, 1, 1 << 20, file);
+    fclose(file);
+    return bytes;
+}
+
+int main(int count, char **words) {
+    if (count < 4) {
+        fprintf(stderr, "usage: %s CALLS SEED FILE ..\n", words[0]);
+        return 2;
+    }
+    uint64_t wanted = strtoull(words[1], NULL, 10);
+    state = 2 * strtoull(words[2], NULL, 10) + 1;
+    for (int i = 3; i < count && zone_count < 50; i++) zones[zone_count++] = read_file(words[i]);
+    for (size_t i = 0; i < sizeof TEXTS / sizeof *TEXTS; i++)
+        zones[zone_count++] = copy((struct bytes){ZONED_TEXT, (uint8_t *)TEXTS[i], strlen(TEXTS[i])});
+    for (size_t i = 0; i < zone_count; i++) EXPECT(zoned_parse(zones[i].kind, zones[i].at, zones[i].len) == ZONED_OK);
+    try_wrapping_count();
+    try_texts();
+    try_calls(wanted);
+    try_orders();
+    try_refusals();
+    try_threads(wanted / 100);
+    for (size_t i = 0; i < zone_count; i++) free(zones[i].at);
+    printf("%" PRIu64 " random calls, %d threads, 24 orders, and each request refused\n", wanted, THREADS);
+    return 0;
+}

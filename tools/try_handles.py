@@ -1,0 +1,58 @@
+#!/usr/bin/env python3
+"""Tries the calls of zoned_ffi.h by handle from C: try_handles.c says how.
+
+usage: tools/try_handles.py [CALLS [SEED]]
+
+CALLS random calls are made (a million), by SEED (1). It needs crates/zoned_ffi/out/libzoned_ffi.a, which `rt lib` builds in
+crates/zoned_ffi, gcc, and a tz database in /usr/share/zoneinfo. The program is built and run three times: as it is; with
+AddressSanitizer, which finds leaks, and UndefinedBehaviorSanitizer, a tenth as often; and, where valgrind is there, under it,
+with fewer calls. It takes half a minute. The gate runs it. Ends with status 1 where anything differs or leaks.
+"""
+
+import shutil
+import subprocess
+import sys
+import tempfile
+from pathlib import Path
+
+TOP = Path(__file__).resolve().parent.parent
+PROGRAM = TOP / "tools/try_handles.c"
+ARCHIVE = TOP / "crates/zoned_ffi/out/libzoned_ffi.a"
+DATABASE = Path("/usr/share/zoneinfo")
+ZONES = ["America/New_York", "Europe/Dublin", "Asia/Tehran", "Africa/Casablanca", "Pacific/Apia", "Antarctica/Troll", "Etc/UTC"]
+SANITIZERS = ["-g", "-fsanitize=address,undefined", "-fno-sanitize-recover=all"]
+VALGRIND = ["valgrind", "--quiet", "--leak-check=full", "--error-exitcode=9"]
+
+
+def build(name, folder, flags):
+    kit = Path(subprocess.run(["rt", "doc"], capture_output=True, text=True, check=True).stdout.strip()).parent
+    program = folder / name
+    words = ["gcc", "-O2", "-Wall", "-Wextra", "-Werror", *flags, "-o", program, PROGRAM, ARCHIVE, kit / "c/liblibc_c.a"]
+    subprocess.run([*map(str, words), "-Wl,--wrap=malloc,--wrap=realloc", "-lpthread"], check=True)
+    return str(program)
+
+
+def failed(what, command):
+    ended = subprocess.run(command, capture_output=True, text=True)
+    print(f"{what}: {ended.stdout.strip() if ended.returncode == 0 else f'status {ended.returncode}'}")
+    if ended.returncode:
+        print(ended.stderr[:4000])
+    return ended.returncode != 0
+
+
+def main():
+    calls, seed = (int(word) for word in (sys.argv[1:] + ["1000000", "1"][len(sys.argv) - 1 :]))
+    files = [str(DATABASE / zone) for zone in ZONES]
+    with tempfile.TemporaryDirectory() as folder:
+        plain = build("plain", Path(folder), [])
+        checked = build("checked", Path(folder), SANITIZERS)
+        results = [
+            failed("handles", [plain, str(calls), str(seed), *files]),
+            failed("handles, with sanitizers", [checked, str(calls // 10), str(seed + 1), *files]),
+        ]
+        if shutil.which("valgrind"):
+            results.append(failed("handles, under valgrind", [*VALGRIND, plain, str(calls // 500), str(seed + 2), *files]))
+    sys.exit(any(results))
+
+
+main()
