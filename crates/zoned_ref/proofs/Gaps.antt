@@ -35,8 +35,7 @@ before_gap z off l t narrow of_zone wide g =
     let there_day = type_within z late there.type narrow there.in_force in
     let to = g.least late (record { type = there.type; here = there.in_force; more = omega (arith, ints, there_day.0, there_day.1) }) in
     let inside : IsZoneSecond c = (omega (arith, ints, wide.0, wide.1, day.0, day.1), omega (arith, ints, wide.0, wide.1, day.0, day.1)) in
-    let inside_before : IsZoneSecond (c -ℤ pos 1) = (omega (arith, ints, wide.0, wide.1, day.0, day.1), omega (arith, ints, wide.0, wide.1, day.0, day.1)) in
-    (
+    let inside_before : IsZoneSecond (c -ℤ pos 1) = (omega (arith, ints, wide.0, wide.1, day.0, day.1), omega (arith, ints, wide.0, wide.1, day.0, day.1)) in (
       record {
         never = λ u k s. let h = shown_by_offset z off l of_zone u k s in g.never u h.0 h.1;
         first = c;
