@@ -8,13 +8,22 @@
 //!
 //! # What isn't covered
 //!
-//! | over | what | write instead | the checker's words |
+//! | over | what | write instead | words |
 //! |---|---|---|---|
-//! | a borrowed zone, a kept zone | a copy in place: `*instant`, `(instant, instant)`, `let now = self.next;` | `iter().copied()`, `instant.clone()?`, or [`copy_of`], a function for all types | a struct with an `impl Model` is copied where it holds a reference, or a type argument names two lifetimes that the function keeps apart |
-//! | a borrowed zone | a closure that captures an instant: `any(\|instant\| instant > than)` | a `for` | the same |
-//! | a borrowed zone | a closure that asks the zone: `map(\|instant\| instant.hour())` | a `for` | the same |
-//! | UTC | a guard with `<` over an instant that the pattern takes: `Some(best) if now < best` | `max`, or an `if` in the arm | a pattern binds a `&mut`, or reaches further in, at a variant that holds a struct which has a ghost field |
-//! | UTC | a pattern that takes an array of zones apart: `let [one, other] = zones;` | a pair | a pointer to an element of a type of no size |
+//! | a borrowed zone, a kept zone | a copy in place: `*instant` | `iter().copied()`, [`copy_of`] | 1 |
+//! | a borrowed zone | a closure that captures an instant: `any(\|t\| t > than)` | a `for` | 1 |
+//! | a borrowed zone | a closure that asks the zone: `map(\|t\| t.hour())` | a `for` | 1 |
+//! | UTC | a guard over what its pattern takes: `Some(best) if now < best` | `max`, an `if` | 2 |
+//! | UTC | a pattern that takes an array of zones apart: `let [a, b] = zones;` | a pair | 3 |
+//!
+//! A copy in place is also that in `(instant, instant)` and in `let now = self.next;`, and
+//! `instant.clone()?` stands for it too. The checker's words:
+//!
+//! 1. a struct with an `impl Model` is copied where it holds a reference, or a type argument names
+//!    two lifetimes that the function keeps apart
+//! 2. a pattern binds a `&mut`, or reaches further in, at a variant that holds a struct which has a
+//!    ghost field
+//! 3. a pointer to an element of a type of no size
 #![tactic(auto)]
 
 pub mod agenda;
