@@ -6,10 +6,14 @@ usage: bench/make_inputs.py FOLDER [ZONEINFO]
 - zones/NAME: five zones of ZONEINFO (/usr/share/zoneinfo) as they lie there, New York once more as `zic -b slim` writes it,
   the text of zones/Text as the footer of a file without a transition, and a made zone of 1,048,576 transitions;
 - text: the TZ text itself;
-- names: the names of the zones, one a line;
+- names: the names of the zones, one a line; years: the sets of years, one a line;
 - at_SET.i64, wall_SET.i64: a million instants and a million local times, as seconds in 64 bits, low byte first. They are
   spread evenly over the years 1900 to 2099 (SET is wide) and 2020 to 2029 (near), from fixed seeds;
-- lines: for zoneq, New York's file as a `data` line, and those of wall_wide as a million `wall` lines.
+- gap_near.i64: a million local times that New York's clocks skip, in the years 2020 to 2029;
+- lines: for zoneq, New York's file as a `data` line, and those of wall_wide as a million `wall` lines;
+- lines_at: for zoneq, that `data` line, and the instants of at_near as a million `show` lines; seconds_at and stamps_at: these
+  instants as numbers, one a line, and with `@` before each;
+- growth: a folder of the same kind, with the questions of the years 1900 to 2099 and made zones of 16 to 1,048,576 transitions.
 """
 
 import calendar
@@ -27,6 +31,8 @@ TEXT = "EST5EDT,M3.2.0,M11.1.0"
 COUNT = 1_000_000
 YEARS = {"wide": (1900, 2100), "near": (2020, 2030)}
 SEEDS = {("at", "wide"): 1, ("at", "near"): 2, ("wall", "wide"): 3, ("wall", "near"): 4}
+# How many transitions the zones of growth/ have: each power of 4 from 2^4 to 2^20.
+GROWTH = [1 << power for power in range(4, 21, 2)]
 WORD = (1 << 64) - 1
 
 
@@ -64,6 +70,19 @@ def zoneq_lines(file, locals_):
         yield f"wall {local.year} {local.month} {local.day} {local.hour} {local.minute} {local.second}\n"
 
 
+def skipped(second):
+    """A second of an hour that New York's clocks skip, from two to three on the second Sunday of March of one of ten years."""
+    first = datetime(2020 + second // 3600 % 10, 3, 8, 2)
+    start = first + timedelta(days=(6 - first.weekday()) % 7)
+    return calendar.timegm(start.timetuple()) + second % 3600
+
+
+def zoneq_instants(file, instants):
+    """The lines that ask zoneq what each of the instants shows in the zone of the file."""
+    yield f"data {file.hex()}\n"
+    yield from (f"show {second} 0\n" for second in instants)
+
+
 def block(time_format, times, indexes, types, names):
     """A header of version 2 and its data block (RFC 8536 section 3), without leap seconds."""
     header = b"TZif2" + bytes(15) + struct.pack(">6I", 0, 0, 0, len(times), len(types), len(names))
@@ -76,8 +95,8 @@ def file_of(times, indexes, types, names, footer):
     return first + block("q", times, indexes, types, names) + f"\n{footer}\n".encode()
 
 
-def large_zone(count=1 << 20, step=6000):
-    """An hour forward and back by turns, every 100 minutes, from 1900 to 2099."""
+def made_zone(count, step):
+    """An hour forward and back by turns, a step from each to the next, from 1900 on."""
     start = calendar.timegm((1900, 1, 1, 0, 0, 0))
     times = [start + step * i for i in range(count)]
     indexes = bytes((i + 1) % 2 for i in range(count))
@@ -95,6 +114,19 @@ def slim_new_york(zoneinfo, folder):
     return (folder / "slim/America/New_York").read_bytes()
 
 
+def growing_zones(folder):
+    """Zones whose transitions are spread evenly over 1900 to 2099, and the questions of the folder above."""
+    (folder / "zones").mkdir(parents=True, exist_ok=True)
+    for count in GROWTH:
+        (folder / f"zones/{count}").write_bytes(made_zone(count, (6000 << 20) // count))
+    for question in ("at", "wall"):
+        questions = folder / f"{question}_wide.i64"
+        questions.unlink(missing_ok=True)
+        questions.symlink_to(f"../{questions.name}")
+    (folder / "years").write_text("wide\n")
+    (folder / "names").write_text("\n".join(map(str, GROWTH)) + "\n")
+
+
 def main():
     folder = Path(sys.argv[1])
     zoneinfo = Path(sys.argv[2] if len(sys.argv) > 2 else "/usr/share/zoneinfo")
@@ -104,7 +136,7 @@ def main():
     if slim:
         zones["New_York_slim"] = slim
     zones["Text"] = file_of([], [], [(-18000, 0, 0), (-14400, 1, 4)], b"EST\0EDT\0", TEXT)
-    zones["Large"] = large_zone()
+    zones["Large"] = made_zone(1 << 20, 6000)
     for name, file in zones.items():
         (folder / "zones" / name).write_bytes(file)
     (folder / "text").write_text(TEXT)
@@ -113,6 +145,13 @@ def main():
         (folder / f"{question}_{years}.i64").write_bytes(spelled(numbers))
     with (folder / "lines").open("w") as lines:
         lines.writelines(zoneq_lines(zones["New_York"], drawn["wall", "wide"]))
+    with (folder / "lines_at").open("w") as lines:
+        lines.writelines(zoneq_instants(zones["New_York"], drawn["at", "near"]))
+    for file, mark in (("seconds_at", ""), ("stamps_at", "@")):
+        (folder / file).write_text("".join(f"{mark}{second}\n" for second in drawn["at", "near"]))
+    (folder / "gap_near.i64").write_bytes(spelled(map(skipped, drawn["wall", "near"])))
+    (folder / "years").write_text("\n".join(YEARS) + "\n")
+    growing_zones(folder / "growth")
     # The last file to be written, so that it says that all are there.
     (folder / "names").write_text("\n".join(zones) + "\n")
 

@@ -4,7 +4,8 @@
 usage: bench/print_tables.py INPUTS OUTPUTS
 
 OUTPUTS/figures has the lines of every driver, also of several runs: of each figure the least counts. The answers of each peer
-are compared with those of this library, number by number.
+are compared with those of this library, number by number. Those of the growing zones stand in the folder growth of both, and
+those of instants at work in OUTPUTS/work (drivers/work.h says how they are spelled).
 """
 
 import os
@@ -32,6 +33,38 @@ TABLES = {
     ("wall", "near"): "A wall clock, 2020 to 2029",
     ("read", "-"): "Reading a zone",
 }
+GROWTH = {
+    "at": "An instant, by the number of transitions",
+    "wall": "A wall clock, by the number of transitions",
+}
+WORK = {
+    "fields_at": "from a Unix time: date and time of day",
+    "fields": "from an instant: date and time of day",
+    "from_fields": "from date and time of day: an instant",
+    "month_later": "a month later",
+    "day_later": "a day later",
+    "at_nine": "`with_hour(9)`",
+    "five_minutes": "cut to five minutes",
+    "whole_day": "cut to a day",
+    "difference": "seconds between two",
+    "order": "which of two is earlier",
+    "sort": "sort a million, for each",
+    "print": "print",
+    "elsewhere": "`with_timezone`",
+    "resolve": "`resolve`",
+    "in_gap": "`resolve`, in gaps",
+    "daily": "a daily series, for each day",
+}
+LINES = {
+    "lines": {"zoneq": "`zoneq`", "mawk": "`mawk '{print NF}'`, which only counts words"},
+    "lines_at": {"zoneq": "`zoneq`", "mawk": "`mawk` by `strftime`", "GNU date": "GNU `date -f`"},
+}
+LINE_KINDS = {"lines": "a `wall` line answered", "lines_at": "an instant printed (`show`)"}
+# How many instants an answer has.
+SIZES = {"daily": 28}
+GOAL = 0.5
+# The answer of this library where a wall clock shows no time, or several.
+NO_INSTANT = str(-(1 << 63))
 # The peers whose answers are of another kind than the question's: mktime answers one instant, whatever the wall clock shows.
 NO_ANSWER = {("glibc", "wall")}
 # What a driver prints in place of a time where the peer refuses the zone.
@@ -118,13 +151,100 @@ def ratio(figures, wrong, question, years, zone):
     return (ours / best[0], PEERS[best[1]]) if ours and best else None
 
 
-def slower(figures, wrong, zones):
-    """The rows in which the best peer is faster."""
+def behind(figures, wrong, zones):
+    """The rows in which we take more than the goal of the best peer's time; with more than all of it, in bold."""
     for (question, years), title in TABLES.items():
         found = [(zone, ratio(figures, wrong, question, years, zone)) for zone in zones]
-        rows = [f"{zone} {by[0]:.2f} ({by[1]})" for zone, by in found if by and by[0] > 1]
+        rows = [f"{zone} {above(by)}" for zone, by in found if by and by[0] > GOAL]
         if rows:
             yield f"- {title}: {', '.join(rows)}"
+
+
+def above(by):
+    number = f"{by[0]:.2f} ({by[1]})"
+    return f"**{number}**" if by[0] > 1 else number
+
+
+def differences(figures, answers):
+    """Of each figure whose answers differ from this library's, what Answers.difference tells."""
+    wrong = {}
+    for question, years, zone, peer in figures:
+        if question in ("read", *LINES) or peer == OURS or (peer, question) in NO_ANSWER:
+            continue
+        found = answers.difference(peer, zone, question, years)
+        if found:
+            wrong[question, years, zone, peer] = found
+    return wrong
+
+
+def print_growth(inputs, outputs):
+    """A table for each question: a row for each zone, which is named for the number of its transitions."""
+    if not (outputs / "figures").exists():
+        return
+    figures, zones = read_figures(outputs / "figures")
+    wrong = differences(figures, Answers(inputs, outputs))
+    # All are asked by one call a question, this library too.
+    names = {HANDLE: PEERS[OURS]} | {peer: name for peer, name in PEERS.items() if peer not in (OURS, HANDLE)}
+    peers = {peer: name for peer, name in names.items() if any(key[3] == peer for key in figures)}
+    for question, title in GROWTH.items():
+        print(f"\n### {title}\n")
+        print("| transitions | " + " | ".join(peers.values()) + " |")
+        print("|--:|" + "--:|" * len(peers))
+        for zone in sorted(zones, key=int):
+            cells = [cell(figures, wrong, (question, "wide", zone, peer)) for peer in peers]
+            print(f"| {int(zone):,} | " + " | ".join(cells) + " |")
+
+
+def answers_at_work(outputs, peer):
+    """The answers of a peer to each question, as texts; those to `print` are what it printed."""
+    told = {}
+    for path in outputs.glob(f"{peer}.answers*"):
+        with path.open() as lines:
+            for line in lines:
+                question, _, answer = line.rstrip("\n").partition("\t")
+                told.setdefault(question, []).append(answer)
+    if "text" in told:
+        told["print"] = told.pop("text")
+    return told
+
+
+def differences_at_work(outputs, peers):
+    """Of each question and peer how many answers differ, of how many, and one of them; and of how many we say that there is none."""
+    ours, wrong = answers_at_work(outputs, OURS), {}
+    for peer in peers:
+        for question, theirs in answers_at_work(outputs, peer).items():
+            pairs = [(one, other) for one, other in zip(theirs, ours[question]) if other != NO_INSTANT]
+            unlike = [pair for pair in pairs if pair[0] != pair[1]]
+            if unlike or len(theirs) != len(ours[question]):
+                wrong[question, "near", "New_York", peer] = len(unlike), len(theirs), *unlike[0]
+    none = {question: told.count(NO_INSTANT) for question, told in ours.items() if NO_INSTANT in told}
+    return wrong, none
+
+
+def print_work(outputs):
+    """A row for each thing that is done to instants of New York."""
+    if not (outputs / "figures").exists():
+        return
+    read, _ = read_figures(outputs / "figures")
+    figures = {key: took / SIZES.get(key[0], 1) for key, took in read.items()}
+    peers = [peer for peer in PEERS if any(key[3] == peer for key in figures)]
+    wrong, none = differences_at_work(outputs, [peer for peer in peers if peer != OURS])
+    print("\n### Instants at work\n")
+    print("| question | " + " | ".join(PEERS[peer] for peer in peers) + " | ratio |")
+    print("|---|" + "--:|" * (len(peers) + 1))
+    rows = []
+    for question, title in WORK.items():
+        cells = [cell(figures, wrong, (question, "near", "New_York", peer)) for peer in peers]
+        by = ratio(figures, wrong, question, "near", "New_York")
+        cells.append(f"{by[0]:.2f} ({by[1]})" if by else "-")
+        print(f"| {title} | " + " | ".join(cells) + " |")
+        if by and by[0] > GOAL:
+            rows.append(f"{title} {above(by)}")
+    print(f"\nMore than half of the best peer's time: {', '.join(rows) or 'nowhere'}.\n")
+    for question, count in none.items():
+        print(f"- {WORK[question]}: of {count:,} of 100,000 this library says that no instant is shown so, or that two are.")
+    for (question, _, _, peer), (differ, count, theirs, ours) in wrong.items():
+        print(f"- {WORK[question]}: {PEERS[peer]} answers {differ:,} of {count:,} otherwise: {theirs} for {ours}.")
 
 
 def command(*words):
@@ -147,17 +267,23 @@ def versions():
     return ", ".join([each for each in found if " " in each and not each.startswith("dpkg")] + ["CPython " + sys.version.split()[0]])
 
 
+def print_lines(figures):
+    """What programs take for a line, beside zoneq."""
+    if not all((question, "-", "New_York", program) in figures for question, programs in LINES.items() for program in programs):
+        return
+    print("\n### A line of `zoneq`\n")
+    print("| lines | program | processor's time for a line | `zoneq`'s time by it |")
+    print("|---|---|--:|--:|")
+    for question, programs in LINES.items():
+        times = {program: figures[question, "-", "New_York", program] for program in programs}
+        for program, words in programs.items():
+            print(f"| {LINE_KINDS[question]} | {words} | {times[program]:.0f} ns | {times['zoneq'] / times[program]:.2f} |")
+
+
 def main():
     inputs, outputs = Path(sys.argv[1]), Path(sys.argv[2])
     figures, zones = read_figures(outputs / "figures")
-    answers = Answers(inputs, outputs)
-    wrong = {}
-    for question, years, zone, peer in figures:
-        if question in ("read", "lines") or peer == OURS or (peer, question) in NO_ANSWER:
-            continue
-        found = answers.difference(peer, zone, question, years)
-        if found:
-            wrong[question, years, zone, peer] = found
+    wrong = differences(figures, Answers(inputs, outputs))
     peers = [peer for peer in PEERS if any(key[3] == peer for key in figures)]
     print(f"{datetime.now(timezone.utc):%Y-%m-%d}, {machine()}. {command('uname', '-sr')}. {versions()}.")
     for (question, years), title in TABLES.items():
@@ -171,16 +297,12 @@ def main():
             by = ratio(figures, wrong, question, years, zone)
             cells.append(f"{by[0]:.2f} ({by[1]})" if by else "-")
             print(f"| {zone} | " + " | ".join(cells) + " |")
-    print("\n### Where Sahvumbi is slower than the best peer\n")
-    print("\n".join(slower(figures, wrong, zones)) or "Nowhere in these tables.")
-    lines = [figures.get(("lines", "-", "New_York", program)) for program in ("zoneq", "mawk")]
-    if all(lines):
-        print("\n### A line of `zoneq`\n")
-        print("| program | processor's time for a line |")
-        print("|---|--:|")
-        print(f"| `zoneq`, a `wall` line answered | {lines[0]:.0f} ns |")
-        print(f"| `mawk '{{print NF}}'`, the same lines | {lines[1]:.0f} ns |")
-        print(f"| ratio | {lines[0] / lines[1]:.2f} |")
+    print("\n### Where Sahvumbi takes more than half of the best peer's time\n")
+    print("In bold: where it takes more than all of it.\n")
+    print("\n".join(behind(figures, wrong, zones)) or "Nowhere in these tables.")
+    print_work(outputs / "work")
+    print_growth(inputs / "growth", outputs / "growth")
+    print_lines(figures)
     print("\n### Answers that differ\n")
     print("| peer | zone | question | differ | in the years | one of them | the peer | Sahvumbi |")
     print("|---|---|---|--:|---|---|---|---|")

@@ -1,28 +1,34 @@
 #!/bin/sh
-# Times lookups of this library beside those of other libraries, and prints the tables of docs/SPEED.md.
+# Times lookups of this library, and what it does with instants, beside other libraries, prints the tables of docs/SPEED.md, and
+# draws docs/speed.svg from them.
 #
-# usage: bench/run.sh [PEER ..]     of sahvumbi cctz hinnant java glibc cpython zoneq; all of them where none is named
+# usage: bench/run.sh [PEER ..]     of sahvumbi cctz hinnant java glibc cpython zoneq misses; all of them where none is named
 #
-# First `rt lib` in crates/zoned_ffi builds the archive, and `rt run` in crates/zoneq the program. Debian has the peers:
-#   apt-get install g++ pkg-config libabsl-dev libhowardhinnant-date-dev openjdk-17-jdk-headless mawk python3 tzdata
-# A peer that is not there is left out. It takes some five minutes.
+# First `rt lib` in crates/zoned_ffi builds the archive, and `rt run` in crates/zoneq and crates/instants_timed the programs.
+# Debian has the peers:
+#   apt-get install g++ pkg-config libabsl-dev libhowardhinnant-date-dev openjdk-17-jdk-headless mawk python3 tzdata valgrind
+# A peer that is not there is left out. It takes some fifteen minutes. `misses` counts in a simulation, by valgrind.
 #
 #   BENCH_DIR   where inputs, programs and figures are kept (else sahvumbi-bench in the folder for temporary files)
 #   KEEP=1      keep the figures of earlier runs too: of each figure the least of all runs counts
 #   PYTHON      the Python that is timed (else python3)
+#   ARCHIVE     the library that is timed (else the one that `rt lib` built)
+#   PICTURE     where the picture is drawn (else docs/speed.svg)
 set -u
 here=$(cd "$(dirname "$0")" && pwd)
 folder=${BENCH_DIR:-${TMPDIR:-/tmp}/sahvumbi-bench}
 kit=$(dirname "$(rt doc)")
-archive=$here/../crates/zoned_ffi/out/libzoned_ffi.a
-peers=${*:-sahvumbi cctz hinnant java glibc cpython zoneq}
+archive=${ARCHIVE:-$here/../crates/zoned_ffi/out/libzoned_ffi.a}
+picture=${PICTURE:-$here/../docs/speed.svg}
+peers=${*:-sahvumbi cctz hinnant java glibc cpython zoneq misses}
 python=${PYTHON:-python3}
 compile="${CXX:-g++} -std=c++17 -O2"
+absl=$(pkg-config --cflags --libs absl_time 2> /dev/null)
 inputs=$folder/inputs outputs=$folder/outputs
 
-mkdir -p "$outputs"
-[ -f "$inputs/names" ] || python3 "$here/make_inputs.py" "$inputs" || exit 1
-[ -n "${KEEP:-}" ] || : > "$outputs/figures"
+mkdir -p "$outputs/growth" "$outputs/work"
+{ [ -f "$inputs/names" ] && [ -f "$inputs/stamps_at" ]; } || python3 "$here/make_inputs.py" "$inputs" || exit 1
+[ -n "${KEEP:-}" ] || for part in . growth work; do : > "$outputs/$part/figures"; done
 
 # Builds a driver in C++, and links what else is named.
 build() {
@@ -37,17 +43,55 @@ run() {
     "$@" "$inputs" "$outputs" >> "$outputs/figures"
 }
 
+# The same, and then over the zones that grow.
+run_both() {
+    run "$@" && "$@" "$inputs/growth" "$outputs/growth" >> "$outputs/growth/figures"
+}
+
+# What is done with instants, by the program that is named.
+run_work() {
+    echo "running $*" >&2
+    "$@" "$inputs" "$outputs/work" >> "$outputs/work/figures"
+}
+
+# The same by java.time: a process for each question, since the compiler is best at one call at a time.
+run_java_work() {
+    javac -cp "$folder" -d "$folder" "$here/drivers/Work.java" || return 1
+    echo "running java Work" >&2
+    for question in fields_at fields from_fields month_later day_later at_nine five_minutes whole_day difference order sort \
+        print elsewhere resolve in_gap daily; do
+        java -Xmx4g -cp "$folder" Work "$inputs" "$outputs/work" $question >> "$outputs/work/figures" || return 1
+    done
+}
+
 for peer in $peers; do
     case $peer in
-        # shellcheck disable=SC2046
-        sahvumbi) build sahvumbi "$archive" "$kit/c/liblibc_c.a" && run "$folder/sahvumbi" ;;
-        cctz) build cctz $(pkg-config --cflags --libs absl_time) && run "$folder/cctz" ;;
-        hinnant) build hinnant -ldate-tz -lpthread && run "$folder/hinnant" ;;
-        java) javac -d "$folder" "$here/drivers/Zones.java" && run java -Xmx4g -cp "$folder" Zones ;;
-        glibc) build glibc && run "$folder/glibc" ;;
-        cpython) run "$python" "$here/drivers/cpython.py" ;;
+        # shellcheck disable=SC2086
+        sahvumbi)
+            build sahvumbi "$archive" "$kit/c/liblibc_c.a" && run_both "$folder/sahvumbi" &&
+                run_work python3 "$here/time_work.py"
+            ;;
+        cctz)
+            build cctz $absl && run_both "$folder/cctz" && build work_cctz $absl && run_work "$folder/work_cctz"
+            ;;
+        hinnant)
+            build hinnant -ldate-tz -lpthread && run "$folder/hinnant" &&
+                build work_hinnant -ldate-tz -lpthread && run_work "$folder/work_hinnant"
+            ;;
+        java)
+            javac -d "$folder" "$here/drivers/Zones.java" && run_both java -Xmx4g -cp "$folder" Zones && run_java_work
+            ;;
+        glibc) build glibc && run_both "$folder/glibc" ;;
+        cpython) run_both "$python" "$here/drivers/cpython.py" && run_work "$python" "$here/drivers/work_cpython.py" ;;
         zoneq) run python3 "$here/time_lines.py" ;;
+        misses)
+            build ask "$archive" "$kit/c/liblibc_c.a" && echo "running count_misses.py" >&2 &&
+                python3 "$here/count_misses.py" "$folder/ask" "$inputs" > "$outputs/misses.md"
+            ;;
         *) false ;;
     esac || echo "$peer is left out" >&2
 done
-python3 "$here/print_tables.py" "$inputs" "$outputs"
+python3 "$here/print_tables.py" "$inputs" "$outputs" > "$outputs/tables.md" || exit 1
+[ ! -f "$outputs/misses.md" ] || cat "$outputs/misses.md" >> "$outputs/tables.md"
+cat "$outputs/tables.md"
+python3 "$here/draw.py" "$outputs/tables.md" "$picture"

@@ -27,7 +27,11 @@ _Static_assert(offsetof(zoned_resolved, instant) == 8, "the place of instant");
 
 _Static_assert(ZONED_FILE == 0 && ZONED_TEXT == 1, "the kinds");
 _Static_assert(ZONED_OK == 0 && ZONED_UNKNOWN_KIND == 31 && ZONED_OTHER_SIZE == 32, "the numbers of a call");
-_Static_assert(ZONED_NOT_OPEN == 33 && ZONED_UNKNOWN_CHOICE == 34, "the numbers of a call by handle");
+_Static_assert(sizeof(zoned_change) == 40 && _Alignof(zoned_change) == 8, "the size of a change");
+_Static_assert(offsetof(zoned_change, at) == 0, "the place of at");
+_Static_assert(offsetof(zoned_change, before) == 8, "the place of the type before");
+_Static_assert(offsetof(zoned_change, after) == 24, "the place of the type after");
+_Static_assert(ZONED_NOT_OPEN == 33 && ZONED_UNKNOWN_CHOICE == 34 && ZONED_NO_CHANGE == 35, "the numbers of a call by handle");
 _Static_assert(ZONED_GAP_REFUSE == 0 && ZONED_GAP_SHIFT_FORWARD == 1, "choices for gaps");
 _Static_assert(ZONED_FOLD_REFUSE == 0 && ZONED_FOLD_EARLIEST == 1 && ZONED_FOLD_LATEST == 2, "choices for folds");
 _Static_assert(ZONED_IN_GAP == 21 && ZONED_IN_FOLD == 22 && ZONED_INSTANT_OUT_OF_RANGE == 23, "why there is no instant");

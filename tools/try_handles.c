@@ -211,6 +211,43 @@ static void try_instants(struct tried *of) {
     if (!number) EXPECT(offsets[0] == expected[0] && types[0].offset == expected[0]);
 }
 
+static int is_same_type(const zoned_local_type *one, const zoned_local_type *other) { return memcmp(one, other, sizeof *one) == 0; }
+
+/* The next and the previous change of a second: the types around each differ and are those in force, and at no second that is
+   asked between the two another type is. */
+static void try_changes(struct tried *of) {
+    int64_t from = second(), begin = INT64_MIN, end = INT64_MAX;
+    zoned_change next, previous, again;
+    zoned_local_type type, there;
+    memset(&next, 0x55, sizeof next);
+    memset(&previous, 0x55, sizeof previous);
+    uint32_t after = zoned_zone_next_change(&of->zone, from, &next), before = zoned_zone_previous_change(&of->zone, from, &previous);
+    if (!of->of.at) EXPECT(after == ZONED_NOT_OPEN && before == ZONED_NOT_OPEN);
+    if (after) EXPECT(is_untouched(&next, sizeof next));
+    if (before) EXPECT(is_untouched(&previous, sizeof previous));
+    if (!of->of.at) return;
+    EXPECT(after == ZONED_OK || after == ZONED_NO_CHANGE);
+    EXPECT(before == ZONED_OK || before == ZONED_NO_CHANGE);
+    if (!after) {
+        EXPECT(from < next.at && !is_same_type(&next.before, &next.after));
+        EXPECT(zoned_zone_type(&of->zone, next.at, &type) == ZONED_OK && is_same_type(&type, &next.after));
+        EXPECT(zoned_zone_type(&of->zone, next.at - 1, &type) == ZONED_OK && is_same_type(&type, &next.before));
+        EXPECT(zoned_zone_previous_change(&of->zone, next.at, &again) == ZONED_OK && again.at == next.at);
+        end = next.at - 1;
+    }
+    if (!before) {
+        EXPECT(previous.at <= from && !is_same_type(&previous.before, &previous.after));
+        EXPECT(zoned_zone_type(&of->zone, previous.at, &type) == ZONED_OK && is_same_type(&type, &previous.after));
+        EXPECT(zoned_zone_type(&of->zone, previous.at - 1, &type) == ZONED_OK && is_same_type(&type, &previous.before));
+        EXPECT(zoned_zone_next_change(&of->zone, previous.at - 1, &again) == ZONED_OK && again.at == previous.at);
+        begin = previous.at;
+    }
+    if (after || before) return;
+    EXPECT(zoned_zone_type(&of->zone, from, &type) == ZONED_OK && is_same_type(&type, &next.before) && is_same_type(&type, &previous.after));
+    int64_t between = begin + (int64_t)below((uint64_t)(end - begin) + 1);
+    EXPECT(zoned_zone_type(&of->zone, between, &there) == ZONED_OK && is_same_type(&there, &type));
+}
+
 /* The clock's answer under a choice. In a gap: the instant by an offset before it, which is less than the one after it. */
 static void expect_resolved(struct tried *of, const zoned_wall_clock *clock, uint32_t gap, uint32_t fold, int64_t local, const zoned_resolved *resolved) {
     int64_t instant = clock->first;
@@ -328,9 +365,12 @@ static void try_calls(uint64_t count) {
         case 6:
         case 7:
         case 8:
-        case 9:
             try_instants(one);
             calls += 4;
+            break;
+        case 9:
+            try_changes(one);
+            calls += 2;
             break;
         default:
             try_locals(one);

@@ -52,13 +52,14 @@ public class Zones {
                 List.of(start, end));
     }
 
-    static ZoneRules large() {
+    /** An hour forward and back by turns, as in the file that make_inputs.py writes. */
+    static ZoneRules made(int count, long step) {
         ZoneOffset winter = ZoneOffset.UTC, summer = ZoneOffset.ofHours(1);
         long start = LocalDateTime.of(1900, 1, 1, 0, 0).toEpochSecond(ZoneOffset.UTC);
         List<ZoneOffsetTransition> list = new ArrayList<>();
-        for (int i = 0; i < (1 << 20); i++) {
+        for (int i = 0; i < count; i++) {
             ZoneOffset before = i % 2 == 0 ? winter : summer, after = i % 2 == 0 ? summer : winter;
-            list.add(ZoneOffsetTransition.of(LocalDateTime.ofEpochSecond(start + 6000L * i, 0, before), before, after));
+            list.add(ZoneOffsetTransition.of(LocalDateTime.ofEpochSecond(start + step * i, 0, before), before, after));
         }
         return ZoneRules.of(winter, winter, List.of(), list, List.of());
     }
@@ -119,9 +120,12 @@ public class Zones {
         for (String name : List.of("America/New_York", "Europe/London", "Asia/Tehran", "Africa/Casablanca", "America/Sao_Paulo"))
             zones.put(name.split("/")[1], ZoneId.of(name).getRules());
         zones.put("Text", ofText());
-        zones.put("Large", large());
+        zones.put("Large", made(1 << 20, 6000));
+        for (int power = 4; power <= 20; power += 2) zones.put("" + (1 << power), made(1 << power, (6000L << 20) >> power));
+        zones.keySet().retainAll(Files.readAllLines(inputs.resolve("names")));
         for (var zone : zones.entrySet())
-            for (String years : List.of("wide", "near")) lookups(inputs, outputs, zone.getKey(), zone.getValue(), years);
+            for (String years : Files.readAllLines(inputs.resolve("years")))
+                lookups(inputs, outputs, zone.getKey(), zone.getValue(), years);
         System.err.println("sum of what was answered: " + sink);
     }
 }

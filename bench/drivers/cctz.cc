@@ -23,7 +23,7 @@ static double least_load(const Run &run, const std::string &name, unsigned loads
     return least;
 }
 
-static void time_lookups(const Run &run, const std::string &name, const absl::TimeZone &zone, const char *years) {
+static void time_lookups(const Run &run, const std::string &name, const absl::TimeZone &zone, const std::string &years) {
     size_t used;
     std::vector<int32_t> told;
     std::vector<int64_t> instants = run.seconds("at", years);
@@ -50,15 +50,14 @@ static void time_lookups(const Run &run, const std::string &name, const absl::Ti
 
 int main(int count, char **words) {
     Run run("cctz", count, words);
-    for (const std::string &name : run.zones()) {
+    for (const std::string &name : run.words("names")) {
         absl::TimeZone zone;
         if (!absl::LoadTimeZone(spelling(run, name, 0), &zone)) {
             run.figure(name, "read", "-", -1, 0);
             continue;
         }
-        unsigned loads = name == "Large" ? 3 : 300;
+        unsigned loads = read_file(run.inputs + "/zones/" + name).size() > 100000 ? 3 : 300;
         run.figure(name, "read", "-", least_load(run, name, loads), loads);
-        time_lookups(run, name, zone, "wide");
-        time_lookups(run, name, zone, "near");
+        for (const std::string &years : run.words("years")) time_lookups(run, name, zone, years);
     }
 }

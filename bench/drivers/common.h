@@ -54,12 +54,13 @@ struct Run {
         outputs = words[2];
     }
 
-    std::vector<std::string> zones() const {
-        std::ifstream in(inputs + "/names");
-        std::vector<std::string> names;
-        for (std::string name; std::getline(in, name);)
-            if (!name.empty()) names.push_back(name);
-        return names;
+    // The words of a file of the inputs, one a line: names or years.
+    std::vector<std::string> words(const char *file) const {
+        std::ifstream in(inputs + "/" + file);
+        std::vector<std::string> read;
+        for (std::string word; std::getline(in, word);)
+            if (!word.empty()) read.push_back(word);
+        return read;
     }
 
     std::vector<int64_t> seconds(const std::string &question, const std::string &years) const {
@@ -69,12 +70,12 @@ struct Run {
         return read;
     }
 
-    void figure(const std::string &zone, const char *question, const char *years, double nanoseconds, size_t count) const {
-        printf("%s\t%s\t%s\t%s\t%.2f\t%zu\n", peer, zone.c_str(), question, years, nanoseconds, count);
+    void figure(const std::string &zone, const char *question, const std::string &years, double nanoseconds, size_t count) const {
+        printf("%s\t%s\t%s\t%s\t%.2f\t%zu\n", peer, zone.c_str(), question, years.c_str(), nanoseconds, count);
         fflush(stdout);
     }
 
-    void answers(const std::string &zone, const char *question, const char *years, const std::vector<int32_t> &told) const {
+    void answers(const std::string &zone, const char *question, const std::string &years, const std::vector<int32_t> &told) const {
         std::ofstream out(outputs + "/" + peer + "." + zone + "." + question + "." + years, std::ios::binary);
         out.write((const char *)told.data(), (std::streamsize)(told.size() * 4));
     }

@@ -65,9 +65,9 @@ def main():
         except ValueError:
             tell(name, "read", "-", -1, 0)
             continue
-        loads = 3 if name == "Large" else 200
+        loads = 3 if len(file) > 100_000 else 200
         tell(name, "read", "-", least_time(lambda _: ZoneInfo.from_file(io.BytesIO(file)), range(loads), 1), loads)
-        for years in ("wide", "near"):
+        for years in (inputs / "years").read_text().split():
             instants = readings(inputs, "at", years, zone)
             empty = least_time(nothing, instants)
             offsets = [offset(zone.fromutc(instant)) for instant in instants]

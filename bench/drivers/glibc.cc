@@ -7,7 +7,7 @@ static void set_zone(const std::string &zone) {
     tzset();
 }
 
-static void time_lookups(const Run &run, const std::string &name, const char *years) {
+static void time_lookups(const Run &run, const std::string &name, const std::string &years) {
     size_t used;
     std::vector<int32_t> told;
     std::vector<int64_t> instants = run.seconds("at", years);
@@ -38,7 +38,7 @@ static void time_lookups(const Run &run, const std::string &name, const char *ye
 
 int main(int count, char **words) {
     Run run("glibc", count, words);
-    for (const std::string &name : run.zones()) {
+    for (const std::string &name : run.words("names")) {
         std::string zone = name == "Text" ? read_file(run.inputs + "/text") : ":" + run.inputs + "/zones/" + name;
         // A file is read again only after TZ named something else, so each call sets UTC0 between.
         size_t used;
@@ -48,7 +48,6 @@ int main(int count, char **words) {
         });
         run.figure(name, "read", "-", took, used);
         set_zone(zone);
-        time_lookups(run, name, "wide");
-        time_lookups(run, name, "near");
+        for (const std::string &years : run.words("years")) time_lookups(run, name, years);
     }
 }

@@ -4,7 +4,7 @@
 #include <date/tz.h>
 #include <utility>
 
-template <class Zone> void time_lookups(const Run &run, const std::string &name, const Zone &zone, const char *years) {
+template <class Zone> void time_lookups(const Run &run, const std::string &name, const Zone &zone, const std::string &years) {
     auto at = [](int64_t second) { return date::sys_seconds{std::chrono::seconds{second}}; };
     auto local = [](int64_t second) { return date::local_seconds{std::chrono::seconds{second}}; };
     size_t used;
@@ -38,7 +38,7 @@ int main(int count, char **words) {
                                                            {"Casablanca", "Africa/Casablanca"},
                                                            {"Sao_Paulo", "America/Sao_Paulo"}};
     for (auto &[name, full_name] : zones)
-        for (const char *years : {"wide", "near"}) time_lookups(run, name, *date::locate_zone(full_name), years);
+        for (const std::string &years : run.words("years")) time_lookups(run, name, *date::locate_zone(full_name), years);
     std::string text = read_file(run.inputs + "/text");
     size_t used;
     double took = least_time(100000, &used, [&](size_t) {
@@ -46,5 +46,5 @@ int main(int count, char **words) {
         sink = sink + (int64_t)zone.name().size();
     });
     run.figure("Text", "read", "-", took, used);
-    for (const char *years : {"wide", "near"}) time_lookups(run, "Text", Posix::time_zone{text}, years);
+    for (const std::string &years : run.words("years")) time_lookups(run, "Text", Posix::time_zone{text}, years);
 }

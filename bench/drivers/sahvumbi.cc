@@ -45,7 +45,7 @@ template <class Ask> double least_question(size_t count, double reading, double 
 // Times a call that writes `size` numbers for each question, and keeps the answers to the first ones. Where reading takes
 // longer than a slice, the questions are taken several times over, so that they take longer than reading does.
 template <class Call>
-static void time_call(const Run &run, const std::string &name, const char *question, const char *years, size_t size, Call call) {
+static void time_call(const Run &run, const std::string &name, const char *question, const std::string &years, size_t size, Call call) {
     std::vector<int64_t> asked = run.seconds(question, years);
     const size_t count = asked.size();
     std::vector<int32_t> answers(size * count);
@@ -65,7 +65,7 @@ static void time_call(const Run &run, const std::string &name, const char *quest
     run.answers(name, question, years, answers);
 }
 
-static void time_lookups(const Run &run, const std::string &name, const Zone &zone, const char *years) {
+static void time_lookups(const Run &run, const std::string &name, const Zone &zone, const std::string &years) {
     size_t len = zone.bytes.size();
     time_call(run, name, "at", years, 1, [&](const int64_t *instants, size_t count, int32_t *offsets) {
         return zoned_at(zone.kind, zone.data(), len, instants, count, offsets, count);
@@ -76,7 +76,7 @@ static void time_lookups(const Run &run, const std::string &name, const Zone &zo
 }
 
 // One call a question, of a zone that is open.
-static void time_handle(const Run &run, const std::string &name, struct zoned_zone *zone, const char *years) {
+static void time_handle(const Run &run, const std::string &name, struct zoned_zone *zone, const std::string &years) {
     size_t used;
     std::vector<int64_t> instants = run.seconds("at", years), locals = run.seconds("wall", years);
     std::vector<int32_t> offsets(instants.size()), told;
@@ -104,7 +104,7 @@ static void time_handle(const Run &run, const std::string &name, struct zoned_zo
 
 int main(int count, char **words) {
     Run run("sahvumbi", count, words), by_handle("handle", count, words);
-    for (const std::string &name : run.zones()) {
+    for (const std::string &name : run.words("names")) {
         bool is_text = name == "Text";
         Zone zone{is_text ? (uint32_t)ZONED_TEXT : (uint32_t)ZONED_FILE,
                   read_file(is_text ? run.inputs + "/text" : run.inputs + "/zones/" + name)};
@@ -112,12 +112,10 @@ int main(int count, char **words) {
         size_t used;
         double took = least_time(100000, &used, [&](size_t) { sink = sink + zone.read(); });
         run.figure(name, "read", "-", took, used);
-        time_lookups(run, name, zone, "wide");
-        time_lookups(run, name, zone, "near");
+        for (const std::string &years : run.words("years")) time_lookups(run, name, zone, years);
         struct zoned_zone open = {nullptr};
         if (uint32_t number = zoned_open(zone.kind, zone.data(), zone.bytes.size(), &open)) refused(number);
-        time_handle(by_handle, name, &open, "wide");
-        time_handle(by_handle, name, &open, "near");
+        for (const std::string &years : run.words("years")) time_handle(by_handle, name, &open, years);
         zoned_close(&open);
     }
 }

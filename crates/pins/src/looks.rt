@@ -19,11 +19,11 @@ pub fn binary_digits()
     ensures thousand { digits 1_000 ≡ 10 }
 {}
 
-/// By instant, Honolulu's seven transitions take four looks at most, and the rule one question.
+/// By instant, Honolulu's seven transitions take three looks at most, and the rule one question.
 pub fn by_instant()
-    ensures most { RoseByInstant (honolulu hst10) (looks 0 0 0) (looks 4 1 0) }
-    ensures too_many { ¬ (RoseByInstant (honolulu hst10) (looks 0 0 0) (looks 5 0 0)) }
-    ensures two_questions { ¬ (RoseByInstant (honolulu hst10) (looks 0 0 0) (looks 4 2 0)) }
+    ensures most { RoseByInstant (honolulu hst10) (looks 0 0 0) (looks 3 1 0) }
+    ensures too_many { ¬ (RoseByInstant (honolulu hst10) (looks 0 0 0) (looks 4 0 0)) }
+    ensures two_questions { ¬ (RoseByInstant (honolulu hst10) (looks 0 0 0) (looks 3 2 0)) }
     ensures pieces { ¬ (RoseByInstant (honolulu hst10) (looks 0 0 0) (looks 0 0 1)) }
 {}
 

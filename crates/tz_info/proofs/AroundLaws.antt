@@ -1,10 +1,9 @@
 -- A local time has one answer with both sides of its gap.
-use Rattle.std.proofs.Common.{◌≡◌, ℤ, pos, ◌-ℤ◌, ap, sym, subst, arith}
+use Rattle.std.proofs.Common.{◌≡◌, ℤ, pos, ◌-ℤ◌, ap, subst, arith}
 use Rattle.std.proofs.lemmas.Int.{ints}
 use Rattle.offset_core.specs.declared.local_result.LocalResult.TheVariants.{Single as Once, Ambiguous as Twice}
 use Rattle.tz_info.specs.Around.{IsAround}
 use Rattle.tz_info.specs.Gaps.{HasGap}
-use Rattle.tz_info.specs.LocalTypes.{LocalType}
 use Rattle.tz_info.specs.Zones.{Zone, TypeAt}
 use Rattle.tz_info.specs.declared.zone.around.Gap.{Gap as Sides}
 use Rattle.tz_info.specs.declared.zone.around.TypesAround.{TypesAround}

@@ -1,5 +1,5 @@
 -- The first and the last change among seconds, and in a stretch.
-use Rattle.std.proofs.Common.{◌≡◌, ◌≢◌, ℕ, ◌+◌, ◌<◌, ◌≤◌, arith, refl, sym, ap, ◌∙◌, List, get_or, ℤ, pos, ◌+ℤ◌, ◌-ℤ◌, ◌≤ℤ◌, ◌<ℤ◌, ◌⊎◌, inl, inr, Option, Some, None, MatchOption, w64}
+use Rattle.std.proofs.Common.{◌≡◌, ◌≢◌, ℕ, ◌+◌, arith, refl, sym, ap, ◌∙◌, List, get_or, ℤ, pos, ◌-ℤ◌, ◌≤ℤ◌, ◌<ℤ◌, ◌⊎◌, inl, inr, Option, Some, None, MatchOption, w64}
 use Rattle.std.proofs.lemmas.Int.{ints, by_lt_z}
 use Rattle.std.proofs.lemmas.Bool.{cases_lt}
 use mir.Val.{SFits}
@@ -9,7 +9,7 @@ use Rattle.tz_info.specs.Steps.Changes.{IsInStretch, IsOneOf, IsIdle, first_one,
 use Rattle.tz_info.specs.declared.change.Change.{Change}
 use Rattle.tz_info.proofs.Prefixes.{lt_true, lt_false}
 
-abbrev InForce : Type 1
+abbrev pub InForce : Type 1
 InForce = ℤ → LocalType → Type 0
 
 pub none_of : (f : InForce) (seconds : List ℤ) (after last : ℤ) → HasNoChange f (IsOneOf seconds 0 after last)

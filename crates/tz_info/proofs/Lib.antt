@@ -31,8 +31,6 @@ pub mod TextLaws
 pub mod FaultNumbers
 pub mod PosixLaws
 pub mod TextFits
-pub mod SpanLaws
-pub mod TriedTypes
 pub mod Candidates
 pub mod WallLaws
 pub mod SegmentLaws
@@ -67,4 +65,6 @@ pub mod FileZoneLaws
 pub mod WallTimes
 pub mod Equalities
 pub mod ErrorEquality
+pub mod SecondTypes
+pub mod ChangeLists
 pub mod ForCallers

@@ -3,8 +3,7 @@ use Rattle.std.proofs.Common.{◌≡◌, arith, ℤ, pos, ◌+ℤ◌, ◌-ℤ◌
 use Rattle.std.proofs.lemmas.Int.{ints}
 use Rattle.naive_base.specs.Year.{floor_div, year_start}
 use Rattle.naive_base.proofs.ForCallers.{floors, one_year}
-use Rattle.tz_info.specs.LocalTypes.{LocalType}
-use Rattle.tz_info.specs.Moments.{IsYearOf, IsInSomeYear, IsDstAt, IsRuleYear, AlternateAt, start_in, end_in}
+use Rattle.tz_info.specs.Moments.{IsYearOf, IsInSomeYear, IsDstAt, IsRuleYear, start_in, end_in}
 use Rattle.tz_info.specs.Rules.{Alternate, IsAlternateRule}
 use Rattle.tz_info.specs.Steps.NextMoments.{IsNextAfter, IsSteadyUntil}
 use Rattle.tz_info.proofs.Neighbours.{IsNear, starts_near, ends_near, second_low, place, not_earlier, not_later}

@@ -1,7 +1,9 @@
 -- The transitions at or before a leap time, and the type in force there.
-use Rattle.std.proofs.Common.{◌≡◌, ℕ, suc, ◌-◌, ◌<◌, ◌≤◌, arith, refl, ap, ◌∙◌, List, [], ◌∷◌, length, get_or, take, ℤ, length-take, Result, Ok, Err, MatchResult}
+use Rattle.std.proofs.Common.{◌≡◌, ℕ, suc, ◌-◌, ◌<◌, ◌≤◌, arith, refl, ap, ◌∙◌, List, [], ◌∷◌, length, get_or, take, ℤ, length-take, Result, Ok, Err, MatchResult, None, Some, inl, inr}
+use Rattle.std.proofs.lemmas.Bool.{cases_lt}
 use Rattle.tz_info.specs.Leaps.{IsLeapTime}
 use Rattle.tz_info.specs.LocalTypes.{LocalType}
+use Rattle.tz_info.specs.Steps.Search.{IsLastOf}
 use Rattle.tz_info.specs.Transitions.{passed}
 use Rattle.tz_info.specs.Zones.{Zone, HasType, RuleOrType, IsRefusedBy, IsFromLast, index_at, TypeAtLeapTime, TypeAt, IsTypeRefused, by_rule}
 use Rattle.tz_info.specs.declared.zone.transition.Transition.{Transition}
@@ -21,6 +23,28 @@ latest_index z x n d p h =
     let e : n ≡ suc (n - 1) = omega arith in
     let f : passed z.transitions x ≡ take (suc (n - 1)) z.transitions = p.first ∙ ap (λ k. take k z.transitions) e in
     rw f (last_taken (λ (t : Transition). t.type_index) 0 z.transitions (n - 1) d (omega arith))
+
+-- the last of them is told where there is one, and only there
+pub none_passed : (ts : List Transition) (n : ℕ) → IsLastOf ts n None → n ≡ 0
+none_passed ts n l = elim (cases_lt 0 n) [
+  | inl h ↦ let s = (l.some h).1 in absurd cc
+  | inr h ↦ omega arith
+]
+
+pub last_passed : (ts : List Transition) (n : ℕ) (t : Transition) → IsLastOf ts n (Some t) → (0 < n) × (t ≡ get_or ts (n - 1) t)
+last_passed ts n t l = elim (cases_lt 0 n) [
+  | inl h ↦ let s = l.some h in let e : t ≡ s.0 = some_is t s.0 s.1 in (h, rw (← e) at s.2)
+  | inr h ↦ let s = l.none (omega arith) in absurd cc
+] where
+  some_is : (a b : Transition) → Some a ≡ Some b → a ≡ b
+  some_is a b e = cc
+
+-- none has come
+pub at_first : (z : Zone) (u x : ℤ) (n : ℕ) (t : LocalType) → ArePassed z.transitions x n → n ≡ 0 → 0 < length z.transitions → HasType z 0 t → TypeAtLeapTime z u x t
+at_first z u x n t p e some k = let f : passed z.transitions x ≡ take 0 z.transitions = p.first ∙ ap (λ m. take m z.transitions) e in record {
+  before_last = λ _. rw f k;
+  from_last = λ l. let n = passed_length z.transitions x n p in absurd (omega arith);
+}
 
 -- some have come, and some not
 pub at_middle : (z : Zone) (u x : ℤ) (n : ℕ) (d : Transition) (t : LocalType) → ArePassed z.transitions x n → 0 < n → n < length z.transitions → HasType z (get_or z.transitions (n - 1) d).type_index t → TypeAtLeapTime z u x t

@@ -1,15 +1,17 @@
 -- Questions to a zone's rule: at which seconds it is asked, and how often for a local time.
-use Rattle.std.proofs.Common.{◌≡◌, ◌≢◌, ℕ, zero, suc, ◌+◌, ◌<◌, arith, refl, ap, ◌∙◌, sym, subst, [], ◌∷◌, length, get_or, ℤ, ◌-ℤ◌, ◌≤ℤ◌, ◌<ℤ◌, ◌↔◌, inl, inr, ◌⊎◌, ⊎_elim, AllPairs, Contains, Option, Some, None}
+use Rattle.std.proofs.Common.{◌≡◌, ◌≢◌, ℕ, zero, suc, ◌+◌, ◌<◌, arith, refl, ap, ◌∙◌, sym, subst, [], ◌∷◌, length, get_or, ℤ, ◌-ℤ◌, ◌≤ℤ◌, ◌<ℤ◌, ◌↔◌, inl, inr, ◌⊎◌, AllPairs, Contains, Option, Some, None}
 use Rattle.std.proofs.lemmas.Int.{ints}
 use Rattle.std.proofs.lemmas.Bool.{cases_lt}
 use Rattle.std.proofs.lemmas.List.Elements.{All-contains, Contains-append_right}
+use Rattle.naive_base.specs.Range.{IsWide}
 use Rattle.tz_info.specs.Leaps.{IsLeapTime, IsNear}
 use Rattle.tz_info.specs.LocalTypes.{LocalType}
-use Rattle.tz_info.specs.Questions.{IsByRule, IsAskedAt, IsByRuleFor, IsAskedFor}
+use Rattle.tz_info.specs.Questions.{IsByRule, IsAskedAt, IsByRuleFor, IsAskedAtEach, IsAskedFor}
 use Rattle.tz_info.specs.Rules.{Alternate as AlternateRule}
 use Rattle.tz_info.specs.Segments.{segment_of}
 use Rattle.tz_info.specs.Steps.Extremes.{offsets_of}
 use Rattle.tz_info.specs.Steps.Looks.{IsAskedAtLeapTime}
+use Rattle.tz_info.specs.Steps.RuleSeconds.{AreUtOffsets, IsAskedFrom, IsAskedSince, IsSecondFrom}
 use Rattle.tz_info.specs.WallPieces.{IsStart}
 use Rattle.tz_info.specs.Windows.{rule_offsets, offsets, IsWindow}
 use Rattle.tz_info.specs.Zones.{Zone, IsValid, IsFromLast}
@@ -18,10 +20,10 @@ use Rattle.tz_info.specs.declared.rule.transition_rule.TransitionRule.TheVariant
 use Rattle.tz_info.specs.declared.zone.transition.Transition.{Transition}
 use Rattle.tz_info.proofs.PassedTransitions.{no_items}
 use Rattle.tz_info.proofs.SegmentLaws.{come_at_time, segment_here, segment_most, segments_rise}
-use Rattle.tz_info.proofs.WallSegments.{leap_time_of, rule_begun}
+use Rattle.tz_info.proofs.WallSegments.{leap_time_of, near_of, rule_begun}
 
 -- ---- from which second on the rule is asked
-pub by_rule_there : (z : Zone) (u : ℤ) (rule : TransitionRule) → IsValid z → z.rule ≡ Some rule → IsNear u → segment_of z u ≡ length z.transitions → IsByRule z u
+by_rule_there : (z : Zone) (u : ℤ) (rule : TransitionRule) → IsValid z → z.rule ≡ Some rule → IsNear u → segment_of z u ≡ length z.transitions → IsByRule z u
 by_rule_there z u rule valid is near there =
     let time = leap_time_of z u valid near in
     record { rule = rule; of_zone = is; leap_time = time.0; of_second = λ _. time.1; from_last = come_at_time z u time.0 time.1 ∙ there }
@@ -32,16 +34,27 @@ by_rule_segment z u valid a = elim (cases_lt 0 (length z.transitions)) [
   | inr h ↦ let m = segment_most z u valid.transitions.rising in omega arith
 ]
 
-pub not_by_rule : (z : Zone) (u start : ℤ) → IsValid z → IsNear u → IsStart z.transitions z.leaps (length z.transitions) start → u <ℤ start → IsByRule z u → ⊥
-not_by_rule z u start valid near begun h a =
-    let k = (rule_begun z u start valid near begun).0 (by_rule_segment z u valid a) in
-    absurd (omega (arith, ints))
+-- a zone asks its rule from `start` on
+seconds_by_rule : (z : Zone) (rule : TransitionRule) (start l : ℤ) → IsValid z → z.rule ≡ Some rule → IsStart z.transitions z.leaps (length z.transitions) start → IsWide l → AreUtOffsets rule → (u : ℤ) → IsSecondFrom rule start l u ↔ IsByRuleFor z l u
+seconds_by_rule z rule start l valid is begun wide offsets u = (
+  (λ k.
+      let near : IsNear u = rw k.of_second (near_of l k.offset wide (offsets k.offset k.of_rule)) in
+      record { offset = k.offset; of_rule = rw is k.of_rule; of_second = k.of_second; by_rule = by_rule_there z u rule valid is near ((rule_begun z u start valid near begun).1 k.since) }),
+  (λ k.
+      let of_rule = rw is at k.of_rule in
+      let near : IsNear u = rw k.of_second (near_of l k.offset wide (offsets k.offset of_rule)) in
+      record { offset = k.offset; of_rule = of_rule; of_second = k.of_second; since = (rule_begun z u start valid near begun).0 (by_rule_segment z u valid k.by_rule) }),
+)
 
-pub asked_from : (z : Zone) (u start : ℤ) (rule : TransitionRule) (p q : ℕ) → IsValid z → z.rule ≡ Some rule → IsNear u → IsStart z.transitions z.leaps (length z.transitions) start → start ≤ℤ u → q ≡ p + 1 → IsAskedAt z u p q
-asked_from z u start rule p q valid is near begun h e =
-    inl (by_rule_there z u rule valid is near ((rule_begun z u start valid near begun).1 h), e)
+pub asked_by_zone : (z : Zone) (rule : TransitionRule) (start l : ℤ) (p q : ℕ) → IsValid z → z.rule ≡ Some rule → IsStart z.transitions z.leaps (length z.transitions) start → IsWide l → AreUtOffsets rule → IsAskedFrom rule start l p q → IsAskedFor z l p q
+asked_by_zone z rule start l p q valid is begun wide offsets k = record {
+  seconds = k.seconds;
+  once = k.once;
+  each = λ u. let same = seconds_by_rule z rule start l valid is begun wide offsets u in let e = k.each u in ((λ c. same.0 (e.0 c)), (λ c. e.1 (same.1 c)));
+  count = k.count;
+}
 
--- ---- the seconds of a local time
+-- ---- the seconds that are asked
 in_none : (u : ℤ) → Contains [] u → ⊥
 in_none u (k, h, e) = absurd (omega arith)
 
@@ -54,126 +67,103 @@ in_two a b u (zero, h, e) = inl (sym e)
 in_two a b u (suc zero, h, e) = inr (sym e)
 in_two a b u (suc (suc k), h, e) = absurd (omega arith)
 
--- the rule's types have those offsets and no other
-abbrev pub HasOffsets : Zone → ℤ → ℤ → Type 0
-HasOffsets z a b = (o : ℤ) → Contains (rule_offsets z.rule) o ↔ ((o ≡ a) ⊎ (o ≡ b))
-
-pub offset_of_fixed : (z : Zone) (t : LocalType) → z.rule ≡ Some (Fixed t) → HasOffsets z t.offset t.offset
-offset_of_fixed z t e o = rw e ((λ c. inl (in_one t.offset o c)), (λ s. let g : o ≡ t.offset = ⊎_elim (λ x. x) (λ x. x) s in rw g (0, omega arith, refl)))
-
-pub offsets_of_alternate : (z : Zone) (a : AlternateRule) → z.rule ≡ Some (Alternate a) → HasOffsets z a.std.offset a.dst.offset
-offsets_of_alternate z a e o = rw e (
-  (λ c. in_two a.std.offset a.dst.offset o c),
-  (λ s. elim s [
-    | inl g ↦ rw g (0, omega arith, refl)
-    | inr g ↦ rw g (1, omega arith, refl)
-  ]),
-)
-
-pub offsets_flipped : (z : Zone) (a b : ℤ) → HasOffsets z a b → HasOffsets z b a
-offsets_flipped z a b h o = ((λ c. ⊎_elim (λ e. inr e) (λ e. inl e) ((h o).0 c)), (λ s. (h o).1 (⊎_elim (λ e. inr e) (λ e. inl e) s)))
-
-for_offset : (z : Zone) (l a b o u : ℤ) → HasOffsets z a b → (o ≡ a) ⊎ (o ≡ b) → u ≡ l -ℤ o → IsByRule z u → IsByRuleFor z l u
-for_offset z l a b o u h s e r = record { offset = o; of_rule = (h o).1 s; of_second = e; by_rule = r }
-
--- the rule says no type of the local time
-nowhere : (z : Zone) (l : ℤ) (p q : ℕ) → ((u : ℤ) → IsByRuleFor z l u → ⊥) → q ≡ p → IsAskedFor z l p q
-nowhere z l p q none e = record {
-  seconds = [];
-  once = search arith;
-  each = λ u. ((λ c. absurd (in_none u c)), (λ k. absurd (none u k)));
-  count = omega arith;
-}
-
--- both offsets are one
-pub asked_for_one : (z : Zone) (l a : ℤ) (p q : ℕ) → HasOffsets z a a → IsAskedAt z (l -ℤ a) p q → IsAskedFor z l p q
-asked_for_one z l a p q h (inl (r, e)) = record {
-  seconds = (l -ℤ a) ∷ [];
-  once = search arith;
-  each = λ u. (
-    (λ c. let g = in_one (l -ℤ a) u c in for_offset z l a a a u h (inl refl) g (rw g r)),
-    (λ f. let g : f.offset ≡ a = ⊎_elim (λ x. x) (λ x. x) ((h f.offset).0 f.of_rule) in let s = f.of_second in (0, omega arith, sym (f.of_second ∙ ap (λ o. l -ℤ o) g))),
-  );
-  count = e;
-}
-asked_for_one z l a p q h (inr (r, e)) = record {
-  seconds = [];
-  once = search arith;
-  each = λ u. (
-    (λ c. absurd (in_none u c)),
-    (λ f. let g : f.offset ≡ a = ⊎_elim (λ x. x) (λ x. x) ((h f.offset).0 f.of_rule) in absurd (r (subst (λ (w : ℤ). IsByRule z w) (f.of_second ∙ ap (λ o. l -ℤ o) g) f.by_rule))),
-  );
-  count = omega arith;
-}
-
-second_of : (z : Zone) (l a b u : ℤ) → HasOffsets z a b → IsByRuleFor z l u → (u ≡ l -ℤ a) ⊎ (u ≡ l -ℤ b)
-second_of z l a b u h f = let s = f.of_second in elim ((h f.offset).0 f.of_rule) [
-  | inl e ↦ inl (omega (arith, ints))
-  | inr e ↦ inr (omega (arith, ints))
-]
-
 apart : (a b : ℤ) → a ≢ b → AllPairs (λ u v. u ≢ v) (a ∷ b ∷ [])
 apart a b other zero (suc zero) d i j = other
 apart a b other (suc k) (suc zero) d i j = absurd (omega arith)
 apart a b other k (suc (suc m)) d i j = absurd (omega arith)
 apart a b other k zero d i j = absurd (omega arith)
 
--- two offsets, the one asked after the other
-pub asked_for_both : (z : Zone) (l a b : ℤ) (p q r : ℕ) → HasOffsets z a b → a ≢ b → IsAskedAt z (l -ℤ a) p q → IsAskedAt z (l -ℤ b) q r → IsAskedFor z l p r
-asked_for_both z l a b p q r h other (inl (s, e)) (inl (t, f)) = record {
-  seconds = (l -ℤ a) ∷ (l -ℤ b) ∷ [];
-  once = apart (l -ℤ a) (l -ℤ b) (λ g. other (omega (arith, ints)));
+nowhere : (asks : ℤ → Type 0) (p q : ℕ) → ((u : ℤ) → asks u → ⊥) → q ≡ p → IsAskedAtEach asks p q
+nowhere asks p q none e = record {
+  seconds = [];
+  once = search arith;
+  each = λ u. ((λ c. absurd (in_none u c)), (λ k. absurd (none u k)));
+  count = omega arith;
+}
+
+-- one question more if the second is taken
+abbrev IsAskedIf : (ℤ → Type 0) → ℤ → ℕ → ℕ → Type 0
+IsAskedIf asks u p q = (asks u × (q ≡ p + 1)) ⊎ ((asks u → ⊥) × (q ≡ p))
+
+one_second : (asks : ℤ → Type 0) (c : ℤ) (p q : ℕ) → ((u : ℤ) → asks u → u ≡ c) → IsAskedIf asks c p q → IsAskedAtEach asks p q
+one_second asks c p q only (inl (k, e)) = record {
+  seconds = c ∷ [];
+  once = search arith;
+  each = λ u. ((λ i. rw (in_one c u i) k), (λ i. (0, omega arith, sym (only u i))));
+  count = e;
+}
+one_second asks c p q only (inr (none, e)) = nowhere asks p q (λ u k. none (subst asks (only u k) k)) e
+
+-- two, the one asked after the other
+two_seconds : (asks : ℤ → Type 0) (c d : ℤ) (p q r : ℕ) → c ≢ d → ((u : ℤ) → asks u → (u ≡ c) ⊎ (u ≡ d)) → IsAskedIf asks c p q → IsAskedIf asks d q r → IsAskedAtEach asks p r
+two_seconds asks c d p q r other both (inl (j, e)) (inl (k, f)) = record {
+  seconds = c ∷ d ∷ [];
+  once = apart c d other;
   each = λ u. (
-    (λ c. elim (in_two (l -ℤ a) (l -ℤ b) u c) [
-      | inl g ↦ for_offset z l a b a u h (inl refl) g (rw g s)
-      | inr g ↦ for_offset z l a b b u h (inr refl) g (rw g t)
+    (λ i. elim (in_two c d u i) [
+      | inl g ↦ rw g j
+      | inr g ↦ rw g k
     ]),
-    (λ k. elim (second_of z l a b u h k) [
+    (λ i. elim (both u i) [
       | inl g ↦ (0, omega arith, sym g)
       | inr g ↦ (1, omega arith, sym g)
     ]),
   );
   count = omega arith;
 }
-asked_for_both z l a b p q r h other (inl (s, e)) (inr (t, f)) = record {
-  seconds = (l -ℤ a) ∷ [];
-  once = search arith;
-  each = λ u. (
-    (λ c. let g = in_one (l -ℤ a) u c in for_offset z l a b a u h (inl refl) g (rw g s)),
-    (λ k. elim (second_of z l a b u h k) [
-      | inl g ↦ (0, omega arith, sym g)
-      | inr g ↦ absurd (t (subst (λ (w : ℤ). IsByRule z w) g k.by_rule))
-    ]),
-  );
-  count = omega arith;
-}
-asked_for_both z l a b p q r h other (inr (s, e)) (inl (t, f)) = record {
-  seconds = (l -ℤ b) ∷ [];
-  once = search arith;
-  each = λ u. (
-    (λ c. let g = in_one (l -ℤ b) u c in for_offset z l a b b u h (inr refl) g (rw g t)),
-    (λ k. elim (second_of z l a b u h k) [
-      | inl g ↦ absurd (s (subst (λ (w : ℤ). IsByRule z w) g k.by_rule))
-      | inr g ↦ (0, omega arith, sym g)
-    ]),
-  );
-  count = omega arith;
-}
-asked_for_both z l a b p q r h other (inr (s, e)) (inr (t, f)) = nowhere z l p r (λ u k. elim (second_of z l a b u h k) [
-  | inl g ↦ s (subst (λ (w : ℤ). IsByRule z w) g k.by_rule)
-  | inr g ↦ t (subst (λ (w : ℤ). IsByRule z w) g k.by_rule)
+two_seconds asks c d p q r other both (inl (j, e)) (inr (none, f)) = one_second asks c p r (λ u k. elim (both u k) [
+  | inl g ↦ g
+  | inr g ↦ absurd (none (subst asks g k))
+]) (inl (j, f ∙ e))
+two_seconds asks c d p q r other both (inr (none, e)) (inl (k, f)) = one_second asks d p r (λ u i. elim (both u i) [
+  | inl g ↦ absurd (none (subst asks g i))
+  | inr g ↦ g
+]) (inl (k, rw e at f))
+two_seconds asks c d p q r other both (inr (none, e)) (inr (neither, f)) = nowhere asks p r (λ u k. elim (both u k) [
+  | inl g ↦ none (subst asks g k)
+  | inr g ↦ neither (subst asks g k)
 ]) (f ∙ e)
 
--- neither of two offsets is asked
-pub asked_for_neither : (z : Zone) (l a b : ℤ) (p : ℕ) → HasOffsets z a b → (IsByRule z (l -ℤ a) → ⊥) → (IsByRule z (l -ℤ b) → ⊥) → IsAskedFor z l p p
-asked_for_neither z l a b p h s t = nowhere z l p p (λ u k. elim (second_of z l a b u h k) [
-  | inl g ↦ s (subst (λ (w : ℤ). IsByRule z w) g k.by_rule)
-  | inr g ↦ t (subst (λ (w : ℤ). IsByRule z w) g k.by_rule)
+-- ---- those of a rule
+asked_since : (rule : TransitionRule) (from l o : ℤ) (p q : ℕ) → Contains (rule_offsets (Some rule)) o → IsAskedSince from (l -ℤ o) p q → IsAskedIf (IsSecondFrom rule from l) (l -ℤ o) p q
+asked_since rule from l o p q of_rule (inl (since, e)) = inl (record { offset = o; of_rule = of_rule; of_second = refl; since = since }, e)
+asked_since rule from l o p q of_rule (inr (early, e)) = inr ((λ k. let since = k.since in absurd (omega (arith, ints))), e)
+
+pub asked_fixed : (f : LocalType) (from l : ℤ) (p q : ℕ) → IsAskedSince from (l -ℤ f.offset) p q → IsAskedFrom (Fixed f) from l p q
+asked_fixed f from l p q asked = one_second (IsSecondFrom (Fixed f) from l) (l -ℤ f.offset) p q
+    (λ u k. let e = in_one f.offset k.offset k.of_rule in k.of_second ∙ ap (λ o. l -ℤ o) e) (asked_since (Fixed f) from l f.offset p q (0, omega arith, refl) asked)
+
+std_or_dst : (a : AlternateRule) (from l u : ℤ) → IsSecondFrom (Alternate a) from l u → (u ≡ l -ℤ a.std.offset) ⊎ (u ≡ l -ℤ a.dst.offset)
+std_or_dst a from l u k = elim (in_two a.std.offset a.dst.offset k.offset k.of_rule) [
+  | inl e ↦ inl (k.of_second ∙ ap (λ o. l -ℤ o) e)
+  | inr e ↦ inr (k.of_second ∙ ap (λ o. l -ℤ o) e)
+]
+
+pub asked_std_dst : (a : AlternateRule) (from l : ℤ) (p q r : ℕ) → a.std.offset ≢ a.dst.offset → IsAskedSince from (l -ℤ a.std.offset) p q → IsAskedSince from (l -ℤ a.dst.offset) q r → IsAskedFrom (Alternate a) from l p r
+asked_std_dst a from l p q r other std dst = two_seconds (IsSecondFrom (Alternate a) from l) (l -ℤ a.std.offset) (l -ℤ a.dst.offset) p q r (λ e. other (omega (arith, ints))) (std_or_dst a from l)
+    (asked_since (Alternate a) from l a.std.offset p q (0, omega arith, refl) std) (asked_since (Alternate a) from l a.dst.offset q r (1, omega arith, refl) dst)
+
+pub asked_dst_std : (a : AlternateRule) (from l : ℤ) (p q r : ℕ) → a.std.offset ≢ a.dst.offset → IsAskedSince from (l -ℤ a.dst.offset) p q → IsAskedSince from (l -ℤ a.std.offset) q r → IsAskedFrom (Alternate a) from l p r
+asked_dst_std a from l p q r other dst std = two_seconds (IsSecondFrom (Alternate a) from l) (l -ℤ a.dst.offset) (l -ℤ a.std.offset) p q r (λ e. other (omega (arith, ints))) (λ u k. elim (std_or_dst a from l u k) [ inl e ↦ inr e | inr e ↦ inl e ])
+    (asked_since (Alternate a) from l a.dst.offset p q (1, omega arith, refl) dst) (asked_since (Alternate a) from l a.std.offset q r (0, omega arith, refl) std)
+
+-- where both offsets are one
+pub asked_once : (a : AlternateRule) (from l : ℤ) (p q : ℕ) → a.std.offset ≡ a.dst.offset → IsAskedSince from (l -ℤ a.std.offset) p q → IsAskedFrom (Alternate a) from l p q
+asked_once a from l p q same std = one_second (IsSecondFrom (Alternate a) from l) (l -ℤ a.std.offset) p q (λ u k. elim (std_or_dst a from l u k) [
+  | inl e ↦ e
+  | inr e ↦ omega (arith, ints)
+]) (asked_since (Alternate a) from l a.std.offset p q (0, omega arith, refl) std)
+
+-- where both come too early
+pub asked_never : (a : AlternateRule) (from l : ℤ) (p : ℕ) → (l -ℤ a.std.offset) <ℤ from → (l -ℤ a.dst.offset) <ℤ from → IsAskedFrom (Alternate a) from l p p
+asked_never a from l p std dst = nowhere (IsSecondFrom (Alternate a) from l) p p (λ u k. let since = k.since in elim (std_or_dst a from l u k) [
+  | inl e ↦ absurd (omega (arith, ints))
+  | inr e ↦ absurd (omega (arith, ints))
 ]) refl
 
--- nor where a transition comes after all of the local time's window
+-- ---- none, where a transition comes after all of the local time's window
 pub asked_for_window : (z : Zone) (l low high : ℤ) (n : ℕ) (d : Transition) (p q : ℕ) → IsValid z → IsWindow z l low high → n < length z.transitions → high <ℤ (get_or z.transitions n d).unix_leap_time → q ≡ p → IsAskedFor z l p q
-asked_for_window z l low high n d p q valid w h later e = nowhere z l p q (λ u k.
+asked_for_window z l low high n d p q valid w h later e = nowhere (IsByRuleFor z l) p q (λ u k.
     let among = Contains-append_right (offsets_of z.types) (rule_offsets z.rule) k.offset k.of_rule in
     let o : w.least ≤ℤ k.offset = All-contains (λ x. w.least ≤ℤ x) (offsets z.types z.rule) k.offset w.is_least.fewest among in
     let s = k.of_second in

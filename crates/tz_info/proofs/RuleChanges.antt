@@ -1,7 +1,6 @@
 -- Where a rule's types give way to each other: at its moments and at turns of the year, and every 400 years alike.
-use Rattle.std.proofs.Common.{◌≡◌, ◌≢◌, ℕ, zero, suc, ◌*◌, Option, ◌<◌, ◌≤◌, arith, refl, sym, ap, ◌∙◌, subst, Bool, cond, ℤ, pos, neg_ℤ, ◌+ℤ◌, ◌-ℤ◌, ◌*ℤ◌, ◌≤ℤ◌, ◌<ℤ◌, ◌↔◌, ◌⊎◌, inl, inr, List, [], ◌∷◌, length, get_or}
+use Rattle.std.proofs.Common.{◌≡◌, ℕ, zero, suc, ◌*◌, Option, ◌<◌, arith, refl, sym, ap, ◌∙◌, Bool, ℤ, pos, neg_ℤ, ◌+ℤ◌, ◌-ℤ◌, ◌≤ℤ◌, ◌<ℤ◌, ◌⊎◌, inl, inr, List, [], ◌∷◌, length, get_or}
 use Rattle.std.proofs.lemmas.Int.{ints, by_lt_z}
-use Rattle.std.proofs.lemmas.Bool.Decides.{nat_tests}
 use Rattle.naive_base.specs.Year.{floor_div, floor_mod, is_leap, year_start}
 use Rattle.naive_base.specs.Weekday.{weekday_of}
 use Rattle.naive_base.proofs.ForCallers.{floors, one_year, starts_rise, floor_mod_parts, weekday_later, weekday_below, lies_in}
@@ -11,12 +10,12 @@ use Rattle.tz_info.specs.Rules.{Alternate, IsAlternateRule}
 use Rattle.tz_info.specs.Moments.{IsYearOf, IsInSomeYear, IsDstAt, IsRuleYear, IsRuleTime, AlternateAt, IsAlternateRefused, moment, start_in, end_in, type_when}
 use Rattle.naive_base.specs.DateOf.{year_of}
 use Rattle.tz_info.specs.Changes.{IsChange, HasNoChange, IsFirstChange, IsLastChange, IsFirst, IsLast}
-use Rattle.tz_info.specs.Steps.Changes.{new_year, moments_near, IsInStretch, IsOneOf, IsAfterIn, IsUpToIn, AreFrom, AreUntil, later_of, earlier_of}
+use Rattle.tz_info.specs.Steps.Changes.{new_year, moments_near, IsOneOf, IsAfterIn, IsUpToIn, AreFrom, AreUntil, later_of, earlier_of}
 use Rattle.tz_info.specs.declared.change.Change.{Change}
 use Rattle.tz_info.specs.declared.rule.transition_rule.TransitionRule.TheVariants.{Alternate as AlternateRule}
-use Rattle.tz_info.specs.Steps.Kinds.{kind_place, second_in, seconds_by_kind}
+use Rattle.tz_info.specs.Steps.Kinds.{kind_place, second_in}
 use Rattle.tz_info.specs.declared.rule.day.DayTime.{DayTime}
-use Rattle.tz_info.proofs.ChangeSearch.{first_moved, last_moved, later_both, later_below, below_later, later_most, earlier_both, earlier_least}
+use Rattle.tz_info.proofs.ChangeSearch.{first_moved, last_moved, later_below, below_later, later_most, earlier_both, earlier_least}
 use Rattle.tz_info.proofs.KindLaws.{kind_found}
 use Rattle.tz_info.proofs.RuleLaws.{rule_time, rule_once}
 use Rattle.tz_info.proofs.Neighbours.{IsNear, starts_near, ends_near, year_after, two_years_after, place, second_low, second_high, one_answer}
@@ -345,17 +344,6 @@ first_of_year a year after from last found rule e f h =
     (is, record { later = both.0; of_year = of_year d.at year (both.1, rw f at i.1) }))
     h
 
--- a second of the year before comes before the year after it
-pub early_enough : (after first second : ℤ) → IsYearOf second first → second ≡ later_of after first_rule_time → after <ℤ new_year (first +ℤ pos 1)
-early_enough after first second of_second e =
-    let high = second_high second first of_second in
-    let low = (later_both after first_rule_time).0 in
-    omega (arith, ints)
-
--- the first of those years is one that a rule answers in
-pub in_rule_time : (after second : ℤ) → second ≡ later_of after first_rule_time → after ≤ℤ pos 67_767_976_170_460_799 → IsRuleTime second
-in_rule_time after second e most = rw e ((later_both after first_rule_time).1, later_most after first_rule_time (pos 67_767_976_170_460_799) most (omega (arith, ints)))
-
 -- ---- the last change up to a second, year by year
 abbrev last_rule_time : ℤ
 last_rule_time = pos 67_767_976_170_460_799
@@ -459,16 +447,6 @@ last_of_year a year last from until found rule e f h =
     let most = rw f at i.1 in let a = least.0 in let b = least.1 in
     (is, record { up_to = omega (arith, ints); of_year = of_year d.at year (rw e at i.0, omega (arith, ints)) }))
     h
-
--- from which year on they are looked for
-pub in_rule_years : (last second : ℤ) → second ≡ earlier_of (last -ℤ pos 1) last_rule_time → first_rule_time <ℤ last → IsRuleTime second
-in_rule_years last second e late = rw e (earlier_least (last -ℤ pos 1) last_rule_time first_rule_time (omega (arith, ints)) (omega (arith, ints)), (earlier_both (last -ℤ pos 1) last_rule_time).1)
-
-pub late_enough : (last first second : ℤ) → IsYearOf second first → second ≡ earlier_of (last -ℤ pos 1) last_rule_time → new_year first <ℤ last
-late_enough last first second of_second e =
-    let low = second_low second first of_second in
-    let high = (earlier_both (last -ℤ pos 1) last_rule_time).0 in
-    omega (arith, ints)
 
 -- the rule has one type at a second
 pub rule_type_once : (a : Alternate) (u : ℤ) (s t : LocalType) → AlternateAt a u s → AlternateAt a u t → s ≡ t

@@ -1,22 +1,21 @@
 -- A walk from segment to segment: which seconds it adds, why none lies outside it, and how many transitions it reads.
-use Rattle.std.proofs.Common.{◌≡◌, ℕ, zero, suc, ◌+◌, ◌<◌, ◌≤◌, arith, refl, ap, ◌∙◌, sym, subst, Bool, true, false, cond, ◌&&◌, List, [], ◌∷◌, length, get_or, ℤ, ◌-ℤ◌, ◌≤ℤ◌, ◌<ℤ◌, int_le, int_lt, inl, inr, ◌⊎◌, ⊎_elim, Some, None, slice_get, FitsSigned}
+use Rattle.std.proofs.Common.{◌≡◌, ℕ, zero, suc, ◌+◌, ◌<◌, ◌≤◌, arith, refl, ap, ◌∙◌, sym, Bool, true, false, cond, ◌&&◌, List, [], ◌∷◌, length, get_or, ℤ, ◌+ℤ◌, ◌-ℤ◌, ◌≤ℤ◌, ◌<ℤ◌, int_le, int_lt, inl, inr, Some, None, slice_get}
 use Rattle.std.specs.List.{filter}
-use Rattle.std.specs.Int.{w64}
-use Rattle.std.proofs.lemmas.Int.{ints, by_lt_z}
+use Rattle.std.proofs.lemmas.Int.{ints}
 use Rattle.std.proofs.lemmas.Bool.{cases_lt}
 use Rattle.std.proofs.lemmas.List.{get_or_default}
+use Rattle.naive_base.specs.Range.{IsWide}
 use Rattle.offset_core.specs.WallAnswer.{IsWallAnswer}
 use Rattle.offset_core.specs.declared.local_result.LocalResult.{LocalResult}
-use Rattle.offset_core.specs.declared.local_result.LocalResult.TheVariants.{None as Never, Single}
+use Rattle.offset_core.specs.declared.local_result.LocalResult.TheVariants.{None as Never}
 use Rattle.tz_info.specs.Counts.{Counts}
 use Rattle.tz_info.specs.Digits.{digits}
 use Rattle.tz_info.specs.Leaps.{IsLeapTime, IsNear, least_time}
 use Rattle.tz_info.specs.LocalTypes.{LocalType}
-use Rattle.tz_info.specs.Rules.{Alternate as AlternateRule}
 use Rattle.tz_info.specs.RuleTypes.{RuleAt}
 use Rattle.tz_info.specs.Segments.{segment_of}
 use Rattle.tz_info.specs.Steps.Segments.{begin_of, index_of}
-use Rattle.tz_info.specs.Steps.Answers.{joined}
+use Rattle.tz_info.specs.Steps.RuleSeconds.{AreUtOffsets, TypeFrom}
 use Rattle.tz_info.specs.Steps.Walk.{TypeIn, IsShownIn, IsTried, IsAskedLast}
 use Rattle.tz_info.specs.Transitions.{AreRising}
 use Rattle.tz_info.specs.WallClocks.{Shows}
@@ -25,34 +24,15 @@ use Rattle.tz_info.specs.Windows.{between, IsWindow}
 use Rattle.tz_info.specs.Looks.{RoseByWalk}
 use Rattle.tz_info.specs.Zones.{Zone, HasType, IsValid, TypeAt}
 use Rattle.tz_info.specs.declared.rule.transition_rule.TransitionRule.{TransitionRule}
-use Rattle.tz_info.specs.declared.rule.transition_rule.TransitionRule.TheVariants.{Fixed, Alternate}
 use Rattle.tz_info.specs.declared.zone.transition.Transition.{Transition}
-use Rattle.tz_info.proofs.AnswerLaws.{same_answer, behind_answer}
-use Rattle.tz_info.proofs.Candidates.{one_of_two}
+use Rattle.tz_info.proofs.AnswerLaws.{Parts, same_answer}
+use Rattle.tz_info.proofs.Candidates.{Gains, gained, offset_of_rule, shown_at}
 use Rattle.tz_info.proofs.ExtremeLaws.{at_most_greatest, at_least_least}
 use Rattle.tz_info.proofs.Prefixes.{le_true, lt_true}
-use Rattle.tz_info.proofs.RuleLaws.{rule_once}
 use Rattle.tz_info.proofs.SegmentLaws.{segment_is, segment_at, segment_here, segment_most, segments_rise, later_segment, within_of, between_of, type_before, type_from, type_in_before, type_in_from}
-use Rattle.tz_info.proofs.SpanLaws.{shown_at}
 use Rattle.tz_info.proofs.TableSearch.{Between}
-use Rattle.tz_info.proofs.WallSegments.{leap_time_of, rule_begun}
+use Rattle.tz_info.proofs.WallSegments.{leap_time_of, near_of, rule_begun}
 use Rattle.tz_info.proofs.ZoneLaws.{some_once}
-
--- q takes what p takes, and besides at most the second c, where that shows the local time; and then c is behind the others
-pub record Gains (at p q : ℤ → LocalType → Type 0) (local c : ℤ) : Type 0 where
-  pub old : (u : ℤ) (t : LocalType) → p u t → q u t
-  pub new : (t : LocalType) → Shows at local c t → q c t
-  pub only : (u : ℤ) (t : LocalType) → q u t → p u t ⊎ ((u ≡ c) × Shows at local u t)
-  pub behind : (t : LocalType) → Shows at local c t → (u : ℤ) (f : LocalType) → p u f → u <ℤ c
-
-pub gained : (at p q : ℤ → LocalType → Type 0) (l o : ℤ) (before after : LocalResult LocalType) → Gains at p q l (l -ℤ o) → IsWallAnswer p before → IsAskedLast at l o before after → IsWallAnswer q after
-gained at p q l o before after g s (inl (e, none)) =
-    rw e (same_answer p q before g.old (λ u t k. elim (g.only u t k) [
-      | inl i ↦ i
-      | inr h ↦ absurd (none t (subst (λ (w : ℤ). Shows at l w t) h.0 h.1))
-    ]) s)
-gained at p q l o before after g s (inr (t, k, e)) =
-    rw e (behind_answer p q (l -ℤ o) t before g.old (λ u f h. elim (g.only u f h) [ inl i ↦ inl i | inr j ↦ inr j.0 ]) (g.new t k) (g.behind t k) s)
 
 -- ---- segments
 shows_type : (z : Zone) (l u : ℤ) (i : ℕ) (t : LocalType) → Shows (TypeIn z i) l u t → Shows (TypeAt z) l u t
@@ -94,8 +74,8 @@ pub record Tests (z : Zone) (i : ℕ) (within : ℤ → Type 0) : Type 0 where
 
 pub tried_asked : (z : Zone) (l : ℤ) (i : ℕ) (within : ℤ → Type 0) (before after : LocalResult LocalType) → AreRising z.transitions → Tests z i within → (k : IsTried z l (index_of z.transitions i) within before after) → ((u x : ℤ) (t : LocalType) → IsLeapTime z.leaps u x → Between z.transitions x i i → HasType z (index_of z.transitions i) t → TypeIn z i u t) → IsAskedLast (TypeIn z i) l k.type.offset before after
 tried_asked z l i within before after rising tests k make = elim k.tried [
-  | inl h ↦ inr (k.type, record { fits = k.fits; type = make (l -ℤ k.type.offset) k.leap_time k.type k.of_second (tests.to k.leap_time h.0) k.listed; shown = omega (arith, ints) }, h.1)
-  | inr h ↦ inl (h.1, λ t s. h.0 (tests.from k.leap_time k.leap_fits (rw (sym k.of_second.sum) at (segment_at z (l -ℤ k.type.offset) i rising s.type.segment))))
+  | inl h ↦ inr (k.type, record { fits = k.candidate.fits; type = make (l -ℤ k.type.offset) k.leap_time k.type k.candidate.of_second (tests.to k.leap_time h.0) k.candidate.listed; shown = omega (arith, ints) }, h.1)
+  | inr h ↦ inl (h.1, λ t s. h.0 (tests.from k.leap_time k.candidate.leap_fits (rw (sym k.candidate.of_second.sum) at (segment_at z (l -ℤ k.type.offset) i rising s.type.segment))))
 ]
 
 pub tested_before : (z : Zone) (i : ℕ) (since until : ℤ) (d : Transition) → AreRising z.transitions → i < length z.transitions → since ≡ begin_of z.transitions i → until ≡ (get_or z.transitions i d).unix_leap_time → Tests z i (λ x. (since ≤ℤ x) × (x <ℤ until))
@@ -119,7 +99,7 @@ pub tried_before : (z : Zone) (l : ℤ) (i : ℕ) (since until : ℤ) (d : Trans
 tried_before z l i since until d before after valid h b e k s =
     let rising = valid.transitions.rising in
     gained (TypeIn z i) (IsShownIn z l i) (IsShownIn z l (i + 1)) l k.type.offset before after
-    (segment_gains z l k.type.offset i valid (one_before z l i k.type rising h k.listed)) s
+    (segment_gains z l k.type.offset i valid (one_before z l i k.type rising h k.candidate.listed)) s
     (tried_asked z l i (λ x. (since ≤ℤ x) × (x <ℤ until)) before after rising (tested_before z i since until d rising h b e) k (λ u x t f g m. type_in_before z i u x t f g h m))
 
 -- the last segment was, where there is no rule
@@ -128,100 +108,33 @@ pub tried_last : (z : Zone) (l since : ℤ) (before after : LocalResult LocalTyp
 tried_last z l since before after valid none b k s =
     let rising = valid.transitions.rising in
     gained (TypeIn z (length z.transitions)) (IsShownIn z l (length z.transitions)) (IsShownIn z l (length z.transitions + 1)) l k.type.offset before after
-    (segment_gains z l k.type.offset (length z.transitions) valid (one_last z l k.type rising none k.listed)) s
+    (segment_gains z l k.type.offset (length z.transitions) valid (one_last z l k.type rising none k.candidate.listed)) s
     (tried_asked z l (length z.transitions) (λ x. since ≤ℤ x) before after rising (tested_last z since rising b) k (λ u x t f g m. type_in_from z u x t f g (rw none m)))
 
 -- ---- the rule behind the last transition
-pub fixed_only : (z : Zone) (l : ℤ) (f : LocalType) → IsValid z → z.rule ≡ Some (Fixed f) → (u : ℤ) (t : LocalType) → Shows (TypeIn z (length z.transitions)) l u t → u ≡ l -ℤ f.offset
-fixed_only z l f valid e u t s = shown_at u l t f s.shown (rw e at (type_from z u t valid.transitions.rising s.type))
-
-pub one_of_both : (z : Zone) (l : ℤ) (a : AlternateRule) → IsValid z → z.rule ≡ Some (Alternate a) → (u : ℤ) (t : LocalType) → Shows (TypeIn z (length z.transitions)) l u t → (u ≡ l -ℤ a.std.offset) ⊎ (u ≡ l -ℤ a.dst.offset)
-one_of_both z l a valid e u t s = elim (one_of_two a u t (rw e at (type_from z u t valid.transitions.rising s.type))) [
-  | inl q ↦ inl (shown_at u l t a.std s.shown q)
-  | inr q ↦ inr (shown_at u l t a.dst s.shown q)
-]
-
--- one offset was asked
-pub asked_one : (z : Zone) (l o : ℤ) (before after : LocalResult LocalType) → IsValid z → ((u : ℤ) (t : LocalType) → Shows (TypeIn z (length z.transitions)) l u t → u ≡ l -ℤ o) → IsAskedLast (TypeIn z (length z.transitions)) l o before after → IsWallAnswer (IsShownIn z l (length z.transitions)) before → IsWallAnswer (IsShownIn z l (length z.transitions + 1)) after
-asked_one z l o before after valid only a s =
-    gained (TypeIn z (length z.transitions)) (IsShownIn z l (length z.transitions)) (IsShownIn z l (length z.transitions + 1)) l o before after (segment_gains z l o (length z.transitions) valid only) s a
-
--- in the segments before the last one, or the second c of the last one
-abbrev pub IsHalfShown : Zone → ℤ → ℤ → ℤ → LocalType → Type 0
-IsHalfShown z l c u t = IsShownIn z l (length z.transitions) u t ⊎ ((u ≡ c) × Shows (TypeIn z (length z.transitions)) l u t)
-
-half_gains : (z : Zone) (l c : ℤ) → IsValid z → Gains (TypeIn z (length z.transitions)) (IsShownIn z l (length z.transitions)) (IsHalfShown z l c) l c
-half_gains z l c valid = record {
-  old = λ u t k. inl k;
-  new = λ t k. inr (refl, k);
-  only = λ u t k. k;
-  behind = λ t k u f h. later_segment z u c valid (let b = h.before in let e = k.type.segment in omega arith);
-}
-
-whole_gains : (z : Zone) (l o p : ℤ) → IsValid z → p <ℤ o → ((u : ℤ) (t : LocalType) → Shows (TypeIn z (length z.transitions)) l u t → (u ≡ l -ℤ o) ⊎ (u ≡ l -ℤ p)) → Gains (TypeIn z (length z.transitions)) (IsHalfShown z l (l -ℤ o)) (IsShownIn z l (length z.transitions + 1)) l (l -ℤ p)
-whole_gains z l o p valid less both = record {
-  old = λ u t k. elim k [
-    | inl i ↦ record { shows = i.shows; before = let b = i.before in omega arith }
-    | inr j ↦ record { shows = shows_type z l u (length z.transitions) t j.1; before = let g = j.1.type.segment in omega arith }
-  ];
-  new = λ t k. record { shows = shows_type z l (l -ℤ p) (length z.transitions) t k; before = let g = k.type.segment in omega arith };
-  only = λ u t k. elim (cases_lt (segment_of z u) (length z.transitions)) [
-    | inl h ↦ inl (inl (record { shows = k.shows; before = h }))
+-- from `start` on the zone's types are the rule's, and before it those of the segments before the last one
+pub with_rule : (z : Zone) (rule : TransitionRule) (start l : ℤ) → IsValid z → z.rule ≡ Some rule → IsStart z.transitions z.leaps (length z.transitions) start → IsWide l → AreUtOffsets rule
+    → Parts (IsShownIn z l (length z.transitions)) (Shows (TypeFrom rule start) l) (IsShownIn z l (length z.transitions + 1))
+with_rule z rule start l valid is begun wide offsets = record {
+  first = λ u t k. record { shows = k.shows; before = let b = k.before in omega arith };
+  last = λ u t k.
+      let near = near u t k.type.type k.shown in
+      let there = (rule_begun z u start valid near begun).1 k.type.since in
+      let time = leap_time_of z u valid near in
+      let b : Between z.transitions time.0 (length z.transitions) (length z.transitions) = rw (sym time.1.sum) at (segment_at z u (length z.transitions) valid.transitions.rising there) in
+      let type = type_in_from z u time.0 t time.1 b (rw is k.type.type) in
+      record { shows = record { fits = k.fits; type = type.type; shown = k.shown }; before = omega arith };
+  all = λ u t k. elim (cases_lt (segment_of z u) (length z.transitions)) [
+    | inl h ↦ inl (record { shows = k.shows; before = h })
     | inr h ↦
-        let g : segment_of z u ≡ length z.transitions = let b = k.before in omega arith in
-        let s = shows_in z l u (length z.transitions) t k.shows g in
-        elim (both u t s) [
-          | inl q ↦ inl (inr (q, s))
-          | inr q ↦ inr (q, s)
-        ]
+        let there : segment_of z u ≡ length z.transitions = let b = k.before in omega arith in
+        let type = rw is at (type_from z u t valid.transitions.rising (record { type = k.shows.type; segment = there })) in
+        inr (record { fits = k.shows.fits; type = record { type = type; since = (rule_begun z u start valid (near u t type k.shows.shown) begun).0 there }; shown = k.shows.shown })
   ];
-  behind = λ t k u f h. elim h [
-    | inl i ↦ later_segment z u (l -ℤ p) valid (let b = i.before in let e = k.type.segment in omega arith)
-    | inr j ↦ let e = j.0 in omega (arith, ints)
-  ];
-}
-
--- two offsets were asked, the greater one first, since its second is the earlier one
-pub asked_both : (z : Zone) (l o p : ℤ) (before one two : LocalResult LocalType) → IsValid z → p <ℤ o → ((u : ℤ) (t : LocalType) → Shows (TypeIn z (length z.transitions)) l u t → (u ≡ l -ℤ o) ⊎ (u ≡ l -ℤ p)) → IsAskedLast (TypeIn z (length z.transitions)) l o before one → IsAskedLast (TypeIn z (length z.transitions)) l p one two → IsWallAnswer (IsShownIn z l (length z.transitions)) before → IsWallAnswer (IsShownIn z l (length z.transitions + 1)) two
-asked_both z l o p before one two valid less both f g s =
-    gained (TypeIn z (length z.transitions)) (IsHalfShown z l (l -ℤ o)) (IsShownIn z l (length z.transitions + 1)) l p one two (whole_gains z l o p valid less both)
-    (gained (TypeIn z (length z.transitions)) (IsShownIn z l (length z.transitions)) (IsHalfShown z l (l -ℤ o)) l o before one (half_gains z l (l -ℤ o) valid) s f) g
-
--- neither of two offsets' seconds is asked
-pub asked_neither : (z : Zone) (l o p : ℤ) (answer : LocalResult LocalType) → IsValid z → ((u : ℤ) (t : LocalType) → Shows (TypeIn z (length z.transitions)) l u t → (u ≡ l -ℤ o) ⊎ (u ≡ l -ℤ p)) → IsAskedLast (TypeIn z (length z.transitions)) l o answer answer → IsAskedLast (TypeIn z (length z.transitions)) l p answer answer → IsWallAnswer (IsShownIn z l (length z.transitions)) answer → IsWallAnswer (IsShownIn z l (length z.transitions + 1)) answer
-asked_neither z l o p answer valid both f g s =
-    by_lt_z p o (λ less. asked_both z l o p answer answer answer valid less both f g s)
-    (λ from. by_lt_z o p
-    (λ less. asked_both z l p o answer answer answer valid less (λ u t k. ⊎_elim (λ e. inr e) (λ e. inl e) (both u t k)) g f s)
-    (λ same. asked_one z l o answer answer valid (λ u t k. ⊎_elim (λ e. e) (λ e. omega (arith, ints)) (both u t k)) f s))
-
--- what the rule was asked, and what it answered; `start` is the second from which on it is asked
-pub asked_early : (z : Zone) (l o start : ℤ) (answer : LocalResult LocalType) → IsValid z → IsNear (l -ℤ o) → IsStart z.transitions z.leaps (length z.transitions) start → (l -ℤ o) <ℤ start → IsAskedLast (TypeIn z (length z.transitions)) l o answer answer
-asked_early z l o start answer valid near begun less = inl (
-  refl,
-  λ t s. let g = (rule_begun z (l -ℤ o) start valid near begun).0 s.type.segment in omega (arith, ints),
-)
-
-pub asked_there : (z : Zone) (l o : ℤ) (rule : TransitionRule) (t : LocalType) (before after : LocalResult LocalType) → IsValid z → z.rule ≡ Some rule → IsNear (l -ℤ o) → segment_of z (l -ℤ o) ≡ length z.transitions → RuleAt rule (l -ℤ o) t → t.offset ≡ o → FitsSigned w64 (l -ℤ o) → after ≡ joined before (Single t) → IsAskedLast (TypeIn z (length z.transitions)) l o before after
-asked_there z l o rule t before after valid is near there a e f g =
-    let r = valid.transitions.rising in
-    let time = leap_time_of z (l -ℤ o) valid near in
-    let b : Between z.transitions time.0 (length z.transitions) (length z.transitions) = rw (sym time.1.sum) at (segment_at z (l -ℤ o) (length z.transitions) r there) in
-    inr (t, record { fits = f; type = type_in_from z (l -ℤ o) time.0 t time.1 b (rw is a); shown = omega (arith, ints) }, g)
-
-pub asked_found : (z : Zone) (l o start : ℤ) (rule : TransitionRule) (t : LocalType) (before after : LocalResult LocalType) → IsValid z → z.rule ≡ Some rule → IsNear (l -ℤ o) → IsStart z.transitions z.leaps (length z.transitions) start → start ≤ℤ (l -ℤ o) → RuleAt rule (l -ℤ o) t → t.offset ≡ o → FitsSigned w64 (l -ℤ o) → after ≡ joined before (Single t) → IsAskedLast (TypeIn z (length z.transitions)) l o before after
-asked_found z l o start rule t before after valid is near begun from a e f g =
-    asked_there z l o rule t before after valid is near ((rule_begun z (l -ℤ o) start valid near begun).1 from) a e f g
-
-pub asked_other : (z : Zone) (l o : ℤ) (rule : TransitionRule) (t : LocalType) (answer : LocalResult LocalType) → IsValid z → z.rule ≡ Some rule → RuleAt rule (l -ℤ o) t → (t.offset ≡ o → ⊥) → IsAskedLast (TypeIn z (length z.transitions)) l o answer answer
-asked_other z l o rule t answer valid is a other = inl (
-  refl,
-  λ f s.
-      let e = rule_once rule (l -ℤ o) f t (rw is at (type_from z (l -ℤ o) f valid.transitions.rising s.type)) a in
-      let g = ap (λ (x : LocalType). x.offset) e in
-      let h = s.shown in
-      other (omega (arith, ints)),
-)
+  order = λ u v s t a b. later_segment z u v valid (let less = a.before in let there = (rule_begun z v start valid (near v t b.type.type b.shown) begun).1 b.type.since in omega arith);
+} where
+  near : (u : ℤ) (t : LocalType) → RuleAt rule u t → u +ℤ t.offset ≡ l → IsNear u
+  near u t k e = let n = near_of l t.offset wide (offsets t.offset (offset_of_rule rule u t k)) in let g : l -ℤ t.offset ≡ u = omega (arith, ints) in rw g at n
 
 -- ---- nothing lies outside
 pub none_before : (z : Zone) (l low high : ℤ) (n : ℕ) → IsValid z → IsWindow z l low high → Between z.transitions low n n → IsWallAnswer (IsShownIn z l n) Never

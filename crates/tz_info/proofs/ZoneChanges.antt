@@ -1,5 +1,5 @@
 -- Where a zone's types change: at its transitions, and behind them where the rule's types do.
-use Rattle.std.proofs.Common.{◌≡◌, ℕ, zero, suc, ◌+◌, ◌-◌, ◌<◌, ◌≤◌, ◌↔◌, arith, refl, sym, ap, ◌∙◌, List, [], ◌∷◌, length, take, length-take, get_or, cond, int_le, ℤ, pos, neg_ℤ, ◌+ℤ◌, ◌-ℤ◌, ◌≤ℤ◌, ◌<ℤ◌, inl, inr, ◌⊎◌, Option, Some, None, MatchOption, w64}
+use Rattle.std.proofs.Common.{◌≡◌, ℕ, zero, suc, ◌+◌, ◌-◌, ◌<◌, ◌≤◌, ◌↔◌, arith, refl, sym, ap, ◌∙◌, List, [], ◌∷◌, length, take, length-take, get_or, cond, int_le, ℤ, pos, ◌-ℤ◌, ◌≤ℤ◌, ◌<ℤ◌, inl, inr, Option, Some, None, MatchOption, w64}
 use Rattle.std.proofs.lemmas.Int.{ints, by_lt_z}
 use Rattle.std.proofs.lemmas.Bool.{cases_lt}
 use Rattle.std.proofs.lemmas.List.Sums.{sum_by-cons}
@@ -106,16 +106,6 @@ pub behind_first : (z : Zone) (after : ℤ) (place : ℕ) → IsValid z → plac
 behind_first z after place valid e = record {
   behind = λ d is later. let r = segments_rise z after (d.at -ℤ pos 1) valid.transitions.rising valid.leaps (omega (arith, ints)) in omega arith;
 }
-
-pub behind_more : (z : Zone) (after : ℤ) (place : ℕ) → AreBehind z after place → HasNoneAt z place → AreBehind z after (place + 1)
-behind_more z after place h none = record {
-  behind = λ d is later.
-      let b = h.behind d is later in
-      elim (cases_lt place (segment_of z (d.at -ℤ pos 1))) [ inl l ↦ omega arith | inr m ↦ absurd (none d is (omega arith)) ];
-}
-
-pub behind_all : (z : Zone) (after : ℤ) → AreBehind z after (length z.transitions) → HasNoChange (TypeAt z) (IsInTableAfter z after)
-behind_all z after h d is inside = let b = h.behind d is inside.later in let t = inside.table in omega arith
 
 pub refused_after : (z : Zone) (after : ℤ) → IsValid z → IsLeapTimeRefused z.leaps after → HasNoChange (TypeAt z) (IsInTableAfter z after)
 refused_after z after valid r d is inside =
@@ -428,9 +418,6 @@ pub rule_until : (z : Zone) (a : AlternateRule) (last begin : ℤ) (c : Change) 
     → IsLastChange (AlternateAt a) (λ u. u ≤ℤ last) c → MatchOption r (c.at ≤ℤ begin) (λ d. (begin <ℤ c.at) × (d ≡ c)) → IsLast (TypeAt z) (IsByRuleUpTo z last) r
 rule_until z a last begin c None valid rule h k m = rule_too_early z a last begin c valid rule h k m
 rule_until z a last begin c (Some d) valid rule h k m = rw m.1 (rule_last z a last begin c valid rule h k m.0)
-
-pub begin_alone : (z : Zone) → length z.transitions ≡ 0 → IsBegin z (neg_ℤ (pos 9_223_372_036_854_775_808))
-begin_alone z none = record { comes = λ place e. absurd (omega arith); alone = λ e. refl }
 
 pub begin_last : (z : Zone) (place : ℕ) (start : ℤ) → place + 1 ≡ length z.transitions → ComesAt z place start → IsBegin z start
 begin_last z place start e comes = record {

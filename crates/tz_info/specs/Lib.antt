@@ -17,6 +17,7 @@ pub mod WallClocks
 pub mod Gaps
 pub mod Around
 pub mod Changes
+pub mod ChangesLeft
 pub mod Windows
 pub mod Looks
 pub mod Questions

@@ -5,9 +5,9 @@ use Rattle.tz_info.specs.Digits.{digits}
 use Rattle.tz_info.specs.Windows.{IsWindowCount}
 use Rattle.tz_info.specs.Zones.{Zone}
 
--- by instant: the looks of one search in the transitions and one more, and one question to the rule
+-- by instant: the looks of one search in the transitions, and one question to the rule
 abbrev pub RoseByInstant : Zone → Counts → Counts → Type 0
-RoseByInstant z before after = RoseWithin before after (digits (length z.transitions) + 1) 1
+RoseByInstant z before after = RoseWithin before after (digits (length z.transitions)) 1
 
 -- by wall clock: the looks of one search in the pieces of the index, one at least where there is a transition, and two
 -- questions

@@ -24,9 +24,14 @@ pub record IsByRuleFor (z : Zone) (local u : ℤ) : Type 0 where
   pub of_second : u ≡ local -ℤ offset
   pub by_rule : IsByRule z u
 
--- one question more for each such second
-pub record IsAskedFor (z : Zone) (local : ℤ) (before after : ℕ) : Type 0 where
+-- one question more for each second that `asks` takes
+pub record IsAskedAtEach (asks : ℤ → Type 0) (before after : ℕ) : Type 0 where
   pub seconds : List ℤ
   pub once : AllPairs (λ u v. u ≢ v) seconds
-  pub each : (u : ℤ) → Contains seconds u ↔ IsByRuleFor z local u
+  pub each : (u : ℤ) → Contains seconds u ↔ asks u
   pub count : after ≡ before + length seconds
+
+-- one question more for each second at which a clock at an offset of the rule's types shows the local time, and the rule says
+-- the type
+abbrev pub IsAskedFor : Zone → ℤ → ℕ → ℕ → Type 0
+IsAskedFor z local before after = IsAskedAtEach (IsByRuleFor z local) before after

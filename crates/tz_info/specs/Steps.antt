@@ -14,6 +14,7 @@ pub mod Starts
 pub mod Pieces
 pub mod Prepared
 pub mod Readings
+pub mod RuleSeconds
 pub mod FileReading
 pub mod ContentReading
 pub mod FooterReading
@@ -21,10 +22,10 @@ pub mod FileLists
 pub mod StoredNames
 pub mod Gaps
 pub mod Changes
+pub mod ChangeLists
 pub mod Search
 pub mod Looks
 pub mod Hints
 pub mod KindPlaces
 pub mod Kinds
 pub mod RuleDays
-pub mod Spans

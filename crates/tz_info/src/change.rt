@@ -77,6 +77,20 @@ impl Change {
             None
         }
     }
+
+    // The change, if it comes at that second or later.
+    pub(crate) fn if_from(self, second: i64) -> Option<Change>
+        ensures { MatchOption result (self.at <ℤ second) (λ c. (second ≤ℤ self.at) × (c ≡ self)) }
+    {
+        if self.at < second { None } else { Some(self) }
+    }
+
+    // The change, if it comes before that second.
+    pub(crate) fn if_before(self, second: i64) -> Option<Change>
+        ensures { MatchOption result (second ≤ℤ self.at) (λ c. (self.at <ℤ second) × (c ≡ self)) }
+    {
+        if self.at < second { Some(self) } else { None }
+    }
 }
 
 fn is_same_type(a: &LocalTimeType, b: &LocalTimeType) -> bool

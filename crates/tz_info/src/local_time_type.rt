@@ -1,6 +1,8 @@
 //! Types of local time.
 
-ghost use Rattle.std.specs.Prelude.{◌≡◌, ℤ, pos, neg_ℤ, ◌≤ℤ◌, MatchResult, option_map};
+ghost use Rattle.std.specs.Prelude.{◌≡◌, ℤ, pos, neg_ℤ, ◌-ℤ◌, ◌≤ℤ◌, MatchResult, option_map};
+ghost use Rattle.naive_base.specs.Range.{IsWide};
+ghost use Rattle.tz_info.specs.Leaps.{IsNear};
 ghost use Rattle.tz_info.specs.LocalTypes.{LocalType, IsUtOffset, plain_type};
 ghost use Rattle.tz_info.specs.Names.{IsNameOrNone};
 ghost use Rattle.tz_info.specs.Errors.{IsLocalTimeTypeError};
@@ -117,4 +119,14 @@ impl LocalTimeType {
     {
         self.designation.as_ref()
     }
+}
+
+// The second at which a clock at that offset, in seconds east of UTC, shows the local time.
+#[inline(always)]
+pub(crate) fn second_showing(local: i64, offset: i32) -> i64
+    requires { IsWide local }
+    ensures value { result ≡ local -ℤ offset }
+    ensures near { IsNear (local -ℤ offset) }
+{
+    local - offset as i64
 }

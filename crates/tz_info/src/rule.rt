@@ -10,7 +10,6 @@ mod transition_rule;
 mod wall_clock;
 
 pub use alternate::AlternateTime;
-pub(crate) use alternate::Season;
 pub(crate) use changes::later_of;
 pub use day::RuleDay;
 pub use transition_rule::TransitionRule;

@@ -1,6 +1,6 @@
 //! Time zones.
 
-mod answers;
+pub(crate) mod all_changes;
 pub(crate) mod around;
 mod changes;
 mod extremes;
@@ -14,7 +14,6 @@ mod one_pass;
 mod pieces;
 mod posix;
 pub(crate) mod probes;
-mod rule_seconds;
 mod segments;
 mod starts;
 mod table;

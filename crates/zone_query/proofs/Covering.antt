@@ -13,8 +13,7 @@ use Rattle.zone_query.specs.Runs.{AnswersBefore, BeginsAnswers}
 use Rattle.zone_query.specs.Steps.Blocks.{Answered}
 use Rattle.zone_query.specs.Steps.Hopeless.{IsKeptFor}
 use Rattle.zone_query.specs.Steps.LastLine.{AnswersLast}
-use Rattle.zone_query.proofs.Deciding.{asks_or_bad}
-use Rattle.zone_query.proofs.LocalTimes.{time_in_range}
+use Rattle.zone_query.proofs.LineLaws.{asks_or_bad, time_in_range}
 use Rattle.zone_query.proofs.Resolving.{resolve_covered}
 use Rattle.zone_query.proofs.Showing.{show_covered}
 use Rattle.zone_query.proofs.Joining.{answered_join, answers_all}

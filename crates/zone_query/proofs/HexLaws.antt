@@ -1,17 +1,19 @@
 -- Which digits spell bytes, and that what the crate `hex` decodes are those bytes.
-use Rattle.std.proofs.Common.{◌≡◌, ℕ, zero, suc, ◌+◌, ◌-◌, ◌*◌, ◌%◌, ◌<◌, ◌≤◌, ◌&&◌, nat_le, ◌⊎◌, inl, inr, refl, ap, sym, ◌∙◌, List, [], ◌∷◌, length, get_or, true, false, Some, Ok, arith}
+use Rattle.std.proofs.Common.{◌≡◌, ℕ, zero, suc, ◌+◌, ◌-◌, ◌*◌, ◌%◌, ◌<◌, ◌≤◌, ◌&&◌, nat_le, inl, inr, refl, ap, sym, ◌∙◌, List, [], ◌∷◌, length, get_or, true, false, Some, Ok, arith}
+use Rattle.std.specs.Bool.{Decides}
 use Rattle.std.specs.Char.{digit_value, IsNotAsciiHexdigit}
 use Rattle.std.specs.List.{AllPass}
 use Rattle.std.specs.Str.Parse.{AllDigits}
 use Rattle.std.proofs.lemmas.Bool.{cases_lt}
-use Rattle.std.proofs.lemmas.Bool.Decides.{nat_tests}
+use Rattle.std.proofs.lemmas.Bool.Decides.{nat_tests, Decides-and, Decides-eqb}
 use Rattle.std.proofs.lemmas.List.Elements.{All-head, All-tail}
 use Rattle.hex.specs.Hex.{decode_of, decode_pairs, hex_digit_value, is_hex_digit, pair_value}
 use Rattle.hex.proofs.HexLemmas.{decode_of-even, decode_of-ok, decode_of-same}
 use Rattle.hex.proofs.Pairs.{cons_byte, decode_pairs-ok_pair}
 use Rattle.zone_query.specs.Hex.{IsHex}
 use Rattle.zone_query.specs.Steps.HexBytes.{bytes_of}
-use Rattle.zone_query.proofs.Spelling.{all_digits}
+use Rattle.zone_query.specs.Steps.LineReading.{spells_bytes}
+use Rattle.zone_query.proofs.WordLaws.{digits_decided}
 
 -- pairs of digits spell bytes
 pub pairs_spell : (digits : List ℕ) → length digits % 2 ≡ 0 → AllDigits 16 digits → IsHex digits (bytes_of digits)
@@ -26,40 +28,34 @@ spelled_by_digits digits (byte ∷ bytes) h =
     let rest = spelled_by_digits h.2 bytes h.7 in
     rw h.3 (omega (arith, rest.0), (h.4, (h.5, rest.1)))
 
-pub odd_spell_none : (digits : List ℕ) → (length digits % 2 ≡ 0 → ⊥) → (bytes : List ℕ) → IsHex digits bytes → ⊥
-odd_spell_none digits odd bytes h = odd (spelled_by_digits digits bytes h).0
-
-hex_at : (digits : List ℕ) (i : ℕ) → i < length digits → AllDigits 16 digits → digit_value (get_or digits i 0) < 16
+pub hex_at : (digits : List ℕ) (i : ℕ) → i < length digits → AllDigits 16 digits → digit_value (get_or digits i 0) < 16
 hex_at [] i h all = absurd (omega (arith, h))
 hex_at (c ∷ digits) zero h all = all.0
 hex_at (c ∷ digits) (suc i) h all = hex_at digits i (omega (arith, h)) all.1
 
-not_hex : (c : ℕ) → IsNotAsciiHexdigit c → digit_value c < 16 → ⊥
+pub not_hex : (c : ℕ) → IsNotAsciiHexdigit c → digit_value c < 16 → ⊥
 not_hex c other digit = elim (cases_lt c 65) [
   | inl low ↦ grind (arith)
   | inr high ↦ elim (cases_lt c 91) [ inl upper ↦ grind (arith) | inr lower ↦ grind (arith) ]
 ]
 
--- where one byte is no hex digit, no bytes are spelled
-pub other_spells_none : (digits : List ℕ) (i : ℕ) → i < length digits → IsNotAsciiHexdigit (get_or digits i 0) → (bytes : List ℕ) → IsHex digits bytes → ⊥
-other_spells_none digits i h other bytes spelled = not_hex (get_or digits i 0) other (hex_at digits i h (spelled_by_digits digits bytes spelled).1)
-
-all_hex_from : (digits : List ℕ) → ((k : ℕ) → k < length digits → digit_value (get_or digits k 0) < 16) → AllDigits 16 digits
+pub all_hex_from : (digits : List ℕ) → ((k : ℕ) → k < length digits → digit_value (get_or digits k 0) < 16) → AllDigits 16 digits
 all_hex_from [] each = tt
 all_hex_from (c ∷ digits) each = (each 0 (omega arith), all_hex_from digits (λ k h. each (suc k) (omega (arith, h))))
 
-pub each_spells : (digits : List ℕ) → length digits % 2 ≡ 0 → ((k : ℕ) → k < length digits → digit_value (get_or digits k 0) < 16) → IsHex digits (bytes_of digits)
-each_spells digits even each = pairs_spell digits even (all_hex_from digits each)
+-- what is read of digits
+pub digits_spell : (digits : List ℕ) → Decides (spells_bytes digits) ((length digits % 2 ≡ 0) × AllDigits 16 digits)
+digits_spell digits = Decides-and _ _ (Decides-eqb (length digits % 2) 0) (digits_decided 16 digits)
 
--- whether digits spell bytes
-pub spelled : (digits : List ℕ) → ((bytes : List ℕ) × IsHex digits bytes) ⊎ ((bytes : List ℕ) → IsHex digits bytes → ⊥)
-spelled digits = elim (cases_lt (length digits % 2) 1) [
-  | inl even ↦ elim (all_digits 16 digits) [
-    | inl all ↦ inl (bytes_of digits, pairs_spell digits (omega (arith, even)) all)
-    | inr not ↦ inr (λ bytes h. not (spelled_by_digits digits bytes h).1)
-  ]
-  | inr odd ↦ inr (λ bytes h. let even = (spelled_by_digits digits bytes h).0 in absurd (omega (arith, even, odd)))
-]
+pub bytes_takes : (digits : List ℕ) → spells_bytes digits ≡ true → IsHex digits (bytes_of digits)
+bytes_takes digits h = let d = (digits_spell digits).0 h in pairs_spell digits d.0 d.1
+
+pub bytes_again : (digits bytes : List ℕ) → IsHex digits bytes → (spells_bytes digits ≡ true) × (bytes_of digits ≡ bytes)
+bytes_again digits bytes h = ((digits_spell digits).1 (spelled_by_digits digits bytes h), same digits bytes h)
+  where
+    same : (digits bytes : List ℕ) → IsHex digits bytes → bytes_of digits ≡ bytes
+    same digits [] h = rw h refl
+    same digits (byte ∷ bytes) h = let head = h.6 in let tail = same h.2 bytes h.7 in rw h.3 cc
 
 -- ---- the crate `hex`
 small_letter : (c : ℕ) → 97 ≤ c → c < 103 → hex_digit_value c ≡ Some (digit_value c)

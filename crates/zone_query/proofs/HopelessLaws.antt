@@ -1,16 +1,19 @@
 -- Which beginnings of a line let no line ask anything.
-use Rattle.std.proofs.Common.{◌≡◌, ◌≢◌, ◌==◌, true, false, ℕ, suc, ◌+◌, ◌-◌, ◌<◌, ◌≤◌, ◌⊎◌, inl, inr, refl, ap, sym, ◌∙◌, subst, List, [], ◌∷◌, ◌++◌, append_assoc, All, length, get_or, take, drop, slice_index, codes, arith}
+use Rattle.std.proofs.Common.{◌≡◌, ◌≢◌, ◌==◌, true, false, ℕ, ◌+◌, ◌-◌, ◌<◌, ◌≤◌, ◌⊎◌, inl, inr, refl, ap, sym, ◌∙◌, subst, List, ◌++◌, append_assoc, All, length, get_or, take, drop, slice_index, codes, arith}
 use Rattle.std.proofs.lemmas.Bool.{cases_eq}
 use Rattle.std.proofs.lemmas.Bool.Decides.{nat_tests}
 use Rattle.std.proofs.lemmas.List.{take-append-drop, take-append-le, length-append, length-take, get_or_append_left, get_or-append_right, get_or-take}
 use Rattle.std.proofs.lemmas.List.Elements.{All-get_or}
 use Rattle.offset_core.specs.declared.choice.Choice.{Choice}
 use Rattle.naive_base.specs.Reading.{Reading}
+use Rattle.offset_core.specs.declared.choice.GapChoice.{GapChoice}
+use Rattle.offset_core.specs.declared.choice.GapChoice.TheVariants as gaps
+use Rattle.offset_core.specs.declared.choice.FoldChoice.{FoldChoice}
+use Rattle.offset_core.specs.declared.choice.FoldChoice.TheVariants as folds
 use Rattle.zone_query.specs.Choices.{choice_text}
 use Rattle.zone_query.specs.Lines.{without_return}
 use Rattle.zone_query.specs.Questions.{Text, Data, At, Wall, Resolve, Show, IsBadLine, IsChosenTime}
 use Rattle.zone_query.specs.Steps.Hopeless.{IsHopeless, IsForeign}
-use Rattle.zone_query.proofs.ChoiceWords.{choice_length}
 use Rattle.zone_query.proofs.Plain.{IsPlain, plain_integer, plain_local_time, plain_timestamp}
 
 not_foreign : (b : ℕ) → IsPlain b → IsForeign b → ⊥
@@ -24,6 +27,14 @@ none_foreign word text line k i e w from within plain h =
     let lengths : length line ≡ length word + length text = ap length e ∙ length-append word text in
     let byte : get_or line i 0 ≡ get_or text (i - k) 0 = ap (λ (l : List ℕ). get_or l i 0) e ∙ get_or-append_right word text k i 0 w from in
     not_foreign (get_or text (i - k) 0) (All-get_or IsPlain text (i - k) 0 (omega (arith, lengths, w, from, within)) plain) (subst IsForeign byte h)
+
+choice_length : (gap : GapChoice) (fold : FoldChoice) → length (choice_text (record { gap = gap; fold = fold })) ≤ 15
+choice_length gaps.Refuse folds.Refuse = omega arith
+choice_length gaps.Refuse folds.Earliest = omega arith
+choice_length gaps.Refuse folds.Latest = omega arith
+choice_length gaps.ShiftForward folds.Refuse = omega arith
+choice_length gaps.ShiftForward folds.Earliest = omega arith
+choice_length gaps.ShiftForward folds.Latest = omega arith
 
 -- nor before a choice, which has 15 bytes at most, and the space before it
 none_before_choice : (text : List ℕ) (l : Reading) (choice : Choice) (line : List ℕ) (i : ℕ) → line ≡ codes "wall " ++ text → 5 ≤ i → i + 16 < length line → IsChosenTime text l choice → IsForeign (get_or line i 0) → ⊥

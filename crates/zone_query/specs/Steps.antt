@@ -6,4 +6,4 @@ pub mod Replies
 pub mod Sending
 pub mod HexBytes
 pub mod Hopeless
-pub mod NextNumber
+pub mod LineReading

@@ -1,54 +1,46 @@
 //! How choices for gaps and folds are spelled.
 
-ghost use Rattle.std.specs.Prelude.{◌≡◌, ◌≢◌, ◌++◌, ℕ, List, MatchOption, codes};
-ghost use Rattle.offset_core.specs.declared.choice.Choice.{Choice as AnyChoice};
-ghost use Rattle.offset_core.specs.declared.choice.FoldChoice.{FoldChoice as AnyFold};
-ghost use Rattle.offset_core.specs.declared.choice.GapChoice.{GapChoice as AnyGap};
-ghost use Rattle.zone_query.specs.Choices.{choice_text, gap_text, fold_text};
+ghost use Rattle.std.specs.Prelude.{◌≡◌};
+ghost use Rattle.zone_query.specs.Steps.LineReading.{Gives, gap_at, fold_at, choice_at};
 
+use crate::words::strip_word;
 use offset_core::{Choice, FoldChoice, GapChoice};
 
-/// The choice that a text ends with, after one space, and what stands before that space.
-pub fn strip_choice(text: &[u8]) -> Option<(&[u8], Choice)>
-    ensures { MatchOption result
-        ((front : List ℕ) (choice : AnyChoice)
-        → text.now ≢ front ++ (codes " " ++ choice_text choice))
-        (λ p. text.now ≡ p.0.now ++ (codes " " ++ choice_text p.1)) }
+/// The choice that a text is, after one space.
+#[tactic(auto, unfolding(crate::specs::Steps::LineReading::choice_at))]
+pub fn choice(text: &[u8]) -> Option<Choice>
+    ensures { Gives (λ choice. choice) result (choice_at text.now) }
 {
-    let (front, fold) = strip_fold(text)?;
-    let (front, gap) = strip_gap(front)?;
-    Some((front, Choice { gap, fold }))
+    let (gap, rest) = strip_gap(text)?;
+    let fold = fold(rest)?;
+    Some(Choice { gap, fold })
 }
 
-// What is taken in a gap, after one space, and what stands before that space.
-fn strip_gap(text: &[u8]) -> Option<(&[u8], GapChoice)>
-    ensures { MatchOption result
-        ((front : List ℕ) (gap : AnyGap) → text.now ≢ front ++ (codes " " ++ gap_text gap))
-        (λ p. text.now ≡ p.0.now ++ (codes " " ++ gap_text p.1)) }
+// What is taken in a gap, after one space and before a slash, and the rest.
+#[tactic(auto, unfolding(crate::specs::Steps::LineReading::gap_at))]
+fn strip_gap(text: &[u8]) -> Option<(GapChoice, &[u8])>
+    ensures { Gives (λ p. (p.0, p.1.now)) result (gap_at text.now) }
 {
-    if let Some(front) = text.strip_suffix(b" refuse") {
-        return Some((front, GapChoice::Refuse));
+    if let Some(rest) = strip_word(text, b" refuse/") {
+        return Some((GapChoice::Refuse, rest));
     }
-    if let Some(front) = text.strip_suffix(b" shift") {
-        return Some((front, GapChoice::ShiftForward));
-    }
-    None
+    let rest = strip_word(text, b" shift/")?;
+    Some((GapChoice::ShiftForward, rest))
 }
 
-// What is taken in a fold, after a slash, and what stands before the slash.
-fn strip_fold(text: &[u8]) -> Option<(&[u8], FoldChoice)>
-    ensures { MatchOption result
-        ((front : List ℕ) (fold : AnyFold) → text.now ≢ front ++ (codes "/" ++ fold_text fold))
-        (λ p. text.now ≡ p.0.now ++ (codes "/" ++ fold_text p.1)) }
+// What is taken in a fold.
+#[tactic(auto, unfolding(crate::specs::Steps::LineReading::fold_at))]
+fn fold(text: &[u8]) -> Option<FoldChoice>
+    ensures { Gives (λ fold. fold) result (fold_at text.now) }
 {
-    if let Some(front) = text.strip_suffix(b"/refuse") {
-        return Some((front, FoldChoice::Refuse));
+    if text == b"refuse".as_slice() {
+        return Some(FoldChoice::Refuse);
     }
-    if let Some(front) = text.strip_suffix(b"/earliest") {
-        return Some((front, FoldChoice::Earliest));
+    if text == b"earliest".as_slice() {
+        return Some(FoldChoice::Earliest);
     }
-    if let Some(front) = text.strip_suffix(b"/latest") {
-        return Some((front, FoldChoice::Latest));
+    if text == b"latest".as_slice() {
+        return Some(FoldChoice::Latest);
     }
     None
 }

@@ -1,13 +1,11 @@
 //! Bytes in hex digits.
 
-ghost use Rattle.std.specs.Prelude.{ℕ, List, MatchBool};
-ghost use Rattle.zone_query.specs.Hex.{IsHex};
-ghost use Rattle.zone_query.specs.Steps.HexBytes.{bytes_of};
+ghost use Rattle.std.specs.Prelude.{◌≡◌};
+ghost use Rattle.zone_query.specs.Steps.LineReading.{spells_bytes};
 
 /// Whether these are hex digits of either case, two for each of some bytes.
 pub fn spell_bytes(digits: &[u8]) -> bool
-    ensures { MatchBool result
-        (IsHex digits.now (bytes_of digits.now)) ((bytes : List ℕ) → ¬ (IsHex digits.now bytes)) }
+    ensures { result ≡ spells_bytes digits.now }
 {
     if digits.len() % 2 != 0 {
         return false;

@@ -1,19 +1,17 @@
 //! Numbers in decimal digits.
 
-ghost use Rattle.std.specs.Prelude.{◌≡◌, ◌+◌, ◌*◌, ◌^◌, ◌<◌, ◌≤◌, ℕ, ℤ, MatchOption, FitsSigned, pos, neg_ℤ};
+ghost use Rattle.std.specs.Prelude.{◌≡◌, ◌+◌, ◌-◌, ◌*◌, ◌^◌, ◌<◌, ◌≤◌, pos, neg_ℤ, IfSome};
 ghost use Rattle.std.specs.Char.{digit_value};
-ghost use Rattle.std.specs.Int.{w32, w64};
 ghost use Rattle.std.specs.Option.{SomeIff};
-ghost use Rattle.std.specs.Str.Parse.{IsNumeral, digits_value};
-ghost use Rattle.zone_query.specs.Numerals.{IsInteger, IsNatural};
+ghost use Rattle.zone_query.specs.Steps.LineReading.{Gives, natural_at, integer_at, small_integer_at};
 
 // How far below zero an `i64` goes.
 const MOST_NEGATIVE: u64 = 1 << 63;
 
 /// The number that a text spells in decimal digits, after one `-` or none, if it is an `i64`.
+#[tactic(auto, unfolding(crate::specs::Steps::LineReading::integer_at))]
 pub fn integer(text: &[u8]) -> Option<i64>
-    ensures { MatchOption result
-        ((z : ℤ) → IsInteger text.now z → ¬ (FitsSigned w64 z)) (λ z. IsInteger text.now z) }
+    ensures { Gives (λ z. z) result (integer_at text.now) }
 {
     match text.split_first() {
         Some((b'-', digits)) => match natural(digits, MOST_NEGATIVE) {
@@ -28,9 +26,9 @@ pub fn integer(text: &[u8]) -> Option<i64>
 }
 
 /// The number that a text spells as for [`integer`], if it is an `i32`.
+#[tactic(auto, unfolding(crate::specs::Steps::LineReading::small_integer_at))]
 pub fn small_integer(text: &[u8]) -> Option<i32>
-    ensures { MatchOption result
-        ((z : ℤ) → IsInteger text.now z → ¬ (FitsSigned w32 z)) (λ z. IsInteger text.now z) }
+    ensures { Gives (λ z. z) result (small_integer_at text.now) }
 {
     match integer(text) {
         Some(z) if z >= i64::from(i32::MIN) && z <= i64::from(i32::MAX) => Some(z as i32),
@@ -40,8 +38,7 @@ pub fn small_integer(text: &[u8]) -> Option<i32>
 
 /// The number that a text spells in decimal digits alone, if it is a `u32`.
 pub fn small_natural(text: &[u8]) -> Option<u32>
-    ensures { MatchOption result
-        ((n : ℕ) → IsNatural text.now n → ¬ (n < 2 ^ 32)) (λ n. IsNatural text.now n) }
+    ensures { Gives (λ n. n) result (natural_at (2 ^ 32 - 1) text.now) }
 {
     match natural(text, u64::from(u32::MAX)) {
         Some(n) => Some(n as u32),
@@ -52,9 +49,8 @@ pub fn small_natural(text: &[u8]) -> Option<u32>
 // The number that decimal digits spell, if there is one and nothing else, and it is at most
 // `limit`.
 fn natural(digits: &[u8], limit: u64) -> Option<u64>
-    ensures { SomeIff result
-        (IsNumeral 10 digits.now × (digits_value 10 digits.now ≤ limit))
-        (digits_value 10 digits.now) }
+    ensures value { Gives (λ n. n) result (natural_at limit digits.now) }
+    ensures bound { IfSome result (λ n. n ≤ limit) }
 {
     if digits.is_empty() {
         return None;

@@ -40,6 +40,7 @@ pub use Rattle.tz_info.specs.Transitions
 pub use Rattle.tz_info.specs.Zones
 pub use Rattle.tz_info.specs.WallClocks
 pub use Rattle.tz_info.specs.Gaps
+pub use Rattle.tz_info.specs.Changes
 pub use Rattle.tz_info.specs.Windows
 pub use Rattle.tz_info.specs.Looks
 pub use Rattle.tz_info.specs.Segments
@@ -72,8 +73,10 @@ pub use Rattle.zoned_ref.specs.OffsetAt
 pub use Rattle.zoned_ref.specs.Offsets
 pub use Rattle.zoned_ref.specs.TimeZoneRef
 pub use Rattle.zoned_ref.specs.WallClock
+pub use Rattle.zoned_ref.specs.ZoneChange
 pub use Rattle.zoned_ref.specs.ZoneOffset
 pub use Rattle.zoned_kept.specs.KeepError
+pub use Rattle.zoned_kept.specs.KeptChange
 pub use Rattle.zoned_kept.specs.KeptOffset
 pub use Rattle.zoned_kept.specs.KeptZone
 pub use Rattle.zoned_round.specs.Multiples

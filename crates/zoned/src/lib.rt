@@ -83,6 +83,20 @@
 //! | 2021-03-14 03:30:00 -04:00 | 2021-11-07 01:30:00 -04:00 |
 //! | 2021-03-15 02:30:00 -04:00 | 2021-11-08 01:30:00 -05:00 |
 //!
+//! # When the clocks change next
+//!
+//! A zone tells the next change of its clocks after an instant, and the last one up to it, by two
+//! instants: the last second before the change, and the first one of it. Where the offset, the mark
+//! for daylight saving time and the abbreviation stay, nothing changes, whatever a file lists.
+//!
+//! ```
+//! let new_year = Utc.timestamp(1_609_459_200, 0); // 2021-01-01 00:00:00 UTC
+//! if let Some(change) = new_york.next_change(&new_year) {
+//!     change.before // 2021-03-14 01:59:59 -05:00, EST
+//!     change.at // 2021-03-14 03:00:00 -04:00, EDT
+//! }
+//! ```
+//!
 //! # Which call for which question
 //!
 //! | you have | you want | call |
@@ -99,6 +113,8 @@
 //! | an instant | what its clock shows | [`DateTime::naive_local`], and the fields of [`Datelike`] and [`Timelike`] |
 //! | an instant of a parsed zone | its abbreviation | `instant.offset().name()`: [`ZoneOffset`], [`KeptOffset`] |
 //! | an instant of a parsed zone | if it is daylight saving time | `instant.offset().is_dst()` |
+//! | a borrowed or a kept zone | when its clocks change next | [`TimeZoneRef::next_change`] |
+//! | a borrowed or a kept zone | when they changed last | [`TimeZoneRef::previous_change`] |
 //! | an instant of a parsed zone | one that borrows nothing | [`DateTime::fixed_offset`] |
 //! | an instant | one so much time later | [`DateTime::checked_add_signed`], `+` |
 //! | an instant | the same clock time some days later | [`DateTime::checked_add_days`] |
@@ -154,8 +170,8 @@ pub use offset_core::{
     Choice, FixedOffset, FoldChoice, GapChoice, LocalResult, MappedLocalTime, TimeDelta,
 };
 pub use tz_info;
-pub use zoned_kept::{KeepError, KeptOffset, KeptZone};
-pub use zoned_ref::{TimeZoneRef, WallClock, ZoneOffset};
+pub use zoned_kept::{KeepError, KeptChange, KeptOffset, KeptZone};
+pub use zoned_ref::{TimeZoneRef, WallClock, ZoneChange, ZoneOffset};
 pub use zoned_round::{DurationRound, RoundingError, SubsecRound};
 pub use zoned_series::{DailyItems, DailySeries, SeriesError};
 pub use zoned_time::{

@@ -1,23 +1,26 @@
 //! Facts about instants, stated in the words that the library passes on. None has a proof file.
-ghost use Rattle.std.specs.Prelude.{◌≡◌, pos, ◌+ℤ◌, ◌≤ℤ◌, ◌<ℤ◌, IfErr, IfOk, IfSome, option_map, FitsSigned};
+ghost use Rattle.std.specs.Prelude.{◌≡◌, ℤ, pos, ◌+ℤ◌, ◌≤ℤ◌, ◌<ℤ◌, IfErr, IfOk, IfSome, option_map, FitsSigned};
 ghost use Rattle.std.specs.Int.{w64};
 ghost use Rattle.zoned.specs.Choice.{IsUnresolved};
 ghost use Rattle.zoned.specs.DateTime.{zoned, wall_of, IsIn};
+ghost use Rattle.zoned.specs.FixedOffset.{seconds_of};
 ghost use Rattle.zoned.specs.InstantFields.{IsOnly};
 ghost use Rattle.zoned.specs.KeptOffset.{law_of};
-ghost use Rattle.zoned.specs.KeptZone.{zone_of};
+ghost use Rattle.zoned.specs.KeptZone.{zone_of, off_of};
 ghost use Rattle.zoned.specs.Laws.{IsMultiple};
 ghost use Rattle.zoned.specs.LocalTypes.{LocalType};
 ghost use Rattle.zoned.specs.NaiveDate.{day_of};
 ghost use Rattle.zoned.specs.NaiveDateTime.{reading};
+ghost use Rattle.zoned.specs.Range.{IsInRange};
 ghost use Rattle.zoned.specs.Reading.{reading_at, total};
 ghost use Rattle.zoned.specs.Zoned.{in_seconds};
 ghost use Rattle.zoned.specs.Zones.{TypeAt};
 
 use zoned::tz_info::TimeZoneName;
 use zoned::{
-    Choice, DailySeries, DateTime, DurationRound, KeptZone, Months, NaiveDate, NaiveDateTime,
-    NaiveTime, ResolveError, RoundingError, TimeDelta, TimeZone, Timelike, Utc, client_laws,
+    Choice, DailySeries, DateTime, DurationRound, FixedOffset, KeptZone, Months, NaiveDate,
+    NaiveDateTime, NaiveTime, Offset, ResolveError, RoundingError, TimeDelta, TimeZone, Timelike,
+    Utc, client_laws,
 };
 
 /// The seconds from 1970-01-01 00:00:00 UTC to an instant.
@@ -79,6 +82,24 @@ pub fn clock_of(zone: &KeptZone, instant: &DateTime<KeptZone>) -> (Option<TimeZo
 {
     let offset = instant.offset();
     (offset.name().copied(), offset.is_dst())
+}
+
+/// The offset of a zone at an instant, and the instant at which its clocks change next: what to
+/// keep where many instants are asked in order of time.
+pub fn offset_until<Tz: TimeZone>(
+    zone: &KeptZone,
+    instant: &DateTime<Tz>,
+) -> (FixedOffset, Option<DateTime<KeptZone>>)
+    // Up to that instant, or without one to the end of the range, it is the zone's offset.
+    ensures { (u : ℤ) → IsInRange u → (zoned instant.now).utc.s ≤ℤ u
+        → IfSome result.1 (λ change. u <ℤ (zoned change).utc.s)
+        → off_of zone.now u ≡ seconds_of result.0 }
+{
+    let offset = zone.offset_from_utc_datetime(&instant.naive_utc()).fix();
+    match zone.next_change(instant) {
+        Some(change) => (offset, Some(change.at)),
+        None => (offset, None),
+    }
 }
 
 /// The instant so long after the one that a choice takes for a reading.

@@ -1,10 +1,10 @@
 //! The examples of the library's front page.
 
-use crate::MyError;
+use crate::{MyError, line};
 use std::alloc::Global;
 use zoned::{
     Choice, DailySeries, DateTime, KeptZone, LocalResult, NaiveDate, NaiveDateTime, NaiveTime,
-    TimeZone, TimeZoneRef, tz_info,
+    TimeZone, TimeZoneRef, Utc, tz_info,
 };
 
 /// What a clock shows on a day, at a time of that day.
@@ -59,6 +59,23 @@ pub fn daily(
         lines.push(format!(in alloc; "{instant}")?)?;
     }
     Ok(lines)
+}
+
+/// What the two instants of the next change of a zone's clocks print; `None` where they never
+/// change again.
+pub fn next_change(
+    alloc: Global,
+    bytes: &[u8],
+    after: &DateTime<Utc>,
+) -> Result<Option<(String, String)>, MyError> {
+    let parsed = tz_info::TimeZone::from_tz_data(alloc, bytes)?;
+    let new_york = TimeZoneRef::new(&parsed).ok_or(MyError::WideZone)?;
+    let Some(change) = new_york.next_change(after) else {
+        return Ok(None);
+    };
+    let before = line(alloc, &change.before)?;
+    let at = line(alloc, &change.at)?;
+    Ok(Some((before, at)))
 }
 
 /// A zone that is kept, and an instant of it.

@@ -15,9 +15,9 @@ mod readme;
 pub use borrowed::{by_clock, earliest_first, keep, line};
 pub use error::MyError;
 pub use facts::{
-    abbreviation, bucket, clock_of, elsewhere, fire, later, months_later, on_day, seconds,
-    start_of_hour, twice,
+    abbreviation, bucket, clock_of, elsewhere, fire, later, months_later, offset_until, on_day,
+    seconds, start_of_hour, twice,
 };
-pub use front_page::{Alarm, alarm_at, daily, outcome, reading, shown};
+pub use front_page::{Alarm, alarm_at, daily, next_change, outcome, reading, shown};
 pub use own_zone::Nepal;
-pub use readme::{FirstLines, half_past_two};
+pub use readme::{ChangeLines, FirstLines, clocks_change, half_past_two};

@@ -1,10 +1,10 @@
-//! The first lines of README.md.
+//! The examples of README.md: its first lines, and those on changes of the clocks.
 
 use crate::MyError;
 use std::alloc::Global;
 use zoned::{
     Choice, DateTime, FixedOffset, FoldChoice, GapChoice, KeptZone, LocalResult, NaiveDate,
-    TimeZone, tz_info,
+    TimeDelta, TimeZone, Utc, tz_info,
 };
 
 /// What those lines make, to keep.
@@ -33,4 +33,35 @@ pub fn half_past_two(alloc: Global, bytes: &[u8]) -> Result<FirstLines, MyError>
         fold: fold.map(|instant| instant.timestamp()),
         instant: instant.fixed_offset(),
     })
+}
+
+/// What the lines on changes of the clocks make, to keep.
+#[derive(Clone, Copy, Debug, PartialEq, Eq)]
+pub struct ChangeLines {
+    pub before: DateTime<FixedOffset>,
+    pub at: DateTime<FixedOffset>,
+    /// How long the clocks stand until then.
+    pub length: TimeDelta,
+    /// The Unix times of the change after that one, and of the last one up to it.
+    pub next: Option<i64>,
+    pub previous: Option<i64>,
+}
+
+/// When New York's clocks change in 2021; `bytes` are those of its TZif file.
+pub fn clocks_change(alloc: Global, bytes: &[u8]) -> Result<Option<ChangeLines>, MyError> {
+    let new_york = KeptZone::keep(alloc, tz_info::TimeZone::from_tz_data(alloc, bytes)?)?;
+    let new_year = Utc.timestamp(1_609_459_200, 0);
+    let Some(change) = new_york.next_change(&new_year) else {
+        return Ok(None);
+    };
+    let length = change.at.signed_duration_since(&new_year);
+    let next = new_york.next_change(&change.at);
+    let previous = new_york.previous_change(&change.at);
+    Ok(Some(ChangeLines {
+        before: change.before.fixed_offset(),
+        at: change.at.fixed_offset(),
+        length,
+        next: next.map(|change| change.at.timestamp()),
+        previous: previous.map(|change| change.at.timestamp()),
+    }))
 }

@@ -101,7 +101,8 @@ enum {
     ZONED_UNKNOWN_KIND = 31,
     ZONED_OTHER_SIZE = 32,
     ZONED_NOT_OPEN = 33,
-    ZONED_UNKNOWN_CHOICE = 34
+    ZONED_UNKNOWN_CHOICE = 34,
+    ZONED_NO_CHANGE = 35
 };
 
 /* The offset of an instant at which the zone has none. No zone has it as an offset. */
@@ -196,6 +197,21 @@ uint32_t zoned_zone_type(struct zoned_zone *zone, int64_t instant, zoned_local_t
 uint32_t zoned_zone_types(struct zoned_zone *zone,
                           const int64_t *instants, size_t instants_len,
                           zoned_local_type *types, size_t types_len);
+
+/* A change of the clocks: at the second `at` another type is in force than at the second before it, one of another offset,
+   mark or abbreviation. */
+typedef struct zoned_change {
+    int64_t at; /* a Unix second */
+    zoned_local_type before;
+    zoned_local_type after;
+} zoned_change;
+
+/* *change is the first change after that second, or the last one at that second or before it. ZONED_NO_CHANGE: there is none at
+   a second of 64 bits, and nothing is written. The changes of a zone are listed by asking again after change->at.
+
+   A transition of the file that changes nothing is no change, and what a rule does after the last transition is. */
+uint32_t zoned_zone_next_change(struct zoned_zone *zone, int64_t after, zoned_change *change);
+uint32_t zoned_zone_previous_change(struct zoned_zone *zone, int64_t before_or_at, zoned_change *change);
 
 /* *clock says when the zone's clocks show the local time, and clocks[i] when they show locals[i], as in zoned_wall_instants.
 

@@ -3,6 +3,7 @@ pub mod Refusals
 pub mod Instants
 pub mod WallClocks
 pub mod WrittenTypes
+pub mod WrittenChanges
 pub mod Resolved
 pub mod Texts
 pub mod Owned

@@ -1,14 +1,17 @@
 //! Questions to a zone that C keeps.
 
-ghost use Rattle.std.specs.Prelude.{◌≡◌, ◌≢◌, ◌*◌, ◌⊎◌, length};
+ghost use Rattle.std.specs.Prelude.{◌≡◌, ◌≢◌, ◌*◌, ◌⊎◌, ◌≤ℤ◌, ◌<ℤ◌, length};
 ghost use Rattle.offset_core.specs.declared.choice.Choice.{Choice as AnyChoice};
-ghost use Rattle.tz_info.specs.Zones.{Zone};
+ghost use Rattle.tz_info.specs.Changes.{HasNoChange};
+ghost use Rattle.tz_info.specs.Zones.{Zone, TypeAt};
 ghost use Rattle.zoned_ffi.specs.Handles.{IsClosed, IsOpen, IsUnanswered};
 ghost use Rattle.zoned_ffi.specs.Instants.{AreOffsetsAt, IsOffsetAt};
 ghost use Rattle.zoned_ffi.specs.Resolved.{AreResolved, IsChoice, IsChoiceOf, IsResolvedAt};
 ghost use Rattle.zoned_ffi.specs.WallClocks.{AreTriples, AreWallClocks, IsWallClockAt};
+ghost use Rattle.zoned_ffi.specs.WrittenChanges.{IsFirstWritten, IsLastWritten};
 ghost use Rattle.zoned_ffi.specs.WrittenTypes.{AreWrittenTypesAt, IsWrittenTypeAt};
 
+use crate::changes::{WrittenChange, answer_next, answer_previous};
 use crate::handle::Handle;
 use crate::instants::{answer_instants, offset_at};
 use crate::local_type::{WrittenType, answer_types};
@@ -235,6 +238,57 @@ pub extern "C" fn zoned_zone_resolve(
         return NOT_OPEN;
     };
     let number = answer_resolved(&share, choice, locals, resolved);
+    zone.put(share);
+    number
+}
+
+/// Writes the first change of the zone's clocks after that second.
+#[unsafe(no_mangle)]
+pub extern "C" fn zoned_zone_next_change(
+    alloc: Global,
+    zone: &mut Handle,
+    after: i64,
+    change: &mut WrittenChange,
+) -> u32
+    // 0: it is written.
+    ensures answered { result ≡ 0
+        → (z : Zone) × IsOpen zone.old z × IsFirstWritten z (λ u. after <ℤ u) change.new }
+    // 33: no zone is open. 35: there is no such change. Nothing is written.
+    ensures refused { result ≢ 0 → (((result ≡ 33) × IsClosed zone.old)
+        ⊎ ((result ≡ 35) × ((z : Zone) × IsOpen zone.old z × HasNoChange (TypeAt z) (λ u. after <ℤ u))))
+        × (change.new ≡ change.old) }
+    ensures kept { zone.new.shared ≡ zone.old.shared }
+{
+    let Some(share) = zone.take(alloc) else {
+        return NOT_OPEN;
+    };
+    let number = answer_next(&share, after, change);
+    zone.put(share);
+    number
+}
+
+/// Writes the last change of the zone's clocks at that second or before it.
+#[unsafe(no_mangle)]
+pub extern "C" fn zoned_zone_previous_change(
+    alloc: Global,
+    zone: &mut Handle,
+    before_or_at: i64,
+    change: &mut WrittenChange,
+) -> u32
+    // 0: it is written.
+    ensures answered { result ≡ 0
+        → (z : Zone) × IsOpen zone.old z × IsLastWritten z (λ u. u ≤ℤ before_or_at) change.new }
+    // 33: no zone is open. 35: there is no such change. Nothing is written.
+    ensures refused { result ≢ 0 → (((result ≡ 33) × IsClosed zone.old)
+        ⊎ ((result ≡ 35)
+        × ((z : Zone) × IsOpen zone.old z × HasNoChange (TypeAt z) (λ u. u ≤ℤ before_or_at))))
+        × (change.new ≡ change.old) }
+    ensures kept { zone.new.shared ≡ zone.old.shared }
+{
+    let Some(share) = zone.take(alloc) else {
+        return NOT_OPEN;
+    };
+    let number = answer_previous(&share, before_or_at, change);
     zone.put(share);
     number
 }

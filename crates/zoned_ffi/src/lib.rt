@@ -10,6 +10,7 @@ ghost use Rattle.zoned_ffi.specs.Refusals.{IsRefusal};
 ghost use Rattle.zoned_ffi.specs.WallClocks.{AreTriples, AreWallClocks};
 
 mod asking;
+mod changes;
 mod handle;
 mod instants;
 mod kind;

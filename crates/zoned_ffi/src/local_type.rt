@@ -30,7 +30,8 @@ impl WrittenType {
         }
     }
 
-    fn of(local_type: &LocalTimeType) -> WrittenType
+    /// That of the type.
+    pub fn of(local_type: &LocalTimeType) -> WrittenType
         ensures { result ≡ written_type local_type.now }
     {
         WrittenType {

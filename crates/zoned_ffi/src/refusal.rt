@@ -14,6 +14,9 @@ pub const OTHER_SIZE: u32 = 32;
 /// What it returns where no choice for gaps and folds has these numbers.
 pub const UNKNOWN_CHOICE: u32 = 34;
 
+/// What it returns where no change of the clocks comes after a second, or up to it.
+pub const NO_CHANGE: u32 = 35;
+
 /// What a call returns where memory runs out.
 pub const OUT_OF_MEMORY: u32 = 17;
 

@@ -51,6 +51,7 @@ fn text_of(number: u32) -> &'static str {
         32 => "there is room for another count of answers",
         33 => "no zone is open",
         34 => "no such choice for gaps and folds",
+        35 => "no change of the clocks",
         _ => "no number of this library",
     }
 }

@@ -1,3 +1,4 @@
 pub mod KeepError
+pub mod KeptChange
 pub mod KeptOffset
 pub mod KeptZone

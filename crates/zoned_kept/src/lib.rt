@@ -7,11 +7,13 @@
 #![tactic(auto)]
 
 mod keep_error;
+mod kept_change;
 mod kept_offset;
 mod kept_zone;
 pub mod laws;
 mod lookup;
 
 pub use keep_error::KeepError;
+pub use kept_change::KeptChange;
 pub use kept_offset::KeptOffset;
 pub use kept_zone::KeptZone;

@@ -5,3 +5,4 @@ pub mod Offsets
 pub mod Walls
 pub mod Gaps
 pub mod Choices
+pub mod Changes

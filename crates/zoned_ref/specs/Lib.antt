@@ -4,4 +4,5 @@ pub mod Offsets
 pub mod Steps
 pub mod TimeZoneRef
 pub mod WallClock
+pub mod ZoneChange
 pub mod ZoneOffset

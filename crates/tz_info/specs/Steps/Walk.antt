@@ -1,5 +1,5 @@
 -- The walk's steps: what one segment adds to an answer.
-use Rattle.std.specs.Prelude.{ℕ, ◌≡◌, ◌<◌, length, ℤ, ◌-ℤ◌, ◌≤ℤ◌, ◌⊎◌, FitsSigned}
+use Rattle.std.specs.Prelude.{ℕ, ◌≡◌, ◌<◌, ℤ, ◌-ℤ◌, ◌≤ℤ◌, ◌⊎◌, FitsSigned}
 use Rattle.std.specs.Int.{w64}
 use Rattle.offset_core.specs.declared.local_result.LocalResult.{LocalResult}
 use Rattle.offset_core.specs.declared.local_result.LocalResult.TheVariants.{Single}
@@ -7,8 +7,6 @@ use Rattle.tz_info.specs.Leaps.{IsLeapTime, least_time}
 use Rattle.tz_info.specs.LocalTypes.{LocalType}
 use Rattle.tz_info.specs.Segments.{segment_of}
 use Rattle.tz_info.specs.Steps.Answers.{joined}
-use Rattle.tz_info.specs.Steps.Seasons.{IsDecidedIn}
-use Rattle.tz_info.specs.declared.rule.alternate.Season.{Season}
 use Rattle.tz_info.specs.WallClocks.{Shows}
 use Rattle.tz_info.specs.Zones.{Zone, HasType, TypeAt}
 
@@ -28,18 +26,16 @@ IsAskedLast in_force local offset before after =
     ((after ≡ before) × ((t : LocalType) → Shows in_force local (local -ℤ offset) t → ⊥))
     ⊎ ((t : LocalType) × Shows in_force local (local -ℤ offset) t × (after ≡ joined before (Single t)))
 
--- the one second that could show the local time by the type of that index was tried: it was put after all others where its
--- leap time is one of those
-pub record IsTried (z : Zone) (local : ℤ) (index : ℕ) (within : ℤ → Type 0) (before after : LocalResult LocalType) : Type 0 where
-  pub type : LocalType
+-- the one second that could show the local time by the type of that index has that leap time
+pub record IsCandidate (z : Zone) (local : ℤ) (index : ℕ) (type : LocalType) (leap_time : ℤ) : Type 0 where
   pub listed : HasType z index type
-  pub leap_time : ℤ
   pub of_second : IsLeapTime z.leaps (local -ℤ type.offset) leap_time
   pub fits : FitsSigned w64 (local -ℤ type.offset)
   pub leap_fits : least_time ≤ℤ leap_time
-  pub tried : (within leap_time × (after ≡ joined before (Single type))) ⊎ ((within leap_time → ⊥) × (after ≡ before))
 
--- the second u lies after the last transition, and the season's moments decide there
-pub record IsAmidSeason (z : Zone) (s : Season) (u : ℤ) : Type 0 where
-  pub decided : IsDecidedIn s u
-  pub behind : segment_of z u ≡ length z.transitions
+-- it was tried: put after all others where its leap time is one of those
+pub record IsTried (z : Zone) (local : ℤ) (index : ℕ) (within : ℤ → Type 0) (before after : LocalResult LocalType) : Type 0 where
+  pub type : LocalType
+  pub leap_time : ℤ
+  pub candidate : IsCandidate z local index type leap_time
+  pub tried : (within leap_time × (after ≡ joined before (Single type))) ⊎ ((within leap_time → ⊥) × (after ≡ before))

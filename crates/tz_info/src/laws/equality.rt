@@ -4,13 +4,15 @@ ghost use Rattle.std.specs.Prelude.{◌≡◌, ◌↔◌, List, ℕ, IsTrue};
 ghost use Rattle.tz_info.specs.LocalTypes.{LocalType};
 ghost use Rattle.tz_info.specs.Rules.{Alternate as AlternateRule};
 ghost use Rattle.tz_info.specs.Zones.{Zone};
+ghost use Rattle.tz_info.specs.declared.change.Change.{Change as ClockChange};
 ghost use Rattle.tz_info.specs.declared.error.Error.{Error as Refusal};
 ghost use Rattle.tz_info.specs.declared.error.Expected.{Expected as Wanted};
 ghost use Rattle.tz_info.specs.declared.rule.day.DayForm.{DayForm};
 ghost use Rattle.tz_info.specs.declared.rule.transition_rule.TransitionRule.{TransitionRule as Rule};
 ghost use Rattle.tz_info.specs.declared.zone.leap_second.LeapSecond.{LeapSecond as Leap};
-ghost use Rattle.tz_info.specs.declared.zone.transition.Transition.{Transition as Change};
+ghost use Rattle.tz_info.specs.declared.zone.transition.Transition.{Transition as ListedTransition};
 
+use crate::change::Change;
 use crate::error::{Error, Expected};
 use crate::local_time_type::LocalTimeType;
 use crate::name::TimeZoneName;
@@ -20,9 +22,11 @@ use crate::zone::{LeapSecond, TimeZone, Transition};
 /// Transitions are equal if and only if their times and their indexes are. A clone is the value,
 /// and does not fail.
 pub fn transitions()
-    ensures equal { (a b : Change) → IsTrue (⟦<Transition as PartialEq>⟧.eq a b) ↔ (a ≡ b) }
-    ensures clone { (a b : Change) → ⟦<Transition as Clone>⟧.is_clone a b ↔ (b ≡ a) }
-    ensures infallible { (a : Change) → ⟦<Transition as Clone>⟧.is_infallible a }
+    ensures equal { (a b : ListedTransition)
+        → IsTrue (⟦<Transition as PartialEq>⟧.eq a b) ↔ (a ≡ b) }
+    ensures clone { (a b : ListedTransition)
+        → ⟦<Transition as Clone>⟧.is_clone a b ↔ (b ≡ a) }
+    ensures infallible { (a : ListedTransition) → ⟦<Transition as Clone>⟧.is_infallible a }
 {}
 
 /// Leap seconds are equal if and only if their times and their corrections are. A clone is the
@@ -46,6 +50,14 @@ pub fn local_time_types()
     ensures equal { (a b : LocalType) → IsTrue (⟦<LocalTimeType as PartialEq>⟧.eq a b) ↔ (a ≡ b) }
     ensures clone { (a b : LocalType) → ⟦<LocalTimeType as Clone>⟧.is_clone a b ↔ (b ≡ a) }
     ensures infallible { (a : LocalType) → ⟦<LocalTimeType as Clone>⟧.is_infallible a }
+{}
+
+/// Changes of the clocks are equal if and only if their seconds and the types before and after are.
+/// A clone is the value, and does not fail.
+pub fn changes()
+    ensures equal { (a b : ClockChange) → IsTrue (⟦<Change as PartialEq>⟧.eq a b) ↔ (a ≡ b) }
+    ensures clone { (a b : ClockChange) → ⟦<Change as Clone>⟧.is_clone a b ↔ (b ≡ a) }
+    ensures infallible { (a : ClockChange) → ⟦<Change as Clone>⟧.is_infallible a }
 {}
 
 /// Days are equal if and only if their forms and their numbers are. A clone is the value, and does

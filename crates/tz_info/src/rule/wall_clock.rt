@@ -1,18 +1,27 @@
 //! The wall clock of a rule.
 
-ghost use Rattle.std.specs.Prelude.{◌≡◌};
+ghost use Rattle.std.specs.Prelude.{◌≢◌, ◌-ℤ◌, IsTrue};
 ghost use Rattle.std.specs.Result.{IsOkAnd};
 ghost use Rattle.naive_base.specs.NaiveDateTime.{reading};
 ghost use Rattle.naive_base.specs.Range.{IsWide};
 ghost use Rattle.offset_core.specs.WallAnswer.{IsWallAnswer};
+ghost use Rattle.tz_info.specs.Counts.{RoseWithin};
+ghost use Rattle.tz_info.specs.LocalTypes.{IsUtOffset};
 ghost use Rattle.tz_info.specs.RuleTypes.{RuleAt};
-ghost use Rattle.tz_info.specs.Steps.Spans.{IsAsked};
+ghost use Rattle.tz_info.specs.Rules.{IsAlternateRule};
+ghost use Rattle.tz_info.specs.Steps.Looks.{HasRoomFor};
+ghost use Rattle.tz_info.specs.Steps.RuleSeconds.{TypeFrom, IsAskedSince, IsAskedFrom, IsAmidFrom, AreUtOffsets};
+ghost use Rattle.tz_info.specs.Steps.Seasons.{IsSeason};
+ghost use Rattle.tz_info.specs.Steps.Walk.{IsAskedLast};
 ghost use Rattle.tz_info.specs.WallClocks.{Shows};
+ghost use Rattle.tz_info.specs.declared.rule.transition_rule.TransitionRule.TheVariants.{Fixed, Alternate};
 
+use crate::answers::{answer_of_two, joined};
 use crate::error::Error;
-use crate::local_time_type::LocalTimeType;
+use crate::local_time_type::{LocalTimeType, second_showing};
+use crate::rule::alternate::{AlternateTime, Season};
 use crate::rule::transition_rule::TransitionRule;
-use crate::span::Span;
+use crate::zone::probes::Probes;
 use naive_base::NaiveDateTime;
 use offset_core::MappedLocalTime;
 
@@ -40,30 +49,175 @@ impl TransitionRule {
         requires { IsWide local }
         ensures { IsWallAnswer (Shows (RuleAt self.now) local) result }
     {
+        self.answer_from(i64::MIN, local, &mut Probes::new())
+    }
+
+    // The types in force at the seconds from that one on at which a clock by this rule shows the
+    // local time.
+    #[inline(always)]
+    pub(crate) fn answer_from(
+        &self,
+        from: i64,
+        local: i64,
+        probes: &mut Probes,
+    ) -> MappedLocalTime<LocalTimeType>
+        requires local { IsWide local }
+        requires room { HasRoomFor 2 probes.old.rule_questions }
+        ensures found { IsWallAnswer (Shows (TypeFrom self.now from) local) result }
+        ensures cost { RoseWithin probes.old probes.new 0 2 }
+        ensures counted { IsAskedFrom self.now from local
+            probes.old.rule_questions probes.new.rule_questions }
+        ensures offsets { AreUtOffsets self.now }
+    {
         match self {
-            TransitionRule::Fixed(only) => Span::answer(self.ask(local, only.offset(), None)),
-            TransitionRule::Alternate(turns) => {
-                let one = self.ask(local, turns.std().offset(), None);
-                let both = self.ask(local, turns.dst().offset(), one);
-                Span::answer(both)
-            }
+            TransitionRule::Fixed(only) => answer_of_one(only, from, local, probes),
+            TransitionRule::Alternate(turns) => turns.answer_from(from, local, probes),
+        }
+    }
+}
+
+// Asks a rule of one type for the one second that could show the local time.
+#[inline(always)]
+fn answer_of_one(
+    only: &LocalTimeType,
+    from: i64,
+    local: i64,
+    probes: &mut Probes,
+) -> MappedLocalTime<LocalTimeType>
+    requires local { IsWide local }
+    requires room { HasRoomFor 2 probes.old.rule_questions }
+    ensures found { IsWallAnswer (Shows (TypeFrom (Fixed only.now) from) local) result }
+    ensures cost { RoseWithin probes.old probes.new 0 2 }
+    ensures counted { IsAskedFrom (Fixed only.now) from local
+        probes.old.rule_questions probes.new.rule_questions }
+    ensures offset { IsUtOffset only.now.offset }
+{
+    if second_showing(local, only.offset()) < from {
+        return MappedLocalTime::None;
+    }
+    probes.count_question();
+    MappedLocalTime::Single(*only)
+}
+
+impl AlternateTime {
+    // Asks for the two seconds that could show the local time.
+    #[inline(always)]
+    fn answer_from(
+        &self,
+        from: i64,
+        local: i64,
+        probes: &mut Probes,
+    ) -> MappedLocalTime<LocalTimeType>
+        requires local { IsWide local }
+        requires room { HasRoomFor 2 probes.old.rule_questions }
+        ensures found { IsWallAnswer (Shows (TypeFrom (Alternate self.now) from) local) result }
+        ensures cost { RoseWithin probes.old probes.new 0 2 }
+        ensures counted { IsAskedFrom (Alternate self.now) from local
+            probes.old.rule_questions probes.new.rule_questions }
+        ensures rule { IsAlternateRule self.now }
+    {
+        let standard = self.std().offset();
+        let daylight = self.dst().offset();
+        let by_std = second_showing(local, standard);
+        let by_dst = second_showing(local, daylight);
+        if by_std < from && by_dst < from {
+            return MappedLocalTime::None;
+        }
+        if standard == daylight {
+            return self.ask(from, local, standard, MappedLocalTime::None, probes);
+        }
+        let season = self.season(local);
+        if are_amid(season, from, by_std, by_dst) {
+            return self.answer_amid(season, from, local, probes);
+        }
+        // The greater offset has the earlier second.
+        if standard < daylight {
+            let one = self.ask(from, local, daylight, MappedLocalTime::None, probes);
+            return self.ask(from, local, standard, one, probes);
+        }
+        let one = self.ask(from, local, standard, MappedLocalTime::None, probes);
+        self.ask(from, local, daylight, one, probes)
+    }
+
+    // Asks for the two seconds that could show the local time, where the season's moments decide at
+    // both.
+    #[inline(always)]
+    fn answer_amid(
+        &self,
+        season: Season,
+        from: i64,
+        local: i64,
+        probes: &mut Probes,
+    ) -> MappedLocalTime<LocalTimeType>
+        requires local { IsWide local }
+        requires room { HasRoomFor 2 probes.old.rule_questions }
+        requires season { IsSeason self.now season }
+        requires other { self.now.std.offset ≢ self.now.dst.offset }
+        requires standard { IsAmidFrom season from (local -ℤ self.now.std.offset) }
+        requires daylight { IsAmidFrom season from (local -ℤ self.now.dst.offset) }
+        ensures found { IsWallAnswer (Shows (TypeFrom (Alternate self.now) from) local) result }
+        ensures cost { RoseWithin probes.old probes.new 0 2 }
+        ensures counted { IsAskedFrom (Alternate self.now) from local
+            probes.old.rule_questions probes.new.rule_questions }
+    {
+        let standard = self.std().offset();
+        let daylight = self.dst().offset();
+        probes.count_question();
+        probes.count_question();
+        let is_std = !self.is_dst_amid(season, second_showing(local, standard));
+        let is_dst = self.is_dst_amid(season, second_showing(local, daylight));
+        // The greater offset has the earlier second.
+        if standard < daylight {
+            answer_of_two(self.dst(), is_dst, self.std(), is_std)
+        } else {
+            answer_of_two(self.std(), is_std, self.dst(), is_dst)
         }
     }
 
-    // Asks for the one second that could show the local time at the offset.
-    fn ask(&self, local: i64, offset: i32, span: Option<Span>) -> Option<Span>
-        requires { IsWide local }
-        ensures { IsAsked (RuleAt self.now) local offset span result }
+    // Asks for the one second that could show the local time at the offset, unless it comes before
+    // that one.
+    #[inline(always)]
+    fn ask(
+        &self,
+        from: i64,
+        local: i64,
+        offset: i32,
+        answer: MappedLocalTime<LocalTimeType>,
+        probes: &mut Probes,
+    ) -> MappedLocalTime<LocalTimeType>
+        requires local { IsWide local }
+        requires room { HasRoomFor 1 probes.old.rule_questions }
+        ensures asked { IsAskedLast (TypeFrom (Alternate self.now) from) local offset answer
+            result }
+        ensures cost { RoseWithin probes.old probes.new 0 1 }
+        ensures counted { IsAskedSince from (local -ℤ offset)
+            probes.old.rule_questions probes.new.rule_questions }
     {
-        let second = local - offset as i64;
-        match self.find_local_time_type(second) {
-            Ok(found) => {
-                if found.offset() == offset {
-                    return Span::widen(span, second, *found);
-                }
-                span
-            }
-            Err(_) => span,
+        let second = second_showing(local, offset);
+        if second < from {
+            return answer;
         }
+        probes.count_question();
+        let found = self.type_at(second);
+        if found.offset() == offset {
+            return joined(answer, MappedLocalTime::Single(*found));
+        }
+        answer
     }
+}
+
+// Whether the season's moments decide at both seconds, and neither comes before that one.
+#[inline(always)]
+fn are_amid(season: Season, from: i64, by_std: i64, by_dst: i64) -> bool
+    ensures { IsTrue result → IsAmidFrom season from by_std × IsAmidFrom season from by_dst }
+{
+    is_amid(season, from, by_std) & is_amid(season, from, by_dst)
+}
+
+// Whether the season's moments decide at the second, and it doesn't come before that one.
+#[inline(always)]
+fn is_amid(season: Season, from: i64, second: i64) -> bool
+    ensures { IsTrue result → IsAmidFrom season from second }
+{
+    (from <= second) & season.decides(second)
 }

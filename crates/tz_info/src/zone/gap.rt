@@ -13,7 +13,7 @@ ghost use Rattle.tz_info.specs.WallClocks.{Shows};
 ghost use Rattle.tz_info.specs.Zones.{IsValid, IsRuleOrNone, TypeAt};
 ghost use Rattle.tz_info.specs.declared.rule.transition_rule.TransitionRule.TheVariants.{Alternate};
 
-use crate::local_time_type::LocalTimeType;
+use crate::local_time_type::{LocalTimeType, second_showing};
 use crate::rule::{AlternateTime, TransitionRule};
 use crate::zone::around::{Gap, TypesAround};
 use crate::zone::probes::Probes;
@@ -98,8 +98,8 @@ impl TimeZone {
     {
         let _types = self.local_time_types();
         Reach {
-            low: local - self.extremes.greatest as i64,
-            high: local - self.extremes.least as i64,
+            low: second_showing(local, self.extremes.greatest),
+            high: second_showing(local, self.extremes.least),
         }
     }
 

@@ -50,7 +50,7 @@ impl TimeZone {
     }
 
     /// As [`TimeZone::find_local_time_type`], and counts the looks at transitions and the questions
-    /// to the rule: at most one look more than the number of transitions has binary digits, and one
+    /// to the rule: at most as many looks as the number of transitions has binary digits, and one
     /// question where the rule says the type, else none.
     ///
     /// The zone keeps the times of its first and its last transition: a comparison with one of them
@@ -115,12 +115,11 @@ impl TimeZone {
             probes.old.rule_questions probes.new.rule_questions }
     {
         let count = self.table.len();
-        let passed = self.table.passed_count(leap_time, probes);
-        if passed == 0 {
+        let passed = self.table.passed(leap_time, probes);
+        let Some(latest) = passed.latest else {
             return Ok(&self.local_types[0]);
-        }
-        let latest = self.table.read(passed - 1, probes);
-        if passed < count {
+        };
+        if passed.count < count {
             return Ok(&self.local_types[latest.type_index]);
         }
         self.rule_or_type(unix_time, latest.type_index, probes)
@@ -176,7 +175,7 @@ impl TimeZone {
         ensures cost { RoseWithin probes.old probes.new (digits (length self.now.transitions)) 0 }
         ensures looked { 0 < length self.now.transitions → probes.old.reads < probes.new.reads }
     {
-        self.table.passed_count(leap_time, probes)
+        self.table.passed(leap_time, probes).count
     }
 
     // The transition at that place.

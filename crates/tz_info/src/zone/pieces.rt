@@ -5,8 +5,8 @@ ghost use Rattle.tz_info.specs.Steps.Merging.{IsMerged, IsNext, IsStep};
 ghost use Rattle.tz_info.specs.WallPieces.{answer_before, AreInOrder};
 ghost use Rattle.tz_info.specs.declared.error.Error.TheVariants.{OutOfMemory};
 
+use crate::answers::joined;
 use crate::error::Error;
-use crate::zone::answers::joined;
 use offset_core::MappedLocalTime;
 use std::alloc::Global;
 

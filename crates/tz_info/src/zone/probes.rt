@@ -93,7 +93,7 @@ impl Probes {
 
     // Counts a question to a rule.
     #[inline(always)]
-    pub(super) fn count_question(&mut self)
+    pub(crate) fn count_question(&mut self)
         requires { HasRoomFor 1 self.old.rule_questions }
         ensures { self.new ≡ record self.old { rule_questions = self.old.rule_questions + 1 } }
     {

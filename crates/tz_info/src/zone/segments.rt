@@ -8,10 +8,10 @@ ghost use Rattle.tz_info.specs.Steps.Pieces.{zone_in, ArePieces};
 ghost use Rattle.tz_info.specs.Zones.{IsValid};
 ghost use Rattle.tz_info.specs.declared.error.Error.TheVariants.{OutOfMemory};
 
+use crate::answers::joined;
 use crate::error::Error;
 use crate::local_time_type::LocalTimeType;
 use crate::rule::TransitionRule;
-use crate::zone::answers::joined;
 use crate::zone::leap_second::LeapSecond;
 use crate::zone::pieces::{Piece, merged};
 use crate::zone::starts::cut_of;

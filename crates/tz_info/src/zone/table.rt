@@ -1,15 +1,16 @@
 //! The transitions of a zone. A lookup can look at one of them only where the look is counted.
 
-ghost use Rattle.std.specs.Prelude.{◌≡◌, ◌+◌, ◌<◌, ◌≤◌, [], length, take, slice_index_or, MatchResult};
+ghost use Rattle.std.specs.Prelude.{◌≡◌, ◌+◌, ◌<◌, ◌≤◌, [], length, option_map, take, slice_index_or, MatchResult};
 ghost use Rattle.tz_info.specs.Counts.{RoseWithin};
 ghost use Rattle.tz_info.specs.Steps.Looks.{HasRoomFor};
+ghost use Rattle.tz_info.specs.Steps.Search.{IsLastOf};
 ghost use Rattle.tz_info.specs.Digits.{digits};
 ghost use Rattle.tz_info.specs.Transitions.{AreRising, passed};
 ghost use Rattle.tz_info.specs.declared.error.Error.TheVariants.{OutOfMemory};
 
 use crate::error::Error;
 use crate::zone::probes::Probes;
-use crate::zone::timeline::{Timed, Timeline};
+use crate::zone::timeline::{Passed, Timed, Timeline};
 use crate::zone::transition::Transition;
 use std::alloc::Global;
 use std::fmt;
@@ -122,15 +123,16 @@ impl Table {
         *self.entries.read(place, probes)
     }
 
-    // How many transitions come at or before the leap time.
+    // How many transitions come at or before the leap time, and the last of them.
     #[inline(always)]
-    pub(super) fn passed_count(&self, leap_time: i64, probes: &mut Probes) -> usize
+    pub(super) fn passed(&self, leap_time: i64, probes: &mut Probes) -> Passed<'_, Transition>
         requires { HasRoomFor (digits (length self.now)) probes.old.reads }
-        ensures within { result ≤ length self.now }
-        ensures passed { passed self.now leap_time ≡ take result self.now }
+        ensures within { result.count ≤ length self.now }
+        ensures passed { passed self.now leap_time ≡ take result.count self.now }
+        ensures latest { IsLastOf self.now result.count (option_map (λ r. r.now) result.latest) }
         ensures cost { RoseWithin probes.old probes.new (digits (length self.now)) 0 }
         ensures looked { 0 < length self.now → probes.old.reads < probes.new.reads }
     {
-        self.entries.passed(leap_time, probes).count
+        self.entries.passed(leap_time, probes)
     }
 }

@@ -11,14 +11,14 @@ ghost use Rattle.tz_info.specs.Steps.Looks.{HasRoomFor};
 ghost use Rattle.tz_info.specs.Looks.{RoseByWalk};
 ghost use Rattle.tz_info.specs.Questions.{IsAskedFor};
 ghost use Rattle.tz_info.specs.Steps.Segments.{begin_of, index_of};
-ghost use Rattle.tz_info.specs.Steps.Walk.{IsShownIn, IsTried};
+ghost use Rattle.tz_info.specs.Steps.Walk.{IsCandidate, IsShownIn, IsTried};
 ghost use Rattle.tz_info.specs.WallClocks.{Shows};
 ghost use Rattle.tz_info.specs.Windows.{IsWindow};
 ghost use Rattle.tz_info.specs.Zones.{IsValid, TypeAt};
 
+use crate::answers::joined;
 use crate::error::Error;
-use crate::local_time_type::LocalTimeType;
-use crate::zone::answers::joined;
+use crate::local_time_type::{LocalTimeType, second_showing};
 use crate::zone::probes::Probes;
 use crate::zone::time_zone::TimeZone;
 use crate::zone::transition::Transition;
@@ -31,6 +31,13 @@ use offset_core::MappedLocalTime;
 struct Window {
     low: i64,
     high: i64,
+}
+
+// A type, and the leap time of a second.
+#[derive(Clone, Copy)]
+struct Candidate<'a> {
+    local_type: &'a LocalTimeType,
+    leap_time: i64,
 }
 
 impl TimeZone {
@@ -91,9 +98,11 @@ impl TimeZone {
         ensures window { IsWindow self.now local result.low result.high }
         ensures valid { IsValid self.now }
     {
+        let low = second_showing(local, self.extremes.greatest);
+        let high = second_showing(local, self.extremes.least);
         Window {
-            low: self.leap_time_near(local - self.extremes.greatest as i64),
-            high: self.leap_time_near(local - self.extremes.least as i64),
+            low: self.leap_time_near(low),
+            high: self.leap_time_near(high),
         }
     }
 
@@ -127,16 +136,14 @@ impl TimeZone {
         ensures { IsTried self.now local current.type_index
             (λ x. (current.unix_leap_time ≤ℤ x) × (x <ℤ until)) answer result }
     {
-        let local_type = &self.local_types[current.type_index];
-        let second = local - local_type.offset() as i64;
-        let leap_time = self.leap_time_near(second);
-        if leap_time < current.unix_leap_time {
+        let candidate = self.candidate(local, current.type_index);
+        if candidate.leap_time < current.unix_leap_time {
             return answer;
         }
-        if until <= leap_time {
+        if until <= candidate.leap_time {
             return answer;
         }
-        joined(answer, MappedLocalTime::Single(*local_type))
+        joined(answer, MappedLocalTime::Single(*candidate.local_type))
     }
 
     // Tries the type in force from the transition on.
@@ -151,13 +158,26 @@ impl TimeZone {
         ensures { IsTried self.now local current.type_index
             (λ x. current.unix_leap_time ≤ℤ x) answer result }
     {
-        let local_type = &self.local_types[current.type_index];
-        let second = local - local_type.offset() as i64;
-        let leap_time = self.leap_time_near(second);
-        if leap_time < current.unix_leap_time {
+        let candidate = self.candidate(local, current.type_index);
+        if candidate.leap_time < current.unix_leap_time {
             return answer;
         }
-        joined(answer, MappedLocalTime::Single(*local_type))
+        joined(answer, MappedLocalTime::Single(*candidate.local_type))
+    }
+
+    // The type of that index, and the leap time of the one second that could show the local time
+    // by it.
+    fn candidate(&self, local: i64, index: usize) -> Candidate<'_>
+        requires local { IsWide local }
+        requires listed { index < length self.now.types }
+        ensures { IsCandidate self.now local index result.local_type.now result.leap_time }
+    {
+        let local_type = &self.local_types[index];
+        let second = second_showing(local, local_type.offset());
+        Candidate {
+            local_type,
+            leap_time: self.leap_time_near(second),
+        }
     }
 
     // Tries what is in force from the last transition on: the rule, or without one that

@@ -1,19 +1,23 @@
 //! The wall clock of a zone.
 
-ghost use Rattle.std.specs.Prelude.{◌≡◌, ◌<◌, length};
+ghost use Rattle.std.specs.Prelude.{◌≡◌, ◌<◌, ◌+◌, length, Some};
 ghost use Rattle.std.specs.Result.{IsOkAnd};
 ghost use Rattle.naive_base.specs.NaiveDateTime.{reading};
 ghost use Rattle.naive_base.specs.Range.{IsWide};
 ghost use Rattle.offset_core.specs.WallAnswer.{IsWallAnswer};
-ghost use Rattle.tz_info.specs.Counts.{HasRoom};
+ghost use Rattle.tz_info.specs.Counts.{HasRoom, RoseWithin};
 ghost use Rattle.tz_info.specs.Looks.{RoseByWallClock};
 ghost use Rattle.tz_info.specs.Questions.{IsAskedFor};
 ghost use Rattle.tz_info.specs.WallClocks.{Shows};
+ghost use Rattle.tz_info.specs.Steps.Looks.{HasRoomFor};
 ghost use Rattle.tz_info.specs.Steps.Pieces.{AreBelow, AreListed};
+ghost use Rattle.tz_info.specs.Steps.Walk.{IsShownIn};
 ghost use Rattle.tz_info.specs.Zones.{TypeAt};
 
+use crate::answers::joined;
 use crate::error::Error;
 use crate::local_time_type::LocalTimeType;
+use crate::rule::TransitionRule;
 use crate::zone::probes::Probes;
 use crate::zone::time_zone::TimeZone;
 use naive_base::NaiveDateTime;
@@ -93,6 +97,32 @@ impl TimeZone {
             None => table,
             Some(rule) => self.try_rule(rule, local, table, probes),
         }
+    }
+
+    // The answer with the seconds at which the rule's types show the local time, from the last
+    // transition on.
+    #[inline(always)]
+    pub(super) fn try_rule(
+        &self,
+        rule: &TransitionRule,
+        local: i64,
+        answer: MappedLocalTime<LocalTimeType>,
+        probes: &mut Probes,
+    ) -> MappedLocalTime<LocalTimeType>
+        requires local { IsWide local }
+        requires room { HasRoomFor 2 probes.old.rule_questions }
+        requires rule { self.now.rule ≡ Some rule.now }
+        requires seen { IsWallAnswer
+            (IsShownIn self.now local (length self.now.transitions)) answer }
+        ensures found { IsWallAnswer (IsShownIn self.now local
+            (length self.now.transitions + 1)) result }
+        ensures cost { RoseWithin probes.old probes.new 0 2 }
+        ensures counted { IsAskedFor self.now local
+            probes.old.rule_questions probes.new.rule_questions }
+    {
+        let _types = self.local_time_types();
+        let by_rule = rule.answer_from(self.index.rule_from(), local, probes);
+        joined(answer, by_rule)
     }
 }
 

@@ -1,12 +1,14 @@
-use Rattle.std.proofs.Common.{arith}
-use Rattle.zone_query.proofs.HexLaws.{odd_spell_none, other_spells_none, each_spells}
+use Rattle.std.proofs.Common.{arith, get_or, sym}
+use Rattle.zone_query.proofs.HexLaws.{digits_spell, not_hex, hex_at, all_hex_from}
+use Rattle.zone_query.proofs.WordLaws.{refuted}
 use Rattle.zone_query.proofs.hex_digits.spell_bytes.Goals as goal
 
 pub returns-then-digits-ne0 : goal.returns-then-digits-ne0
-returns-then-digits-ne0 c = odd_spell_none c.args.digits.now c.if-digits-ne0.true
+returns-then-digits-ne0 c = sym (refuted _ (digits_spell c.args.digits.now) (λ d. c.if-digits-ne0.true d.0))
 
 pub returns-then-not-is_ascii_hexdigit : goal.returns-then-not-is_ascii_hexdigit
-returns-then-not-is_ascii_hexdigit c = other_spells_none c.args.digits.now c.loop-digit.digit-index c.loop-digit-test.true c.if-not-is_ascii_hexdigit.ensures.cases
+returns-then-not-is_ascii_hexdigit c =
+    sym (refuted _ (digits_spell c.args.digits.now) (λ d. not_hex (get_or c.args.digits.now c.loop-digit.digit-index 0) c.if-not-is_ascii_hexdigit.ensures.cases (hex_at c.args.digits.now c.loop-digit.digit-index c.loop-digit-test.true d.1)))
 
 pub returns : goal.returns
-returns c = each_spells c.args.digits.now c.if-digits-ne0.false (λ k h. c.loop-digit.invariant k (omega (arith, h, c.loop-digit-test.false)))
+returns c = sym ((digits_spell c.args.digits.now).1 (c.if-digits-ne0.false, all_hex_from c.args.digits.now (λ k h. c.loop-digit.invariant k (omega (arith, h, c.loop-digit-test.false)))))

@@ -1,4 +1,4 @@
-use Rattle.std.proofs.Common.{◌≡◌, w32, w64, arith, to_z-of_z, rules}
+use Rattle.std.proofs.Common.{◌≡◌, w32, w64, arith, to_z-of_z}
 use mir.Val.{SFits}
 use Rattle.naive_base.specs.Year.{floor_div}
 use Rattle.naive_base.proofs.ForCallers.{floors}

@@ -1,10 +1,10 @@
-use Rattle.std.proofs.Common.{◌≡◌, ◌-◌, ◌↔◌, pos, neg_ℤ, ◌-ℤ◌, ◌≤ℤ◌, arith, to_z-of_z, w32, w64, rules, get_or}
+use Rattle.std.proofs.Common.{◌-◌, pos, ◌-ℤ◌, arith, to_z-of_z, w64, rules, get_or}
 use mir.Val.{SFits}
 use mir.Syntax.{w128}
 use Rattle.std.proofs.lemmas.Int.{ints}
 use Rattle.tz_info.specs.Steps.Starts.{HaveCome}
 use Rattle.tz_info.specs.declared.zone.leap_second.LeapSecond.{LeapSecond}
-use Rattle.tz_info.proofs.LeapStarts.{correction_behind, reached_first, both_ways}
+use Rattle.tz_info.proofs.LeapStarts.{reached_first, both_ways}
 use Rattle.tz_info.proofs.ZoneChanges.{reached_exactly, entry_late}
 use Rattle.tz_info.proofs.zone.changes.first_second.Goals as goal
 

@@ -1,7 +1,6 @@
-use Rattle.std.proofs.Common.{w64, to_z-of_z, pos, ◌-ℤ◌}
-use mir.Val.{SFits}
+use Rattle.std.proofs.Common.{to_z-of_z, pos, ◌-ℤ◌}
 use Rattle.tz_info.specs.Moments.{AlternateAt}
-use Rattle.tz_info.proofs.RuleChanges.{rule_type_once, rule_refused}
+use Rattle.tz_info.proofs.RuleChanges.{rule_refused}
 use Rattle.tz_info.proofs.ChangeSearch.{none_before}
 use Rattle.tz_info.proofs.rule.alternate.AlternateTime.change_after.Goals as goal
 

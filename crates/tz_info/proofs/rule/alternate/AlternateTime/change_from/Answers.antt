@@ -1,5 +1,4 @@
-use Rattle.std.proofs.Common.{w64, to_z-of_z}
-use mir.Val.{SFits}
+use Rattle.std.proofs.Common.{to_z-of_z}
 use Rattle.tz_info.specs.Moments.{AlternateAt}
 use Rattle.tz_info.proofs.RuleChanges.{rule_type_once, rule_refused}
 use Rattle.tz_info.proofs.ChangeSearch.{change_made, none_here}

@@ -1,4 +1,4 @@
-use Rattle.std.proofs.Common.{◌≡◌, arith, refl, get_or, pos, w64, to_z-of_z, rules}
+use Rattle.std.proofs.Common.{refl, get_or, pos, w64, to_z-of_z, rules}
 use mir.Val.{SFits}
 use Rattle.tz_info.proofs.ChangeSearch.{none_of, first_more}
 use Rattle.tz_info.specs.Moments.{AlternateAt}

@@ -1,7 +1,7 @@
 use Rattle.std.proofs.Common.{arith, w64, to_z-of_z, rules}
 use mir.Val.{SFits}
 use Rattle.std.proofs.lemmas.Int.{ints}
-use Rattle.tz_info.proofs.RuleChanges.{none_late, in_rule_time, early_enough, from_first}
+use Rattle.tz_info.proofs.RuleChanges.{none_late, from_first}
 use Rattle.tz_info.proofs.rule.alternate.AlternateTime.next_change.Goals as goal
 
 pub returns-then-after-gt-LAST_RULE_TIME : goal.returns-then-after-gt-LAST_RULE_TIME

@@ -2,7 +2,7 @@ use Rattle.std.proofs.Common.{◌≡◌, arith, pos, ◌+ℤ◌, ◌-ℤ◌, ◌
 use mir.Val.{SFits}
 use Rattle.naive_base.specs.Year.{floor_div, year_start}
 use Rattle.naive_base.proofs.ForCallers.{floors}
-use Rattle.tz_info.specs.Moments.{IsYearOf, IsRuleYear}
+use Rattle.tz_info.specs.Moments.{IsYearOf}
 use Rattle.tz_info.proofs.Neighbours.{second_high}
 use Rattle.tz_info.proofs.NextMoments.{steady_after}
 use Rattle.tz_info.proofs.RuleLaws.{year_found}

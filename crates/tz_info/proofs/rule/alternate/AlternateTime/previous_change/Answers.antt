@@ -1,7 +1,7 @@
 use Rattle.std.proofs.Common.{arith, w64, to_z-of_z, rules, pos, ◌-ℤ◌}
 use mir.Val.{SFits}
 use Rattle.std.proofs.lemmas.Int.{ints}
-use Rattle.tz_info.proofs.RuleChanges.{none_early, in_rule_years, late_enough, until_last}
+use Rattle.tz_info.proofs.RuleChanges.{none_early, until_last}
 use Rattle.tz_info.proofs.rule.alternate.AlternateTime.previous_change.Goals as goal
 
 pub returns-then-last-le-FIRST_RULE_TIME : goal.returns-then-last-le-FIRST_RULE_TIME

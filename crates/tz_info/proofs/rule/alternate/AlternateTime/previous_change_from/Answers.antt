@@ -1,4 +1,4 @@
-use Rattle.std.proofs.Common.{◌≡◌, ◌+◌, arith, w32, w64, to_z, to_z-of_z, rules, pos, ◌+ℤ◌, ◌-ℤ◌}
+use Rattle.std.proofs.Common.{◌≡◌, ◌+◌, arith, w32, w64, to_z, to_z-of_z, pos, ◌-ℤ◌}
 use mir.Val.{SFits}
 use Rattle.std.proofs.lemmas.Int.{ints}
 use Rattle.tz_info.proofs.RuleChanges.{until_next, last_found, none_ahead, never_back}

@@ -1,6 +1,5 @@
-use Rattle.std.proofs.Common.{arith, ⊎_elim, inl, inr, w64, to_z-of_z, rules}
+use Rattle.std.proofs.Common.{w64, to_z-of_z, rules}
 use mir.Val.{SFits}
-use Rattle.std.proofs.lemmas.Int.{ints}
 use Rattle.tz_info.proofs.NextMoments.{next_of_two}
 use Rattle.tz_info.proofs.rule.alternate.Turns.next_after.Goals as goal
 

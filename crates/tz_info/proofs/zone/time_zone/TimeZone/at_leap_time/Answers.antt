@@ -3,32 +3,47 @@ use Rattle.std.specs.Borrow.{Bor}
 use Rattle.std.proofs.lemmas.Option.{slice_get_read}
 use Rattle.tz_info.specs.Errors.{number_of}
 use Rattle.tz_info.specs.LocalTypes.{LocalType}
+use Rattle.tz_info.specs.Zones.{Zone}
 use Rattle.tz_info.specs.declared.zone.transition.Transition.{Transition}
 use Rattle.tz_info.proofs.DigitLaws.{digits-le}
-use Rattle.tz_info.proofs.PassedTransitions.{ArePassed, at_middle, at_last}
+use Rattle.tz_info.proofs.PassedTransitions.{ArePassed, at_first, at_last, at_middle, last_passed, none_passed}
 use Rattle.tz_info.proofs.zone.time_zone.TimeZone.at_leap_time.Goals as goal
+use Rattle.tz_info.proofs.zone.time_zone.TimeZone.at_leap_time.Goals.{After-passed-passed}
 
-pub passed_count-passed-requires : goal.passed_count-passed-requires
-passed_count-passed-requires c = omega (arith, digits-le (length c.self.inside.table))
+pub passed-passed-requires : goal.passed-passed-requires
+passed-passed-requires c = omega (arith, digits-le (length c.self.inside.table))
 
-pub read-latest-requires-clause-room : goal.read-latest-requires-clause-room
-read-latest-requires-clause-room c = let cost = c.passed_count-passed.ensures.cost in omega (arith, digits-le (length c.self.inside.table))
+-- the transitions that have come
+passed : (c : After-passed-passed) → ArePassed c.self.inside.table c.args.leap_time c.passed-passed.result.count
+passed c = let fx = c.ranges.leap_time in record { within = c.passed-passed.ensures.within; first = simp to_z-of_z at c.passed-passed.ensures.passed }
+
+pub returns-in_default-clause-found : goal.returns-in_default-clause-found
+returns-in_default-clause-found c =
+    let n : ℕ = c.passed-passed.result.count in
+    let none = none_passed c.self.inside.table n (rw c.in_default.is at c.passed-passed.ensures.latest) in
+    let same = ap (λ (z : Zone). length z.transitions) c.self.view_is in
+    let some = c.requires.some in
+    rw (← c.self.view_is) (at_first _ c.args.unix_time c.args.leap_time n _ (passed (goal.at.returns-in_default-clause-found c).After-passed-passed) none (omega arith)
+    (slice_get_read c.self.inside.local_types.items _ 0 _ refl (omega arith) c.index.ensures))
 
 pub returns-then-passed-count-clause-found : goal.returns-then-passed-count-clause-found
 returns-then-passed-count-clause-found c =
-    let fx = c.ranges.leap_time in
-    let n : ℕ = c.passed_count-passed.result in
-    let p : ArePassed c.self.inside.table c.args.leap_time n = record { within = c.passed_count-passed.ensures.within; first = simp to_z-of_z at c.passed_count-passed.ensures.passed } in
-    let i = ap (λ (t : Transition). t.type_index) c.read-latest.ensures.item in
-    let b = c.self.invariant.valid.transitions.indexes (n - 1) c.read-latest.result (omega arith) in
-    rw (← c.self.view_is) (at_middle _ c.args.unix_time c.args.leap_time n c.read-latest.result _ p (omega arith) (omega arith)
-    (rw (← i) (slice_get_read c.self.inside.local_types.items _ c.read-latest.result.type_index _ refl (omega arith) c.index-then-passed-count.ensures)))
+    let n : ℕ = c.passed-passed.result.count in
+    let latest = c.in-Some.latest.now in
+    let (some, is) = last_passed c.self.inside.table n latest (rw c.in-Some.is at c.passed-passed.ensures.latest) in
+    let i = ap (λ (t : Transition). t.type_index) is in
+    let b = c.self.invariant.valid.transitions.indexes (n - 1) latest (omega arith) in
+    rw (← c.self.view_is) (at_middle _ c.args.unix_time c.args.leap_time n latest _ (passed (goal.at.returns-then-passed-count-clause-found c).After-passed-passed) some (omega arith)
+    (rw (← i) (slice_get_read c.self.inside.local_types.items _ latest.type_index _ refl (omega arith) c.index-then-passed-count.ensures)))
 
 pub returns-clause-found : goal.returns-clause-found
 returns-clause-found c =
     let fx = c.ranges.leap_time in let fu = c.ranges.unix_time in
-    let n : ℕ = c.passed_count-passed.result in
-    let p : ArePassed c.self.inside.table c.args.leap_time n = record { within = c.passed_count-passed.ensures.within; first = simp to_z-of_z at c.passed_count-passed.ensures.passed } in
-    let i = ap (λ (t : Transition). t.type_index) c.read-latest.ensures.item in
+    let n : ℕ = c.passed-passed.result.count in
+    let latest = c.in-Some.latest.now in
+    let p = passed (goal.at.returns-clause-found c).After-passed-passed in
+    let within = p.within in
+    let (some, is) = last_passed c.self.inside.table n latest (rw c.in-Some.is at c.passed-passed.ensures.latest) in
+    let i = ap (λ (t : Transition). t.type_index) is in
     let r = rw (← c.self.view_is) at (simp to_z-of_z at c.rule_or_type.ensures.found) in
-    rw (← c.self.view_is) (at_last (λ (t : Bor LocalType). t.now) number_of _ c.args.unix_time c.args.leap_time n c.read-latest.result c.rule_or_type.result p (omega arith) (omega arith) (rw i at r))
+    rw (← c.self.view_is) (at_last (λ (t : Bor LocalType). t.now) number_of _ c.args.unix_time c.args.leap_time n latest c.rule_or_type.result p some (omega arith) (rw i at r))

@@ -1,7 +1,5 @@
-use Rattle.std.proofs.Common.{w64, to_z-of_z, pos, ◌-ℤ◌}
-use mir.Val.{SFits}
+use Rattle.std.proofs.Common.{to_z-of_z, pos, ◌-ℤ◌}
 use Rattle.tz_info.specs.Zones.{TypeAt}
-use Rattle.tz_info.proofs.ZoneLaws.{type_once}
 use Rattle.tz_info.proofs.ZoneChanges.{no_type}
 use Rattle.tz_info.proofs.ChangeSearch.{none_before}
 use Rattle.tz_info.proofs.zone.time_zone.TimeZone.change_after.Goals as goal

@@ -1,5 +1,4 @@
-use Rattle.std.proofs.Common.{w64, to_z-of_z}
-use mir.Val.{SFits}
+use Rattle.std.proofs.Common.{to_z-of_z}
 use Rattle.tz_info.specs.Zones.{TypeAt}
 use Rattle.tz_info.proofs.ZoneLaws.{type_once}
 use Rattle.tz_info.proofs.ZoneChanges.{no_type}

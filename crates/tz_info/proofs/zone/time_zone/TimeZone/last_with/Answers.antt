@@ -1,4 +1,4 @@
-use Rattle.std.proofs.Common.{◌≡◌, ◌+◌, ◌-◌, arith, length, w64, to_z-of_z, rules}
+use Rattle.std.proofs.Common.{◌≡◌, ◌+◌, ◌-◌, arith, to_z-of_z}
 use Rattle.tz_info.proofs.ZoneChanges.{ahead_less, ahead_none, table_last}
 use Rattle.tz_info.proofs.zone.time_zone.TimeZone.last_with.Goals as goal
 

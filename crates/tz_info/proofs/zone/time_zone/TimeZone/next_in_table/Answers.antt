@@ -1,10 +1,9 @@
-use Rattle.std.proofs.Common.{◌≡◌, ◌+◌, arith, ap, length, w64, to_z-of_z, rules}
+use Rattle.std.proofs.Common.{arith, ap, length, w64, to_z-of_z, rules}
 use mir.Val.{SFits}
 use Rattle.tz_info.specs.Counts.{Counts}
 use Rattle.tz_info.specs.Leaps.{IsLeapTime}
-use Rattle.tz_info.specs.Segments.{segment_of}
 use Rattle.tz_info.proofs.DigitLaws.{digits-le}
-use Rattle.tz_info.proofs.ZoneChanges.{behind_first, behind_more, behind_all, refused_after, table_found, counted_segment}
+use Rattle.tz_info.proofs.ZoneChanges.{behind_first, refused_after, table_found, counted_segment}
 use Rattle.tz_info.proofs.zone.time_zone.TimeZone.next_in_table.Goals as goal
 
 pub passed_count-first-requires : goal.passed_count-first-requires

@@ -1,7 +1,6 @@
-use Rattle.std.proofs.Common.{arith, w64, to_z-of_z, rules}
+use Rattle.std.proofs.Common.{to_z-of_z, rules}
 use mir.Val.{SFits}
 use mir.Syntax.{w128}
-use Rattle.std.proofs.lemmas.Int.{ints}
 use Rattle.tz_info.proofs.ZoneChanges.{rule_none, rule_until}
 use Rattle.tz_info.proofs.zone.time_zone.TimeZone.previous_by_turns.Goals as goal
 

@@ -1,7 +1,7 @@
-use Rattle.std.proofs.Common.{◌≡◌, ◌+◌, ◌-◌, arith, length, sym, ◌∙◌, to_z-of_z, rules}
+use Rattle.std.proofs.Common.{◌-◌, arith, to_z-of_z, rules}
 use mir.Val.{SFits}
 use mir.Syntax.{w128}
-use Rattle.tz_info.proofs.ZoneChanges.{begin_alone, begin_last}
+use Rattle.tz_info.proofs.ZoneChanges.{begin_last}
 use Rattle.tz_info.proofs.zone.time_zone.TimeZone.rule_begin.Goals as goal
 
 pub returns-clause-begin : goal.returns-clause-begin

@@ -1,0 +1,93 @@
+//! Times what programs do with instants, and prints the answers. `bench/run.sh` compares both with
+//! those of other libraries.
+//!
+//! Usage: `instants_timed times ZONE OTHER`, or `instants_timed answers ZONE OTHER COUNT`. The
+//! zones are names of files, each a TZif file or a TZ text. `times` prints a line for each question,
+//! its words parted by tabs: its name, the nanoseconds for all answers, how many there are, and
+//! their sum. `answers` prints the name and the answer of each question about each of the first
+//! values, so many as COUNT says. With other words, or other files, it ends with status 1.
+#![tactic(auto)]
+
+mod answers;
+mod question;
+mod timing;
+mod values;
+mod work_error;
+
+use question::Question;
+use std::io::{BufWriter, Write};
+use std::process::ExitCode;
+use std::{env, fs, str};
+use values::{COUNT, MANY, Values, copy_of};
+use work_error::WorkError;
+use zoned::{KeptZone, tz_info};
+
+fn main(rt: HostRuntime) -> ExitCode {
+    match work(&rt) {
+        Ok(()) => ExitCode::SUCCESS,
+        Err(_) => ExitCode::FAILURE,
+    }
+}
+
+fn work(rt: &HostRuntime) -> Result<(), WorkError> {
+    let mut words = env::args(rt)?;
+    let _program = words.next();
+    let what = words.next().ok_or(WorkError::Usage)?;
+    let zone = kept(rt, words.next().ok_or(WorkError::Usage)?.as_str())?;
+    let other = kept(rt, words.next().ok_or(WorkError::Usage)?.as_str())?;
+    match what.as_str() {
+        "times" => print_times(rt, &Values::new(rt.alloc(), zone, other, COUNT)?),
+        "answers" => {
+            let count = words.next().ok_or(WorkError::Usage)?;
+            let count: usize = count.parse().map_err(|_| WorkError::Usage)?;
+            print_answers(rt, &Values::new(rt.alloc(), zone, other, count)?)
+        }
+        _ => Err(WorkError::Usage),
+    }
+}
+
+fn print_times(rt: &HostRuntime, values: &Values) -> Result<(), WorkError> {
+    for question in Question::ALL {
+        let (nanoseconds, sum) = timing::least_nanoseconds(rt, rt.alloc(), values, question)?;
+        println!(rt; "{}\t{nanoseconds}\t{COUNT}\t{sum}", question.name())?;
+    }
+    let many = Values::new(
+        rt.alloc(),
+        copy_of(&values.zone),
+        copy_of(&values.other),
+        MANY,
+    )?;
+    let (nanoseconds, sum) = timing::least_nanoseconds_to_sort(rt, rt.alloc(), &many)?;
+    println!(rt; "sort\t{nanoseconds}\t{MANY}\t{sum}")?;
+    Ok(())
+}
+
+fn print_answers(rt: &HostRuntime, values: &Values) -> Result<(), WorkError> {
+    let mut output = BufWriter::new(rt.alloc(), rt.stdout())?;
+    for question in Question::ALL {
+        for place in 0..values.seconds.len() {
+            let answer = answers::sum_of(rt.alloc(), values, question, place, place + 1);
+            writeln!(output, "{}\t{answer}", question.name())?;
+        }
+    }
+    for instant in &values.instants {
+        writeln!(output, "text\t{instant}")?;
+    }
+    for instant in timing::sorted(rt.alloc(), &values.instants)? {
+        writeln!(output, "sort\t{}", instant.timestamp())?;
+    }
+    output.flush()?;
+    Ok(())
+}
+
+// The zone of a file.
+fn kept(rt: &HostRuntime, path: &str) -> Result<KeptZone, WorkError> {
+    let bytes = fs::read(rt, path)?;
+    let parsed = if bytes.starts_with(b"TZif") {
+        tz_info::TimeZone::from_tz_data(rt.alloc(), &bytes).map_err(|_| WorkError::Zone)?
+    } else {
+        let text = str::from_utf8(&bytes).map_err(|_| WorkError::Zone)?;
+        tz_info::TimeZone::from_posix_tz(rt.alloc(), text).map_err(|_| WorkError::Zone)?
+    };
+    KeptZone::keep(rt.alloc(), parsed).map_err(|_| WorkError::Zone)
+}

@@ -1,0 +1,124 @@
+//! All changes of a stretch of time, from both ends.
+
+ghost use Rattle.std.specs.Prelude.{ℤ, ◌≤ℤ◌, ◌<ℤ◌, ◌↔◌};
+ghost use Rattle.std.specs.Iterator.{YieldsFirst, YieldsLast, item_count};
+ghost use Rattle.tz_info.specs.Changes.{AreChanges, IsFirst, IsFromUntil, IsLast};
+ghost use Rattle.tz_info.specs.ChangesLeft.{changes_left};
+ghost use Rattle.tz_info.specs.Leaps.{least_time};
+ghost use Rattle.tz_info.specs.Zones.{TypeAt};
+
+use crate::change::Change;
+use crate::zone::time_zone::TimeZone;
+use std::iter::{DoubleEndedIterator, FusedIterator};
+
+/// The changes of the clocks in a stretch of time, from both ends. From [`TimeZone::changes`].
+#[derive(Clone, Drop)]
+pub struct Changes<'a> {
+    zone: &'a TimeZone,
+    from: i64,
+    until: i64,
+}
+
+impl TimeZone {
+    /// The changes of the clocks from the second `from` on, and before the second `until`: each of
+    /// them once, in the order of time, and from the back in the other order.
+    ///
+    /// There are none if `until` is `from` or comes before it. A change at `i64::MAX` comes before
+    /// no second of 64 bits, so it is in no such list: ask [`TimeZone::previous_change`] for it. It
+    /// takes no memory; each step asks [`TimeZone::next_change`] or
+    /// [`TimeZone::previous_change`] once.
+    ///
+    /// ```text
+    /// let zone = TimeZone::from_posix_tz(alloc, "EST5EDT,M3.2.0,M11.1.0")?;
+    /// let mut changes = zone.changes(1_609_459_200, 1_640_995_200);    // of the year 2021 in UTC
+    /// let first = changes.next()?.at;                                  // 1615705200, in March
+    /// let last = changes.next_back()?.at;                              // 1636264800, in November
+    /// let more = changes.next();                                       // None
+    /// ```
+    pub fn changes(&self, from: i64, until: i64) -> Changes<'_>
+        ensures { AreChanges (TypeAt self.now) from until (changes_left result) }
+    {
+        let _types = self.local_time_types();
+        Changes {
+            zone: self,
+            from,
+            until,
+        }
+    }
+
+    // The first change of the stretch.
+    fn first_change_in(&self, from: i64, until: i64) -> Option<Change>
+        ensures { IsFirst (TypeAt self.now) (IsFromUntil from until) result }
+    {
+        match self.next_change(second_before(from)) {
+            Some(change) => change.if_before(until),
+            None => None,
+        }
+    }
+
+    // The last change of the stretch.
+    fn last_change_in(&self, from: i64, until: i64) -> Option<Change>
+        ensures { IsLast (TypeAt self.now) (IsFromUntil from until) result }
+    {
+        match until.checked_sub(1) {
+            Some(last) => self.last_change_from(from, last),
+            None => None,
+        }
+    }
+
+    fn last_change_from(&self, from: i64, last: i64) -> Option<Change>
+        ensures { IsLast (TypeAt self.now) (λ u. (from ≤ℤ u) × (u ≤ℤ last)) result }
+    {
+        match self.previous_change(last) {
+            Some(change) => change.if_from(from),
+            None => None,
+        }
+    }
+}
+
+// The second before it; before the first one of 64 bits, after which changes begin, that one.
+fn second_before(second: i64) -> i64
+    ensures { (u : ℤ) → least_time <ℤ u → (result <ℤ u) ↔ (second ≤ℤ u) }
+{
+    if second == i64::MIN {
+        second
+    } else {
+        second - 1
+    }
+}
+
+impl<'a> Iterator for Changes<'a> {
+    type Item = Change;
+
+    ghost next_gives = { YieldsFirst changes_left };
+
+    ghost remaining = { item_count changes_left };
+
+    fn next(&mut self) -> Option<Change> {
+        let _types = self.zone.local_time_types();
+        match self.zone.first_change_in(self.from, self.until) {
+            Some(change) => {
+                self.from = change.at + 1;
+                Some(change)
+            }
+            None => None,
+        }
+    }
+}
+
+impl<'a> DoubleEndedIterator for Changes<'a> {
+    ghost next_back_gives = { YieldsLast changes_left };
+
+    fn next_back(&mut self) -> Option<Change> {
+        let _types = self.zone.local_time_types();
+        match self.zone.last_change_in(self.from, self.until) {
+            Some(change) => {
+                self.until = change.at;
+                Some(change)
+            }
+            None => None,
+        }
+    }
+}
+
+impl<'a> FusedIterator for Changes<'a> {}

@@ -1,0 +1,64 @@
+//! The changes of a zone's clocks, as C reads them.
+
+ghost use Rattle.std.specs.Prelude.{◌≡◌, ◌≢◌, ◌≤ℤ◌, ◌<ℤ◌};
+ghost use Rattle.tz_info.specs.Changes.{HasNoChange};
+ghost use Rattle.tz_info.specs.Zones.{TypeAt};
+ghost use Rattle.zoned_ffi.specs.WrittenChanges.{IsFirstWritten, IsLastWritten, written_change};
+
+use crate::local_type::WrittenType;
+use crate::refusal::NO_CHANGE;
+use tz_info::{Change, TimeZone};
+
+/// A change of the clocks.
+#[repr(C)]
+#[derive(Clone, Copy)]
+pub struct WrittenChange {
+    /// The first second at which the new type is in force, a Unix second.
+    pub at: i64,
+    /// The type in force at the second before.
+    pub before: WrittenType,
+    /// The type in force at that second.
+    pub after: WrittenType,
+}
+
+impl WrittenChange {
+    fn of(change: &Change) -> WrittenChange
+        ensures { result ≡ written_change change.now }
+    {
+        WrittenChange {
+            at: change.at,
+            before: WrittenType::of(&change.before),
+            after: WrittenType::of(&change.after),
+        }
+    }
+}
+
+/// Writes the first change after that second: 0, or 35 if there is none.
+pub fn answer_next(zone: &TimeZone, after: i64, change: &mut WrittenChange) -> u32
+    ensures answered { result ≡ 0 → IsFirstWritten zone.now (λ u. after <ℤ u) change.new }
+    ensures refused { result ≢ 0 → (result ≡ 35) × HasNoChange (TypeAt zone.now) (λ u. after <ℤ u)
+        × (change.new ≡ change.old) }
+{
+    match zone.next_change(after) {
+        Some(found) => {
+            *change = WrittenChange::of(&found);
+            0
+        }
+        None => NO_CHANGE,
+    }
+}
+
+/// Writes the last change at that second or before it: 0, or 35 if there is none.
+pub fn answer_previous(zone: &TimeZone, before_or_at: i64, change: &mut WrittenChange) -> u32
+    ensures answered { result ≡ 0 → IsLastWritten zone.now (λ u. u ≤ℤ before_or_at) change.new }
+    ensures refused { result ≢ 0 → (result ≡ 35)
+        × HasNoChange (TypeAt zone.now) (λ u. u ≤ℤ before_or_at) × (change.new ≡ change.old) }
+{
+    match zone.previous_change(before_or_at) {
+        Some(found) => {
+            *change = WrittenChange::of(&found);
+            0
+        }
+        None => NO_CHANGE,
+    }
+}

@@ -1,0 +1,29 @@
+use Rattle.std.proofs.Common.{arith, subst, to_z-of_z, w64, SFits}
+use Rattle.std.proofs.lemmas.Int.{ints}
+use Rattle.tz_info.specs.Zones.{TypeAt}
+use Rattle.zoned_time.specs.DateTime.{zoned}
+use Rattle.zoned_ref.specs.Offsets.{AreOffsetsOf}
+use Rattle.zoned_ref.specs.TimeZoneRef.{zone_of, off_of}
+use Rattle.zoned_ref.specs.ZoneChange.{IsOfZone, change_of}
+use Rattle.zoned_ref.proofs.Changes.{last_told, none_up_to, stand_since}
+use Rattle.zoned_ref.proofs.time_zone_ref.TimeZoneRef.previous_change.Goals as goal
+
+pub returns-clause-change : goal.returns-clause-change
+returns-clause-change g c =
+    let r = c.args.self.now in let s = (zoned c.args.before_or_at.now).utc.s in let here = c.args.before_or_at.now.in_range in
+    let fits : SFits w64 s = omega (arith, ints, here) in
+    last_told change_of (IsOfZone r) (TypeAt (zone_of r)) s c.in_ok-change.change c.instants_around.result here
+    (simp (c.zone-zone.ensures.zone, c.timestamp.ensures, to_z-of_z) at c.in_ok-change.ensures) c.instants_around.ensures
+
+pub returns-clause-since : goal.returns-clause-since
+returns-clause-since g c =
+    let r = c.args.self.now in
+    stand_since change_of (zone_of r) (off_of r) c.types_are_decided.ensures (subst (λ z. AreOffsetsOf z (off_of r)) c.zone-zone.ensures.zone c.zone-zone.ensures.offsets)
+    (zoned c.args.before_or_at.now).utc.s c.args.before_or_at.now.in_range c.instants_around.result (returns-clause-change g c)
+
+pub returns-in_err-change-clause-since : goal.returns-in_err-change-clause-since
+returns-in_err-change-clause-since g c =
+    let r = c.args.self.now in let s = (zoned c.args.before_or_at.now).utc.s in let here = c.args.before_or_at.now.in_range in
+    let fits : SFits w64 s = omega (arith, ints, here) in
+    stand_since change_of (zone_of r) (off_of r) c.types_are_decided.ensures (subst (λ z. AreOffsetsOf z (off_of r)) c.zone-zone.ensures.zone c.zone-zone.ensures.offsets)
+    s here c.from_residual.result (rw c.from_residual.ensures (none_up_to (TypeAt (zone_of r)) s (simp (c.zone-zone.ensures.zone, c.timestamp.ensures, to_z-of_z) at c.in_err-change.ensures)))

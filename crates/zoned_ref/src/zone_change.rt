@@ -1,0 +1,126 @@
+//! When the clocks of a borrowed zone change, as instants.
+ghost use Rattle.std.specs.Prelude.{◌≡◌, ◌≢◌, ◌⊎◌, pos, ◌-ℤ◌, ◌≤ℤ◌, ◌<ℤ◌, IfSome, MatchOption, option_map};
+ghost use Rattle.naive_base.specs.Range.{IsInRange};
+ghost use Rattle.naive_base.specs.Stamp.{of_secs};
+ghost use Rattle.tz_info.specs.Changes.{IsChange, IsFirst, IsLast};
+ghost use Rattle.tz_info.specs.LocalTypes.{LocalType};
+ghost use Rattle.tz_info.specs.Zones.{TypeAt};
+ghost use Rattle.zoned_time.specs.DateTime.{zoned};
+ghost use Rattle.zoned_time.specs.Zoned.{IsAt};
+ghost use Rattle.zoned_ref.specs.TimeZoneRef.{zone_of, off_of};
+ghost use Rattle.zoned_ref.specs.ZoneChange.{IsOfZone, IsAfter, IsUpTo, StandWithin, change_of};
+ghost use Rattle.zoned_ref.specs.ZoneOffset.{law_of, type_of};
+
+use crate::TimeZoneRef;
+use tz_info::Change;
+use zoned_time::{DateTime, TimeZone};
+
+/// A change of the clocks of a borrowed zone: the last second before it, and its first one.
+///
+/// Their offsets tell what changes: how far clocks are from UTC, whether it is daylight saving
+/// time, or the abbreviation. Their local times are the last second that the clocks showed before,
+/// and the first one that they showed after it.
+///
+/// ```
+/// let change = new_york.next_change(&new_year)?; // from 2021-01-01 00:00:00 UTC on
+/// change.before; // 2021-03-14 01:59:59 -05:00
+/// change.at; // 2021-03-14 03:00:00 -04:00
+/// change.at.offset().name(); // EDT
+/// ```
+#[derive(Clone, Copy, Debug)]
+pub struct ZoneChange<'a> {
+    /// The second before the change, with the offset that ends.
+    pub before: DateTime<TimeZoneRef<'a>>,
+    /// The second at which clocks change, with the offset that begins.
+    pub at: DateTime<TimeZoneRef<'a>>,
+}
+
+impl<'a> TimeZoneRef<'a> {
+    /// The first change of the clocks after an instant, which may be one of any zone. `None` if
+    /// none comes up to the last second of the range of [`DateTime`].
+    ///
+    /// Clocks change at whole seconds, so an instant counts by its second, which
+    /// [`timestamp`](zoned_time::DateTime::timestamp) tells: a leap second by the one before it. A
+    /// change at the instant itself doesn't come after it.
+    ///
+    /// A transition that changes nothing is no change, and what a rule does after the last
+    /// transition is one. It takes no memory.
+    ///
+    /// ```
+    /// let new_year = Utc.timestamp(1_609_459_200, 0); // 2021-01-01 00:00:00 UTC
+    /// let forward = new_york.next_change(&new_year)?; // at 2021-03-14 03:00:00 -04:00
+    /// let back = new_york.next_change(&forward.at)?; // at 2021-11-07 01:00:00 -05:00
+    /// ```
+    pub fn next_change<Tz: TimeZone>(&self, after: &DateTime<Tz>) -> Option<ZoneChange<'a>>
+        ensures change { IsFirst (TypeAt (zone_of self.now))
+            (IsAfter (zoned after.now).utc.s)
+            (option_map change_of result) }
+        ensures instants { IfSome result (IsOfZone self.now) }
+        // Up to it clocks stand as at that instant; without one up to the end of the range.
+        ensures until { let s = (zoned after.now).utc.s in
+            StandWithin (zone_of self.now) (off_of self.now) s
+            (λ u. (s ≤ℤ u) × IfSome result (λ c. u <ℤ (zoned c.at).utc.s)) }
+    {
+        let zone = self.zone();
+        types_are_decided();
+        let change = zone.next_change(after.timestamp())?;
+        self.instants_around(&change)
+    }
+
+    /// The last change of the clocks at an instant or before it, which may be one of any zone.
+    /// `None` if none comes after the first second of the range of [`DateTime`] and up to it.
+    ///
+    /// An instant counts by its second, as for [`TimeZoneRef::next_change`]. A change at the
+    /// instant itself is its answer.
+    ///
+    /// ```
+    /// let new_year = Utc.timestamp(1_609_459_200, 0); // 2021-01-01 00:00:00 UTC
+    /// new_york.previous_change(&new_year)?.at; // 2020-11-01 01:00:00 -05:00
+    /// ```
+    pub fn previous_change<Tz: TimeZone>(
+        &self,
+        before_or_at: &DateTime<Tz>,
+    ) -> Option<ZoneChange<'a>>
+        ensures change { IsLast (TypeAt (zone_of self.now))
+            (IsUpTo (zoned before_or_at.now).utc.s)
+            (option_map change_of result) }
+        ensures instants { IfSome result (IsOfZone self.now) }
+        // From it on clocks stand as at that instant; without one from the start of the range on.
+        ensures since { let s = (zoned before_or_at.now).utc.s in
+            StandWithin (zone_of self.now) (off_of self.now) s
+            (λ u. (u ≤ℤ s) × IfSome result (λ c. (zoned c.at).utc.s ≤ℤ u)) }
+    {
+        let zone = self.zone();
+        types_are_decided();
+        let change = zone.previous_change(before_or_at.timestamp())?;
+        self.instants_around(&change)
+    }
+
+    // A change of the zone's types as instants, where both are in range.
+    fn instants_around(&self, change: &Change) -> Option<ZoneChange<'a>>
+        requires { IsChange (TypeAt (zone_of self.now)) change.now }
+        ensures { MatchOption result
+            (IsInRange (change.now.at -ℤ pos 1) → IsInRange change.now.at → ⊥)
+            (λ c. (change_of c ≡ change.now) × IsOfZone self.now c
+            × IsInRange (change.now.at -ℤ pos 1) × IsInRange change.now.at) }
+    {
+        let before = self.instant(change.at - 1)?;
+        let at = self.instant(change.at)?;
+        Some(ZoneChange { before, at })
+    }
+
+    // The instant of a second, where it is in range.
+    fn instant(&self, second: i64) -> Option<DateTime<TimeZoneRef<'a>>>
+        ensures { MatchOption result (IsInRange second → ⊥)
+            (λ d. IsInRange second × IsAt (law_of self.now) (of_secs second 0) (zoned d)) }
+    {
+        self.timestamp_opt(second, 0).single()
+    }
+}
+
+// Types of local time are equal or not. This does nothing: its contract is a law.
+fn types_are_decided()
+    ensures { (s t : LocalType) → (s ≡ t) ⊎ (s ≢ t) }
+{
+    tz_info::laws::equality::local_time_types();
+}

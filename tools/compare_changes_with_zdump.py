@@ -1,0 +1,236 @@
+#!/usr/bin/env python3
+"""Lists the changes of the clocks of every TZif file of a tz database, both ways, and compares them with `zdump -v`.
+
+usage: tools/compare_changes_with_zdump.py [FOLDER [ARCHIVE]]
+
+FOLDER is the database (/usr/share/zoneinfo), ARCHIVE the static library (crates/zoned_ffi/out/libzoned_ffi.a, which `rt lib`
+builds in crates/zoned_ffi). It needs zdump and gcc. Of each zone, once for all files of the same bytes:
+
+- `zoned_zone_next_change` lists the changes from 1900 on and before 2037, each from the one before it, and
+  `zoned_zone_previous_change` the same backwards. Both are what zdump lists, seconds and types: offset, daylight saving time
+  and abbreviation. zdump writes two lines for a change, of the second before it and of its own. In a file with leap seconds it
+  writes two for each leap second too, which change nothing.
+- From the year 1 to 2500 each call's list is the other's, backwards. By the definition, with `zoned_zone_types`: at each
+  change the type is another one than at the second before, and both are those that are told; at the seconds that are drawn
+  between one change and the next it is that of the first. So it is before the first change and after the last.
+
+Prints the counts, and each difference. It takes half a minute. Ends with status 1 where anything differs.
+"""
+
+import calendar
+import ctypes
+import random
+import re
+import subprocess
+import sys
+import tempfile
+import time
+from collections import Counter, namedtuple
+from ctypes import POINTER, byref, c_char, c_char_p, c_int32, c_int64, c_size_t, c_uint32, c_void_p
+from pathlib import Path
+
+TOP = Path(__file__).resolve().parent.parent
+FOLDER = "/usr/share/zoneinfo"
+ARCHIVE = TOP / "crates/zoned_ffi/out/libzoned_ffi.a"
+YEARS = (1900, 2037)
+WIDE_YEARS = (1, 2500)
+DRAWN = 3
+FILE, OK, NO_CHANGE = 0, 0, 35
+
+LINE = re.compile(r"  \w{3} (\w{3} +\d+) ([\d:]{8}) (\d+) UT = .* (\S+) isdst=([01]) gmtoff=(-?\d+)$")
+
+# A local time type, and a change from one to another.
+Type = namedtuple("Type", "offset is_dst name")
+Change = namedtuple("Change", "at before after")
+
+
+class WrittenType(ctypes.Structure):
+    _fields_ = [("offset", c_int32), ("is_dst", c_int32), ("abbreviation", c_char * 8)]
+
+    def read(self):
+        return Type(self.offset, self.is_dst, self.abbreviation.decode())
+
+
+class WrittenChange(ctypes.Structure):
+    _fields_ = [("at", c_int64), ("before", WrittenType), ("after", WrittenType)]
+
+    def read(self):
+        return Change(self.at, self.before.read(), self.after.read())
+
+
+class Handle(ctypes.Structure):
+    _fields_ = [("zone", c_void_p)]
+
+
+def loaded(archive, folder):
+    """The calls of the static library, as a shared one."""
+    kit = subprocess.run(["rt", "doc"], capture_output=True, text=True, check=True).stdout.strip()
+    shared = folder / "libzoned_ffi.so"
+    whole = ["-Wl,--whole-archive", str(archive), "-Wl,--no-whole-archive"]
+    subprocess.run(
+        ["gcc", "-shared", "-o", str(shared), *whole, str(Path(kit).parent / "c/liblibc_c.a")], check=True
+    )
+    library = ctypes.CDLL(str(shared))
+    zone, change = POINTER(Handle), POINTER(WrittenChange)
+    for call, arguments in (
+        (library.zoned_open, [c_uint32, c_char_p, c_size_t, zone]),
+        (library.zoned_zone_types, [zone, POINTER(c_int64), c_size_t, POINTER(WrittenType), c_size_t]),
+        (library.zoned_zone_next_change, [zone, c_int64, change]),
+        (library.zoned_zone_previous_change, [zone, c_int64, change]),
+    ):
+        call.argtypes, call.restype = arguments, c_uint32
+    library.zoned_close.argtypes, library.zoned_close.restype = [zone], None
+    return library
+
+
+class Zone:
+    """A zone that the library has open, asked by its calls."""
+
+    def __init__(self, library, content):
+        self.library, self.handle = library, Handle()
+        number = library.zoned_open(FILE, content, len(content), byref(self.handle))
+        if number != OK:
+            raise ValueError(f"the file is refused: {number}")
+
+    def __enter__(self):
+        return self
+
+    def __exit__(self, *_):
+        self.library.zoned_close(byref(self.handle))
+
+    def asked(self, call, second):
+        change = WrittenChange()
+        number = call(byref(self.handle), second, byref(change))
+        if number not in (OK, NO_CHANGE):
+            raise ValueError(f"{call.__name__}: {number}")
+        return change.read() if number == OK else None
+
+    def forwards(self, first, end):
+        """The changes from the second `first` on and before `end`."""
+        found, last = [], first - 1
+        while (change := self.asked(self.library.zoned_zone_next_change, last)) and change.at < end:
+            found.append(change)
+            last = change.at
+        return found
+
+    def backwards(self, first, end):
+        """The same, the last one first."""
+        found, last = [], end - 1
+        while (change := self.asked(self.library.zoned_zone_previous_change, last)) and change.at >= first:
+            found.append(change)
+            last = change.at - 1
+        return found
+
+    def types(self, seconds):
+        asked, told = (c_int64 * len(seconds))(*seconds), (WrittenType * len(seconds))()
+        number = self.library.zoned_zone_types(byref(self.handle), asked, len(seconds), told, len(seconds))
+        if number != OK:
+            raise ValueError(f"zoned_zone_types: {number}")
+        return [each.read() for each in told]
+
+
+def new_year(year):
+    return calendar.timegm((year, 1, 1, 0, 0, 0))
+
+
+def lines_of(path):
+    """Of each line that zdump writes for a second: the second as it prints in UTC, and the type then."""
+    printed = subprocess.run(["zdump", "-v", "-c", "{},{}".format(*YEARS), path], capture_output=True, text=True, check=True)
+    for line in printed.stdout.splitlines():
+        if line.endswith("= NULL"):
+            continue
+        read = LINE.search(line)
+        if read is None:
+            raise ValueError(f"zdump's line isn't read: {line}")
+        day, clock, year, name, is_dst, offset = read.groups()
+        yield (day, clock, year), Type(int(offset), int(is_dst), name)
+
+
+def unix_second(day, clock, year):
+    return calendar.timegm(time.strptime(f"{day} {clock} {year}", "%b %d %H:%M:%S %Y"))
+
+
+def listed(path):
+    """The changes that zdump lists."""
+    lines = list(lines_of(path))
+    for (earlier, before), (later, after) in zip(lines[::2], lines[1::2], strict=True):
+        at, in_leap_second = unix_second(*later), earlier[1].endswith(":60")
+        # A leap second is the second before the midnight that ends it.
+        if not in_leap_second and unix_second(*earlier) != at - 1:
+            raise ValueError(f"zdump's two lines of {at} aren't of seconds one after the other")
+        if before != after:
+            yield Change(at, before, after)
+        elif not in_leap_second:
+            raise ValueError(f"zdump's two lines of {at} change nothing")
+
+
+def stretches(changes, first, end):
+    """The seconds between one change and the next, with the type that the changes tell for them."""
+    starts = [first, *(change.at for change in changes)]
+    ends = [*(change.at for change in changes), end]
+    types = [changes[0].before if changes else None, *(change.after for change in changes)]
+    return [stretch for stretch in zip(starts, ends, types, strict=True) if stretch[0] < stretch[1]]
+
+
+def by_definition(zone, changes, first, end, chance):
+    """What is wrong about the changes by the types in force, and how many seconds were asked."""
+    for one, other in zip(changes, changes[1:]):
+        if one.at >= other.at or one.after != other.before:
+            yield f"{one} and then {other}"
+    for change in changes:
+        if change.before == change.after:
+            yield f"{change} changes nothing"
+    expected = {}
+    for start, stop, told in stretches(changes, first, end):
+        seconds = {start, stop - 1, *(chance.randrange(start, stop) for _ in range(DRAWN))}
+        if told is None:
+            told = zone.types([start])[0]
+        expected.update(dict.fromkeys(seconds, told))
+    for second, found in zip(expected, zone.types(list(expected)), strict=True):
+        if found != expected[second]:
+            yield f"at {second} the type is {found}, and not {expected[second]}"
+    yield len(expected)
+
+
+def compared(zone, path, counts, chance):
+    """What differs."""
+    first, end = map(new_year, YEARS)
+    wanted = list(listed(path))
+    for way, found in ("next", zone.forwards(first, end)), ("previous", zone.backwards(first, end)[::-1]):
+        if found != wanted:
+            yield f"{way}: {sorted(set(found) ^ set(wanted))[:3]}"
+    counts["changes that zdump lists"] += len(wanted)
+    first, end = map(new_year, WIDE_YEARS)
+    changes = zone.forwards(first, end)
+    if zone.backwards(first, end)[::-1] != changes:
+        yield "the calls list different changes"
+    counts["changes from the year {} to {}".format(*WIDE_YEARS)] += len(changes)
+    *wrong, asked = by_definition(zone, changes, first, end, chance)
+    yield from wrong
+    counts["seconds asked for their type"] += asked
+
+
+def main(folder=FOLDER, archive=ARCHIVE):
+    chance = random.Random(20_260_728)
+    counts, seen, differences = Counter(), set(), 0
+    with tempfile.TemporaryDirectory() as made:
+        library = loaded(archive, Path(made))
+        for path in sorted(path for path in Path(folder).rglob("*") if path.is_file()):
+            content = path.read_bytes()
+            if content[:4] != b"TZif":
+                continue
+            counts["files"] += 1
+            if content in seen:
+                continue
+            seen.add(content)
+            counts["zones"] += 1
+            with Zone(library, content) as zone:
+                for difference in compared(zone, path, counts, chance):
+                    differences += 1
+                    print(f"{path}: {difference}")
+    print(", ".join(f"{count:,} {what}" for what, count in counts.items()), f"{differences} differences", sep="; ")
+    return 1 if differences or not seen else 0
+
+
+if __name__ == "__main__":
+    sys.exit(main(*sys.argv[1:]))
