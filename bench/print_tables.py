@@ -25,6 +25,7 @@ PEERS = {
     "java": "java.time",
     "glibc": "glibc",
     "cpython": "CPython",
+    "chrono": "chrono",
 }
 TABLES = {
     ("at", "wide"): "An instant, 1900 to 2099",
@@ -262,7 +263,7 @@ def machine():
 
 
 def versions():
-    packages = ["libc6", "libabsl-dev", "libhowardhinnant-date-dev", "openjdk-17-jdk-headless", "tzdata", "g++"]
+    packages = ["libc6", "libabsl-dev", "libhowardhinnant-date-dev", "openjdk-17-jdk-headless", "librust-chrono-dev", "tzdata", "g++"]
     found = command("dpkg-query", "-W", "-f", "${Package} ${Version}\n", *packages).splitlines()
     return ", ".join([each for each in found if " " in each and not each.startswith("dpkg")] + ["CPython " + sys.version.split()[0]])
 

@@ -2,11 +2,12 @@
 # Times lookups of this library, and what it does with instants, beside other libraries, prints the tables of docs/SPEED.md, and
 # draws docs/speed.svg from them.
 #
-# usage: bench/run.sh [PEER ..]     of sahvumbi cctz hinnant java glibc cpython zoneq misses; all of them where none is named
+# usage: bench/run.sh [PEER ..]     of sahvumbi cctz hinnant java glibc cpython chrono zoneq calls misses (else all of them)
 #
 # First `rt lib` in crates/zoned_ffi builds the archive, and `rt run` in crates/zoneq and crates/instants_timed the programs.
 # Debian has the peers:
-#   apt-get install g++ pkg-config libabsl-dev libhowardhinnant-date-dev openjdk-17-jdk-headless mawk python3 tzdata valgrind
+#   apt-get install g++ pkg-config libabsl-dev libhowardhinnant-date-dev openjdk-17-jdk-headless mawk python3 tzdata valgrind \
+#     cargo librust-chrono-dev
 # A peer that is not there is left out. It takes some fifteen minutes. `misses` counts in a simulation, by valgrind.
 #
 #   BENCH_DIR   where inputs, programs and figures are kept (else sahvumbi-bench in the folder for temporary files)
@@ -20,7 +21,7 @@ folder=${BENCH_DIR:-${TMPDIR:-/tmp}/sahvumbi-bench}
 kit=$(dirname "$(rt doc)")
 archive=${ARCHIVE:-$here/../crates/zoned_ffi/out/libzoned_ffi.a}
 picture=${PICTURE:-$here/../docs/speed.svg}
-peers=${*:-sahvumbi cctz hinnant java glibc cpython zoneq misses}
+peers=${*:-sahvumbi cctz hinnant java glibc cpython chrono zoneq calls misses}
 python=${PYTHON:-python3}
 compile="${CXX:-g++} -std=c++17 -O2"
 absl=$(pkg-config --cflags --libs absl_time 2> /dev/null)
@@ -36,6 +37,15 @@ build() {
     shift
     # shellcheck disable=SC2086
     $compile -o "$folder/$name" "$here/drivers/$name.cc" "$@"
+}
+
+# The driver of chrono, over the crates that Debian has.
+build_chrono() {
+    mkdir -p "$folder/chrono/src"
+    cp "$here/drivers/chrono.rs" "$folder/chrono/src/main.rs"
+    cp "$here/drivers/chrono.toml" "$folder/chrono/Cargo.toml"
+    (cd "$folder/chrono" && cargo build --quiet --release --offline --config 'source.crates-io.replace-with="debian"' \
+        --config 'source.debian.directory="/usr/share/cargo/registry"')
 }
 
 run() {
@@ -83,7 +93,12 @@ for peer in $peers; do
             ;;
         glibc) build glibc && run_both "$folder/glibc" ;;
         cpython) run_both "$python" "$here/drivers/cpython.py" && run_work "$python" "$here/drivers/work_cpython.py" ;;
+        chrono) build_chrono && run "$folder/chrono/target/release/chrono-timed" ;;
         zoneq) run python3 "$here/time_lines.py" ;;
+        calls)
+            build calls "$archive" "$kit/c/liblibc_c.a" && echo "running calls" >&2 &&
+                "$folder/calls" "$inputs" > "$outputs/calls.md"
+            ;;
         misses)
             build ask "$archive" "$kit/c/liblibc_c.a" && echo "running count_misses.py" >&2 &&
                 python3 "$here/count_misses.py" "$folder/ask" "$inputs" > "$outputs/misses.md"
@@ -92,6 +107,8 @@ for peer in $peers; do
     esac || echo "$peer is left out" >&2
 done
 python3 "$here/print_tables.py" "$inputs" "$outputs" > "$outputs/tables.md" || exit 1
-[ ! -f "$outputs/misses.md" ] || cat "$outputs/misses.md" >> "$outputs/tables.md"
+for part in calls misses; do
+    [ ! -f "$outputs/$part.md" ] || cat "$outputs/$part.md" >> "$outputs/tables.md"
+done
 cat "$outputs/tables.md"
 python3 "$here/draw.py" "$outputs/tables.md" "$picture"

@@ -128,9 +128,33 @@ int main(void) {
     IS(taken[0].offset, -18000);
     IS(zoned_zone_instant(&zone, 2, ZONED_FOLD_LATEST, LOCALS[1], taken), ZONED_UNKNOWN_CHOICE);
     IS(zoned_zone_instant(&zone, ZONED_GAP_REFUSE, 3, LOCALS[1], taken), ZONED_UNKNOWN_CHOICE);
+    /* The changes of 2021, from the first one on and before the second, and on into 2022 (2022-03-13 07:00:00 UTC). What is
+       refused, and what stands behind the list, is as it was. */
+    zoned_change changes[3], next;
+    size_t count = 77;
+    memset(changes, 0x55, sizeof changes);
+    IS(zoned_zone_changes(&zone, 1615705200, 1647154801, changes, 2, &count), ZONED_OK);
+    IS(count, 3);
+    IS(changes[0].at, 1615705200);
+    IS(changes[0].before.offset, -18000);
+    IS(changes[0].after.offset, -14400);
+    IS(changes[0].after.is_dst, 1);
+    IS(changes[1].at, 1636264800);
+    IS(memcmp(changes[1].after.abbreviation, "EST\0\0\0\0", 8), 0);
+    IS(changes[2].at, 0x5555555555555555);
+    IS(zoned_zone_changes(&zone, 1615705201, 1636264800, changes, 3, &count), ZONED_OK);
+    IS(count, 0);
+    IS(zoned_zone_changes(&zone, INT64_MAX, INT64_MIN, changes, 0, &count), ZONED_OK);
+    IS(count, 0);
+    IS(zoned_zone_next_change(&zone, 1636264800, &next), ZONED_OK);
+    IS(next.at, 1647154800);
     zoned_close(&zone);
     zoned_close(&zone);
     IS(zone.zone != NULL, 0);
+    count = 77;
+    IS(zoned_zone_changes(&zone, 0, INT64_MAX, changes, 3, &count), ZONED_NOT_OPEN);
+    IS(count, 77);
+    IS(changes[0].at, 1615705200);
     uint8_t text[8] = "1234567";
     IS(zoned_error_text(17, text, 4), 13);
     IS(memcmp(text, "out\000567", 8), 0);

@@ -3,10 +3,11 @@
      try_handles CALLS SEED FILE ..       of these TZif files, and of TZ texts
 
    Random calls: handles are opened on zones, on parts of their bytes and on bytes with faults, by kinds that are and that
-   aren't, shared, closed and asked, with counts that fit and that don't. What a handle answers is compared with what the calls
-   without a handle say of the bytes that it was opened on. Then eight threads ask one zone, each by a share of its own; the
-   shares of a zone are closed in every order; and each request for memory of a call that opens is refused in turn. It prints a
-   line, and ends with 0 if nothing differs. Linked with --wrap=malloc and --wrap=realloc. */
+   aren't, shared, closed and asked, with counts that fit and that don't. What a handle answers is compared with what the
+   calls without a handle say of the bytes that it was opened on, and the changes of a stretch with what stepping through
+   them comes to. Then eight threads ask one zone, each by a share of its own; the shares of a zone are closed in every
+   order; and each request for memory of a call that opens is refused in turn. It prints a line, and ends with 0 if nothing
+   differs. Linked with --wrap=malloc and --wrap=realloc. */
 #include "../crates/zoned_ffi/include/zoned_ffi.h"
 
 #include <inttypes.h>
@@ -23,7 +24,7 @@
         }                                                                                                                  \
     } while (0)
 
-enum { HANDLES = 12, MOST = 6, THREADS = 8, NONE = -1, SIZE_OF_RANDOM_BYTES = 300 };
+enum { HANDLES = 12, MOST = 6, ROOM = 24, THREADS = 8, NONE = -1, SIZE_OF_RANDOM_BYTES = 300 };
 
 static uint64_t calls;
 
@@ -248,6 +249,42 @@ static void try_changes(struct tried *of) {
     EXPECT(zoned_zone_type(&of->zone, between, &there) == ZONED_OK && is_same_type(&there, &type));
 }
 
+/* The second, or that of the next change, or one beside it. */
+static int64_t end_of_stretch(struct tried *of, int64_t at) {
+    zoned_change next;
+    if (below(2) || zoned_zone_next_change(&of->zone, at, &next) || next.at > INT64_MAX - 1) return at;
+    return next.at + (int64_t)below(3) - 1;
+}
+
+/* Up to six years later, or some decades, or somewhere in 64 bits; and mostly no further off than is soon stepped through. */
+static int64_t later(int64_t from) {
+    uint64_t left = (uint64_t)INT64_MAX - (uint64_t)from, most = below(4) ? 190000000 : 2000000000;
+    return below(8) ? from + (int64_t)below((left < most ? left : most) + 1) : from - (int64_t)below(from > 0 ? most : 1);
+}
+
+/* The changes of a stretch, in a room for less of them, for as many, and for more: those that stepping comes to. */
+static void try_list(struct tried *of) {
+    int64_t from = end_of_stretch(of, second()), until = end_of_stretch(of, later(from));
+    size_t count = 77, found = 0;
+    zoned_change written[ROOM], expected[ROOM], step;
+    for (int64_t last = from == INT64_MIN ? from : from - 1;; last = step.at) {
+        if (zoned_zone_next_change(&of->zone, last, &step) || step.at >= until) break;
+        if (found < ROOM) expected[found] = step;
+        found++;
+    }
+    size_t rooms[] = {0, found ? found - 1 : 0, found, found + 1, below(ROOM + 1)}, room = rooms[below(5)];
+    if (room > ROOM) room = ROOM;
+    memset(written, 0x55, sizeof written);
+    uint32_t number = zoned_zone_changes(&of->zone, from, until, written, room, &count);
+    EXPECT(number == due(of, 0, 0) && count == (number ? 77 : found));
+    size_t kept = found < room ? found : room;
+    for (size_t i = 0; i < kept; i++) {
+        EXPECT(written[i].at == expected[i].at);
+        EXPECT(is_same_type(&written[i].before, &expected[i].before) && is_same_type(&written[i].after, &expected[i].after));
+    }
+    EXPECT(is_untouched(written + kept, (ROOM - kept) * sizeof *written));
+}
+
 /* The clock's answer under a choice. In a gap: the instant by an offset before it, which is less than the one after it. */
 static void expect_resolved(struct tried *of, const zoned_wall_clock *clock, uint32_t gap, uint32_t fold, int64_t local, const zoned_resolved *resolved) {
     int64_t instant = clock->first;
@@ -371,6 +408,10 @@ static void try_calls(uint64_t count) {
         case 9:
             try_changes(one);
             calls += 2;
+            break;
+        case 10:
+            try_list(one);
+            calls += 1;
             break;
         default:
             try_locals(one);

@@ -9,9 +9,16 @@ from bisect import bisect_right
 NEVER, ONCE, SEVERAL_TIMES = 0, 1, 2
 
 
-def tzif(transitions, offsets, footer=""):
-    """A TZif file of version 2 (RFC 8536); transitions are (second, place in offsets)."""
-    types = b"".join(struct.pack(">lBB", offset, 0, 0) for offset in offsets)
+def tzif(transitions, types, footer=""):
+    """A TZif file of version 2 (RFC 8536).
+
+    Transitions are (second, place in types), and a type is (offset, whether it is daylight saving
+    time, name)."""
+    names = b"".join(name.encode() + b"\0" for _, _, name in types)
+    ends = itertools.accumulate((len(name) + 1 for _, _, name in types), initial=0)
+    rows = b"".join(
+        struct.pack(">lBB", offset, is_dst, end) for (offset, is_dst, _), end in zip(types, ends)
+    )
     empty = (
         b"TZif2"
         + bytes(15)
@@ -19,25 +26,41 @@ def tzif(transitions, offsets, footer=""):
         + struct.pack(">lBB", 0, 0, 0)
         + b"UTC\0"
     )
-    head = b"TZif2" + bytes(15) + struct.pack(">6L", 0, 0, 0, len(transitions), len(offsets), 4)
+    counts = struct.pack(">6L", 0, 0, 0, len(transitions), len(types), len(names))
+    head = b"TZif2" + bytes(15) + counts
     times = b"".join(struct.pack(">q", second) for second, _ in transitions)
     places = bytes(place for _, place in transitions)
-    return empty + head + times + places + types + b"UTC\0" + b"\n" + footer.encode() + b"\n"
+    return empty + head + times + places + rows + names + b"\n" + footer.encode() + b"\n"
 
 
 class Lists:
-    """A zone without a rule: the first offset, and from each transition on its own."""
+    """A zone without a rule: the first type, and from each transition on its own.
 
-    def __init__(self, transitions, offsets):
-        self.transitions, self.offsets = transitions, offsets
+    Types are offsets, or (offset, whether it is daylight saving time, name)."""
+
+    def __init__(self, transitions, types):
+        self.transitions = transitions
+        self.types = [each if isinstance(each, tuple) else (each, False, "UTC") for each in types]
+        self.offsets = [offset for offset, _, _ in self.types]
         self.seconds = [second for second, _ in transitions]
 
     def file(self):
-        return tzif(self.transitions, self.offsets)
+        return tzif(self.transitions, self.types)
+
+    def type(self, instant):
+        come = bisect_right(self.seconds, instant)
+        return self.types[self.transitions[come - 1][1] if come else 0]
 
     def offset(self, instant):
-        come = bisect_right(self.seconds, instant)
-        return self.offsets[self.transitions[come - 1][1] if come else 0]
+        return self.type(instant)[0]
+
+    def changes(self, window):
+        """Each second of the window at which another type is in force than at the one before."""
+        return [
+            (second, self.type(second - 1), self.type(second))
+            for second in window
+            if self.type(second - 1) != self.type(second)
+        ]
 
     def shown_at(self, local, window):
         """Each second of the window at which a clock shows the local time."""

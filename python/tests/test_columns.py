@@ -417,12 +417,23 @@ def test_refused_files(data, number):
     assert raised.value.number == number
 
 
-def test_a_shift_takes_offsets_within_a_day():
+def test_a_shift_by_more_than_a_day():
+    """Clocks set forward by 25 hours: what they skipped is told by the offset before."""
     zone = Zone.from_bytes(Lists([(0, 1)], [0, 90_000]).file())
-    gap = np.array(["1970-01-01T00:30"], "M8[s]")
-    with pytest.raises(ValueError, match="within a day"):
-        zone.localize(gap, gap="shift")
-    assert np.isnat(zone.localize(gap, gap="nat"))
+    gap = np.array(["1970-01-01T00:30", "1970-01-02T00:59:59"], "M8[s]")
+    np.testing.assert_array_equal(zone.localize(gap, gap="shift"), gap)
+    assert np.isnat(zone.localize(gap, gap="nat")).all()
+
+
+def test_a_shift_out_of_range():
+    """Clocks set forward at the last second: of what they skipped some instants come after it."""
+    last = 8_210_266_876_799
+    zone = Zone.from_bytes(Lists([(last, 1)], [-100, -40]).file())
+    assert zone.explain([last - 100, last - 60]).shown.tolist() == [0, 0]
+    assert zone.localize([last - 100], gap="shift").tolist() == [last]
+    with pytest.raises(sahvumbi.OutOfRangeError, match="the instant is out of range") as raised:
+        zone.localize([0, last - 100, last - 60, last - 61], gap="shift")
+    assert (raised.value.row, raised.value.value, raised.value.number) == (2, last - 60, 23)
 
 
 def test_errors_are_pickled():

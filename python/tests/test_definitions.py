@@ -7,8 +7,7 @@ from hypothesis import given, settings
 from hypothesis import strategies as st
 
 import sahvumbi
-from sahvumbi import Zone
-from sahvumbi._gaps import offset_bounds
+from sahvumbi import Zone, _door
 
 EDGE, GREATEST_OFFSET = 300, 90
 WINDOW = range(-EDGE - 3 * GREATEST_OFFSET, EDGE + 3 * GREATEST_OFFSET)
@@ -141,7 +140,52 @@ def test_parts_of_a_second(lists, nanoseconds, unit):
         assert first <= count <= last
 
 
-@given(zones())
-def test_bounds_of_offsets(lists):
-    least, greatest = offset_bounds(0, lists.file())
-    assert least <= min(lists.offsets) and max(lists.offsets) <= greatest
+TYPES = st.tuples(
+    st.integers(-2, 2).map(lambda hours: 3_600 * hours),
+    st.booleans(),
+    st.sampled_from(["UTC", "EST", "+0530", "ABCDE"]),
+)
+
+
+@st.composite
+def named_zones(draw):
+    """Zones with transitions that repeat a type, and that change a mark or a name alone."""
+    types = draw(st.lists(TYPES, min_size=1, max_size=4))
+    seconds = sorted(draw(st.sets(st.integers(-EDGE, EDGE), max_size=12)))
+    return Lists([(second, draw(st.integers(0, len(types) - 1))) for second in seconds], types)
+
+
+ENDS = st.integers(-EDGE - 2, EDGE + 2)
+
+
+def listed(changes):
+    """The changes as (second, type before, type after)."""
+    at, *types = (field.tolist() for field in changes)
+    return list(zip(at, zip(*types[0::2]), zip(*types[1::2])))
+
+
+@settings(max_examples=300)
+@given(named_zones(), ENDS, ENDS, st.sampled_from([1, 2, 7]), st.sampled_from([1, 50, 10**9]))
+def test_changes(lists, first, last, room, stretch):
+    """Also where the library is asked piece by piece, with little room."""
+    if first > last and (first + last) % 3:
+        first, last = last, first
+    zone = Zone.from_bytes(lists.file())
+    with pytest.MonkeyPatch.context() as patch:
+        patch.setattr(_door, "ROOM", room)
+        patch.setattr(_door, "STRETCH", stretch)
+        assert listed(zone.changes(first, last)) == lists.changes(range(first, last))
+
+
+@given(named_zones(), ENDS, ENDS, st.sampled_from(["s", "ms", "us", "ns"]), st.data())
+def test_changes_between_parts_of_a_second(lists, first, last, unit, data):
+    """From the first second that does not come before the end."""
+    parts = {"s": 1, "ms": 10**3, "us": 10**6, "ns": 10**9}[unit]
+    ends = [end * parts + data.draw(st.integers(0, parts - 1)) for end in (first, last)]
+    window = [second for second in range(first, last + 1) if ends[0] <= second * parts < ends[1]]
+    changes = Zone.from_bytes(lists.file()).changes(*(np.datetime64(end, unit) for end in ends))
+    assert changes.at.dtype == np.dtype("M8[s]")
+    assert changes.offset_before.dtype == changes.offset_after.dtype == np.dtype("m8[s]")
+    expected = lists.changes(window)
+    assert changes.at.view(np.int64).tolist() == [second for second, _, _ in expected]
+    assert changes.offset_after.view(np.int64).tolist() == [after[0] for _, _, after in expected]

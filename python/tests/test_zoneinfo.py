@@ -10,7 +10,6 @@ from hypothesis import given, settings
 from hypothesis import strategies as st
 
 from sahvumbi import Zone
-from sahvumbi._gaps import offset_bounds
 
 DATABASE = Path("/usr/share/zoneinfo")
 NAMES = [
@@ -31,6 +30,9 @@ NAMES = [
     "Etc/GMT+5",
 ]
 EPOCH = datetime(1970, 1, 1)
+DAY = 86_400
+# From 1900 to 2037.
+YEARS = -2_208_988_800, 2_145_916_800
 # From 1850 to 2300, and the days near changes of clocks of the years 1900 to 2037.
 SECONDS = st.integers(-3_786_825_600, 10_413_792_000)
 
@@ -61,21 +63,28 @@ def shown_at(zone, local):
     return sorted(seconds)
 
 
-def changes(zone):
-    """Seconds from 1900 to 2037 at which clocks change, by halving months whose ends differ."""
-    found = []
-    for month in range(-2_208_988_800, 2_145_916_800, 30 * 86_400):
-        low, high = month, month + 30 * 86_400
-        if offset(clock(zone, low)) == offset(clock(zone, high)):
-            continue
-        while high - low > 1:
-            middle = (low + high) // 2
-            low, high = (
-                (middle, high)
-                if offset(clock(zone, middle)) == offset(clock(zone, low))
-                else (low, middle)
-            )
-        found.append(high)
+def type_at(zone, instant):
+    """Offset, mark and name."""
+    reading = clock(zone, instant)
+    return offset(reading), bool(reading.dst()), reading.tzname()
+
+
+def changes(zone, first, last, step):
+    """The changes from one second on and up to another one, as (second, type before, type after),
+    by halving each step whose ends differ."""
+    found, before = [], type_at(zone, first)
+    for start in range(first, last, step):
+        low, high = start, min(start + step, last)
+        while type_at(zone, high) != before:
+            ahead = high
+            while ahead - low > 1:
+                middle = (low + ahead) // 2
+                low, ahead = (
+                    (middle, ahead) if type_at(zone, middle) == before else (low, middle)
+                )
+            after = type_at(zone, ahead)
+            found.append((ahead, before, after))
+            low, before = ahead, after
     return found
 
 
@@ -83,14 +92,15 @@ def changes(zone):
 def test_near_changes(name):
     ours, theirs = ZONES[name]
     steps = [-7_200, -3_601, -3_600, -1_801, -1_800, -1, 0, 1, 1_799, 1_800, 3_599, 3_600, 7_200]
-    instants = [second + step for second in changes(theirs) for step in steps] or [0]
+    near = [second for second, _, _ in changes(theirs, *YEARS, 30 * DAY)]
+    instants = [second + step for second in near for step in steps] or [0]
     assert ours.offsets(instants).tolist() == [
         offset(clock(theirs, instant)) for instant in instants
     ]
     locals_ = sorted(
         {
             second + offset(clock(theirs, second - 1)) + step
-            for second in changes(theirs)
+            for second in near
             for step in steps
         }
     ) or [0]
@@ -143,26 +153,44 @@ def test_anywhere(name, seconds):
     assert (np.isin(column, [explained.first, explained.last])).all()
 
 
+def listed(changes):
+    """The changes as (second, type before, type after)."""
+    at, *types = (field.tolist() for field in changes)
+    return list(zip(at, zip(*types[0::2]), zip(*types[1::2])))
+
+
 @pytest.mark.parametrize("name", NAMES)
-def test_bounds_of_offsets(name):
+def test_changes(name):
+    """Each change of two centuries, by asking zoneinfo once a day."""
     ours, theirs = ZONES[name]
-    least, greatest = offset_bounds(0, (DATABASE / name).read_bytes())
-    seconds = np.arange(-5_000_000_000, 10_000_000_000, 86_400)
-    offsets = ours.offsets(seconds)
-    assert least <= offsets.min() and offsets.max() <= greatest
-    assert greatest - least <= 26 * 3_600
+    first, last = YEARS[0], 4_102_444_800
+    assert listed(ours.changes(first, last)) == changes(theirs, first, last - 1, DAY)
 
 
-TEXTS = {
-    "EST5EDT,M3.2.0,M11.1.0": (-18_000, -14_400),
-    "<-03>3": (-10_800, -7_200),
-    "LHST-10:30LHDT-11,M10.1.0,M4.1.0": (37_800, 41_400),
-    "IST-1GMT0,M10.5.0,M3.5.0/1": (0, 7_200),
-    "<+1112>-11:12:13": (40_333, 43_933),
-    "": (0, 0),
-}
+def test_changes_of_every_zone():
+    """Of each file of the database the changes of the years 2000 to 2011, asked each five days."""
+    first, last = 946_684_800, 1_325_376_000
+    known = set()
+    for path in sorted(DATABASE.rglob("*")):
+        if not path.is_file() or "right" in path.parts or path.read_bytes()[:4] != b"TZif":
+            continue
+        if path.read_bytes() in known:
+            continue
+        known.add(path.read_bytes())
+        ours, theirs = read(path)
+        assert listed(ours.changes(first, last)) == changes(theirs, first, last - 1, 5 * DAY), path
 
 
-@pytest.mark.parametrize("text", TEXTS)
-def test_bounds_of_texts(text):
-    assert offset_bounds(1, text.encode()) == TEXTS[text]
+@settings(max_examples=60)
+@given(st.sampled_from(NAMES), SECONDS, st.integers(0, 40 * 366 * DAY))
+def test_changes_between_any_ends(name, first, length):
+    """The ends are a second on and a second before, wherever they lie."""
+    ours, theirs = ZONES[name]
+    found = listed(ours.changes(first, first + length))
+    before = type_at(theirs, first - 1)
+    for second, left, entered in found:
+        assert left == before == type_at(theirs, second - 1)
+        assert entered == type_at(theirs, second)
+        before = entered
+    assert length == 0 or before == type_at(theirs, first + length - 1)
+    assert all(first <= second < first + length for second, _, _ in found)

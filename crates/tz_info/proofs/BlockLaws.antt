@@ -32,37 +32,7 @@ block_sized w k = like_sized
       standard_wall = f.2.1;
       ut_local = g.1.1;
     }))
-    (λ bytes p rest h. (
-      p.times,
-      _,
-      (h.whole, h.times),
-      (
-        p.type_indexes,
-        _,
-        (refl, h.type_indexes),
-        (
-          p.types,
-          _,
-          (refl, h.types),
-          (
-            p.designations,
-            _,
-            (refl, h.designations),
-            (
-              p.leap_seconds,
-              _,
-              (refl, h.leap_seconds),
-              (
-                p.standard_wall,
-                p.ut_local ++ rest,
-                (refl, h.standard_wall),
-                (p.ut_local, (refl, h.ut_local), refl),
-              ),
-            ),
-          ),
-        ),
-      ),
-    ))
+    (λ bytes p rest h. (_, _, (h.whole, h.times), (_, _, (refl, h.type_indexes), (_, _, (refl, h.types), (_, _, (refl, h.designations), (_, _, (refl, h.leap_seconds), (_, p.ut_local ++ rest, (refl, h.standard_wall), (_, (refl, h.ut_local), refl))))))))
 
 pub block_law : (w : ℕ) (k : Counts) → Law Parts (block_at w k) (IsBlock w k) (BlockFault w k)
 block_law w k = (block_sized w k).law

@@ -1,54 +1,53 @@
 -- The laws of transitions, leap seconds and indicators.
-use Rattle.std.proofs.Common.{◌≡◌, ◌≢◌, ℕ, zero, suc, ◌+◌, ◌*◌, ◌<◌, ◌==◌, List, ◌++◌, length, get_or, slice_index, take, drop, map, Ok, Bool, true, not, ◌&&◌, refl, sym, ap, ◌∙◌, subst, arith, inl, inr}
+use Rattle.std.proofs.Common.{◌≡◌, ◌≢◌, ℕ, zero, suc, ◌+◌, ◌*◌, ◌<◌, ◌==◌, List, [], ◌∷◌, length, get_or, slice_index, take, drop, map, Ok, Bool, true, not, ◌&&◌, refl, sym, ap, ◌∙◌, subst, arith, inl, inr}
 use Rattle.std.proofs.lemmas.Bool.{and_parts, cases_lt}
 use Rattle.std.proofs.lemmas.Bool.Decides.{nat_tests}
-use Rattle.std.proofs.lemmas.List.{length-take, length-map, get_or-map, take-append-drop}
-use Rattle.std.proofs.lemmas.Grind.{same_number_lists}
+use Rattle.std.proofs.lemmas.List.{length-take, nil_from_length, take-append-drop}
 use Rattle.std.proofs.Math.ListN.{get_or-eq_default}
-use Rattle.std.proofs.Math.Seq.{take-append_seam}
 use Rattle.tz_info.specs.FileContents.{time_of, SpellTransitions, SpellsLeapSecond, SpellLeapSeconds, IndicatorsAgree}
-use Rattle.tz_info.specs.Steps.ContentReading.{record_at, values_below, transition_in, leap_second_of, leap_second_in, pair_agrees, indicators_of}
+use Rattle.tz_info.specs.Steps.ContentReading.{values_below, transition_in, leap_second_of, leap_second_in, pair_agrees, indicators_of}
 use Rattle.tz_info.specs.Steps.Below.{all_below}
 use Rattle.tz_info.specs.declared.zone.transition.Transition.{Transition}
 use Rattle.tz_info.specs.declared.zone.leap_second.LeapSecond.{LeapSecond}
-use Rattle.tz_info.proofs.ReadLaws.{ok_same, drop_front}
-use Rattle.tz_info.proofs.Decided.{Decided, like, guard}
-use Rattle.tz_info.proofs.RecordLaws.{each_is, each_again, refused_at, records_from, records_each, records}
+use Rattle.tz_info.proofs.Decided.{Decided, like, said, done, guard}
+use Rattle.tz_info.proofs.RecordLaws.{first_and_more, first_record, next_record, behind_first, records}
+use Rattle.tz_info.proofs.SizedLaws.{exact_cut}
 
 -- ---- transitions
-transitions_takes : (n w : ℕ) (times indexes : List ℕ) (ts : List Transition) → length times ≡ n * w → length indexes ≡ n
-    → values_below n (transition_in w times indexes) ≡ Ok ts → SpellTransitions w times indexes ts
-transitions_takes n w times indexes ts l m h =
-    let all = each_is n (transition_in w times indexes) ts h in let count = all.count in
-    let each : (k : ℕ) (d : Transition) → k < n → record { unix_leap_time = time_of w (record_at w times k); type_index = slice_index indexes k } ≡ get_or ts k d
-    = λ k d b. ok_same (transition_in w times indexes k) _ _ refl (all.each k d b) in
-    record {
-      times_are = records_from w _ times ts (rw count l) (λ k d b. ap (λ (t : Transition). t.unix_leap_time) (each k d (omega arith)));
-      indexes_are = same_number_lists indexes (map (λ t. t.type_index) ts) (omega (arith, length-map ts (λ (t : Transition). t.type_index)))
-          (λ k b. let d : Transition = record { unix_leap_time = time_of w times; type_index = 0 } in
-          ap (λ (t : Transition). t.type_index) (each k d (omega arith)) ∙ sym (get_or-map (λ (t : Transition). t.type_index) ts k d 0 (omega arith)));
-    }
+-- the first one and the others
+first_transition : (w : ℕ) (times : List ℕ) (i : ℕ) (is : List ℕ) (ts : List Transition) → SpellTransitions w times (i ∷ is) ts → (t : Transition) × (record { unix_leap_time = time_of w (take w times); type_index = i } ≡ t) × ((more : List Transition) × SpellTransitions w (drop w times) is more × (t ∷ more ≡ ts))
+first_transition w times i is [] h = let e = h.indexes_are in cc
+first_transition w times i is (t ∷ ts) h =
+    let r = h.times_are in let e = h.indexes_are in
+    let cut = exact_cut w times r.0 r.1 r.2 r.3 in
+    let index : i ≡ t.type_index = cc in let others : is ≡ map (λ t. t.type_index) ts = cc in
+    (t, rw (cut.0, r.4, index) refl, (ts, record { times_are = rw cut.1 r.5; indexes_are = others }, refl))
 
-transitions_again : (n w : ℕ) (times indexes : List ℕ) (ts : List Transition) → length indexes ≡ n
-    → SpellTransitions w times indexes ts → values_below n (transition_in w times indexes) ≡ Ok ts
-transitions_again n w times indexes ts m h =
-    let count : length ts ≡ n = sym (length-map ts (λ (t : Transition). t.type_index)) ∙ (ap length (sym h.indexes_are) ∙ m) in
-    each_again n (transition_in w times indexes) ts (record {
-      count = count;
-      each = λ k d b.
-          let e = records_each w _ times ts h.times_are k d (omega arith) in
-          let f : slice_index indexes k ≡ (get_or ts k d).type_index = ap (λ (s : List ℕ). slice_index s k) h.indexes_are ∙ get_or-map (λ (t : Transition). t.type_index) ts k d 0 (omega arith) in
-          rw (e, f) refl;
-    })
+none_spelled : (w : ℕ) (times : List ℕ) (ts : List Transition) → SpellTransitions w times [] ts → [] ≡ ts
+none_spelled w times [] h = refl
+none_spelled w times (t ∷ ts) h = let e = h.indexes_are in cc
 
 pub transitions_law : (n w : ℕ) (times indexes : List ℕ) → length times ≡ n * w → length indexes ≡ n
     → Decided (List Transition) (values_below n (transition_in w times indexes)) (SpellTransitions w times indexes) (λ _. ⊥)
-transitions_law n w times indexes l m = record {
-  takes = λ ts h. transitions_takes n w times indexes ts l m h;
-  again = λ ts h. transitions_again n w times indexes ts m h;
-  fails = λ e h. let f = refused_at n (transition_in w times indexes) e h in let q = f.4 in cc;
-  refuses = λ e h. absurd h;
-}
+transitions_law zero w times [] l m = said (done [])
+    (λ ts h. subst (SpellTransitions w times []) h (record { times_are = nil_from_length times (omega arith); indexes_are = refl }))
+    (λ ts h. none_spelled w times ts h)
+transitions_law zero w times (i ∷ is) l m = absurd (omega arith)
+transitions_law (suc n) w times [] l m = absurd (omega arith)
+transitions_law (suc n) w times (i ∷ is) l m =
+    let sizes = behind_first n w times l in
+    like (first_and_more n (transition_in w times (i ∷ is)) (transition_in w (drop w times) is) _
+    (ap (λ (b : List ℕ). Ok (record { unix_leap_time = time_of w b; type_index = i })) (first_record w times))
+    (λ k. ap (λ (b : List ℕ). Ok (record { unix_leap_time = time_of w b; type_index = slice_index is k })) (next_record w times k))
+    (done (record { unix_leap_time = time_of w (take w times); type_index = i }))
+    (transitions_law n w (drop w times) is sizes.1 (omega arith)))
+    (λ ts h. subst (SpellTransitions w times (i ∷ is)) h.2.2 (record {
+      times_are = (take w times, drop w times, sym (take-append-drop w times), sizes.0, ap (λ (t : Transition). t.unix_leap_time) h.1, h.2.1.times_are);
+      indexes_are = let index = ap (λ (t : Transition). t.type_index) h.1 in let others = h.2.1.indexes_are in cc;
+    }))
+    (λ ts h. first_transition w times i is ts h)
+    (λ e f. elim f [ inl none ↦ none | inr k ↦ k.2 ])
+    (λ e f. absurd f)
 
 -- ---- leap seconds
 leap_takes : (w : ℕ) (bytes : List ℕ) → length bytes ≡ w + 4 → SpellsLeapSecond w bytes (leap_second_of w bytes)
@@ -62,18 +61,10 @@ leap_takes w bytes l = record {
 }
 
 leap_again : (w : ℕ) (bytes : List ℕ) (leap : LeapSecond) → SpellsLeapSecond w bytes leap → leap_second_of w bytes ≡ leap
-leap_again w bytes leap h =
-    let front : take w bytes ≡ h.time = ap (λ s. take w s) h.whole ∙ (ap (λ n. take n (h.time ++ h.correction)) (sym h.size) ∙ take-append_seam h.time h.correction) in
-    let back : drop w bytes ≡ h.correction = ap (λ s. drop w s) h.whole ∙ (ap (λ n. drop n (h.time ++ h.correction)) (sym h.size) ∙ drop_front h.time h.correction) in
-    rw (front, back, h.time_is, h.correction_is) refl
+leap_again w bytes leap h = let cut = exact_cut w bytes h.time h.correction h.whole h.size in rw (cut.0, cut.1, h.time_is, h.correction_is) refl
 
 leap_law : (w : ℕ) (bytes : List ℕ) → length bytes ≡ w + 4 → Decided LeapSecond (Ok (leap_second_of w bytes)) (SpellsLeapSecond w bytes) (λ _. ⊥)
-leap_law w bytes l = record {
-  takes = λ leap h. subst (SpellsLeapSecond w bytes) (ok_same _ _ leap refl h) (leap_takes w bytes l);
-  again = λ leap h. ap (λ y. Ok y) (leap_again w bytes leap h);
-  fails = λ n h. cc;
-  refuses = λ n h. absurd h;
-}
+leap_law w bytes l = said (done (leap_second_of w bytes)) (λ leap h. subst (SpellsLeapSecond w bytes) h (leap_takes w bytes l)) (λ leap h. leap_again w bytes leap h)
 
 pub leap_seconds_law : (n w : ℕ) (part : List ℕ) → length part ≡ n * (w + 4) → Decided (List LeapSecond) (values_below n (leap_second_in w part)) (SpellLeapSeconds w part) (λ _. ⊥)
 leap_seconds_law n w part l = like (records n (w + 4) part (omega arith) l (leap_law w)) (λ leaps h. h) (λ leaps h. h) (λ e f. f.fault) (λ e f. absurd f)
@@ -104,8 +95,6 @@ agree_is s u h = λ k a. elim (cases_lt k (length u)) as (λ _. slice_index u k 
 
 pub indicators_law : (s u : List ℕ) → Decided (Unit {0}) (indicators_of s u) (λ _. IndicatorsAgree s u) (λ n. ¬ (IndicatorsAgree s u) × (n ≡ 5))
 unfolding indicators_of
-indicators_law s u = like (guard tt 5 (agree_is s u, λ h. below_again (length u) (pair_agrees s u) (λ k l. not_both (slice_index s k) (slice_index u k) (h k))))
+indicators_law s u = said (guard tt 5 (omega arith) (agree_is s u, λ h. below_again (length u) (pair_agrees s u) (λ k l. not_both (slice_index s k) (slice_index u k) (h k))))
     (λ x h. h.0)
     (λ x h. (h, refl))
-    (λ n h. h)
-    (λ n h. h)

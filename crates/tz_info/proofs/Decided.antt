@@ -1,18 +1,18 @@
 -- What is read, decided: its value is what is meant, or the number of its refusal is that of the fault which stands. And how
 -- such laws go together.
-use Rattle.std.proofs.Common.{◌≡◌, ℕ, List, Bool, true, false, cond, Ok, Err, Result, refl, sym, ap, subst, ◌∙◌, inl, inr, ◌⊎◌}
+use Rattle.std.proofs.Common.{◌≡◌, ℕ, ◌≤◌, arith, List, Bool, true, false, cond, Ok, Err, Result, refl, sym, ap, ◌∙◌, inl, inr, ◌⊎◌}
 use Rattle.std.specs.Bool.{Decides}
 use Rattle.tz_info.specs.Fronts.{◌>>=◌}
-use Rattle.tz_info.specs.Steps.Readings.{checked_at}
-use Rattle.tz_info.proofs.PieceLaws.{Law}
 use Rattle.tz_info.proofs.ReadLaws.{bind_ok, bind_err, ok_same, err_same}
 
--- a value is read if and only if it is meant, and a number is that of the refusal if and only if its fault stands
+-- a value is read if and only if it is meant, and a number is that of the refusal if and only if its fault stands. The number
+-- is one of the first sixteen: that of running out of memory is none of them
 pub record Decided (X : Type 0) (r : Result X ℕ) (P : X → Type 0) (F : ℕ → Type 0) : Type 0 where
   pub takes : (x : X) → r ≡ Ok x → P x
   pub again : (x : X) → P x → r ≡ Ok x
   pub fails : (n : ℕ) → r ≡ Err n → F n
   pub refuses : (n : ℕ) → F n → r ≡ Err n
+  pub low : (n : ℕ) → r ≡ Err n → n ≤ 16
 
 -- one value or one fault, never both, and one of them
 pub value_once : {X : Type 0} {r : Result X ℕ} {P : X → Type 0} {F : ℕ → Type 0} → Decided X r P F → (x y : X) → P x → P y → x ≡ y
@@ -30,6 +30,9 @@ either {r = r} d = by r (λ x e. d.takes x e) (λ n e. d.fails n e) where
   by (Ok x) p f = inl (x, p x refl)
   by (Err n) p f = inr (n, f n refl)
 
+pub fault_low : {X : Type 0} {r : Result X ℕ} {P : X → Type 0} {F : ℕ → Type 0} → Decided X r P F → (n : ℕ) → F n → n ≤ 16
+fault_low d n f = d.low n (d.refuses n f)
+
 -- the same in other words
 pub like : {X : Type 0} {r : Result X ℕ} {P Q : X → Type 0} {F G : ℕ → Type 0} → Decided X r P F → ((x : X) → P x → Q x) → ((x : X) → Q x → P x) → ((n : ℕ) → F n → G n) → ((n : ℕ) → G n → F n) → Decided X r Q G
 like d to from fault refused = record {
@@ -37,20 +40,19 @@ like d to from fault refused = record {
   again = λ x q. d.again x (from x q);
   fails = λ n h. fault n (d.fails n h);
   refuses = λ n g. d.refuses n (refused n g);
+  low = d.low;
 }
 
--- a reading whose only refusal has that number, where nothing is meant
-refused_by : {X : Type 0} (r : Result X ℕ) (m n : ℕ) → ((x : X) → r ≡ Ok x → ⊥) → ((k : ℕ) → r ≡ Err k → k ≡ m) → n ≡ m → r ≡ Err n
-refused_by (Ok x) m n none number e = absurd (none x refl)
-refused_by (Err k) m n none number e = ap (λ i. Err i) (number k refl ∙ sym e)
+-- the value in other words, and the same faults
+pub said : {X : Type 0} {r : Result X ℕ} {P Q : X → Type 0} {F : ℕ → Type 0} → Decided X r P F → ((x : X) → P x → Q x) → ((x : X) → Q x → P x) → Decided X r Q F
+said d to from = like d to from (λ n f. f) (λ n f. f)
 
-pub by_number : {X : Type 0} {r : Result X ℕ} {P : X → Type 0} (m : ℕ) → ((x : X) → r ≡ Ok x → P x) → ((x : X) → P x → r ≡ Ok x) → ((n : ℕ) → r ≡ Err n → n ≡ m) → Decided X r P (λ n. ((x : X) → ¬ (P x)) × (n ≡ m))
-by_number {r = r} m takes again number = record {
-  takes = takes;
-  again = again;
-  fails = λ n h. ((λ x p. let a = again x p in cc), number n h);
-  refuses = λ n h. refused_by r m n (λ x e. h.0 x (takes x e)) number h.1;
-}
+-- the only refusal has that number, and so it stands where nothing is meant
+pub by_number : {X : Type 0} {r : Result X ℕ} {P Q : X → Type 0} {F : ℕ → Type 0} (m : ℕ) → Decided X r P F → ((x : X) → P x → Q x) → ((x : X) → Q x → P x) → ((n : ℕ) → F n → n ≡ m) → Decided X r Q (λ n. ((x : X) → ¬ (Q x)) × (n ≡ m))
+by_number m d to from number = like d to from (λ n f. ((λ x q. apart d x n (from x q) f), number n f)) (λ n h. elim (either d) [
+  | inl v ↦ absurd (h.0 v.0 (to v.0 v.1))
+  | inr f ↦ rw (h.1 ∙ sym (number f.0 f.1)) f.1
+])
 
 -- ---- one value after the other
 pub bind : {X Y : Type 0} {r : Result X ℕ} {P : X → Type 0} {F : ℕ → Type 0} {f : X → Result Y ℕ} {Q : X → Y → Type 0} {G : X → ℕ → Type 0} → Decided X r P F → ((x : X) → P x → Decided Y (f x) (Q x) (G x)) → Decided Y (r >>= f) (λ y. (x : X) × P x × Q x y) (λ n. F n ⊎ ((x : X) × P x × G x n))
@@ -65,54 +67,47 @@ bind {r = r} {f = f} d e = record {
     | inl k ↦ rw (d.refuses n k) refl
     | inr k ↦ rw (d.again k.0 k.1) ((e k.0 k.1).refuses n k.2)
   ];
+  low = λ n h. elim (bind_err r f n h) [ inl k ↦ d.low n k | inr k ↦ (e k.0 (d.takes k.0 k.1)).low n k.2 ];
+}
+
+-- ---- a value, and a refusal
+pub done : {X : Type 0} (x : X) → Decided X (Ok x) (λ y. x ≡ y) (λ _. ⊥)
+done x = record { takes = λ y h. ok_same (Ok x) x y refl h; again = λ y h. ap (λ z. Ok z) h; fails = λ n h. cc; refuses = λ n h. absurd h; low = λ n h. cc }
+
+pub refused : {X : Type 0} (n : ℕ) → n ≤ 16 → Decided X (Err n) (λ _. ⊥) (λ m. m ≡ n)
+refused n l = record {
+  takes = λ y h. cc;
+  again = λ y h. absurd h;
+  fails = λ m h. err_same (Err n) m n h refl;
+  refuses = λ m h. ap (λ k. Err k) (sym h);
+  low = λ m h. let same = err_same (Err n) m n h refl in omega arith;
 }
 
 -- a value made of a value
 pub made : {X Y : Type 0} {r : Result X ℕ} {P : X → Type 0} {F : ℕ → Type 0} (f : X → Y) → Decided X r P F → Decided Y (r >>= λ x. Ok (f x)) (λ y. (x : X) × P x × (f x ≡ y)) F
-made {r = r} f d = record {
-  takes = λ y h. let k = bind_ok r _ y h in (k.0, d.takes k.0 k.1, ok_same (Ok (f k.0)) (f k.0) y refl k.2);
-  again = λ y h. rw (d.again h.0 h.1) (ap (λ z. Ok z) h.2);
-  fails = λ n h. elim (bind_err r _ n h) [ inl k ↦ d.fails n k | inr k ↦ let q = k.2 in cc ];
-  refuses = λ n h. rw (d.refuses n h) refl;
-}
+made f d = like (bind d (λ x _. done (f x))) (λ y h. h) (λ y h. h) (λ n h. elim h [ inl k ↦ k | inr k ↦ absurd k.2 ]) (λ n h. inl h)
 
 -- ---- tests
--- a value where the test holds, the refusal where it does not
-pub guard : {X A : Type 0} {b : Bool} (x : X) (n : ℕ) → Decides b A → Decided X (cond b (Ok x) (Err n)) (λ y. A × (x ≡ y)) (λ m. ¬ A × (m ≡ n))
-guard {b = true} x n d = record {
-  takes = λ y h. (d.0 refl, ok_same (Ok x) x y refl h);
-  again = λ y h. ap (λ z. Ok z) h.1;
-  fails = λ m h. cc;
-  refuses = λ m h. absurd (h.0 (d.0 refl));
-}
-guard {b = false} x n d = record {
-  takes = λ y h. cc;
-  again = λ y h. let e = d.1 h.0 in cc;
-  fails = λ m h. (λ a. let e = d.1 a in cc, err_same (Err n) m n h refl);
-  refuses = λ m h. ap (λ k. Err k) (sym h.1);
-}
-
 -- one of two, by a test
 pub choice : {X A : Type 0} {b : Bool} {r s : Result X ℕ} {P Q : X → Type 0} {F G : ℕ → Type 0} → Decides b A → Decided X r P F → Decided X s Q G → Decided X (cond b r s) (λ x. (A × P x) ⊎ (¬ A × Q x)) (λ n. (A × F n) ⊎ (¬ A × G n))
-choice {b = true} d e f = record {
-  takes = λ x h. inl (d.0 refl, e.takes x h);
-  again = λ x h. elim h [ inl k ↦ e.again x k.1 | inr k ↦ absurd (k.0 (d.0 refl)) ];
-  fails = λ n h. inl (d.0 refl, e.fails n h);
-  refuses = λ n h. elim h [ inl k ↦ e.refuses n k.1 | inr k ↦ absurd (k.0 (d.0 refl)) ];
-}
-choice {b = false} d e f = record {
-  takes = λ x h. inr (λ a. let t = d.1 a in cc, f.takes x h);
-  again = λ x h. elim h [ inl k ↦ let t = d.1 k.0 in cc | inr k ↦ f.again x k.1 ];
-  fails = λ n h. inr (λ a. let t = d.1 a in cc, f.fails n h);
-  refuses = λ n h. elim h [ inl k ↦ let t = d.1 k.0 in cc | inr k ↦ f.refuses n k.1 ];
-}
+choice {b = true} d e f = like e
+    (λ x h. inl (d.0 refl, h))
+    (λ x h. elim h [ inl k ↦ k.1 | inr k ↦ absurd (k.0 (d.0 refl)) ])
+    (λ n h. inl (d.0 refl, h))
+    (λ n h. elim h [ inl k ↦ k.1 | inr k ↦ absurd (k.0 (d.0 refl)) ])
+choice {b = false} d e f = like f
+    (λ x h. inr (λ a. let t = d.1 a in cc, h))
+    (λ x h. elim h [ inl k ↦ let t = d.1 k.0 in cc | inr k ↦ k.1 ])
+    (λ n h. inr (λ a. let t = d.1 a in cc, h))
+    (λ n h. elim h [ inl k ↦ let t = d.1 k.0 in cc | inr k ↦ k.1 ])
 
--- a value, and a refusal
-pub done : {X : Type 0} (x : X) → Decided X (Ok x) (λ y. x ≡ y) (λ _. ⊥)
-done x = record { takes = λ y h. ok_same (Ok x) x y refl h; again = λ y h. ap (λ z. Ok z) h; fails = λ n h. cc; refuses = λ n h. absurd h }
-
-pub refused : {X : Type 0} (n : ℕ) → Decided X (Err n) (λ _. ⊥) (λ m. m ≡ n)
-refused n = record { takes = λ y h. cc; again = λ y h. absurd h; fails = λ m h. err_same (Err n) m n h refl; refuses = λ m h. ap (λ k. Err k) (sym h) }
+-- a value where the test holds, the refusal where it does not
+pub guard : {X A : Type 0} {b : Bool} (x : X) (n : ℕ) → n ≤ 16 → Decides b A → Decided X (cond b (Ok x) (Err n)) (λ y. A × (x ≡ y)) (λ m. ¬ A × (m ≡ n))
+guard x n l d = like (choice d (done x) (refused n l))
+    (λ y h. elim h [ inl k ↦ k | inr k ↦ absurd k.1 ])
+    (λ y h. inl h)
+    (λ m h. elim h [ inl k ↦ absurd k.1 | inr k ↦ k ])
+    (λ m h. inr h)
 
 -- ---- pieces of bytes, one after the other: a value and the bytes after it, and what is read of these
 pub and_then : {X Y : Type 0} {a : Result (X × List ℕ) ℕ} {P : X → List ℕ → Type 0} {F : ℕ → Type 0} {b : X → List ℕ → Result Y ℕ} {Q : X → List ℕ → Y → Type 0} {G : X → List ℕ → ℕ → Type 0} → Decided (X × List ℕ) a (λ p. P p.0 p.1) F → ((x : X) (rest : List ℕ) → P x rest → Decided Y (b x rest) (Q x rest) (G x rest)) → Decided Y (a >>= λ p. b p.0 p.1) (λ y. (x : X) × (rest : List ℕ) × P x rest × Q x rest y) (λ n. F n ⊎ ((x : X) × (rest : List ℕ) × P x rest × G x rest n))
@@ -121,17 +116,3 @@ and_then d e = like (bind d (λ p h. e p.0 p.1 h))
     (λ y h. ((h.0, h.1), h.2, h.3))
     (λ n h. elim h [ inl f ↦ inl f | inr k ↦ inr (k.0.0, k.0.1, k.1, k.2) ])
     (λ n h. elim h [ inl f ↦ inl f | inr k ↦ inr ((k.0, k.1), k.2, k.3) ])
-
-pub of_law : {X : Type 0} {at : List ℕ → Result (X × List ℕ) ℕ} {P : List ℕ → X → List ℕ → Type 0} {F : List ℕ → ℕ → Type 0} → Law X at P F → (bytes : List ℕ) → Decided (X × List ℕ) (at bytes) (λ p. P bytes p.0 p.1) (F bytes)
-of_law law bytes = record { takes = λ p h. law.takes bytes p.0 p.1 h; again = λ p h. law.again bytes p.0 p.1 h; fails = law.fails bytes; refuses = law.refuses bytes }
-
-pub law_of : {X : Type 0} {at : List ℕ → Result (X × List ℕ) ℕ} {P : List ℕ → X → List ℕ → Type 0} {F : List ℕ → ℕ → Type 0} → ((bytes : List ℕ) → Decided (X × List ℕ) (at bytes) (λ p. P bytes p.0 p.1) (F bytes)) → Law X at P F
-law_of d = record { takes = λ bytes x rest h. (d bytes).takes (x, rest) h; again = λ bytes x rest h. (d bytes).again (x, rest) h; fails = λ bytes n h. (d bytes).fails n h; refuses = λ bytes n h. (d bytes).refuses n h }
-
--- nothing is read, and the value is that one or refused
-pub checked : {X : Type 0} {r : Result X ℕ} {P : X → Type 0} {F : ℕ → Type 0} → Decided X r P F → Law X (checked_at r) (λ bytes x rest. P x × (bytes ≡ rest)) (λ bytes n. F n)
-checked {X = X} {P = P} d = law_of (λ bytes. like (made (λ x. (x, bytes)) d)
-    (λ p h. subst (λ (q : X × List ℕ). P q.0 × (bytes ≡ q.1)) h.2 (h.1, refl))
-    (λ p h. (p.0, h.0, ap (λ rest. (p.0, rest)) h.1))
-    (λ n h. h)
-    (λ n h. h))

@@ -36,23 +36,7 @@ error_from OutOfMemory OutOfMemory h = refl
 error_from _ _ h = cc
 
 error_self : (a : Error) → IsTrue (error_eq.it a a)
-error_self (DateTime x) = expected_self x
-error_self (FindLocalTimeType x) = expected_self x
-error_self (LocalTimeType x) = expected_self x
-error_self (InvalidSlice x) = expected_self x
-error_self (InvalidTzFile x) = expected_self x
-error_self (InvalidTzString x) = expected_self x
-error_self (UnexpectedEnd x) = expected_self x
-error_self (MissingTag x) = expected_self x
-error_self (OutOfRange x) = expected_self x
-error_self (ParseInt x) = expected_self x
-error_self (ProjectDateTime x) = expected_self x
-error_self (TimeZone x) = expected_self x
-error_self (TransitionRule x) = expected_self x
-error_self (UnsupportedTzFile x) = expected_self x
-error_self (UnsupportedTzString x) = expected_self x
-error_self (Utf8 x) = expected_self x
-error_self OutOfMemory = refl
+error_self a = search (rules, expected_self)
 
 pub error_exact : (a b : Error) → IsTrue (error_eq.it a b) ↔ (a ≡ b)
 error_exact a b = (λ h. error_from a b h, λ e. rw e (error_self b))

@@ -17,7 +17,8 @@ use Rattle.tz_info.specs.Footers.{IsBetweenNewlines, SaysRule, HasText, IsFooter
 use Rattle.tz_info.specs.Steps.FooterReading.{trimmed, is_between_newlines, is_no_text, rule_in, rule_or_none, footer_at}
 use Rattle.tz_info.specs.declared.error.Error.{Error}
 use Rattle.tz_info.specs.declared.rule.transition_rule.TransitionRule.{TransitionRule}
-use Rattle.tz_info.proofs.Decided.{Decided, like, made, choice, done, refused, of_law}
+use Rattle.tz_info.proofs.Decided.{Decided, like, said, made, choice, done, refused}
+use Rattle.tz_info.proofs.PieceLaws.{same_byte}
 use Rattle.tz_info.proofs.TextLaws.{text_law}
 use Rattle.tz_info.proofs.TrimLaws.{trim_again, trim_is}
 use Rattle.tz_info.proofs.ReadLaws.{false_unless, drop_front}
@@ -30,9 +31,6 @@ last_of b (c ∷ cs) = let r = last_of c cs in (b ∷ r.0, r.1, ap (λ s. b ∷ 
 ends_last : (front : List ℕ) (last : ℕ) → ends_with nat_eq (front ++ (last ∷ [])) (10 ∷ []) ≡ ((10 == last) && true)
 ends_last front last = let at : length (front ++ (last ∷ [])) - 1 ≡ length front = omega (arith, length-append front (last ∷ [])) in rw (at, drop_front front (last ∷ [])) refl
 
-is_ten : (b : ℕ) → ((10 == b) && true) ≡ true → b ≡ 10
-is_ten b h = let e = (and_parts (10 == b) true h).0 in grind (arith, nat_tests)
-
 between_is : (bytes : List ℕ) → is_between_newlines bytes ≡ true → IsBetweenNewlines bytes
 between_is [] h = cc
 between_is (b ∷ bs) h =
@@ -42,8 +40,8 @@ between_is (b ∷ bs) h =
     record {
       after_first = bs;
       before_last = r.0;
-      starts = ap (λ x. x ∷ bs) (is_ten b p.0);
-      ends = r.2 ∙ ap (λ x. r.0 ++ (x ∷ [])) (is_ten r.1 (sym (ends_last r.0 r.1) ∙ ends));
+      starts = ap (λ x. x ∷ bs) ((same_byte 10 b).0 p.0);
+      ends = r.2 ∙ ap (λ x. r.0 ++ (x ∷ [])) ((same_byte 10 r.1).0 (sym (ends_last r.0 r.1) ∙ ends));
     }
 
 both_true : (a b : Bool) → a ≡ true → b ≡ true → (a && b) ≡ true
@@ -74,13 +72,11 @@ unfolding rule_in
 rule_given extended text rest (Ok rule) g = rw g refl
 rule_given extended text rest (Err e) g = rw g refl
 
-spelled_law : (extended : Bool) (text : List ℕ) → Decided TransitionRule (rule_in extended text) (IsTzText extended text) (IsTextFault extended text)
+pub spelled_law : (extended : Bool) (text : List ℕ) → Decided TransitionRule (rule_in extended text) (IsTzText extended text) (IsTextFault extended text)
 unfolding rule_in
-spelled_law extended text = like (made (λ p. p.0) (of_law (text_law extended) text))
+spelled_law extended text = said (made (λ p. p.0) ((text_law extended).reads text))
     (λ rule h. subst (IsTzText extended text) h.2 h.1.0)
     (λ rule h. ((rule, []), (h, refl), refl))
-    (λ n h. h)
-    (λ n h. h)
 
 -- no text is no rule
 none_said : (extended : Bool) (rule : Option TransitionRule) → SaysRule extended [] rule → None ≡ rule
@@ -150,7 +146,7 @@ fault_again extended bytes n (In_text text m has colon zero some fault) = in_tex
 pub footer_law : (extended : Bool) (bytes : List ℕ) → Decided (Option TransitionRule) (footer_at extended bytes) (IsFooter extended bytes) (FooterFault extended bytes)
 unfolding footer_at
 footer_law extended bytes = like
-    (choice (IsUtf8-from_is_utf8 bytes, is_utf8-from_IsUtf8 bytes) (choice (between_is bytes, between_again bytes) (choice (no_text (trimmed bytes)) (refused 5) (rule_law extended (trimmed bytes))) (refused 5)) (refused 16))
+    (choice (IsUtf8-from_is_utf8 bytes, is_utf8-from_IsUtf8 bytes) (choice (between_is bytes, between_again bytes) (choice (no_text (trimmed bytes)) (refused 5 (omega arith)) (rule_law extended (trimmed bytes))) (refused 5 (omega arith))) (refused 16 (omega arith)))
     (λ rule h. elim h [
       | inl u ↦ elim u.1 [
         | inl b ↦ elim b.1 [

@@ -1,11 +1,10 @@
 -- The law of headers.
-use Rattle.std.proofs.Common.{◌≡◌, ℕ, ◌≤◌, ◌==◌, arith, refl, ap, ◌∙◌, sym, subst, List, [], ◌∷◌, ◌++◌, length, take, drop, true, not, Ok, Err, inl, inr, ◌⊎◌}
-use Rattle.std.proofs.lemmas.Bool.Decides.{Decides-and, Decides-or, Decides-not, Decides-eqb, Decides-like}
-use Rattle.std.proofs.lemmas.List.{length-append, length-take, take-append-drop}
+use Rattle.std.proofs.Common.{◌≡◌, ℕ, ◌==◌, arith, refl, ap, ◌∙◌, sym, subst, nat_lt, false, List, [], ◌∷◌, ◌++◌, length, take, drop, true, not, Ok, inl, inr, ◌⊎◌}
+use Rattle.std.proofs.lemmas.Bool.Decides.{nat_tests, Decides-and, Decides-or, Decides-not, Decides-eqb, Decides-like}
+use Rattle.std.proofs.lemmas.List.{length-take, take-append-drop}
 use Rattle.std.proofs.lemmas.Slice.Eq.{slice_eq-Decides}
-use Rattle.std.proofs.Math.Seq.{take-append_seam}
 use Rattle.std.specs.Bool.{Decides}
-use Rattle.tz_info.specs.Fronts.{exact_at, ◌>>=◌}
+use Rattle.tz_info.specs.Fronts.{exact_at}
 use Rattle.tz_info.specs.FileHeaders.{magic, HasOtherMagic, StandsFor, MayStand, AreCounts, CountsAgree, IsHeader, MagicFault, IsVersion, VersionFault, HeaderFault}
 use Rattle.tz_info.specs.Steps.FileReading.{is_magic, magic_at, first_version_at, version_of, version_at, counts_at, is_none_or_all, counts_agree, header_at}
 use Rattle.tz_info.specs.declared.file.header.Place.{Place}
@@ -14,50 +13,35 @@ use Rattle.tz_info.specs.declared.file.header.Version.{Version}
 use Rattle.tz_info.specs.declared.file.header.Version.TheVariants.{One, Two, Three}
 use Rattle.tz_info.specs.declared.file.header.Counts.{Counts}
 use Rattle.tz_info.specs.declared.file.header.Header.{Header}
-use Rattle.tz_info.proofs.Decided.{Decided, like, bind, made, guard, choice, done, refused, and_then, of_law}
-use Rattle.tz_info.proofs.ReadLaws.{exact_takes, exact_again, exact_fails, exact_short}
-use Rattle.tz_info.proofs.SizedLaws.{SizedLaw, then_sized, made_sized, like_sized, exact_law, number_law}
+use Rattle.tz_info.proofs.Decided.{Decided, like, said, bind, made, guard, choice, done, refused, and_then}
+use Rattle.tz_info.proofs.SizedLaws.{SizedLaw, then_sized, made_sized, like_sized, exact_cut, exact_law, number_law}
 
 -- ---- the magic bytes
 magic_is : (four : List ℕ) → Decides (is_magic four) (four ≡ magic)
 magic_is four = slice_eq-Decides Decides-eqb four magic (is_magic four) refl
 
-magic_law : (bytes : List ℕ) → Decided (List ℕ) (magic_at bytes) (λ rest. bytes ≡ magic ++ rest) (MagicFault bytes)
+pub magic_law : (bytes : List ℕ) → Decided (List ℕ) (magic_at bytes) (λ rest. bytes ≡ magic ++ rest) (MagicFault bytes)
 unfolding magic_at
-magic_law bytes = like (bind (of_law (exact_law 4).law bytes) (λ p _. guard p.1 5 (magic_is p.0)))
+magic_law bytes = like (bind ((exact_law 4).law.reads bytes) (λ p _. guard p.1 5 (omega arith) (magic_is p.0)))
     (λ rest h. h.1.0 ∙ (ap (λ x. x ++ h.0.1) h.2.0 ∙ ap (λ r. magic ++ r) h.2.1))
     (λ rest e. ((magic, rest), (e, refl), (refl, refl)))
     (λ n h. elim h [
       | inl s ↦ inl s
-      | inr k ↦
-          let front : take 4 bytes ≡ k.0.0 = front_of bytes k.0.0 k.0.1 4 k.1.0 k.1.1 in
-          inr ((long bytes k.0.0 k.0.1 k.1.0 k.1.1, λ same. k.2.0 (sym front ∙ same)), k.2.1)
+      | inr k ↦ inr ((omega (arith, (exact_law 4).sized bytes k.0.0 k.0.1 k.1), λ same. k.2.0 (sym (exact_cut 4 bytes k.0.0 k.0.1 k.1.0 k.1.1).0 ∙ same)), k.2.1)
     ])
     (λ n h. elim h [
       | inl s ↦ inl s
       | inr k ↦ let long = k.0.0 in inr ((take 4 bytes, drop 4 bytes), (sym (take-append-drop 4 bytes), omega (arith, length-take 4 bytes)), (k.0.1, k.1))
     ])
-  where
-    front_of : (bytes front rest : List ℕ) (n : ℕ) → bytes ≡ front ++ rest → length front ≡ n → take n bytes ≡ front
-    front_of bytes front rest n e l = rw (e, sym l) (take-append_seam front rest)
-
-    long : (bytes front rest : List ℕ) → bytes ≡ front ++ rest → length front ≡ 4 → 4 ≤ length bytes
-    long bytes front rest e l = omega (arith, l, ap length e ∙ length-append front rest)
 
 -- four other bytes are at the front
-pub not_short : (bytes : List ℕ) (e : ℕ) → HasOtherMagic bytes → exact_at 4 bytes ≡ Err e → ⊥
-not_short bytes e h k = let p = exact_fails 4 bytes e k in let l = p.1 in let m = h.0 in absurd (omega arith)
-
 pub not_magic : (bytes : List ℕ) (x : List ℕ × List ℕ) → HasOtherMagic bytes → exact_at 4 bytes ≡ Ok x → is_magic x.0 ≡ true → ⊥
-not_magic bytes x h k m =
-    let t = exact_takes 4 bytes x k in
-    let front : take 4 bytes ≡ x.0 = ap (λ b. take 4 b) t.0 ∙ (ap (λ n. take n (x.0 ++ x.1)) (sym t.1) ∙ take-append_seam x.0 x.1) in
-    h.1 (front ∙ (magic_is x.0).0 m)
+not_magic bytes x h k m = let t = ((exact_law 4).law.reads bytes).takes x k in h.1 ((exact_cut 4 bytes x.0 x.1 t.0 t.1).0 ∙ (magic_is x.0).0 m)
 
 -- ---- the version
 first_law : (place : Place) → Decided Version (first_version_at place) (λ v. (place ≡ First) × (One ≡ v)) (λ n. (place ≡ Second) × (n ≡ 5))
 first_law First = like (done One) (λ v h. (refl, h)) (λ v h. h.1) (λ n h. absurd h) (λ n h. let e = h.0 in cc)
-first_law Second = like (refused 5) (λ v h. absurd h) (λ v h. let e = h.0 in cc) (λ n h. (refl, h)) (λ n h. h.1)
+first_law Second = like (refused 5 (omega arith)) (λ v h. absurd h) (λ v h. let e = h.0 in cc) (λ n h. (refl, h)) (λ n h. h.1)
 
 may_stand : (place : Place) → MayStand place Two × MayStand place Three × (place ≡ First → MayStand place One)
 may_stand First = (tt, tt, λ e. tt)
@@ -83,7 +67,7 @@ none_stands byte Two a b c = b
 none_stands byte Three a b c = c
 
 byte_law : (place : Place) (byte : ℕ) → Decided Version (version_of place byte) (λ v. StandsFor byte v × MayStand place v) (VersionFault place (byte ∷ []))
-byte_law place byte = like (choice (Decides-eqb byte 0) (first_law place) (choice (Decides-eqb byte 50) (done Two) (choice (Decides-eqb byte 51) (done Three) (refused 14))))
+byte_law place byte = like (choice (Decides-eqb byte 0) (first_law place) (choice (Decides-eqb byte 50) (done Two) (choice (Decides-eqb byte 51) (done Three) (refused 14 (omega arith)))))
     (λ v h. elim h [
       | inl k ↦ subst (λ w. StandsFor byte w × MayStand place w) k.1.1 (k.0, (may_stand place).2 k.1.0)
       | inr k ↦ elim k.1 [
@@ -98,21 +82,12 @@ byte_law place byte = like (choice (Decides-eqb byte 0) (first_law place) (choic
     ])
     (λ n h. elim h [ inl k ↦ inl (k.0, (k.1, k.2)) | inr k ↦ inr (k.0 One, inr (k.0 Two, inr (k.0 Three, k.1))) ])
 
-no_version : (place : Place) → version_at place [] ≡ Err 7
-unfolding version_at
-no_version place = rw (exact_short 1 [] (omega arith)) refl
-
-some_version : (place : Place) (byte : ℕ) (rest : List ℕ) → version_at place (byte ∷ rest) ≡ (version_of place byte >>= λ v. Ok (v, rest))
-unfolding version_at
-some_version place byte rest = rw (exact_again 1 (byte ∷ []) rest refl) refl
-
 version_law : (place : Place) (bytes : List ℕ) → Decided (Version × List ℕ) (version_at place bytes) (λ p. IsVersion place bytes p.0 p.1) (VersionFault place bytes)
-version_law place [] = rw (no_version place) (refused 7)
-version_law place (byte ∷ rest) = rw (some_version place byte rest) (like (made (λ v. (v, rest)) (byte_law place byte))
+unfolding version_at exact_at
+version_law place [] = refused 7 (omega arith)
+version_law place (byte ∷ rest) = let some : nat_lt (length (byte ∷ rest)) 1 ≡ false = grind (arith, nat_tests) in rw some (said (made (λ v. (v, rest)) (byte_law place byte))
     (λ p h. subst (λ (q : Version × List ℕ). IsVersion place (byte ∷ rest) q.0 q.1) h.2 (h.1.0, h.1.1, refl))
-    (λ p h. (p.0, (h.0, h.1), ap (λ r. (p.0, r)) h.2))
-    (λ n h. h)
-    (λ n h. h))
+    (λ p h. (p.0, (h.0, h.1), ap (λ r. (p.0, r)) h.2)))
 
 -- ---- the counts
 counts_sized : SizedLaw Counts 24 counts_at AreCounts
@@ -140,32 +115,7 @@ counts_sized = like_sized
       types = e.2;
       designations = f.1;
     }))
-    (λ bytes x rest h. (
-      x.ut_local,
-      h.after_ut_local,
-      h.ut_local,
-      (
-        x.standard_wall,
-        h.after_standard_wall,
-        h.standard_wall,
-        (
-          x.leap_seconds,
-          h.after_leap_seconds,
-          h.leap_seconds,
-          (
-            x.transitions,
-            h.after_transitions,
-            h.transitions,
-            (
-              x.types,
-              h.after_types,
-              h.types,
-              (x.designations, h.designations, refl),
-            ),
-          ),
-        ),
-      ),
-    ))
+    (λ bytes x rest h. (_, _, h.ut_local, (_, _, h.standard_wall, (_, _, h.leap_seconds, (_, _, h.transitions, (_, _, h.types, (_, h.designations, refl)))))))
 
 none_or_all : (types n : ℕ) → Decides (is_none_or_all types n) ((n ≡ 0) ⊎ (n ≡ types))
 none_or_all types n = Decides-or (n == 0) (n == types) (Decides-eqb n 0) (Decides-eqb n types)
@@ -182,15 +132,13 @@ agree_is c = Decides-like (counts_agree c)
 -- ---- the whole
 pub header_law : (place : Place) (bytes : List ℕ) → Decided (Header × List ℕ) (header_at place bytes) (λ p. IsHeader place bytes p.0 p.1) (HeaderFault place bytes)
 unfolding header_at
-header_law place bytes = like
+header_law place bytes = said
     (bind (magic_law bytes) (λ rest _.
     and_then (version_law place rest) (λ version behind _.
-    and_then (of_law (exact_law 15).law behind) (λ unused numbers _.
-    and_then (of_law counts_sized.law numbers) (λ counts end _. guard (record { version = version; counts = counts }, end) 5 (agree_is counts))))))
+    and_then ((exact_law 15).law.reads behind) (λ unused numbers _.
+    and_then (counts_sized.law.reads numbers) (λ counts end _. guard (record { version = version; counts = counts }, end) 5 (omega arith) (agree_is counts))))))
     (λ p h. header_to place bytes h.0 p h.1 h.2)
     (λ p h. (h.version ∷ (h.unused ++ h.numbers), h.whole, (p.0.version, h.unused ++ h.numbers, (h.stands, h.allowed, refl), (h.unused, h.numbers, (refl, h.size), (p.0.counts, p.1, h.counts, (h.agree, refl))))))
-    (λ n h. h)
-    (λ n h. h)
   where
     header_to : (place : Place) (bytes rest : List ℕ) (p : Header × List ℕ) → bytes ≡ magic ++ rest
         → ((version : Version) × (behind : List ℕ) × IsVersion place rest version behind × ((unused : List ℕ) × (numbers : List ℕ) × ((behind ≡ unused ++ numbers) × (length unused ≡ 15)) × ((counts : Counts) × (end : List ℕ) × AreCounts numbers counts end × (CountsAgree counts × ((record { version = version; counts = counts }, end) ≡ p)))))

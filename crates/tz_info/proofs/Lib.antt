@@ -8,6 +8,7 @@ pub mod KindLaws
 pub mod SeasonLaws
 pub mod RuleChanges
 pub mod ChangeSearch
+pub mod SeasonChanges
 pub mod Prefixes
 pub mod LeapEntries
 pub mod LeapOrder
@@ -28,7 +29,6 @@ pub mod QuoteLaws
 pub mod DayLaws
 pub mod DstOffsetLaws
 pub mod TextLaws
-pub mod FaultNumbers
 pub mod PosixLaws
 pub mod TextFits
 pub mod Candidates
@@ -48,6 +48,7 @@ pub mod WindowLaws
 pub mod GapLaws
 pub mod AroundLaws
 pub mod ZoneChanges
+pub mod LeaplessChanges
 pub mod PosixZoneLaws
 pub mod SizedLaws
 pub mod HeaderLaws

@@ -5,7 +5,7 @@ use Rattle.naive_base.specs.Year.{floor_div, year_start}
 use Rattle.naive_base.proofs.ForCallers.{floors, one_year}
 use Rattle.tz_info.specs.Moments.{IsYearOf, IsInSomeYear, IsDstAt, IsRuleYear, start_in, end_in}
 use Rattle.tz_info.specs.Rules.{Alternate, IsAlternateRule}
-use Rattle.tz_info.specs.Steps.NextMoments.{IsNextAfter, IsSteadyUntil}
+use Rattle.tz_info.specs.Steps.NextMoments.{IsLastUpTo, IsNextAfter, IsSteadyUntil}
 use Rattle.tz_info.proofs.Neighbours.{IsNear, starts_near, ends_near, second_low, place, not_earlier, not_later}
 
 -- in the year and in its neighbours no moment comes after u and before `next`
@@ -25,6 +25,14 @@ pub next_of_two : (first second u last one next : ℤ) → IsNextAfter first fir
 next_of_two first second u last one next a b =
     let m = a.not_after in let n = b.not_after in
     record { later = b.later; not_after = omega (arith, ints); of_first = sooner first u one next n a.of_first; of_second = b.of_first }
+
+still_up_to : (m u a b : ℤ) → a ≤ℤ b → (u <ℤ m) ⊎ (m ≤ℤ a) → (u <ℤ m) ⊎ (m ≤ℤ b)
+still_up_to m u a b h = ⊎_elim (λ k. inl k) (λ k. inr (omega (arith, ints)))
+
+pub last_of_two : (first second u least one last : ℤ) → IsLastUpTo first first u least one → IsLastUpTo second second u one last → IsLastUpTo first second u least last
+last_of_two first second u least one last a b =
+    let m = a.not_before in let n = b.not_before in
+    record { up_to = b.up_to; not_before = omega (arith, ints); of_first = still_up_to first u one last n a.of_first; of_second = b.of_first }
 
 same_year : (u v next year : ℤ) → IsYearOf u year → u ≤ℤ v → v <ℤ next → next ≤ℤ (pos 86_400 *ℤ year_start (year +ℤ pos 1)) → IsYearOf v year
 same_year u v next year of_u from before end = let low = second_low u year of_u in (omega (arith, floors), omega (arith, floors))

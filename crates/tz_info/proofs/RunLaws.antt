@@ -12,10 +12,6 @@ pub value_grows : (n : ℕ) (ds : List ℕ) → n ≤ value_from n ds
 value_grows n [] = omega arith
 value_grows n (d ∷ ds) = let h = value_grows (10 * n + (d - 48)) ds in omega arith
 
-pub within_is : (max : ℕ) (ds : List ℕ) → 0 < length ds → value_from 0 ds ≤ max → number_within max ds ≡ Ok (value_from 0 ds)
-within_is max [] s h = absurd (omega arith)
-within_is max (d ∷ ds) s h = grind (arith, nat_tests)
-
 pub above_is : (max : ℕ) (ds : List ℕ) → 0 < length ds → max < value_from 0 ds → number_within max ds ≡ Err 10
 above_is max [] s h = absurd (omega arith)
 above_is max (d ∷ ds) s h = grind (arith, nat_tests)

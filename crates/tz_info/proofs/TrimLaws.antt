@@ -71,10 +71,6 @@ trim_is bytes =
       last = b.3;
     }
 
--- bytes are trimmed in one way
-pub one_trimmed : (bytes a b : List ℕ) → IsTrimmed bytes a → IsTrimmed bytes b → a ≡ b
-one_trimmed bytes a b p q = sym (trim_again bytes a p) ∙ trim_again bytes b q
-
 -- ---- what std's calls give
 front_drop : (n : ℕ) (s : List ℕ) → n ≤ length s → IsAsciiWhitespaceBelow s n → (n < length s → is_ascii_whitespace (slice_index s n) ≡ false) → drop n s ≡ trimmed_front s
 front_drop zero [] l w e = refl

@@ -1,5 +1,5 @@
 -- Local time types: what is read is spelled, what is spelled is read, and where it is refused its fault stands.
-use Rattle.std.proofs.Common.{◌≡◌, ℕ, ℤ, pos, suc, ◌+◌, ◌*◌, ◌<◌, ◌<ℤ◌, ◌≤ℤ◌, List, [], ◌∷◌, ◌++◌, length, drop, take, Bool, true, false, cond, nat_lt, int_lt, ◌==◌, ◌&&◌, arith, refl, sym, ap, ◌∙◌, subst, Result, Ok, Err, Option, Some, None, ◌⊎◌, inl, inr, MatchResult}
+use Rattle.std.proofs.Common.{◌≡◌, ℕ, ℤ, pos, suc, ◌+◌, ◌*◌, ◌<◌, ◌<ℤ◌, ◌≤ℤ◌, List, [], ◌∷◌, ◌++◌, length, drop, take, Bool, true, false, cond, int_lt, ◌==◌, ◌&&◌, arith, refl, sym, ap, ◌∙◌, subst, Result, Ok, Err, Option, Some, None, ◌⊎◌, inl, inr, MatchResult}
 use Rattle.std.proofs.lemmas.Bool.{and_parts}
 use Rattle.std.proofs.lemmas.Bool.Decides.{nat_tests}
 use Rattle.std.proofs.lemmas.Int.{ints}
@@ -15,11 +15,11 @@ use Rattle.tz_info.specs.Steps.ContentReading.{record_at, values_below, is_name_
 use Rattle.tz_info.specs.declared.error.Error.{Error}
 use Rattle.tz_info.specs.declared.error.Error.TheVariants.{OutOfMemory}
 use Rattle.tz_info.proofs.NamedTypes.{name_from, name_to}
-use Rattle.tz_info.proofs.ReadLaws.{bind_err, ok_same, err_same, choose, guard_ok, guard_err, test_ok, test_err, drop_front}
+use Rattle.tz_info.proofs.ReadLaws.{bind_err, drop_front}
 use Rattle.tz_info.proofs.ListLaws.{first_refusal}
 use Rattle.tz_info.proofs.RecordLaws.{records}
-use Rattle.tz_info.proofs.Decided.{Decided, like, bind, guard, by_number}
-use Rattle.std.proofs.lemmas.Bool.Decides.{Decides-and}
+use Rattle.tz_info.proofs.Decided.{Decided, like, bind, choice, done, refused, guard, by_number}
+use Rattle.std.proofs.lemmas.Bool.Decides.{Decides-and, Decides-eqb, Decides-ltb}
 
 -- ---- the next 0 byte
 zero_takes : (text : List ℕ) (i n : ℕ) → position_from is_zero i text ≡ Some n → (m : ℕ) × (n ≡ i + m) × (after : List ℕ) × (text ≡ take m text ++ (0 ∷ after)) × HasNoZero (take m text)
@@ -35,24 +35,19 @@ zero_again [] after i h = ap (λ n. Some n) (omega arith)
 zero_again (b ∷ bs) after i h = let f : (b == 0) ≡ false = let g = h.0 in grind (arith, nat_tests) in
     rw f (zero_again bs after (i + 1) h.1 ∙ ap (λ n. Some n) (omega arith))
 
-front_takes : (text : List ℕ) (o : Option ℕ) (x : List ℕ) → front_of text o ≡ Ok x → (n : ℕ) × (o ≡ Some n) × (take n text ≡ x)
-front_takes text None x h = cc
-front_takes text (Some n) x h = (n, refl, ok_same _ _ _ refl h)
-
-front_fails : (text : List ℕ) (o : Option ℕ) (e : ℕ) → front_of text o ≡ Err e → e ≡ 5
-front_fails text None e h = err_same (Err 5) e 5 h refl
-front_fails text (Some n) e h = cc
-
 -- ---- the text at a place
-text_takes : (names : List ℕ) (i : ℕ) (x : List ℕ) → designation_at names i ≡ Ok x → StandsAt names i x
-unfolding designation_at text_before_zero
-text_takes names i x h =
-    let g = test_ok (nat_lt i (length names)) (front_of (drop i names) (position_from is_zero 0 (drop i names))) x 5 h in
-    let t = g.0 in let inside : i < length names = grind (arith, nat_tests) in
-    let f = front_takes (drop i names) (position_from is_zero 0 (drop i names)) x g.1 in
-    let r = zero_takes (drop i names) 0 f.0 f.1 in
-    let m : r.0 ≡ f.0 = let e = r.1 in omega arith in
-    let same : take r.0 (drop i names) ≡ x = rw m f.2 in
+front_law : (text : List ℕ) (o : Option ℕ) → Decided (List ℕ) (front_of text o) (λ x. (n : ℕ) × (o ≡ Some n) × (take n text ≡ x)) (λ e. (o ≡ None) × (e ≡ 5))
+front_law text None = like (refused 5 (omega arith)) (λ x h. absurd h) (λ x h. let e = h.1 in cc) (λ e h. (refl, h)) (λ e h. h.1)
+front_law text (Some n) = like (done (take n text)) (λ x h. (n, refl, h)) (λ x h. let same : n ≡ h.0 = let e = h.1 in cc in rw same h.2) (λ e h. absurd h) (λ e h. let f = h.0 in cc)
+
+abbrev Place : List ℕ → ℕ → Option ℕ
+Place names i = position_from is_zero 0 (drop i names)
+
+text_takes : (names : List ℕ) (i n : ℕ) (x : List ℕ) → i < length names → Place names i ≡ Some n → take n (drop i names) ≡ x → StandsAt names i x
+text_takes names i n x inside e same =
+    let r = zero_takes (drop i names) 0 n e in
+    let m : r.0 ≡ n = let e = r.1 in omega arith in
+    let same : take r.0 (drop i names) ≡ x = rw m same in
     record {
       before = take i names;
       after = r.2;
@@ -61,23 +56,19 @@ text_takes names i x h =
       ends = subst HasNoZero same r.4;
     }
 
-text_again : (names : List ℕ) (i : ℕ) (x : List ℕ) → StandsAt names i x → designation_at names i ≡ Ok x
-unfolding designation_at text_before_zero
+text_again : (names : List ℕ) (i : ℕ) (x : List ℕ) → StandsAt names i x → (i < length names) × (Place names i ≡ Some (length x)) × (take (length x) (drop i names) ≡ x)
 text_again names i x s =
-    let after : drop i names ≡ x ++ (0 ∷ s.after) = rw (s.whole, sym s.at) (drop_front s.before (x ++ (0 ∷ s.after))) in
-    let l : length names ≡ length s.before + (length x + suc (length s.after)) = ap length s.whole ∙ (length-append s.before (x ++ (0 ∷ s.after)) ∙ ap (λ n. length s.before + n) (length-append x (0 ∷ s.after))) in
-    let p = s.at in let inside : nat_lt i (length names) ≡ true = grind (arith, nat_tests) in
-    rw (inside, after, zero_again x s.after 0 s.ends) (let z : 0 + length x ≡ length x = omega arith in rw (z, take-append_seam x (0 ∷ s.after)) refl)
-
-text_fails : (names : List ℕ) (i e : ℕ) → designation_at names i ≡ Err e → e ≡ 5
-unfolding designation_at text_before_zero
-text_fails names i e h = elim (test_err (nat_lt i (length names)) (front_of (drop i names) (position_from is_zero 0 (drop i names))) 5 e h) [
-  | inl g ↦ g.1
-  | inr g ↦ front_fails (drop i names) (position_from is_zero 0 (drop i names)) e g.1
-]
+    let after : drop i names ≡ x ++ (0 ∷ s.after) = rw (s.whole, ← s.at) (drop_front s.before (x ++ (0 ∷ s.after))) in
+    let inside = ap length s.whole ∙ length-append s.before (x ++ (0 ∷ s.after)) in
+    let behind = length-append x (0 ∷ s.after) in
+    (omega (arith, s.at, inside, behind), rw after (zero_again x s.after 0 s.ends ∙ ap (λ n. Some n) (omega arith)), rw after (take-append_seam x (0 ∷ s.after)))
 
 text_law : (names : List ℕ) (i : ℕ) → Decided (List ℕ) (designation_at names i) (StandsAt names i) (λ n. ((text : List ℕ) → ¬ (StandsAt names i text)) × (n ≡ 5))
-text_law names i = by_number 5 (text_takes names i) (text_again names i) (text_fails names i)
+unfolding designation_at text_before_zero
+text_law names i = by_number 5 (choice (Decides-ltb i (length names)) (front_law (drop i names) (Place names i)) (refused 5 (omega arith)))
+    (λ x h. elim h [ inl k ↦ text_takes names i k.1.0 x k.0 k.1.1 k.1.2 | inr k ↦ absurd k.1 ])
+    (λ x s. let t = text_again names i x s in inl (t.0, (length x, t.1, t.2)))
+    (λ n h. elim h [ inl k ↦ k.1.1 | inr k ↦ k.1 ])
 
 -- ---- a type
 named_is : (o : Option (List ℕ)) → is_name_or_none o ≡ true → IsNameOrNone o
@@ -88,24 +79,15 @@ named_again : (o : Option (List ℕ)) → IsNameOrNone o → is_name_or_none o �
 named_again None h = refl
 named_again (Some text) h = name_to text h
 
-mark_takes : (b : ℕ) (d : Bool) → mark_of b ≡ Ok d → IsMark b d
-mark_takes b d h = elim (choose (b == 0) (Ok false) _ (Ok d) h) [
-  | inl k ↦ let t = k.0 in let z : b ≡ 0 = grind (arith, nat_tests) in subst (λ x. IsMark b x) (ok_same (Ok false) false d refl k.1) z
-  | inr k ↦ let g = guard_ok (b == 1) true d 5 k.1 in let t = g.0 in let z : b ≡ 1 = grind (arith, nat_tests) in subst (λ x. IsMark b x) g.1 z
-]
-
-mark_again : (b : ℕ) (d : Bool) → IsMark b d → mark_of b ≡ Ok d
-mark_again b true h = rw h refl
-mark_again b false h = rw h refl
-
-mark_fails : (b e : ℕ) → mark_of b ≡ Err e → e ≡ 5
-mark_fails b e h = elim (choose (b == 0) (Ok false) _ (Err e) h) [
-  | inl k ↦ let q = k.1 in cc
-  | inr k ↦ (guard_err (b == 1) true 5 e k.1).1
-]
+mark_again : (b : ℕ) (d : Bool) → IsMark b d → ((b ≡ 0) × (false ≡ d)) ⊎ (¬ (b ≡ 0) × ((b ≡ 1) × (true ≡ d)))
+mark_again b true h = inr (λ z. absurd (omega arith), (h, refl))
+mark_again b false h = inl (h, refl)
 
 mark_law : (b : ℕ) → Decided Bool (mark_of b) (IsMark b) (λ n. ((d : Bool) → ¬ (IsMark b d)) × (n ≡ 5))
-mark_law b = by_number 5 (mark_takes b) (mark_again b) (mark_fails b)
+mark_law b = by_number 5 (choice (Decides-eqb b 0) (done false) (guard true 5 (omega arith) (Decides-eqb b 1)))
+    (λ d h. elim h [ inl k ↦ subst (IsMark b) k.1 k.0 | inr k ↦ subst (IsMark b) k.1.1 k.1.0 ])
+    (mark_again b)
+    (λ n h. elim h [ inl k ↦ absurd k.1 | inr k ↦ k.1.1 ])
 
 above : (z : ℤ) → int_lt least_offset z ≡ true → least_offset <ℤ z
 above z h = grind (arith, ints)
@@ -135,7 +117,7 @@ type_law : (names bytes : List ℕ) → Decided LocalType (type_of_record names 
 unfolding type_of_record type_of
 type_law names bytes = like
     (bind (mark_law (mark_in bytes)) (λ dst _. bind (text_law names (place_in bytes)) (λ text _.
-    guard (record { offset = offset_in bytes; dst = dst; name = designation_of text }) 3
+    guard (record { offset = offset_in bytes; dst = dst; name = designation_of text }) 3 (omega arith)
     (Decides-and (int_lt least_offset (offset_in bytes)) (is_name_or_none (designation_of text)) (above (offset_in bytes), above_again (offset_in bytes)) (named_is (designation_of text), named_again (designation_of text))))))
     (λ t h.
     let x = h.2 in

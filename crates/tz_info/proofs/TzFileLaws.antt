@@ -1,21 +1,14 @@
 -- The law of a whole file, and what it says of a reader: a file is a zone's or has one first fault.
-use Rattle.std.proofs.Common.{◌≡◌, ◌⊎◌, ℕ, ◌≤◌, arith, refl, sym, ap, ◌∙◌, subst, List, [], ◌∷◌, Result, Ok, Err, Option, Some, None, Bool, IfOk, IfErr, MatchResult, inl, inr}
+use Rattle.std.proofs.Common.{◌≡◌, ◌⊎◌, ℕ, ◌≤◌, arith, refl, sym, ap, ◌∙◌, subst, List, Result, Ok, Err, Option, Some, None, Bool, IfOk, IfErr, MatchResult, inl, inr}
 use Rattle.std.specs.Result.{IsErrAnd}
 use Rattle.tz_info.specs.Errors.{number_of, IsOutOfMemory}
 use Rattle.tz_info.specs.Zones.{Zone, IsValid}
-use Rattle.tz_info.specs.declared.file.header.Counts.{Counts}
-use Rattle.tz_info.specs.FileHeaders.{Short, Bytes, AreCounts, CountsFault, IsHeader, IsVersion, VersionFault, HeaderFault}
-use Rattle.tz_info.specs.FileBlocks.{IsBlock, block_size}
-use Rattle.tz_info.specs.FileContents.{TypeFault, Other_mark, No_text, Other_type, HasTypeFault, SpellTypes, SpellTransitions, IndicatorsAgree}
+use Rattle.tz_info.specs.FileContents.{HasTypeFault, SpellTypes, SpellTransitions, IndicatorsAgree}
 use Rattle.tz_info.specs.LocalTypes.{LocalType}
 use Rattle.tz_info.specs.declared.zone.transition.Transition.{Transition}
 use Rattle.tz_info.specs.declared.zone.leap_second.LeapSecond.{LeapSecond}
-use Rattle.tz_info.specs.Footers.{FooterFault, Not_utf8, No_newlines, Colon, Zero, In_text}
-use Rattle.tz_info.specs.FilePieces.{FilePieces, HasPieces, PieceFault, SecondFault, AfterFault}
-use Rattle.tz_info.specs.declared.file.header.Version.{Version}
-use Rattle.tz_info.specs.declared.file.header.Version.TheVariants.{One, Two, Three}
-use Rattle.tz_info.specs.declared.file.header.Place.{Place}
-use Rattle.tz_info.specs.declared.file.header.Place.TheVariants.{First, Second}
+use Rattle.tz_info.specs.Footers.{FooterFault}
+use Rattle.tz_info.specs.FilePieces.{FilePieces, HasPieces, PieceFault}
 use Rattle.tz_info.specs.Steps.FileReading.{pieces_at}
 use Rattle.tz_info.specs.Steps.ContentReading.{GivesInMemory}
 use Rattle.tz_info.specs.Steps.FooterReading.{footer_of}
@@ -27,8 +20,7 @@ use Rattle.tz_info.specs.declared.file.reader.Lists.{Lists}
 use Rattle.tz_info.specs.declared.rule.transition_rule.TransitionRule.{TransitionRule}
 use Rattle.tz_info.specs.declared.zone.time_zone.TimeZone.{TimeZone}
 use Rattle.tz_info.proofs.ContentLaws.{transitions_law, leap_seconds_law, indicators_law}
-use Rattle.tz_info.proofs.Decided.{Decided, like, bind, made, value_once, fault_once as one_fault, apart, either}
-use Rattle.tz_info.proofs.FaultNumbers.{IsLow, then_low, text_low}
+use Rattle.tz_info.proofs.Decided.{Decided, like, bind, made, done, value_once, fault_once as one_fault, fault_low as low, apart, either}
 use Rattle.tz_info.proofs.FilePieceLaws.{pieces_law, has_lengths}
 use Rattle.tz_info.proofs.FooterLaws.{footer_law as footer_bytes_law}
 use Rattle.tz_info.proofs.ReadLaws.{ok_same}
@@ -39,12 +31,7 @@ abbrev RuleFault : Bool → Option (List ℕ) → ℕ → Type 0
 RuleFault extended footer n = (bytes : List ℕ) × (footer ≡ Some bytes) × FooterFault extended bytes n
 
 footer_law : (extended : Bool) (footer : Option (List ℕ)) → Decided (Option TransitionRule) (footer_of extended footer) (HasRule extended footer) (RuleFault extended footer)
-footer_law extended None = record {
-  takes = λ rule h. sym (ok_same (Ok None) None rule refl h);
-  again = λ rule h. rw h refl;
-  fails = λ n h. cc;
-  refuses = λ n h. let e = h.1 in cc;
-}
+footer_law extended None = like (done None) (λ rule h. sym h) (λ rule h. sym h) (λ n f. absurd f) (λ n f. let e = f.1 in cc)
 footer_law extended (Some bytes) = like (footer_bytes_law extended bytes) (λ rule h. h) (λ rule h. h) (λ n f. (bytes, refl, f)) (λ n f. subst (λ b. FooterFault extended b n) (sym (same bytes f.0 f.1)) f.2)
   where
     same : (a b : List ℕ) → Some a ≡ Some b → a ≡ b
@@ -141,55 +128,9 @@ has_fault bytes none = elim (either (file_law bytes)) [
   | inr f ↦ (f.0, spelling_fault bytes f.0 f.1)
 ]
 
--- ---- want of memory is no fault
-short_low : (count : ℕ) → IsLow (Short count)
-short_low count bytes n h = let e = h.0 in omega arith
-
-version_low : (place : Place) → IsLow (VersionFault place)
-version_low place [] n h = omega arith
-version_low place (byte ∷ rest) n h = elim h [ inl k ↦ let e = k.2 in omega arith | inr k ↦ let e = k.1 in omega arith ]
-
-counts_low : (c : Counts) → IsLow (CountsFault c)
-counts_low c bytes n h = let e = h.1 in omega arith
-
-header_low : (place : Place) → IsLow (HeaderFault place)
-header_low place bytes n h = elim h [
-  | inl m ↦ elim m [ inl s ↦ short_low 4 bytes n s | inr o ↦ let e = o.1 in omega arith ]
-  | inr r ↦ then_low (IsVersion place) (version_low place) (λ v. then_low (Bytes 15) (short_low 15) (λ _. then_low AreCounts (short_low 24) counts_low)) r.0 n r.2
-]
-
-second_low : IsLow SecondFault
-second_low = then_low (IsHeader Second) (header_low Second) (λ h. short_low (block_size 8 h.counts))
-
-after_low : (v : Version) → IsLow (AfterFault v)
-after_low One bytes n h = let e = h.1 in omega arith
-after_low Two bytes n h = second_low bytes n h
-after_low Three bytes n h = second_low bytes n h
-
-piece_low : IsLow PieceFault
-piece_low = then_low (IsHeader First) (header_low First) (λ h. then_low (IsBlock 4 h.counts) (short_low (block_size 4 h.counts)) (λ _. after_low h.version))
-
-type_low : (names bytes : List ℕ) (n : ℕ) → TypeFault names bytes n → n ≤ 16
-type_low names bytes n (Other_mark _) = omega arith
-type_low names bytes n (No_text _ _ _) = omega arith
-type_low names bytes n (Other_type _ _ _ _ _) = omega arith
-
-footer_low : (extended : Bool) (bytes : List ℕ) (n : ℕ) → FooterFault extended bytes n → n ≤ 16
-footer_low extended bytes n (Not_utf8 _) = omega arith
-footer_low extended bytes n (No_newlines _ _) = omega arith
-footer_low extended bytes n (Colon _ _ _) = omega arith
-footer_low extended bytes n (Zero _ _ _) = omega arith
-footer_low extended bytes n (In_text text m _ _ _ _ f) = text_low extended text m f
-
-content_low : (p : FilePieces) (n : ℕ) → ContentFault p n → n ≤ 16
-content_low p n (In_type m f) = type_low p.parts.designations f.faulty m f.fault
-content_low p n (In_indicators _ _ _) = omega arith
-content_low p n (In_footer _ footer m _ _ _ f) = footer_low p.extended footer m f
-
+-- its number is not that of running out of memory
 pub fault_low : (bytes : List ℕ) (n : ℕ) → IsFileFault bytes n → n ≤ 16
-fault_low bytes n (In_piece m f) = piece_low bytes m f
-fault_low bytes n (In_contents m p _ f) = content_low p m f
-fault_low bytes n (Not_valid _ _ _) = omega arith
+fault_low bytes n f = elim (kind_of bytes n f) [ inl a ↦ low (file_law bytes) n a | inr a ↦ omega (arith, a.3) ]
 
 -- ---- what the reader of the lists answers
 pub reads : (bytes : List ℕ) (p : FilePieces) (r : Result Lists Error) → pieces_at bytes ≡ Ok p → GivesInMemory zone_of r (lists_in p) → Reads r bytes
@@ -219,9 +160,7 @@ fault bytes (Err e) s = elim s [
 pub memory : (bytes : List ℕ) (r : Result Lists Error) → Reads r bytes → IfErr r (λ e. e ≡ OutOfMemory → (p : FilePieces) × HasPieces bytes p)
 memory bytes (Ok lists) s = tt
 memory bytes (Err e) s = λ is. elim s [
-  | inl refused ↦
-      let low = fault_low bytes (number_of e) (spelling_fault bytes (number_of e) ((file_law bytes).fails (number_of e) refused)) in
-      let n : number_of e ≡ 17 = ap number_of is in absurd (omega arith)
+  | inl refused ↦ let low = (file_law bytes).low (number_of e) refused in let n : number_of e ≡ 17 = ap number_of is in absurd (omega arith)
   | inr whole ↦ (whole.1, (pieces_law bytes).takes whole.1 whole.2)
 ]
 

@@ -238,6 +238,13 @@ none_begun z after begin valid h late d is inside =
     let f = is.fits_before in
     omega (arith, ints)
 
+-- or not before that second
+pub none_begun_before : (z : Zone) (last begin : ℤ) → IsValid z → IsBegin z begin → last ≤ℤ begin → HasNoChange (TypeAt z) (IsByRuleUpTo z last)
+none_begun_before z last begin valid h late d is inside =
+    let b = begun z begin (d.at -ℤ pos 1) d.before valid h is.fits_before is.before inside.by_rule in
+    let u = inside.up_to in
+    omega (arith, ints)
+
 -- ---- the table's changes come before the rule's
 pub table_first : (z : Zone) (after : ℤ) (c : Change) → IsValid z → IsFirstChange (TypeAt z) (IsInTableAfter z after) c → IsFirstChange (TypeAt z) (λ u. after <ℤ u) c
 table_first z after c valid h = record {

@@ -17,7 +17,7 @@ pub use cursor::Cursor;
 pub use error::{Error, Expected};
 pub use local_time_type::LocalTimeType;
 pub use name::TimeZoneName;
-pub use rule::{AlternateTime, RuleDay, TransitionRule};
+pub use rule::{AlternateTime, DayForm, RuleDay, TransitionRule};
 pub use zone::all_changes::Changes;
 pub use zone::around::{Gap, TypesAround};
 pub use zone::probes::Probes;

@@ -11,5 +11,5 @@ mod wall_clock;
 
 pub use alternate::AlternateTime;
 pub(crate) use changes::later_of;
-pub use day::RuleDay;
+pub use day::{DayForm, RuleDay};
 pub use transition_rule::TransitionRule;

@@ -41,8 +41,7 @@ block_stopped rf wf n ra rb rc wa wb wc input output z rest block errors.Memory 
       appends_join wa wb wc output stop.1 wrote stop.9,
       (works, stop.0, rw (stop.6, ← append_assoc input stop.2 stop.3) before),
     )
-block_stopped rf wf n ra rb rc wa wb wc input output z rest block errors.Read works took wrote s took' stop = absurd stop
-block_stopped rf wf n ra rb rc wa wb wc input output z rest block errors.TooLong works took wrote s took' stop = absurd stop
+block_stopped rf wf n ra rb rc wa wb wc input output z rest block _ works took wrote s took' stop = absurd stop
 
 -- the stop was passed on
 pub stop_passed_on : (r : Result (Unit {0}) RunError) (e : RunError) (re rf wf : Bool) (n : ℕ) (ra rc wa wc : Option (List ℕ)) → IsErrAnd r (λ x. x ≡ e)
@@ -69,8 +68,7 @@ last_stopped rf wf n wa wb wc input output z rest errors.Memory works wrote s st
       appends_join wa wb wc output [] wrote stop.2,
       (works, stop.0, rw append-nil (rw append-nil at (answers_before input [] output z rest some s))),
     )
-last_stopped rf wf n wa wb wc input output z rest errors.Read works wrote s stop = absurd stop
-last_stopped rf wf n wa wb wc input output z rest errors.TooLong works wrote s stop = absurd stop
+last_stopped rf wf n wa wb wc input output z rest _ works wrote s stop = absurd stop
 
 -- the reader ended
 pub reader_ended : (re rf wf : Bool) (n : ℕ) (ra rb rc wa wb wc : Option (List ℕ)) (input output : List ℕ) (z : Option Zone) (rest block : List ℕ) (r : Result (Unit {0}) RunError) → re ≡ true → IsAtEnd rc → rf ≡ false → Consumes ra rb input → Appends wa wb output → Answered None [] input output z rest → Consumes rb rc (take 0 block) → OnOk r (AnswersAtEnd wf wb wc z rest) → IfErr r (StopsAtEnd wf wb wc z rest) → (x : List ℕ) × (y : List ℕ) × Consumes ra rc x × Appends wa wc y × MatchResult r (λ _. (re ≡ true) × IsAtEnd rc × (rf ≡ false) × (wf ≡ false) × Answers x y) (λ e. StopsWith rf wf n e x y)

@@ -68,17 +68,11 @@ same_word word t rest line front same e begins =
 no_word : (word : List ℕ) → (t : List ℕ → List ℕ) → ((rest : List ℕ) → take 5 (word ++ rest) ≡ word ++ t rest) → (line front : List ℕ) → take 5 line ≡ take 5 front → ((rest : List ℕ) → front ≢ word ++ rest) → (rest : List ℕ) → line ≢ word ++ rest
 no_word word t begins line front same none rest e = none (t rest ++ drop 5 front) (same_word word (t rest) rest line front same e (begins rest))
 
-no_text : (line front : List ℕ) → take 5 line ≡ take 5 front → ((rest : List ℕ) → front ≢ codes "text " ++ rest) → (rest : List ℕ) → line ≢ codes "text " ++ rest
-no_text line front same none = no_word (codes "text ") (take 0) (λ rest. refl) line front same none
-
-no_data : (line front : List ℕ) → take 5 line ≡ take 5 front → ((rest : List ℕ) → front ≢ codes "data " ++ rest) → (rest : List ℕ) → line ≢ codes "data " ++ rest
-no_data line front same none = no_word (codes "data ") (take 0) (λ rest. refl) line front same none
-
 -- no line that goes on from the front begins with a word
 wordless_bad : (line front : List ℕ) → take 5 line ≡ take 5 front → ((rest : List ℕ) → front ≢ codes "text " ++ rest) → ((rest : List ℕ) → front ≢ codes "data " ++ rest)
     → ((rest : List ℕ) → front ≢ codes "at " ++ rest) × ((rest : List ℕ) → front ≢ codes "wall " ++ rest) × ((rest : List ℕ) → front ≢ codes "show " ++ rest) → IsBadLine line
-wordless_bad line front same nt nd others (Text text) h = no_text line front same nt text h.0
-wordless_bad line front same nt nd others (Data bytes) h = no_data line front same nd h.0 h.1
+wordless_bad line front same nt nd others (Text text) h = no_word (codes "text ") (take 0) (λ rest. refl) line front same nt text h.0
+wordless_bad line front same nt nd others (Data bytes) h = no_word (codes "data ") (take 0) (λ rest. refl) line front same nd h.0 h.1
 wordless_bad line front same nt nd others (At seconds) h = no_word (codes "at ") (take 2) (λ rest. refl) line front same others.0 h.0 h.1
 wordless_bad line front same nt nd others (Wall local) h = no_word (codes "wall ") (take 0) (λ rest. refl) line front same others.1 h.0 h.1
 wordless_bad line front same nt nd others (Resolve l choice) h = no_word (codes "wall ") (take 0) (λ rest. refl) line front same others.1 h.0 h.1
@@ -132,7 +126,8 @@ wordless front some nt nd others = hopeless front some (λ line g. wordless_bad 
 
 pub numberless : (front : List ℕ) (i : ℕ) → 5 < length front → 5 ≤ i → i + 17 < length front → IsForeign (get_or front i 0) → ((rest : List ℕ) → front ≢ codes "text " ++ rest) → ((rest : List ℕ) → front ≢ codes "data " ++ rest) → IsHopeless front
 numberless front i some from h foreign nt nd =
-    hopeless front some (λ line g. let there = g.has i h foreign in foreign_bad line i from there.0 there.1 (no_text line front g.begins nt) (no_data line front g.begins nd))
+    hopeless front some (λ line g. let there = g.has i h foreign in foreign_bad line i from there.0 there.1
+    (no_word (codes "text ") (take 0) (λ rest. refl) line front g.begins nt) (no_word (codes "data ") (take 0) (λ rest. refl) line front g.begins nd))
 
 -- more of a hopeless line is as hopeless
 pub more_hopeless : (front more : List ℕ) → IsHopeless front → IsHopeless (front ++ more)

@@ -1,9 +1,8 @@
 -- What stands written where answers were sent on their way, or could not be.
-use Rattle.std.proofs.Common.{◌≡◌, ℕ, inl, inr, refl, ap, sym, ◌∙◌, subst, Bool, true, false, List, [], ◌++◌, append_assoc, take, drop, Option, Result, Ok, Err, OnOk, IfErr}
+use Rattle.std.proofs.Common.{◌≡◌, ℕ, inl, inr, refl, ap, sym, ◌∙◌, Bool, true, false, List, [], ◌++◌, append_assoc, take, drop, Option, Result, Ok, Err, OnOk, IfErr}
 use Rattle.std.specs.Io.KnownBytes.{Appends, Keeps}
 use Rattle.std.proofs.lemmas.Bool.{true≢false}
 use Rattle.std.proofs.lemmas.List.{append-nil, take-append-drop}
-use Rattle.std.proofs.lemmas.Result.{on_ok_weaker}
 use Rattle.tz_info.specs.Zones.{Zone}
 use Rattle.zone_query.specs.Endings.{WritesUnlessFailed}
 use Rattle.zone_query.specs.Steps.Blocks.{AnswersIn, StopsIn}
@@ -13,70 +12,39 @@ use Rattle.zone_query.specs.declared.run_error.RunError.{RunError}
 use Rattle.zone_query.specs.declared.run_error.RunError.TheVariants as errors
 use Rattle.zone_query.proofs.Bytes.{appends_join, appends_kept}
 
--- the answers to a block were sent
-pub block_sent : (f f' : Bool) (o r : Result (Unit {0}) RunError) (a b c : Option (List ℕ)) (z : Option Zone) (begun block : List ℕ) (after : Option Zone) (rest : List ℕ)
-    → IsSentOf f f' o r → Keeps b c → OnOk o (AnswersIn f a b z begun block after rest) → OnOk r (AnswersIn f' a c z begun block after rest)
-block_sent f f' o r a b c z begun block after rest (inl same) keeps ok =
-    subst (λ (x : Result (Unit {0}) RunError). OnOk x (AnswersIn f' a c z begun block after rest)) (sym same.0)
-    (on_ok_weaker o (λ h. (same.1 ∙ h.0, (h.1.0, h.1.1, appends_kept a b c h.1.0 h.1.2 keeps))) ok)
-block_sent f f' o r a b c z begun block after rest (inr lost) keeps ok =
-    subst (λ (x : Result (Unit {0}) RunError). OnOk x (AnswersIn f' a c z begun block after rest)) (sym lost.0) tt
-
 -- a block stopped the run, or the answers to it could not be sent
 pub block_not_sent : (f f' : Bool) (o r : Result (Unit {0}) RunError) (a b c : Option (List ℕ)) (z : Option Zone) (begun block : List ℕ) (after : Option Zone) (rest : List ℕ)
     → IsSentOf f f' o r → Keeps b c → OnOk o (AnswersIn f a b z begun block after rest) → IfErr o (StopsIn f a b z begun block) → IfErr r (StopsIn f' a c z begun block)
-block_not_sent f f' (Ok u) r a b c z begun block after rest (inl same) keeps ok stop =
-    subst (λ (x : Result (Unit {0}) RunError). IfErr x (StopsIn f' a c z begun block)) (sym same.0) tt
+block_not_sent f f' (Ok u) r a b c z begun block after rest (inl same) keeps ok stop = rw same.0 tt
 block_not_sent f f' (Ok u) r a b c z begun block after rest (inr lost) keeps ok stop =
-    subst (λ (x : Result (Unit {0}) RunError). IfErr x (StopsIn f' a c z begun block)) (sym lost.0)
-    (lost.2, ok.1.0, [], block, [], after, rest, sym (append-nil block), rw append-nil ok.1.1, appends_kept a b c ok.1.0 ok.1.2 keeps)
+    rw lost.0 (lost.2, ok.1.0, [], block, [], after, rest, sym (append-nil block), rw append-nil ok.1.1, appends_kept a b c ok.1.0 ok.1.2 keeps)
 block_not_sent f f' (Err errors.Write) r a b c z begun block after rest (inl same) keeps ok stop =
-    subst (λ (x : Result (Unit {0}) RunError). IfErr x (StopsIn f' a c z begun block)) (sym same.0)
-    (same.1 ∙ stop.0, stop.1, stop.2, stop.3, stop.4, stop.5, stop.6, stop.7, stop.8, appends_kept a b c stop.1 stop.9 keeps)
+    rw same.0 (same.1 ∙ stop.0, stop.1, stop.2, stop.3, stop.4, stop.5, stop.6, stop.7, stop.8, appends_kept a b c stop.1 stop.9 keeps)
 block_not_sent f f' (Err errors.Write) r a b c z begun block after rest (inr lost) keeps ok stop =
     absurd (true≢false (sym stop.0 ∙ lost.1))
 block_not_sent f f' (Err errors.Memory) r a b c z begun block after rest (inl same) keeps ok stop =
-    subst (λ (x : Result (Unit {0}) RunError). IfErr x (StopsIn f' a c z begun block)) (sym same.0)
-    (same.1 ∙ stop.0, stop.1, stop.2, stop.3, stop.4, stop.5, stop.6, stop.7, stop.8, appends_kept a b c stop.1 stop.9 keeps)
+    rw same.0 (same.1 ∙ stop.0, stop.1, stop.2, stop.3, stop.4, stop.5, stop.6, stop.7, stop.8, appends_kept a b c stop.1 stop.9 keeps)
 block_not_sent f f' (Err errors.Memory) r a b c z begun block after rest (inr lost) keeps ok stop =
-    subst (λ (x : Result (Unit {0}) RunError). IfErr x (StopsIn f' a c z begun block)) (sym lost.0)
-    (lost.2, stop.1, [], stop.2, stop.3, stop.4, stop.5, stop.6, rw append-nil stop.8, appends_kept a b c stop.1 stop.9 keeps)
-block_not_sent f f' (Err errors.Read) r a b c z begun block after rest h keeps ok stop = absurd stop
-block_not_sent f f' (Err errors.TooLong) r a b c z begun block after rest h keeps ok stop = absurd stop
-
--- the answer to the last line was sent
-pub last_sent : (f f' : Bool) (o r : Result (Unit {0}) RunError) (a b c : Option (List ℕ)) (z : Option Zone) (l : List ℕ)
-    → IsSentOf f f' o r → Keeps b c → OnOk o (AnswersAtEnd f a b z l) → OnOk r (AnswersAtEnd f' a c z l)
-last_sent f f' o r a b c z l (inl same) keeps ok =
-    subst (λ (x : Result (Unit {0}) RunError). OnOk x (AnswersAtEnd f' a c z l)) (sym same.0)
-    (on_ok_weaker o (λ h. (same.1 ∙ h.0, (h.1.0, h.1.1, appends_kept a b c h.1.0 h.1.2 keeps))) ok)
-last_sent f f' o r a b c z l (inr lost) keeps ok =
-    subst (λ (x : Result (Unit {0}) RunError). OnOk x (AnswersAtEnd f' a c z l)) (sym lost.0) tt
+    rw lost.0 (lost.2, stop.1, [], stop.2, stop.3, stop.4, stop.5, stop.6, rw append-nil stop.8, appends_kept a b c stop.1 stop.9 keeps)
+block_not_sent f f' (Err _) r a b c z begun block after rest h keeps ok stop = absurd stop
 
 -- the last line stopped the run, or what stood written could not be sent
 pub last_not_sent : (f f' : Bool) (o r : Result (Unit {0}) RunError) (a b c : Option (List ℕ)) (z : Option Zone) (l : List ℕ)
     → IsSentOf f f' o r → Keeps b c → OnOk o (AnswersAtEnd f a b z l) → IfErr o (StopsAtEnd f a b z l) → IfErr r (StopsAtEnd f' a c z l)
-last_not_sent f f' (Ok u) r a b c z l (inl same) keeps ok stop =
-    subst (λ (x : Result (Unit {0}) RunError). IfErr x (StopsAtEnd f' a c z l)) (sym same.0) tt
+last_not_sent f f' (Ok u) r a b c z l (inl same) keeps ok stop = rw same.0 tt
 last_not_sent f f' (Ok u) r a b c z l (inr lost) keeps ok stop =
-    subst (λ (x : Result (Unit {0}) RunError). IfErr x (StopsAtEnd f' a c z l)) (sym lost.0)
-    (lost.2, inl (ok.1.0, [], rw append-nil ok.1.1, appends_kept a b c ok.1.0 ok.1.2 keeps))
+    rw lost.0 (lost.2, inl (ok.1.0, [], rw append-nil ok.1.1, appends_kept a b c ok.1.0 ok.1.2 keeps))
 last_not_sent f f' (Err errors.Write) r a b c z l (inl same) keeps ok (failed, inl part) =
-    subst (λ (x : Result (Unit {0}) RunError). IfErr x (StopsAtEnd f' a c z l)) (sym same.0)
-    (same.1 ∙ failed, inl (part.0, part.1, part.2, appends_kept a b c part.0 part.3 keeps))
+    rw same.0 (same.1 ∙ failed, inl (part.0, part.1, part.2, appends_kept a b c part.0 part.3 keeps))
 last_not_sent f f' (Err errors.Write) r a b c z l (inl same) keeps ok (failed, inr none) =
-    subst (λ (x : Result (Unit {0}) RunError). IfErr x (StopsAtEnd f' a c z l)) (sym same.0)
-    (same.1 ∙ failed, inr (appends_kept a b c [] none keeps))
+    rw same.0 (same.1 ∙ failed, inr (appends_kept a b c [] none keeps))
 last_not_sent f f' (Err errors.Write) r a b c z l (inr lost) keeps ok stop =
     absurd (true≢false (sym stop.0 ∙ lost.1))
 last_not_sent f f' (Err errors.Memory) r a b c z l (inl same) keeps ok stop =
-    subst (λ (x : Result (Unit {0}) RunError). IfErr x (StopsAtEnd f' a c z l)) (sym same.0)
-    (same.1 ∙ stop.0, stop.1, appends_kept a b c [] stop.2 keeps)
+    rw same.0 (same.1 ∙ stop.0, stop.1, appends_kept a b c [] stop.2 keeps)
 last_not_sent f f' (Err errors.Memory) r a b c z l (inr lost) keeps ok stop =
-    subst (λ (x : Result (Unit {0}) RunError). IfErr x (StopsAtEnd f' a c z l)) (sym lost.0)
-    (lost.2, inr (appends_kept a b c [] stop.2 keeps))
-last_not_sent f f' (Err errors.Read) r a b c z l h keeps ok stop = absurd stop
-last_not_sent f f' (Err errors.TooLong) r a b c z l h keeps ok stop = absurd stop
+    rw lost.0 (lost.2, inr (appends_kept a b c [] stop.2 keeps))
+last_not_sent f f' (Err _) r a b c z l h keeps ok stop = absurd stop
 
 -- ---- the message of a program
 -- a beginning of two texts was written

@@ -26,23 +26,24 @@ within_or_not k = by_lt_z (neg_ℤ (pos 86_400)) k
     (λ from. by_lt_z k (pos 86_400) (λ to. inl (from, to)) (λ high. inr (λ h. let to = h.1 in omega (arith, ints, high, to))))
     (λ low. inr (λ h. let from = h.0 in omega (arith, ints, low, from)))
 
+both_or_not : {P Q : Type 0} → P ⊎ (P → ⊥) → Q ⊎ (Q → ⊥) → (P × Q) ⊎ (P × Q → ⊥)
+both_or_not (inl p) (inl q) = inl (p, q)
+both_or_not (inl p) (inr not) = inr (λ h. not h.1)
+both_or_not (inr not) q = inr (λ h. not h.0)
+
 all_or_not : (types : List LocalType) → All (λ t. IsWithinDay t.offset) types ⊎ (All (λ t. IsWithinDay t.offset) types → ⊥)
 all_or_not [] = inl (All-nil (λ (t : LocalType). IsWithinDay t.offset))
-all_or_not (t ∷ types) = elim (within_or_not t.offset) [
-  | inl first ↦ elim (all_or_not types) [
-    | inl all ↦ inl (All-cons (λ (s : LocalType). IsWithinDay s.offset) t types first all)
-    | inr not ↦ inr (λ h. not (All-tail (λ (s : LocalType). IsWithinDay s.offset) t types h))
-  ]
-  | inr not ↦ inr (λ h. not (All-head (λ (s : LocalType). IsWithinDay s.offset) t types h))
-]
+all_or_not (t ∷ types) =
+    let within = λ (s : LocalType). IsWithinDay s.offset in
+    elim (both_or_not (within_or_not t.offset) (all_or_not types)) [
+      | inl all ↦ inl (All-cons within t types all.0 all.1)
+      | inr not ↦ inr (λ h. not (All-head within t types h, All-tail within t types h))
+    ]
 
 pub narrow_or_not : (z : Zone) → IsNarrow z ⊎ (IsNarrow z → ⊥)
-narrow_or_not z = elim (all_or_not z.types) [
-  | inl types ↦ elim (all_or_not (rule_types z.rule)) [
-    | inl rule ↦ inl (record { types = types; rule = rule })
-    | inr not ↦ inr (λ h. not h.rule)
-  ]
-  | inr not ↦ inr (λ h. not h.types)
+narrow_or_not z = elim (both_or_not (all_or_not z.types) (all_or_not (rule_types z.rule))) [
+  | inl all ↦ inl (record { types = all.0; rule = all.1 })
+  | inr not ↦ inr (λ h. not (h.types, h.rule))
 ]
 
 subsecond_or_not : (s : ℤ) (f : ℕ) → IsSubsecond s f ⊎ (IsSubsecond s f → ⊥)
@@ -55,10 +56,7 @@ subsecond_or_not s f = elim (cases_lt f 2_000_000_000) [
 ]
 
 stamp_or_not : (r : Reading) → IsStamp r ⊎ (IsStamp r → ⊥)
-stamp_or_not r = elim (in_range_or_not r.s) [
-  | inl inside ↦ elim (subsecond_or_not r.s r.f) [ inl sub ↦ inl (inside, sub) | inr not ↦ inr (λ h. not h.1) ]
-  | inr not ↦ inr (λ h. not h.0)
-]
+stamp_or_not r = both_or_not (in_range_or_not r.s) (subsecond_or_not r.s r.f)
 
 pub zone_second : (s : ℤ) → IsInRange s → IsZoneSecond s
 zone_second s h = let from = h.0 in let to = h.1 in (omega (arith, ints, from), omega (arith, ints, to))

@@ -66,8 +66,7 @@ line_stops f a b' c z b block done output m k rest piece more errors.Write e s h
 line_stops f a b' c z b block done output m k rest piece more errors.Memory e s h cut wrote stop =
     let some : 0 < length rest = rw cut (simp length-append (omega arith)) in
     (stop.0, output, done, rest, m, k, e, some, s, rw append-nil at (appends_join a b' c output [] wrote stop.1))
-line_stops f a b' c z b block done output m k rest piece more errors.Read e s h cut wrote stop = stop
-line_stops f a b' c z b block done output m k rest piece more errors.TooLong e s h cut wrote stop = stop
+line_stops f a b' c z b block done output m k rest piece more _ e s h cut wrote stop = absurd stop
 
 -- what is after the last newline of a block is kept, or stood for
 pub rest_kept : (z : Option Zone) (b block done output : List ℕ) (m : Option Zone) (k rest : List ℕ) (m' : Option Zone) (k' : List ℕ) → block ≡ done ++ rest → Answered z b done output m k → HasNoNewline rest → m' ≡ m → IsKeptFor k' (k ++ rest) → HasNoNewline k' → Answered z b block output m' k'
@@ -84,8 +83,7 @@ pub last_stops : (f : Bool) (a c : Option (List ℕ)) (z : Option Zone) (l : Lis
 last_stops f a c z l errors.Write some stop =
     (stop.0, inl (stop.1, stop.2, rw stop.6 (last_answered z l stop.3 stop.4 some stop.5), stop.7))
 last_stops f a c z l errors.Memory some stop = (stop.0, some, stop.1)
-last_stops f a c z l errors.Read some stop = stop
-last_stops f a c z l errors.TooLong some stop = stop
+last_stops f a c z l _ some stop = absurd stop
 
 -- the last line's answer was written
 pub last_replied : (r : Result (Unit {0}) RunError) (f : Bool) (a c : Option (List ℕ)) (z : Option Zone) (l : List ℕ) (after : Option Zone) → 0 < length l → OnOk r (Replies f a c z l after) → OnOk r (AnswersAtEnd f a c z l)

@@ -123,6 +123,7 @@
 //! | an instant | it, rounded | [`DurationRound`], [`SubsecRound`] |
 //! | a wall-clock time | it, on each day | [`DailySeries::new`] |
 //! | the bytes or a text, and a wall clock | types of local time and instants in one call | [`WallClock`] |
+//! | a rule, or a zone that is its rule alone | its TZ text | [`ToTzString::to_tz_string`], [`ToPosixTz::to_posix_tz`] |
 //! | a zone that no file tells | it, as the zone of `DateTime`s | an implementation of [`TimeZone`] |
 //!
 //! # Zones that are borrowed, and zones that are kept
@@ -170,6 +171,7 @@ pub use offset_core::{
     Choice, FixedOffset, FoldChoice, GapChoice, LocalResult, MappedLocalTime, TimeDelta,
 };
 pub use tz_info;
+pub use tz_write::{ToPosixTz, ToTzString, TzText};
 pub use zoned_kept::{KeepError, KeptChange, KeptOffset, KeptZone};
 pub use zoned_ref::{TimeZoneRef, WallClock, ZoneChange, ZoneOffset};
 pub use zoned_round::{DurationRound, RoundingError, SubsecRound};

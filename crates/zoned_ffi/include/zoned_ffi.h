@@ -62,6 +62,18 @@
    the bytes, nor the questions, nor a handle, two handles are two structs, and nobody else changes any of them. What stands
    in the answers before a call doesn't matter: they need not be initialised.
 
+   Lists of changes
+   ----------------
+   zoned_zone_changes counts all changes of a stretch, also those that it has no room for, and takes as long as stepping through
+   them. Give it the stretch that you mean to list, and never all of 64 bits: a rule of two types has two changes in each of the
+   4,294,967,292 years that it answers in, some 8.6 billion in all. Of a thousand years it has 2,000.
+
+     zoned_change changes[16];
+     size_t count;
+     if (zoned_zone_changes(&zone, from, until, changes, 16, &count) == ZONED_OK)
+         for (size_t i = 0; i < count && i < 16; i++) .. changes[i].at ..
+     // count > 16: make room for `count` of them and ask again, or ask from changes[15].at + 1 on
+
    Threads
    -------
    Calls share nothing but the zones that handles share, which no call changes. So several threads may call at once, each with
@@ -212,6 +224,15 @@ typedef struct zoned_change {
    A transition of the file that changes nothing is no change, and what a rule does after the last transition is. */
 uint32_t zoned_zone_next_change(struct zoned_zone *zone, int64_t after, zoned_change *change);
 uint32_t zoned_zone_previous_change(struct zoned_zone *zone, int64_t before_or_at, zoned_change *change);
+
+/* *count is how many changes there are from the second `from` on and before the second `until`: none where `until` is `from` or
+   comes before it. The first of them, as many as changes_len, are written to `changes`, in the order of time; what stood behind
+   them is as it was. So a list that is cut short is told by *count > changes_len, as snprintf tells it, and changes_len may be
+   0. ZONED_NOT_OPEN: neither is written. See "Lists of changes" above.
+
+   A change at INT64_MAX comes before no second: zoned_zone_previous_change tells it. */
+uint32_t zoned_zone_changes(struct zoned_zone *zone, int64_t from, int64_t until,
+                            zoned_change *changes, size_t changes_len, size_t *count);
 
 /* *clock says when the zone's clocks show the local time, and clocks[i] when they show locals[i], as in zoned_wall_instants.
 

@@ -1,5 +1,33 @@
--- How a text is written into the room that C gives.
-use Rattle.std.specs.Prelude.{ℕ, List, [], ◌∷◌, ◌++◌, take, drop, length}
+-- What numbers say in words, and how a text is written into the room that C gives.
+use Rattle.std.specs.Prelude.{ℕ, ◌≡◌, ◌⊎◌, List, [], ◌∷◌, ◌++◌, take, drop, length, codes}
+
+-- the numbers of this library, and what each says
+pub data IsSaidOf : ℕ → List ℕ → Type 0 where
+  No_error : IsSaidOf 0 (codes "no error")
+  Offset_or_name : IsSaidOf 3 (codes "an offset or a name that no zone can have")
+  Not_a_file : IsSaidOf 5 (codes "not a TZif file")
+  Text_limits : IsSaidOf 6 (codes "a time or an offset of a TZ text is out of its limits, or bytes are left over after it")
+  Bytes_missing : IsSaidOf 7 (codes "bytes are missing")
+  Other_byte : IsSaidOf 8 (codes "another byte was expected in a TZ text")
+  Text_number : IsSaidOf 10 (codes "no number, or one that is too large, in a TZ text")
+  No_zone : IsSaidOf 12 (codes "the lists of a TZif file make no zone")
+  Text_day : IsSaidOf 13 (codes "a day, or two that are too near each other, of a TZ text")
+  Version : IsSaidOf 14 (codes "a version of TZif that is not read")
+  Text_ends : IsSaidOf 15 (codes "a TZ text does not say when daylight saving time starts and ends")
+  Not_utf8 : IsSaidOf 16 (codes "not UTF-8")
+  Out_of_memory : IsSaidOf 17 (codes "out of memory")
+  In_gap : IsSaidOf 21 (codes "the local time lies in a gap")
+  In_fold : IsSaidOf 22 (codes "the local time lies in a fold")
+  Out_of_range : IsSaidOf 23 (codes "the local time or its instant is out of range")
+  Unknown_kind : IsSaidOf 31 (codes "no such kind of bytes")
+  Other_size : IsSaidOf 32 (codes "there is room for another count of answers")
+  Not_open : IsSaidOf 33 (codes "no zone is open")
+  Unknown_choice : IsSaidOf 34 (codes "no such choice for gaps and folds")
+  No_change : IsSaidOf 35 (codes "no change of the clocks")
+
+-- the text of a number: what it says, or of a number that says nothing that it is none
+abbrev pub IsTextOf : ℕ → List ℕ → Type 0
+IsTextOf n text = IsSaidOf n text ⊎ (((said : List ℕ) → ¬ (IsSaidOf n said)) × (text ≡ codes "no number of this library"))
 
 -- as much of the text as leaves room for a zero byte, then that byte, then what stood there
 abbrev pub written_over : List ℕ → List ℕ → List ℕ

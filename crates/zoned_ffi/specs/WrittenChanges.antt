@@ -1,6 +1,6 @@
 -- What is written of changes of the clocks.
-use Rattle.std.specs.Prelude.{ℤ, ◌≡◌}
-use Rattle.tz_info.specs.Changes.{IsFirstChange, IsLastChange}
+use Rattle.std.specs.Prelude.{ℕ, ℤ, ◌≡◌, ◌++◌, List, drop, length, map, take}
+use Rattle.tz_info.specs.Changes.{AreChanges, IsFirstChange, IsLastChange}
 use Rattle.tz_info.specs.Zones.{Zone, TypeAt}
 use Rattle.tz_info.specs.declared.change.Change.{Change}
 use Rattle.zoned_ffi.specs.WrittenTypes.{written_type}
@@ -17,3 +17,12 @@ IsFirstWritten z within w = (c : Change) × IsFirstChange (TypeAt z) within c ×
 -- the last one is
 abbrev pub IsLastWritten : Zone → (ℤ → Type 0) → WrittenChange → Type 0
 IsLastWritten z within w = (c : Change) × IsLastChange (TypeAt z) within c × (w ≡ written_change c)
+
+-- what stands in a room once a list is written into it: as many of its elements as there is room for, and then what stood there
+abbrev pub written_into : {A : Type 0} → List A → List A → List A
+written_into new room = take (length room) new ++ drop (length new) room
+
+-- the changes of the stretch are so many, and they are written into the room, in their order
+abbrev pub AreWrittenChanges : Zone → ℤ → ℤ → List WrittenChange → List WrittenChange → ℕ → Type 0
+AreWrittenChanges z from until room written count =
+    (all : List Change) × AreChanges (TypeAt z) from until all × (count ≡ length all) × (written ≡ written_into (map written_change all) room)

@@ -8,10 +8,10 @@ ghost use Rattle.zoned_ffi.specs.Handles.{IsClosed, IsOpen, IsUnanswered};
 ghost use Rattle.zoned_ffi.specs.Instants.{AreOffsetsAt, IsOffsetAt};
 ghost use Rattle.zoned_ffi.specs.Resolved.{AreResolved, IsChoice, IsChoiceOf, IsResolvedAt};
 ghost use Rattle.zoned_ffi.specs.WallClocks.{AreTriples, AreWallClocks, IsWallClockAt};
-ghost use Rattle.zoned_ffi.specs.WrittenChanges.{IsFirstWritten, IsLastWritten};
+ghost use Rattle.zoned_ffi.specs.WrittenChanges.{AreWrittenChanges, IsFirstWritten, IsLastWritten};
 ghost use Rattle.zoned_ffi.specs.WrittenTypes.{AreWrittenTypesAt, IsWrittenTypeAt};
 
-use crate::changes::{WrittenChange, answer_next, answer_previous};
+use crate::changes::{WrittenChange, answer_next, answer_previous, write_changes};
 use crate::handle::Handle;
 use crate::instants::{answer_instants, offset_at};
 use crate::local_type::{WrittenType, answer_types};
@@ -37,8 +37,9 @@ pub extern "C" fn zoned_zone_offset(
     let Some(share) = zone.take(alloc) else {
         return NOT_OPEN;
     };
-    *offset = offset_at(&share, instant);
+    let found = offset_at(&share, instant);
     zone.put(share);
+    *offset = found;
     0
 }
 
@@ -83,8 +84,9 @@ pub extern "C" fn zoned_zone_type(
     let Some(share) = zone.take(alloc) else {
         return NOT_OPEN;
     };
-    *local_type = WrittenType::at(&share, instant);
+    let found = WrittenType::at(&share, instant);
     zone.put(share);
+    *local_type = found;
     0
 }
 
@@ -129,8 +131,9 @@ pub extern "C" fn zoned_zone_wall_clock(
     let Some(share) = zone.take(alloc) else {
         return NOT_OPEN;
     };
-    *clock = WallClock::at(&share, local);
+    let found = WallClock::at(&share, local);
     zone.put(share);
+    *clock = found;
     0
 }
 
@@ -206,8 +209,9 @@ pub extern "C" fn zoned_zone_instant(
     let Some(share) = zone.take(alloc) else {
         return NOT_OPEN;
     };
-    *resolved = Resolved::at(&share, choice, local);
+    let found = Resolved::at(&share, choice, local);
     zone.put(share);
+    *resolved = found;
     0
 }
 
@@ -291,4 +295,31 @@ pub extern "C" fn zoned_zone_previous_change(
     let number = answer_previous(&share, before_or_at, change);
     zone.put(share);
     number
+}
+
+/// Writes the changes of the zone's clocks from the second `from` on and before `until`, as many as
+/// there is room for, and how many there are.
+#[unsafe(no_mangle)]
+pub extern "C" fn zoned_zone_changes(
+    alloc: Global,
+    zone: &mut Handle,
+    from: i64,
+    until: i64,
+    changes: &mut [WrittenChange],
+    count: &mut usize,
+) -> u32
+    // 0: they are written, in their order, and counted. What stood behind them is as it was.
+    ensures answered { result ≡ 0 → (z : Zone) × IsOpen zone.old z
+        × AreWrittenChanges z from until changes.old changes.new count.new }
+    // 33: no zone is open, and nothing is written.
+    ensures refused { result ≢ 0 → (result ≡ 33) × IsClosed zone.old
+        × (changes.new ≡ changes.old) × (count.new ≡ count.old) }
+    ensures kept { zone.new.shared ≡ zone.old.shared }
+{
+    let Some(share) = zone.take(alloc) else {
+        return NOT_OPEN;
+    };
+    *count = write_changes(&share, from, until, changes);
+    zone.put(share);
+    0
 }

@@ -1,9 +1,9 @@
 //! The changes of a zone's clocks, as C reads them.
 
-ghost use Rattle.std.specs.Prelude.{◌≡◌, ◌≢◌, ◌≤ℤ◌, ◌<ℤ◌};
+ghost use Rattle.std.specs.Prelude.{◌≡◌, ◌≢◌, ◌≤ℤ◌, ◌<ℤ◌, slice_set};
 ghost use Rattle.tz_info.specs.Changes.{HasNoChange};
 ghost use Rattle.tz_info.specs.Zones.{TypeAt};
-ghost use Rattle.zoned_ffi.specs.WrittenChanges.{IsFirstWritten, IsLastWritten, written_change};
+ghost use Rattle.zoned_ffi.specs.WrittenChanges.{AreWrittenChanges, IsFirstWritten, IsLastWritten, written_change};
 
 use crate::local_type::WrittenType;
 use crate::refusal::NO_CHANGE;
@@ -60,5 +60,27 @@ pub fn answer_previous(zone: &TimeZone, before_or_at: i64, change: &mut WrittenC
             0
         }
         None => NO_CHANGE,
+    }
+}
+
+/// Writes the changes from the second `from` on and before `until`, in their order, as far as there
+/// is room. Returns how many there are.
+pub fn write_changes(zone: &TimeZone, from: i64, until: i64, changes: &mut [WrittenChange]) -> usize
+    ensures { AreWrittenChanges zone.now from until changes.old changes.new result }
+{
+    let mut count = 0;
+    for change in zone.changes(from, until) {
+        write_at(changes, count, &change);
+        count += 1;
+    }
+    count
+}
+
+// Writes the change at that place, if there is room.
+fn write_at(changes: &mut [WrittenChange], place: usize, change: &Change)
+    ensures { changes.new ≡ slice_set changes.old place (written_change change.now) }
+{
+    if place < changes.len() {
+        changes[place] = WrittenChange::of(change);
     }
 }

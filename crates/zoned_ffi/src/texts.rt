@@ -1,7 +1,7 @@
 //! What a number says, in words.
 
 ghost use Rattle.std.specs.Prelude.{◌≡◌, ◌<◌, ◌∷◌, ◌++◌, ℕ, List, drop, length, suc};
-ghost use Rattle.zoned_ffi.specs.Texts.{written_over};
+ghost use Rattle.zoned_ffi.specs.Texts.{IsTextOf, written_over};
 
 use std::cmp::min;
 
@@ -9,8 +9,10 @@ use std::cmp::min;
 /// byte, and that byte. Returns how many bytes the whole text has.
 #[unsafe(no_mangle)]
 pub extern "C" fn zoned_error_text(number: u32, text: &mut [u8]) -> usize
-    // The text, whose length is returned, is written as far as there is room.
-    ensures { (said : List ℕ) × (result ≡ length said) × (text.new ≡ written_over said text.old) }
+    // The number's text, whose length is returned, is written as far as there is room.
+    ensures written { (said : List ℕ) × IsTextOf number said × (result ≡ length said)
+        × (text.new ≡ written_over said text.old) }
+    ensures short { result < 128 }
 {
     let said = text_of(number).as_bytes();
     if let Some(most) = text.len().checked_sub(1) {
@@ -28,7 +30,9 @@ fn write_text(said: &[u8], text: &mut [u8])
     text[said.len()] = 0;
 }
 
-fn text_of(number: u32) -> &'static str {
+fn text_of(number: u32) -> &'static str
+    ensures { IsTextOf number result.now }
+{
     match number {
         0 => "no error",
         3 => "an offset or a name that no zone can have",

@@ -10,6 +10,7 @@ tested; it is not proved.
 array(['2021-11-07T06:30:00.000'], dtype='datetime64[ms]')
 """
 
+from ._changes import Changes, Time
 from .errors import (
     FoldError,
     GapError,
@@ -22,11 +23,13 @@ from .errors import (
 from .zone import Times, WallClocks, Zone
 
 __all__ = [
+    "Changes",
     "FoldError",
     "GapError",
     "NoOffsetError",
     "OutOfRangeError",
     "RowError",
+    "Time",
     "Times",
     "WallClocks",
     "Zone",

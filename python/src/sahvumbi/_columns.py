@@ -14,8 +14,8 @@ import numpy as np
 
 from .errors import OUT_OF_RANGE, OutOfRangeError, RowError
 
-NAT = np.iinfo(np.int64).min
-GREATEST = np.iinfo(np.int64).max
+NAT = LEAST = int(np.iinfo(np.int64).min)
+GREATEST = int(np.iinfo(np.int64).max)
 PER_SECOND = {
     "s": 1,
     "ms": 10**3,
@@ -125,11 +125,11 @@ class Block:
         far = max(abs(int(offsets.min())), abs(int(offsets.max())))
         if far > GREATEST // column.per_second:
             self._must_fit(sign, offsets)
-        moves = np.multiply(offsets, sign * column.per_second, dtype=np.int64)
         far *= column.per_second
         if self.least - far <= NAT or self.greatest + far > GREATEST:
             self._must_fit(sign, offsets)
-        np.add(self.counted, moves, out=out)
+        np.multiply(offsets, sign * column.per_second, out=out, dtype=np.int64)
+        np.add(self.counted, out, out=out)
         if self.is_nat is not None:
             out[self.is_nat] = NAT
 

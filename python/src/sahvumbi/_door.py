@@ -1,15 +1,17 @@
 """The calls for C on numpy arrays. No other module knows them, nor how a zone is handed over.
 
-A zone is its bytes here, and each call reads them anew, which takes some microseconds. So a call
-should have some thousands of rows. What the calls promise is in
-crates/zoned_ffi/include/zoned_ffi.h.
+A zone is its bytes here, and each call reads them anew, which takes some microseconds: so a call
+should have some thousands of rows, and threads share nothing. Calls that take a handle open one and
+close it. What the calls promise is in crates/zoned_ffi/include/zoned_ffi.h.
 """
 
 from __future__ import annotations
 
 import ctypes
-from ctypes import c_char_p, c_size_t, c_uint32, c_void_p
+from contextlib import contextmanager
+from ctypes import byref, c_char_p, c_int64, c_size_t, c_uint32, c_void_p
 from pathlib import Path
+from typing import Iterator, Optional
 
 import numpy as np
 
@@ -24,7 +26,29 @@ NO_OFFSET = -(2**31)
 #: How often a local time is shown, in the first column of `wall_clocks`.
 NEVER, ONCE, SEVERAL_TIMES, OUT_OF_RANGE = range(4)
 
+#: What `resolved` takes of a local time that clocks skipped; `REFUSE` also of one that they showed
+#: several times.
+REFUSE, SHIFT_FORWARD = range(2)
+
+#: An answer of `resolved`: 0 or why there is no instant, the offset in force there, the instant.
+RESOLVED = np.dtype([("number", np.uint32), ("offset", np.int32), ("instant", np.int64)])
+
+#: A type of local time, and a change from one to another.
+LOCAL_TYPE = np.dtype([("offset", np.int32), ("is_dst", np.int32), ("abbreviation", "S8")])
+CHANGE = np.dtype([("at", np.int64), ("before", LOCAL_TYPE), ("after", LOCAL_TYPE)])
+
+NO_CHANGE = 35
+LEAST = -(2**63)
+# Changes that one call has room for, and seconds that it is asked: a thousand years. Between two
+# calls Python may stop.
+ROOM = 2_048
+STRETCH = 1_000 * 31_556_952
+
 LIBRARY = Path(__file__).with_name("libzoned_ffi.so")
+
+
+class _Handle(ctypes.Structure):
+    _fields_ = [("zone", c_void_p)]
 
 
 def _calls():
@@ -33,9 +57,18 @@ def _calls():
     except OSError as error:
         raise ImportError(f"{LIBRARY} can't be loaded, see python/README.md: {error}") from error
     zone, array = [c_uint32, c_char_p, c_size_t], [c_void_p, c_size_t]
-    for call, arrays in (library.zoned_parse, 0), (library.zoned_at, 2), (library.zoned_wall, 2):
-        call.argtypes = zone + arrays * array
-        call.restype = c_uint32
+    for call, arguments in (
+        (library.zoned_parse, zone),
+        (library.zoned_at, zone + 2 * array),
+        (library.zoned_wall, zone + 2 * array),
+        (library.zoned_open, [*zone, c_void_p]),
+        (library.zoned_close, [c_void_p]),
+        (library.zoned_zone_resolve, [c_void_p, c_uint32, c_uint32] + 2 * array),
+        (library.zoned_zone_next_change, [c_void_p, c_int64, c_void_p]),
+        (library.zoned_zone_changes, [c_void_p, c_int64, c_int64, *array, c_void_p]),
+    ):
+        call.argtypes, call.restype = arguments, c_uint32
+    library.zoned_close.restype = None
     return library
 
 
@@ -64,6 +97,64 @@ class Door:
         return self._asked(
             _LIBRARY.zoned_wall, local_times, np.empty((local_times.size, 3), np.int32)
         )
+
+    def resolved(self, gap: int, fold: int, local_times: np.ndarray) -> np.ndarray:
+        """The instant that the choice takes for each local time, as `RESOLVED`."""
+        answers = np.empty(local_times.size, RESOLVED)
+        if local_times.size:
+            asked, answered = local_times.ctypes.data, answers.ctypes.data
+            with self._opened() as zone:
+                number = _LIBRARY.zoned_zone_resolve(
+                    zone, gap, fold, asked, local_times.size, answered, answers.size
+                )
+            self._must_be_answered(number)
+        return answers
+
+    def changes(self, begin: int, end: int) -> np.ndarray:
+        """The changes from the second `begin` on and before the second `end`, as `CHANGE`."""
+        found: list[np.ndarray] = []
+        with self._opened() as zone:
+            while True:
+                first = self._next_change(zone, begin)
+                if first is None or first >= end:
+                    return np.concatenate(found) if found else np.empty(0, CHANGE)
+                begin = min(end, first + STRETCH)
+                found.append(self._changes_between(zone, first, begin))
+
+    def _next_change(self, zone, begin: int) -> Optional[int]:
+        """The second of the first change from `begin` on, or None."""
+        change = np.empty(1, CHANGE)
+        # No change comes at the least second: one has a second before it.
+        after = max(begin - 1, LEAST)
+        number = _LIBRARY.zoned_zone_next_change(zone, after, change.ctypes.data)
+        if number == NO_CHANGE:
+            return None
+        self._must_be_answered(number)
+        return int(change["at"][0])
+
+    def _changes_between(self, zone, begin: int, end: int) -> np.ndarray:
+        room, count = ROOM, c_size_t()
+        while True:
+            changes = np.empty(room, CHANGE)
+            number = _LIBRARY.zoned_zone_changes(
+                zone, begin, end, changes.ctypes.data, room, byref(count)
+            )
+            self._must_be_answered(number)
+            if count.value <= room:
+                return changes[: count.value]
+            room = count.value
+
+    @contextmanager
+    def _opened(self) -> Iterator:
+        """A handle on the zone: each call has its own, so threads may ask at once."""
+        handle = _Handle()
+        self._must_be_answered(
+            _LIBRARY.zoned_open(self.kind, self.data, len(self.data), byref(handle))
+        )
+        try:
+            yield byref(handle)
+        finally:
+            _LIBRARY.zoned_close(byref(handle))
 
     def _asked(self, call, questions: np.ndarray, answers: np.ndarray) -> np.ndarray:
         if questions.size:

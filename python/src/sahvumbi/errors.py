@@ -10,7 +10,7 @@
 
 from __future__ import annotations
 
-from typing import Any
+from typing import Any, Optional
 
 NO_OFFSET = 2
 GAP = 21
@@ -63,20 +63,27 @@ class RowError(ZoneError):
 
     `row` is its place from 0 on, in the order of the rows (of an array of several dimensions in C
     order), `value` is what stands there, and `label` is its label in the index of a pandas Series,
-    else None.
+    else None. Of an end of a stretch `row` is None, and `label` the end's name.
     """
 
     def __init__(
-        self, row: int, value: Any, number: int, words: str | None = None, label: Any = None
+        self,
+        row: Optional[int],
+        value: Any,
+        number: int,
+        words: Optional[str] = None,
+        label: Any = None,
     ):
         self.row, self.value, self.number, self.label = row, value, number, label
         self.words = words or WORDS[number]
         super().__init__(row, value, number, self.words, label)
 
     def __str__(self) -> str:
-        place = (
-            f"row {self.row}" if self.label is None else f"row {self.row} (label {self.label!r})"
-        )
+        place = f"row {self.row}"
+        if self.row is None:
+            place = str(self.label)
+        elif self.label is not None:
+            place += f" (label {self.label!r})"
         return f"{place}: {self.value}: {self.words} ({self.number})"
 
 

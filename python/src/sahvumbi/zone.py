@@ -9,9 +9,20 @@ from typing import TYPE_CHECKING, Any, NamedTuple, TypeVar, Union
 import numpy as np
 import numpy.typing as npt
 
+from ._changes import Changes, Time, of_stretch
 from ._columns import NAT, Block, Column, taken
-from ._door import FILE, NEVER, NO_OFFSET, ONCE, OUT_OF_RANGE, SEVERAL_TIMES, TEXT, Door
-from ._gaps import offsets_before
+from ._door import (
+    FILE,
+    NEVER,
+    NO_OFFSET,
+    ONCE,
+    OUT_OF_RANGE,
+    REFUSE,
+    SEVERAL_TIMES,
+    SHIFT_FORWARD,
+    TEXT,
+    Door,
+)
 from ._order import in_order
 from .errors import FOLD, GAP, FoldError, GapError, NoOffsetError, OutOfRangeError
 from .errors import NO_OFFSET as HAS_NO_OFFSET
@@ -274,6 +285,33 @@ class Zone:
 
         return pandas.DataFrame(answers._asdict(), index=column.series.index)
 
+    # Changes
+
+    def changes(self, from_: Time, to: Time) -> Changes:
+        """The changes of the zone's clocks from `from_` on and before `to`, as a `Changes`.
+
+        Each is a second at which another type of local time is in force than at the second before
+        it: another offset, mark of daylight saving time or name. A transition of the file that
+        changes nothing is none, and what a rule does after the last transition is one. There are
+        none if `to` is `from_` or comes before it.
+
+        The ends are both numbers of seconds since 1970-01-01 00:00:00 UTC, or both datetime64.
+        Raises ValueError where one is NaT, and `OutOfRangeError` where one doesn't fit 64 bits of
+        seconds. A rule has some two changes in a year, and those of all 64 bits are 8.6 billion, so
+        give a stretch that can be listed.
+
+        >>> new_york = Zone.from_text("EST5EDT,M3.2.0,M11.1.0")
+        >>> changes = new_york.changes(np.datetime64("2021-01-01"), np.datetime64("2022-01-01"))
+        >>> changes.at
+        array(['2021-03-14T07:00:00', '2021-11-07T06:00:00'],
+              dtype='datetime64[s]')
+        >>> changes.name_after
+        array(['EDT', 'EST'], dtype='<U7')
+        >>> new_york.changes(1_609_459_200, 1_640_995_200).offset_after
+        array([-14400, -18000], dtype=int32)
+        """
+        return of_stretch(self._door, from_, to)
+
 
 class _Clocks:
     """How often a block's local times are shown, and the offsets at the first and the last time."""
@@ -296,11 +334,19 @@ class _Clocks:
         if refused.size:
             raise self._refusal(int(refused[0]))
         if gap == "shift" and never.any():
-            skipped = rows[never]
-            self.first[skipped] = self.last[skipped] = offsets_before(
-                self.door, self.block.seconds[skipped]
-            )
+            self._shift(rows[never])
         self.lost = rows[(never & (gap == "nat")) | (several & (fold == "nat"))]
+
+    def _shift(self, skipped: np.ndarray) -> None:
+        """Takes the offset before the gap for the rows that clocks skipped."""
+        block = self.block
+        local_times = block.seconds[skipped]
+        told = self.door.resolved(SHIFT_FORWARD, REFUSE, local_times)
+        outside = skipped[told["number"] != 0]
+        if outside.size:
+            row = block.start + int(outside[0])
+            raise block.column.error(OutOfRangeError, row, IS_OUT_OF_RANGE)
+        self.first[skipped] = self.last[skipped] = local_times - told["instant"]
 
     def write(self, offsets: np.ndarray, answers: np.ndarray) -> None:
         """Writes the instants by these offsets to their rows."""

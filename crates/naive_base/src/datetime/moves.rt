@@ -12,16 +12,23 @@ use offset_core::TimeDelta;
 
 const NANOS_PER_SECOND: i128 = 1_000_000_000;
 
-// The second in which a count of nanoseconds lies, and the nanoseconds since it began.
+// The second in which a count of nanoseconds lies, and the nanoseconds since it began. Counts of
+// the years 1678 to 2261 fit 64 bits, which a processor divides much faster than 128.
 fn split(total: i128) -> (i128, u32)
     ensures second { result.0 ≡ floor_div total 1_000_000_000 }
     ensures rest { result.1 ≡ floor_mod total 1_000_000_000 }
     ensures below { result.1 < 1_000_000_000 }
 {
-    (
-        total.div_euclid(NANOS_PER_SECOND),
-        total.rem_euclid(NANOS_PER_SECOND) as u32,
-    )
+    match i64::try_from(total) {
+        Ok(near) => (
+            near.div_euclid(1_000_000_000) as i128,
+            near.rem_euclid(1_000_000_000) as u32,
+        ),
+        Err(_) => (
+            total.div_euclid(NANOS_PER_SECOND),
+            total.rem_euclid(NANOS_PER_SECOND) as u32,
+        ),
+    }
 }
 
 fn opposite(delta: TimeDelta) -> i128
@@ -167,6 +174,9 @@ impl NaiveDateTime {
         ensures value { result ≡ leap_between (reading self) (reading rhs) }
         ensures bound { IsWithin 1 result }
     {
+        if self.frac < 1_000_000_000 && rhs.frac < 1_000_000_000 {
+            return 0;
+        }
         let here = self.time().num_seconds_from_midnight();
         let there = rhs.time().num_seconds_from_midnight();
         if there < here && rhs.frac >= 1_000_000_000 {

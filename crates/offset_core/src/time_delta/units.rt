@@ -1,5 +1,5 @@
 //! A length of time in each of its units.
-ghost use Rattle.std.specs.Prelude.{◌≡◌, FitsSigned, SomeIff, int_div, int_rem};
+ghost use Rattle.std.specs.Prelude.{◌≡◌, ◌<ℤ◌, pos, FitsSigned, SomeIff, int_div, int_rem};
 ghost use Rattle.std.specs.Int.{w64};
 ghost use Rattle.offset_core.specs.Nanoseconds.{nanos_per_microsecond, nanos_per_millisecond, nanos_per_second, nanos_per_minute, nanos_per_hour, nanos_per_day, nanos_per_week};
 ghost use Rattle.offset_core.specs.TimeDelta.{nanos_of};
@@ -15,42 +15,42 @@ impl TimeDelta {
     pub fn num_weeks(&self) -> i64
         ensures { result ≡ int_div (nanos_of self.now) nanos_per_week }
     {
-        (self.nanos / NANOS_PER_WEEK) as i64
+        self.in_units(NANOS_PER_WEEK as i64) as i64
     }
 
     /// The whole days of 86,400 seconds of this length, toward zero.
     pub fn num_days(&self) -> i64
         ensures { result ≡ int_div (nanos_of self.now) nanos_per_day }
     {
-        (self.nanos / NANOS_PER_DAY) as i64
+        self.in_units(NANOS_PER_DAY as i64) as i64
     }
 
     /// The whole hours of this length, toward zero.
     pub fn num_hours(&self) -> i64
         ensures { result ≡ int_div (nanos_of self.now) nanos_per_hour }
     {
-        (self.nanos / NANOS_PER_HOUR) as i64
+        self.in_units(NANOS_PER_HOUR as i64) as i64
     }
 
     /// The whole minutes of this length, toward zero.
     pub fn num_minutes(&self) -> i64
         ensures { result ≡ int_div (nanos_of self.now) nanos_per_minute }
     {
-        (self.nanos / NANOS_PER_MINUTE) as i64
+        self.in_units(NANOS_PER_MINUTE as i64) as i64
     }
 
     /// The whole seconds of this length, a part of a second left away on either side of zero.
     pub fn num_seconds(&self) -> i64
         ensures { result ≡ int_div (nanos_of self.now) nanos_per_second }
     {
-        (self.nanos / NANOS_PER_SECOND) as i64
+        self.in_units(NANOS_PER_SECOND as i64) as i64
     }
 
     /// The whole milliseconds of this length, toward zero.
     pub fn num_milliseconds(&self) -> i64
         ensures { result ≡ int_div (nanos_of self.now) nanos_per_millisecond }
     {
-        (self.nanos / NANOS_PER_MILLISECOND) as i64
+        self.in_units(NANOS_PER_MILLISECOND as i64) as i64
     }
 
     /// The whole microseconds of this length, toward zero, or `None` where these leave an `i64`.
@@ -58,7 +58,7 @@ impl TimeDelta {
         ensures { let micros = int_div (nanos_of self.now) nanos_per_microsecond in
             SomeIff result (FitsSigned w64 micros) micros }
     {
-        i64::try_from(self.nanos / NANOS_PER_MICROSECOND).ok()
+        i64::try_from(self.in_units(NANOS_PER_MICROSECOND as i64)).ok()
     }
 
     /// All of this length in nanoseconds, or `None` where that leaves an `i64`.
@@ -80,5 +80,18 @@ impl TimeDelta {
         ensures { result ≡ int_rem (nanos_of self.now) nanos_per_second }
     {
         (self.nanos % NANOS_PER_SECOND) as i32
+    }
+
+    // How many whole units of so many nanoseconds the length has, toward zero. Lengths below 292
+    // years fit 64 bits, which a processor divides much faster than 128.
+    #[inline(always)]
+    fn in_units(&self, unit: i64) -> i128
+        requires { pos 0 <ℤ unit }
+        ensures { result ≡ int_div (nanos_of self.now) unit }
+    {
+        match i64::try_from(self.nanos) {
+            Ok(nanos) => (nanos / unit) as i128,
+            Err(_) => self.nanos / unit as i128,
+        }
     }
 }

@@ -1,7 +1,7 @@
 -- The way to the next and to the previous change.
 use Rattle.std.specs.Prelude.{ℕ, ◌<◌, ◌≤◌, ◌+◌, length, neg_ℤ, List, [], ◌∷◌, slice_index_or, ℤ, pos, ◌+ℤ◌, ◌-ℤ◌, ◌*ℤ◌, ◌≤ℤ◌, ◌<ℤ◌, ◌↔◌, ◌≡◌, Option, Some, None, if◌then◌else◌, int_lt}
 use Rattle.naive_base.specs.Year.{year_start}
-use Rattle.tz_info.specs.Changes.{IsChange}
+use Rattle.tz_info.specs.Changes.{IsChange, HasNoChange}
 use Rattle.tz_info.specs.Leaps.{IsLeapTime}
 use Rattle.tz_info.specs.LocalTypes.{LocalType}
 use Rattle.tz_info.specs.Moments.{AlternateAt, IsYearOf, start_in, end_in}
@@ -39,6 +39,11 @@ pub record IsOneOf (seconds : List ℤ) (n : ℕ) (after last u : ℤ) : Type 0 
 -- no change comes at the second, if it lies in the stretch
 abbrev pub IsIdle : (ℤ → LocalType → Type 0) → ℤ → ℤ → ℤ → Type 0
 IsIdle in_force after last second = (d : Change) → IsChange in_force d → d.at ≡ second → IsInStretch after last d.at → ⊥
+
+-- no change comes after that second, up to `last`
+pub record IsIdleUntil (in_force : ℤ → LocalType → Type 0) (after last : ℤ) : Type 0 where
+  pub later : after ≤ℤ last
+  pub none : HasNoChange in_force (IsInStretch after last)
 
 -- the later one of two seconds
 abbrev pub later_of : ℤ → ℤ → ℤ

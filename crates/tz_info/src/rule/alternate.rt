@@ -54,9 +54,9 @@ pub(super) struct Turns {
 // The moments of one year, and from when until when these alone decide.
 #[derive(Clone, Copy)]
 pub(crate) struct Season {
-    from: i64,
-    until: i64,
-    turns: Turns,
+    pub(super) from: i64,
+    pub(super) until: i64,
+    pub(super) turns: Turns,
 }
 
 impl Model for AlternateTime {
@@ -345,6 +345,36 @@ impl AlternateTime {
     {
         &self.dst_type
     }
+
+    /// The day on which daylight saving time starts.
+    pub fn dst_start(&self) -> RuleDay
+        ensures { result ≡ self.now.start.day }
+    {
+        self.dst_start.day
+    }
+
+    /// When on that day it starts: seconds after midnight by the clock of standard time, strictly
+    /// within a week.
+    pub fn dst_start_time(&self) -> i32
+        ensures { result ≡ self.now.start.time }
+    {
+        self.dst_start.time
+    }
+
+    /// The day on which daylight saving time ends.
+    pub fn dst_end(&self) -> RuleDay
+        ensures { result ≡ self.now.end.day }
+    {
+        self.dst_end.day
+    }
+
+    /// When on that day it ends: seconds after midnight by the clock of daylight saving time,
+    /// strictly within a week.
+    pub fn dst_end_time(&self) -> i32
+        ensures { result ≡ self.now.end.time }
+    {
+        self.dst_end.time
+    }
 }
 
 impl Season {
@@ -426,7 +456,7 @@ fn is_any(a: bool, b: bool, c: bool) -> bool
 }
 
 // Whether the second lies in a year that a rule answers in.
-fn is_rule_time(unix_time: i64) -> bool
+pub(super) fn is_rule_time(unix_time: i64) -> bool
     ensures { IsTrue result ↔ IsRuleTime unix_time }
 {
     FIRST_RULE_TIME <= unix_time && unix_time <= LAST_RULE_TIME

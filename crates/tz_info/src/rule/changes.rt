@@ -3,16 +3,19 @@
 //! They do so at moments of the rule, and at a turn of the year where the one moment comes first in
 //! the old year, and the other one in the new. Every 400 years they do so alike.
 
-ghost use Rattle.std.specs.Prelude.{◌≡◌, pos, ◌+ℤ◌, length, ◌<ℤ◌, ◌-ℤ◌, ◌≤ℤ◌, IsTrue, ◌↔◌, FitsSigned, MatchOption};
+ghost use Rattle.std.specs.Prelude.{◌≡◌, pos, ◌+ℤ◌, length, ◌<ℤ◌, ◌-ℤ◌, ◌≤ℤ◌, IsTrue, ◌↔◌, FitsSigned, MatchOption, MatchResult};
 ghost use Rattle.std.specs.Int.{w64};
-ghost use Rattle.tz_info.specs.Changes.{IsChange, HasNoChange, IsFirst, IsLast};
-ghost use Rattle.tz_info.specs.Moments.{AlternateAt, IsRuleYear, IsRuleTime, IsYearOf};
+ghost use Rattle.tz_info.specs.Changes.{IsChange, HasNoChange, IsFirst, IsFirstChange, IsLast, IsLastChange};
+ghost use Rattle.tz_info.specs.Moments.{AlternateAt, IsRuleYear, IsRuleTime, IsYearOf, type_when};
 ghost use Rattle.tz_info.specs.Rules.{IsAlternateRule};
-ghost use Rattle.tz_info.specs.Steps.Changes.{AreFrom, AreUntil, IsAfterIn, IsIdle, IsInStretch, IsOneOf, IsUpToIn, earlier_of, later_of, moments_near, new_year};
+ghost use Rattle.tz_info.specs.Steps.Changes.{AreFrom, AreUntil, IsAfterIn, IsIdle, IsIdleUntil, IsInStretch, IsOneOf, IsUpToIn, earlier_of, later_of, moments_near, new_year};
+ghost use Rattle.tz_info.specs.Steps.Seasons.{IsDecidedIn, IsSeason};
 
 use crate::change::Change;
 use crate::local_time_type::LocalTimeType;
-use crate::rule::alternate::{AlternateTime, FIRST_RULE_TIME, LAST_RULE_TIME, day_of};
+use crate::rule::alternate::{
+    AlternateTime, FIRST_RULE_TIME, LAST_RULE_TIME, Season, day_of, is_rule_time,
+};
 use naive_base::calendar::{year_of, year_start};
 
 // The first and the last of the years that a rule answers in.
@@ -36,8 +39,91 @@ impl Stretch {
 }
 
 impl AlternateTime {
-    // The first change after that second.
+    // The first change after that second: mostly the second's year tells it, or else the next one.
     pub(crate) fn next_change(&self, after: i64) -> Option<Change>
+        ensures { IsFirst (AlternateAt self.now) (λ u. after <ℤ u) result }
+    {
+        match self.next_change_near(after) {
+            Ok(change) => Some(change),
+            Err(second) => self.next_change_behind(second),
+        }
+    }
+
+    // The same where the second's year does not tell it.
+    fn next_change_behind(&self, after: i64) -> Option<Change>
+        ensures { IsFirst (AlternateAt self.now) (λ u. after <ℤ u) result }
+    {
+        match self.next_change_near(after) {
+            Ok(change) => Some(change),
+            Err(second) => self.next_change_by_years(second),
+        }
+    }
+
+    // The first change after that second, where the moments of the second's year tell it, or else a
+    // second up to which none comes.
+    #[inline(always)]
+    fn next_change_near(&self, after: i64) -> Result<Change, i64>
+        ensures { MatchResult result (IsFirstChange (AlternateAt self.now) (λ u. after <ℤ u))
+            (IsIdleUntil (AlternateAt self.now) after) }
+    {
+        if !is_rule_time(after) {
+            return Err(after);
+        }
+        let season = self.season(after);
+        if !season.decides(after) {
+            return Err(after);
+        }
+        self.next_change_amid(season, after)
+    }
+
+    // The same by the season's moments, where these decide at the second.
+    #[inline(always)]
+    fn next_change_amid(&self, season: Season, after: i64) -> Result<Change, i64>
+        requires season { IsSeason self.now season }
+        requires time { IsRuleTime after }
+        requires decides { IsDecidedIn season after }
+        ensures { MatchResult result (IsFirstChange (AlternateAt self.now) (λ u. after <ℤ u))
+            (IsIdleUntil (AlternateAt self.now) after) }
+    {
+        let end = earlier_of(season.until, LAST_RULE_TIME + 1);
+        let moment = season.turns.next_after(after, end);
+        if moment >= end {
+            return Err(moment - 1);
+        }
+        match self.change_amid(season, moment) {
+            Some(change) => Ok(change),
+            None => Err(moment),
+        }
+    }
+
+    // The change at that second, if there is one, by the season's moments.
+    #[inline(always)]
+    fn change_amid(&self, season: Season, second: i64) -> Option<Change>
+        requires season { IsSeason self.now season }
+        requires time { IsRuleTime second }
+        requires decides { IsDecidedIn season second }
+        requires time_before { IsRuleTime (second -ℤ pos 1) }
+        requires decides_before { IsDecidedIn season (second -ℤ pos 1) }
+        ensures { MatchOption result
+            (HasNoChange (AlternateAt self.now) (λ u. u ≡ second))
+            (λ c. IsChange (AlternateAt self.now) c × (c.at ≡ second)) }
+    {
+        let before = self.is_dst_amid(season, second - 1);
+        let after = self.is_dst_amid(season, second);
+        Change::between(second, *self.type_when(before), *self.type_when(after))
+    }
+
+    // The type of daylight saving time, or of standard time.
+    #[inline(always)]
+    fn type_when(&self, is_dst: bool) -> &LocalTimeType
+        ensures { result.now ≡ type_when self.now is_dst }
+    {
+        if is_dst { self.dst() } else { self.std() }
+    }
+
+    // The first change after that second, year by year.
+    #[inline(never)]
+    fn next_change_by_years(&self, after: i64) -> Option<Change>
         ensures { IsFirst (AlternateAt self.now) (λ u. after <ℤ u) result }
     {
         if after > LAST_RULE_TIME {
@@ -100,8 +186,66 @@ impl AlternateTime {
         found
     }
 
-    // The last change up to that second.
+    // The last change up to that second: mostly the second's year tells it, or else the one before.
     pub(crate) fn previous_change(&self, last: i64) -> Option<Change>
+        ensures { IsLast (AlternateAt self.now) (λ u. u ≤ℤ last) result }
+    {
+        match self.previous_change_near(last) {
+            Ok(change) => Some(change),
+            Err(second) => self.previous_change_before(second),
+        }
+    }
+
+    // The same where the second's year does not tell it.
+    fn previous_change_before(&self, last: i64) -> Option<Change>
+        ensures { IsLast (AlternateAt self.now) (λ u. u ≤ℤ last) result }
+    {
+        match self.previous_change_near(last) {
+            Ok(change) => Some(change),
+            Err(second) => self.previous_change_by_years(second),
+        }
+    }
+
+    // The last change up to that second, where the moments of the second's year tell it, or else a
+    // second after which none comes up to that one.
+    #[inline(always)]
+    fn previous_change_near(&self, last: i64) -> Result<Change, i64>
+        ensures { MatchResult result (IsLastChange (AlternateAt self.now) (λ u. u ≤ℤ last))
+            (λ s. IsIdleUntil (AlternateAt self.now) s last) }
+    {
+        if !is_rule_time(last) {
+            return Err(last);
+        }
+        let season = self.season(last);
+        if !season.decides(last) {
+            return Err(last);
+        }
+        self.previous_change_amid(season, last)
+    }
+
+    // The same by the season's moments, where these decide at the second.
+    #[inline(always)]
+    fn previous_change_amid(&self, season: Season, last: i64) -> Result<Change, i64>
+        requires season { IsSeason self.now season }
+        requires time { IsRuleTime last }
+        requires decides { IsDecidedIn season last }
+        ensures { MatchResult result (IsLastChange (AlternateAt self.now) (λ u. u ≤ℤ last))
+            (λ s. IsIdleUntil (AlternateAt self.now) s last) }
+    {
+        let begin = later_of(season.from, FIRST_RULE_TIME);
+        let moment = season.turns.last_up_to(last, begin);
+        if moment <= begin {
+            return Err(moment);
+        }
+        match self.change_amid(season, moment) {
+            Some(change) => Ok(change),
+            None => Err(moment - 1),
+        }
+    }
+
+    // The last change up to that second, year by year.
+    #[inline(never)]
+    fn previous_change_by_years(&self, last: i64) -> Option<Change>
         ensures { IsLast (AlternateAt self.now) (λ u. u ≤ℤ last) result }
     {
         if last <= FIRST_RULE_TIME {

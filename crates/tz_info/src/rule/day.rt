@@ -20,9 +20,9 @@ use naive_base::calendar::{
 };
 use std::marker::Model;
 
-// The three forms of a date in a TZ text.
+/// The three forms of a date in a TZ text.
 #[derive(Clone, Copy, Debug, PartialEq, Eq)]
-enum DayForm {
+pub enum DayForm {
     /// `Jn`: the n-th of the 365 dates of a common year; 29 February is never counted.
     Julian1(u16),
     /// `n`: n days after 1 January; 29 February is counted.
@@ -130,6 +130,23 @@ impl RuleDay {
         Ok(RuleDay {
             form: DayForm::MonthWeekday(month, week, weekday),
         })
+    }
+}
+
+impl RuleDay {
+    ghost use Rattle.tz_info.specs.RuleDays.{IsRuleDay};
+
+    /// The day's form and its numbers, which are in their limits.
+    ///
+    /// ```text
+    /// let day = RuleDay::month_weekday(3, 2, 0)?;
+    /// let form = day.form();                         // DayForm::MonthWeekday(3, 2, 0)
+    /// ```
+    pub fn form(self) -> DayForm
+        ensures value { result ≡ self }
+        ensures limits { IsRuleDay result }
+    {
+        self.form
     }
 }
 

@@ -1,8 +1,8 @@
-//! From one moment of a rule to the next.
+//! From one moment of a rule to the next, and to the one before.
 
-ghost use Rattle.std.specs.Prelude.{◌<ℤ◌};
+ghost use Rattle.std.specs.Prelude.{◌≤ℤ◌, ◌<ℤ◌};
 ghost use Rattle.tz_info.specs.Moments.{IsRuleTime};
-ghost use Rattle.tz_info.specs.Steps.NextMoments.{IsNextAfter, IsSteadyUntil};
+ghost use Rattle.tz_info.specs.Steps.NextMoments.{IsLastUpTo, IsNextAfter, IsSteadyUntil};
 
 use crate::rule::alternate::{AlternateTime, Turns, day_of};
 use naive_base::calendar::{year_of, year_start};
@@ -24,12 +24,22 @@ impl AlternateTime {
 
 impl Turns {
     // The earliest of the two moments and that second, of those that come after the other second.
-    fn next_after(self, unix_time: i64, most: i64) -> i64
+    pub(super) fn next_after(self, unix_time: i64, most: i64) -> i64
         requires { unix_time <ℤ most }
         ensures { IsNextAfter self.start self.end unix_time most result }
     {
         let first = earlier_after(unix_time, self.start, most);
         earlier_after(unix_time, self.end, first)
+    }
+
+    // The latest of the two moments and that second, of those that do not come after the other
+    // second.
+    pub(super) fn last_up_to(self, unix_time: i64, least: i64) -> i64
+        requires { least ≤ℤ unix_time }
+        ensures { IsLastUpTo self.start self.end unix_time least result }
+    {
+        let last = later_up_to(unix_time, self.start, least);
+        later_up_to(unix_time, self.end, last)
     }
 }
 
@@ -42,5 +52,17 @@ fn earlier_after(unix_time: i64, moment: i64, most: i64) -> i64
         moment
     } else {
         most
+    }
+}
+
+// The moment, where it comes after the least second and not after the other, or else the least.
+fn later_up_to(unix_time: i64, moment: i64, least: i64) -> i64
+    requires { least ≤ℤ unix_time }
+    ensures { IsLastUpTo moment moment unix_time least result }
+{
+    if least < moment && moment <= unix_time {
+        moment
+    } else {
+        least
     }
 }

@@ -9,7 +9,7 @@ ghost use Rattle.std.specs.Int.{w64};
 ghost use Rattle.tz_info.specs.Changes.{IsChange, HasNoChange, IsFirst, IsLast};
 ghost use Rattle.tz_info.specs.Leaps.{AreLeapSeconds, IsLeapTime, IsLeapTimeRefused};
 ghost use Rattle.tz_info.specs.Steps.Changes.{AreAhead, ComesAt, HasNoneAt, IsBegin, IsByRuleAfter, IsByRuleUpTo, IsInTableAfter, IsInTableUpTo};
-ghost use Rattle.tz_info.specs.Zones.{TypeAt};
+ghost use Rattle.tz_info.specs.Zones.{HasType, TypeAt};
 ghost use Rattle.tz_info.specs.declared.rule.transition_rule.TransitionRule.TheVariants.{Alternate};
 
 use crate::change::Change;
@@ -188,6 +188,9 @@ impl TimeZone {
     {
         let _types = self.local_time_types();
         let begin = self.rule_begin();
+        if begin >= last as i128 {
+            return None;
+        }
         match turns.previous_change(last) {
             None => None,
             Some(change) => change.if_after(begin),
@@ -201,11 +204,44 @@ impl TimeZone {
             (λ c. IsChange (TypeAt self.now) c × ComesAt self.now place c.at) }
     {
         let _types = self.local_time_types();
+        if self.leap_seconds.is_empty() {
+            return self.change_without_leaps(place);
+        }
         let start = self.start_of(place);
         if start > i64::MAX as i128 {
             return None;
         }
         self.change_at(start as i64)
+    }
+
+    // The same without leap seconds: each transition comes at its own time, and they come one after
+    // another, so that the transitions tell both types.
+    fn change_without_leaps(&self, place: usize) -> Option<Change>
+        requires place { place < length self.now.transitions }
+        requires leaps { length self.now.leaps ≡ 0 }
+        ensures { MatchOption result (HasNoneAt self.now place)
+            (λ c. IsChange (TypeAt self.now) c × ComesAt self.now place c.at) }
+    {
+        let _types = self.local_time_types();
+        let mut probes = Probes::new();
+        let here = self.transition(place, &mut probes);
+        if here.unix_leap_time == i64::MIN {
+            return None;
+        }
+        let before = self.latest(place, &mut probes);
+        Change::between(
+            here.unix_leap_time,
+            *self.listed(before.type_index),
+            *self.listed(here.type_index),
+        )
+    }
+
+    // The type of that index.
+    fn listed(&self, index: usize) -> &LocalTimeType
+        requires { index < length self.now.types }
+        ensures { HasType self.now index result.now }
+    {
+        &self.local_types[index]
     }
 
     // The change at that second, if there is one.

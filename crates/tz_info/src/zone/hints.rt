@@ -1,7 +1,7 @@
 //! Hints at the places of items that come in order of time.
 //!
-//! The time from the first item on is cut into stretches of equal length, one or two for each
-//! item, and of each stretch a hint says which item is the last one before it. The latest item at a
+//! The time from the first item on is cut into stretches of equal length, one for each item or for
+//! two of them, and of each stretch a hint says which item is the last one before it. The latest item at a
 //! second of a stretch is then the one of its hint, or one of the few up to that of the next hint.
 
 ghost use Rattle.std.specs.Prelude.{◌≡◌, ◌+◌, ◌*◌, ◌/◌, ◌^◌, ◌<◌, ◌≤◌, ◌≤ℤ◌, ◌-ℤ◌, pos, suc, length, map, List, ℤ, ℕ, slice_index, MatchOption, MatchResult, ⊤};
@@ -54,7 +54,7 @@ impl Hints {
         }
         let first = items[0].second();
         let span = seconds_between(first, items[count - 1].second());
-        let shift = shift_for(span, 2 * count as u64);
+        let shift = shift_for(span, count as u64);
         let mut places = vec![in alloc; 0; (span >> shift) as usize + 2]?;
         let most = fill(&mut places, items, first, shift);
         if 2 * (most as usize + 1) > count {

@@ -2,6 +2,7 @@
 //! after them.
 
 ghost use Rattle.std.specs.Prelude.{◌≡◌, pos, ◌+◌, ◌*◌, ◌<◌, ◌≤◌, length, MatchResult, ◌⊎◌, option_map};
+ghost use Rattle.std.specs.List.{slice_get};
 ghost use Rattle.tz_info.specs.Errors.{IsLocalTimeTypeError, IsOutOfMemory, IsOutOfRangeError, IsTimeZoneError};
 ghost use Rattle.tz_info.specs.Leaps.{IsLeapTime, IsLeapTimeRefused, IsUnixTime, IsUnixTimeRefused};
 ghost use Rattle.tz_info.specs.LocalTypes.{IsUtOffset};
@@ -16,6 +17,7 @@ use crate::zone::extremes::{Extremes, extremes_of};
 use crate::zone::index::Index;
 use crate::zone::leap_second::LeapSecond;
 use crate::zone::leap_time::{leap_time, unix_time};
+use crate::zone::probes::Probes;
 use crate::zone::segments::Lists;
 use crate::zone::table::Table;
 use crate::zone::transition::Transition;
@@ -246,6 +248,24 @@ impl TimeZone {
             let _rule = turns.std();
         }
         &self.local_types
+    }
+
+    /// The transition at that place, from 0 in the order of time, or `None` if there are no so many.
+    pub fn transition_at(&self, place: usize) -> Option<Transition>
+        ensures { result ≡ slice_get self.now.transitions place }
+    {
+        if place >= self.transition_count() {
+            return None;
+        }
+        let mut probes = Probes::new();
+        Some(self.transition(place, &mut probes))
+    }
+
+    /// The leap seconds that the zone lists, in the order of time.
+    pub fn leap_seconds(&self) -> &[LeapSecond]
+        ensures { result.now ≡ self.now.leaps }
+    {
+        &self.leap_seconds
     }
 
     /// How many leap seconds the zone has.

@@ -108,7 +108,7 @@ impl TimeZone {
 
     // The last of the first so many transitions; before all of them the first type is in force,
     // from the least time on.
-    fn latest(&self, passed: usize, probes: &mut Probes) -> Transition
+    pub(super) fn latest(&self, passed: usize, probes: &mut Probes) -> Transition
         requires passed { passed ≤ length self.now.transitions }
         requires room { HasRoomFor 1 probes.old.reads }
         ensures begin { result.unix_leap_time ≡ begin_of self.now.transitions passed }

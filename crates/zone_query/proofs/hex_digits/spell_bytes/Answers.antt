@@ -3,9 +3,6 @@ use Rattle.zone_query.proofs.HexLaws.{digits_spell, not_hex, hex_at, all_hex_fro
 use Rattle.zone_query.proofs.WordLaws.{refuted}
 use Rattle.zone_query.proofs.hex_digits.spell_bytes.Goals as goal
 
-pub returns-then-digits-ne0 : goal.returns-then-digits-ne0
-returns-then-digits-ne0 c = sym (refuted _ (digits_spell c.args.digits.now) (λ d. c.if-digits-ne0.true d.0))
-
 pub returns-then-not-is_ascii_hexdigit : goal.returns-then-not-is_ascii_hexdigit
 returns-then-not-is_ascii_hexdigit c =
     sym (refuted _ (digits_spell c.args.digits.now) (λ d. not_hex (get_or c.args.digits.now c.loop-digit.digit-index 0) c.if-not-is_ascii_hexdigit.ensures.cases (hex_at c.args.digits.now c.loop-digit.digit-index c.loop-digit-test.true d.1)))

@@ -1,5 +1,4 @@
 use Rattle.std.proofs.Common.{arith, take, [], ◌++◌, None}
-use Rattle.std.proofs.lemmas.Result.{on_ok_weaker}
 use Rattle.zone_query.proofs.Bytes.{appends_join, consumes_join, still_works}
 use Rattle.zone_query.proofs.Joining.{answered_join}
 use Rattle.zone_query.proofs.Ending.{not_failed, ended_now, block_stopped, stop_passed_on, reader_ended}
@@ -54,6 +53,3 @@ returns-in-Ok-eq0-clause-answers g c =
     (read.ensures.bytes.1 none (omega (arith, c.read.auto.buf)))
     (not_failed c.read.new.self.failed c.loop.reader.failed read.ensures.failed kept.reader_works)
     f.2 f.3 f.4 (rw none at read.ensures.bytes.0) c.finish.ensures.ok c.finish.ensures.err
-
-pub returns-in-Ok-eq0-clause-sent : goal.returns-in-Ok-eq0-clause-sent
-returns-in-Ok-eq0-clause-sent g c = on_ok_weaker c.finish.result (λ ok. c.finish.ensures.sent ok.0) c.finish.ensures.ok

@@ -7,4 +7,4 @@ returns-clause-answered c = λ zero.
     let zone = c.deref-2.result.now in
     let local : FitsSigned w64 c.args.local = c.ranges.local in
     let kept : IsOpen c.args.zone.now zone = search rules in
-    (c.in-Some.choice, c.in-Some.ensures, (zone, kept, simp to_z-of_z at c.at.ensures))
+    (c.in-Some.choice, c.in-Some.ensures, (zone, kept, simp to_z-of_z at c.at-found.ensures))

@@ -7,4 +7,4 @@ returns-clause-answered c = λ zero.
     let zone = c.deref-2.result.now in
     let instant : FitsSigned w64 c.args.instant = c.ranges.instant in
     let kept : IsOpen c.args.zone.now zone = search rules in
-    (zone, kept, simp to_z-of_z at c.at.ensures)
+    (zone, kept, simp to_z-of_z at c.at-found.ensures)

@@ -1,5 +1,4 @@
-use Rattle.tz_info.proofs.FaultNumbers.{text_low}
-use Rattle.tz_info.proofs.TextLaws.{one_fault, refused_or_spelled}
+use Rattle.tz_info.proofs.TextLaws.{one_fault, refused_or_spelled, text_low}
 use Rattle.tz_info.proofs.laws.texts.fault_or_rule.Goals as goal
 
 pub returns-clause-apart : goal.returns-clause-apart

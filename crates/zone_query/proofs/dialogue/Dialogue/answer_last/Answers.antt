@@ -1,14 +1,6 @@
-use Rattle.std.proofs.Common.{[], ap, refl, length}
-use Rattle.zone_query.proofs.Bytes.{appends_same}
-use Rattle.zone_query.proofs.Stopping.{no_items, some_items, last_replied, last_not_replied}
+use Rattle.std.proofs.Common.{ap, length}
+use Rattle.zone_query.proofs.Stopping.{some_items, last_replied, last_not_replied}
 use Rattle.zone_query.proofs.dialogue.Dialogue.answer_last.Goals as goal
-
-pub returns-then-is_empty-clause-ok : goal.returns-then-is_empty-clause-ok
-returns-then-is_empty-clause-ok g c =
-    let w = g.W.Write.contents in
-    let begun = c.args.self.now.begun in
-    let none = no_items c.is_empty.result _ begun.items c.is_empty.ensures c.if-is_empty.true (ap length c.as_slice-last.ensures.value) in
-    (c.requires, ([], rw none refl, appends_same (w c.args.writer.now.inner)))
 
 pub returns-clause-ok : goal.returns-clause-ok
 returns-clause-ok g c =

@@ -1,20 +1,14 @@
-use Rattle.std.proofs.Common.{arith, w64, to_z-of_z, rules, pos, ◌-ℤ◌}
+use Rattle.std.proofs.Common.{w64, to_z-of_z, rules}
 use mir.Val.{SFits}
-use Rattle.std.proofs.lemmas.Int.{ints}
-use Rattle.tz_info.proofs.RuleChanges.{none_early, until_last}
+use Rattle.tz_info.specs.Moments.{AlternateAt}
+use Rattle.tz_info.proofs.SeasonChanges.{last_back}
 use Rattle.tz_info.proofs.rule.alternate.AlternateTime.previous_change.Goals as goal
 
-pub returns-then-last-le-FIRST_RULE_TIME : goal.returns-then-last-le-FIRST_RULE_TIME
-returns-then-last-le-FIRST_RULE_TIME c = let fa = c.ranges.last in none_early c.args.self.now c.args.last (omega (arith, ints))
+pub returns-in-Ok : goal.returns-in-Ok
+returns-in-Ok c = let fa = c.ranges.last in simp to_z-of_z at c.in-Ok.ensures
 
-pub previous_change_from-requires-clause-until : goal.previous_change_from-requires-clause-until
-previous_change_from-requires-clause-until c =
+pub returns-in-Err : goal.returns-in-Err
+returns-in-Err c =
     let fa = c.ranges.last in
-    let late = c.if-last-le-FIRST_RULE_TIME.false in
-    let fb : SFits w64 (c.args.last -ℤ pos 1) = omega (arith, ints) in
-    let fs : SFits w64 c.earlier_of-second.result = search rules in
-    let ff : SFits w64 c.rule_year_of-first.result = search rules in
-    simp to_z-of_z (until_last c.args.self.now c.args.last c.rule_year_of-first.result c.earlier_of-second.result (simp to_z-of_z at c.rule_year_of-first.ensures.year) (simp to_z-of_z at c.earlier_of-second.ensures))
-
-pub returns : goal.returns
-returns c = let fa = c.ranges.last in simp to_z-of_z at c.previous_change_from.ensures
+    let fs : SFits w64 c.in-Err.second = search rules in
+    last_back (AlternateAt c.args.self.now) c.in-Err.second c.args.last c.previous_change_before.result (simp to_z-of_z at c.in-Err.ensures) (simp to_z-of_z at c.previous_change_before.ensures)

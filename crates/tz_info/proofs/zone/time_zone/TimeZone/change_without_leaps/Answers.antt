@@ -1,0 +1,17 @@
+use Rattle.std.proofs.Common.{ap, w64, to_z, of_z, to_z-of_z, rules}
+use mir.Val.{SFits}
+use Rattle.tz_info.proofs.LeaplessChanges.{made, none_made}
+use Rattle.tz_info.proofs.zone.time_zone.TimeZone.change_without_leaps.Goals as goal
+
+pub returns-then-here : goal.returns-then-here
+returns-then-here c =
+    let t = c.transition-here.result in
+    let ft : SFits w64 t.unix_leap_time = search rules in
+    none_made c.args.self.now c.args.place t c.local_time_types-types.ensures.valid c.requires.leaps c.requires.place c.transition-here.ensures.item (simp to_z-of_z at (ap (to_z w64) c.if-here.true))
+
+pub returns : goal.returns
+returns c =
+    let t = c.transition-here.result in
+    let ft : SFits w64 t.unix_leap_time = search rules in
+    made c.args.self.now c.args.place t c.listed.result.now c.listed-2.result.now c.between.result c.local_time_types-types.ensures.valid c.requires.leaps c.requires.place c.transition-here.ensures.item
+    (λ e. c.if-here.false (ap (of_z w64) e)) ft (rw c.latest-before.ensures.index at c.listed.ensures) c.listed-2.ensures (simp to_z-of_z at c.between.ensures)

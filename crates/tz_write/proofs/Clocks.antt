@@ -1,0 +1,322 @@
+-- The texts of offsets and of times of day.
+use Rattle.std.proofs.Common.{◌≡◌, ℕ, zero, suc, ℤ, pos, negsuc, neg_ℤ, ◌+◌, ◌*◌, ◌/◌, ◌%◌, ◌<◌, ◌≤◌, arith, refl, ap, ◌∙◌, sym, subst, List, [], ◌∷◌, ◌++◌, append_assoc, Bool, true, false, not, ◌&&◌, ◌==◌, inl, inr, ◌⊎◌, cond, unsigned_abs}
+use Rattle.std.specs.Fmt.{decimal}
+use Rattle.std.proofs.lemmas.Int.{ints}
+use Rattle.std.proofs.lemmas.Bool.{both_ways, false≢true}
+use Rattle.std.proofs.lemmas.Bool.Decides.{nat_tests}
+use Rattle.offset_core.specs.Offset.{IsWithinDay}
+use Rattle.tz_info.specs.Fronts.{is_digit}
+use Rattle.tz_info.specs.Pieces.{NoneFirst, Without, Optional, Seconds, MinutesSeconds, HoursMinutesSeconds, Sign, seconds_of, Duration, Offset, TimeSign, time_limit, Time, clock_max, colon, plus, minus}
+use Rattle.tz_info.specs.Rules.{IsWithinWeek}
+use Rattle.tz_write.specs.WrittenTexts.{AreInPairs}
+use Rattle.tz_write.specs.Steps.TextPieces.{pair_text, seconds_text, minutes_text, clock_text_of, clock_text, signed_text, offset_text, time_text, is_positive, is_negative, IsPlainTime, IsTimeOf}
+use Rattle.tz_write.proofs.Shortest.{Front, front_then, front_cons, front_longer, front_nothing, front_any, pairs_after}
+use Rattle.tz_write.proofs.Decimals.{number_spelled, pair_spelled, number_front, pair_front, pairs_number, pairs_pair, first_digit, digit_least, digit_most}
+
+-- nothing that goes on with an offset or a time: no digit and no colon
+abbrev pub Stops : List ℕ → Type 0
+Stops rest = NoneFirst is_digit rest × Without colon rest
+
+-- ---- seconds
+pub seconds_spelled : (s : ℕ) (rest : List ℕ) → s ≤ 59 → Stops rest → Seconds (seconds_text s ++ rest) s rest
+seconds_spelled s rest h stops = elim (s == 0) as (λ t. (s == 0) ≡ t → Seconds (cond t [] (pair_text s) ++ rest) s rest) [
+  | true ↦ λ e. let z : s ≡ 0 = grind (arith, nat_tests) in inr (stops.1, (z, refl))
+  | false ↦ λ e. inl (_, refl, pair_spelled clock_max s rest (omega arith) (omega arith) stops.0)
+] refl
+
+seconds_stop : (s : ℕ) (rest : List ℕ) → Stops rest → NoneFirst is_digit (seconds_text s ++ rest)
+seconds_stop s rest stops = elim (s == 0) as (λ t. NoneFirst is_digit (cond t [] (pair_text s) ++ rest)) [ true ↦ stops.0 | false ↦ refl ]
+
+seconds_front : (bytes : List ℕ) (s : ℕ) (rest : List ℕ) → AreInPairs bytes → Seconds bytes s rest → Front (seconds_text s) bytes rest
+seconds_front bytes s rest pairs h = elim (s == 0) as (λ t. (s == 0) ≡ t → Front (cond t [] (pair_text s)) bytes rest) [
+  | true ↦ λ e. elim h [
+    | inl a ↦ front_any (pair_text s) bytes rest (pair_front clock_max bytes a.0 s rest a.1 pairs a.2)
+    | inr b ↦ front_nothing bytes rest b.1.1
+  ]
+  | false ↦ λ e. elim h [
+    | inl a ↦ pair_front clock_max bytes a.0 s rest a.1 pairs a.2
+    | inr b ↦ let z = b.1.0 in absurd (grind (arith, nat_tests))
+  ]
+] refl
+
+seconds_pairs : (s : ℕ) (rest : List ℕ) → s ≤ 59 → Stops rest → AreInPairs rest → AreInPairs (seconds_text s ++ rest)
+seconds_pairs s rest h stops pairs = elim (s == 0) as (λ t. AreInPairs (cond t [] (pair_text s) ++ rest)) [
+  | true ↦ pairs
+  | false ↦ pairs_pair s rest (omega arith) stops.0 pairs
+]
+
+-- ---- minutes and seconds
+both_zero : (m s : ℕ) → ((m == 0) && (s == 0)) ≡ true → (m ≡ 0) × (s ≡ 0)
+both_zero m s e = (grind (arith, nat_tests), grind (arith, nat_tests))
+
+pub minutes_spelled : (m s : ℕ) (rest : List ℕ) → m ≤ 59 → s ≤ 59 → Stops rest → Optional colon (0, 0) MinutesSeconds (minutes_text m s ++ rest) (m, s) rest
+minutes_spelled m s rest a b stops = elim ((m == 0) && (s == 0)) as (λ t. ((m == 0) && (s == 0)) ≡ t → Optional colon (0, 0) MinutesSeconds (cond t [] (pair_text m ++ seconds_text s) ++ rest) (m, s) rest) [
+  | true ↦ λ e. let z = both_zero m s e in let x = z.0 in let y = z.1 in inr (stops.1, (rw (x, y) refl, refl))
+  | false ↦ λ e. inl (
+    _,
+    refl,
+    record {
+      after = seconds_text s ++ rest;
+      minutes = pair_spelled clock_max m (seconds_text s ++ rest) (omega arith) (omega arith) (seconds_stop s rest stops);
+      seconds = seconds_spelled s rest b stops;
+    },
+  )
+] refl
+
+minutes_stop : (m s : ℕ) (rest : List ℕ) → Stops rest → NoneFirst is_digit (minutes_text m s ++ rest)
+minutes_stop m s rest stops = elim ((m == 0) && (s == 0)) as (λ t. NoneFirst is_digit (cond t [] (pair_text m ++ seconds_text s) ++ rest)) [ true ↦ stops.0 | false ↦ refl ]
+
+minutes_given : (bytes after : List ℕ) (m s : ℕ) (rest : List ℕ) → bytes ≡ colon ∷ after → AreInPairs bytes → MinutesSeconds after (m, s) rest → Front (pair_text m ++ seconds_text s) bytes rest
+minutes_given bytes after m s rest e pairs h =
+    let p = pair_front clock_max bytes after m h.after e pairs h.minutes in
+    front_then _ _ bytes h.after rest p (seconds_front h.after s rest (pairs_after _ bytes h.after p pairs) h.seconds)
+
+minutes_front : (bytes : List ℕ) (m s : ℕ) (rest : List ℕ) → AreInPairs bytes → Optional colon (0, 0) MinutesSeconds bytes (m, s) rest → Front (minutes_text m s) bytes rest
+minutes_front bytes m s rest pairs h = elim ((m == 0) && (s == 0)) as (λ t. ((m == 0) && (s == 0)) ≡ t → Front (cond t [] (pair_text m ++ seconds_text s)) bytes rest) [
+  | true ↦ λ e. elim h [
+    | inl a ↦ front_any _ bytes rest (minutes_given bytes a.0 m s rest a.1 pairs a.2)
+    | inr b ↦ front_nothing bytes rest b.1.1
+  ]
+  | false ↦ λ e. elim h [
+    | inl a ↦ minutes_given bytes a.0 m s rest a.1 pairs a.2
+    | inr b ↦ let x : m ≡ 0 = ap (λ (p : ℕ × ℕ). p.0) b.1.0 in let y : s ≡ 0 = ap (λ (p : ℕ × ℕ). p.1) b.1.0 in absurd (grind (arith, nat_tests))
+  ]
+] refl
+
+minutes_pairs : (m s : ℕ) (rest : List ℕ) → m ≤ 59 → s ≤ 59 → Stops rest → AreInPairs rest → AreInPairs (minutes_text m s ++ rest)
+minutes_pairs m s rest a b stops pairs = elim ((m == 0) && (s == 0)) as (λ t. AreInPairs (cond t [] (pair_text m ++ seconds_text s) ++ rest)) [
+  | true ↦ pairs
+  | false ↦ pairs_pair m (seconds_text s ++ rest) (omega arith) (seconds_stop s rest stops) (seconds_pairs s rest b stops pairs)
+]
+
+-- ---- hours, minutes and seconds
+pub hours_spelled : (h m s : ℕ) (rest : List ℕ) → h < 1000 → m ≤ 59 → s ≤ 59 → Stops rest → HoursMinutesSeconds (clock_text_of h m s ++ rest) (h, m, s) rest
+hours_spelled h m s rest l a b stops = rw (append_assoc (decimal h) (minutes_text m s) rest) (record {
+  after = minutes_text m s ++ rest;
+  hours = number_spelled clock_max h (minutes_text m s ++ rest) l (omega arith) (minutes_stop m s rest stops);
+  others = minutes_spelled m s rest a b stops;
+})
+
+hours_front : (bytes : List ℕ) (h m s : ℕ) (rest : List ℕ) → h < 1000 → AreInPairs bytes → HoursMinutesSeconds bytes (h, m, s) rest → Front (clock_text_of h m s) bytes rest
+hours_front bytes h m s rest l pairs p =
+    let f = number_front clock_max bytes h p.after l p.hours in
+    front_then _ _ bytes p.after rest f (minutes_front p.after m s rest (pairs_after _ bytes p.after f pairs) p.others)
+
+hours_pairs : (h m s : ℕ) (rest : List ℕ) → h < 1000 → m ≤ 59 → s ≤ 59 → Stops rest → AreInPairs rest → AreInPairs (clock_text_of h m s ++ rest)
+hours_pairs h m s rest l a b stops pairs = rw (append_assoc (decimal h) (minutes_text m s) rest) (pairs_number h (minutes_text m s ++ rest) l (minutes_pairs m s rest a b stops pairs))
+
+-- ---- durations
+abbrev signed : Bool → ℕ → ℤ
+signed negative n = cond negative (neg_ℤ (pos n)) (pos n)
+
+pub duration_spelled : (limit : ℕ) (negative : Bool) (n : ℕ) (z : ℤ) (rest : List ℕ) → n / 3600 ≤ limit → limit < 1000 → signed negative n ≡ z → Stops rest → Duration limit negative (clock_text n ++ rest) z rest
+unfolding clock_text
+duration_spelled limit negative n z rest l k v stops =
+    let e : 3600 * (n / 3600) + 60 * (n / 60 % 60) + n % 60 ≡ n = omega arith in
+    record {
+      h = n / 3600;
+      m = n / 60 % 60;
+      s = n % 60;
+      spelled = hours_spelled (n / 3600) (n / 60 % 60) (n % 60) rest (omega arith) (omega arith) (omega arith) stops;
+      hours = l;
+      minutes = omega arith;
+      seconds = omega arith;
+      value = rw e v;
+    }
+
+abs_neg : (n : ℕ) → unsigned_abs (neg_ℤ (pos n)) ≡ n
+abs_neg zero = refl
+abs_neg (suc n) = refl
+
+abs_signed : (negative : Bool) (n : ℕ) → unsigned_abs (signed negative n) ≡ n
+abs_signed true n = abs_neg n
+abs_signed false n = refl
+
+pub duration_front : (limit : ℕ) (negative : Bool) (bytes : List ℕ) (z : ℤ) (rest : List ℕ) → limit < 1000 → AreInPairs bytes → Duration limit negative bytes z rest → Front (clock_text (unsigned_abs z)) bytes rest
+unfolding clock_text
+duration_front limit negative bytes z rest l pairs d =
+    let a = d.minutes in let b = d.seconds in let c = d.hours in
+    let f = hours_front bytes d.h d.m d.s rest (omega arith) pairs d.spelled in
+    let n : unsigned_abs z ≡ 3600 * d.h + 60 * d.m + d.s = sym (ap unsigned_abs d.value) ∙ abs_signed negative _ in
+    let x : unsigned_abs z / 3600 ≡ d.h = omega arith in
+    let y : unsigned_abs z / 60 % 60 ≡ d.m = omega arith in
+    let w : unsigned_abs z % 60 ≡ d.s = omega arith in
+    rw (x, y, w) f
+
+pub clock_pairs : (n : ℕ) (rest : List ℕ) → n / 3600 < 1000 → Stops rest → AreInPairs rest → AreInPairs (clock_text n ++ rest)
+unfolding clock_text
+clock_pairs n rest l stops pairs = hours_pairs (n / 3600) (n / 60 % 60) (n % 60) rest l (omega arith) (omega arith) stops pairs
+
+-- a time begins with a digit
+pub clock_first : (n : ℕ) (rest : List ℕ) → n / 3600 < 1000 → (d : ℕ) × (ds : List ℕ) × (clock_text n ++ rest ≡ d ∷ ds) × (is_digit d ≡ true)
+unfolding clock_text
+clock_first n rest l = let f = first_digit (n / 3600) l in let e = f.2 in (f.0, (f.1 ++ minutes_text (n / 60 % 60) (n % 60)) ++ rest, rw e refl, f.3)
+
+pub clock_without : (t n : ℕ) (rest : List ℕ) → t < 48 → n / 3600 < 1000 → Without t (clock_text n ++ rest)
+clock_without t n rest h l = let f = clock_first n rest l in let m = digit_least f.0 f.3 in rw f.2 (λ e. absurd (omega arith))
+
+-- ---- signs
+-- how a sign was read: a plus and a number, a minus and a number, or a number alone
+abbrev SignRead : List ℕ → Bool → List ℕ → Type 0
+SignRead bytes negative unsigned = ((bytes ≡ plus ∷ unsigned) × (negative ≡ false)) ⊎ (((bytes ≡ minus ∷ unsigned) × (negative ≡ true)) ⊎ ((bytes ≡ unsigned) × (negative ≡ false)))
+
+sign_read : (bytes : List ℕ) (negative : Bool) (unsigned : List ℕ) → Sign bytes negative unsigned → SignRead bytes negative unsigned
+sign_read bytes negative unsigned h = elim h [
+  | inl a ↦ inl (a.1 ∙ ap (λ (z : List ℕ). plus ∷ z) a.2.1, a.2.0)
+  | inr b ↦ elim b.1 [
+    | inl c ↦ inr (inl (c.1 ∙ ap (λ (z : List ℕ). minus ∷ z) c.2.1, c.2.0))
+    | inr d ↦ inr (inr (d.1.1, d.1.0))
+  ]
+]
+
+time_sign_read : (extended : Bool) (bytes : List ℕ) (negative : Bool) (unsigned : List ℕ) → TimeSign extended bytes negative unsigned → SignRead bytes negative unsigned
+time_sign_read true bytes negative unsigned h = sign_read bytes negative unsigned h
+time_sign_read false bytes negative unsigned h = inr (inr (h.1, h.0))
+
+-- the bytes after a sign have their digits in pairs as well
+unsigned_pairs : (bytes : List ℕ) (negative : Bool) (unsigned : List ℕ) → SignRead bytes negative unsigned → AreInPairs bytes → AreInPairs unsigned
+unsigned_pairs bytes negative unsigned h pairs = elim h [
+  | inl a ↦ (subst AreInPairs a.0 pairs).1
+  | inr b ↦ elim b [ inl c ↦ (subst AreInPairs c.0 pairs).1 | inr d ↦ subst AreInPairs d.0 pairs ]
+]
+
+-- a minus stands where one is needed, and else nothing
+signed_front : (want negative : Bool) (n : ℕ) (bytes unsigned rest : List ℕ) → SignRead bytes negative unsigned → Front (clock_text n) unsigned rest → (want ≡ true → negative ≡ true) → Front (signed_text want n) bytes rest
+signed_front true negative n bytes unsigned rest h f need = elim h [
+  | inl a ↦ absurd (both_ways negative a.1 (need refl))
+  | inr b ↦ elim b [
+    | inl c ↦ front_cons minus (clock_text n) bytes unsigned rest c.0 f
+    | inr d ↦ absurd (both_ways negative d.1 (need refl))
+  ]
+]
+signed_front false negative n bytes unsigned rest h f need = elim h [
+  | inl a ↦ front_longer plus (clock_text n) bytes unsigned rest a.0 f
+  | inr b ↦ elim b [
+    | inl c ↦ front_longer minus (clock_text n) bytes unsigned rest c.0 f
+    | inr d ↦ rw d.0 f
+  ]
+]
+
+signed_spelled : (negative : Bool) (n : ℕ) (rest : List ℕ) → n / 3600 < 1000 → Sign (signed_text negative n ++ rest) negative (clock_text n ++ rest)
+signed_spelled true n rest l = inr ((λ e. absurd (omega arith)), inl (clock_text n ++ rest, refl, (refl, refl)))
+signed_spelled false n rest l = inr (clock_without plus n rest (omega arith) l, inr (clock_without minus n rest (omega arith) l, (refl, refl)))
+
+signed_pairs : (negative : Bool) (n : ℕ) (rest : List ℕ) → n / 3600 < 1000 → Stops rest → AreInPairs rest → AreInPairs (signed_text negative n ++ rest)
+signed_pairs true n rest l stops pairs = ((λ e. absurd (omega arith)), clock_pairs n rest l stops pairs)
+signed_pairs false n rest l stops pairs = clock_pairs n rest l stops pairs
+
+-- ---- offsets
+offset_value : (east : ℤ) → signed (not (is_positive east)) (unsigned_abs east) ≡ east
+offset_value (pos zero) = refl
+offset_value (pos (suc n)) = refl
+offset_value (negsuc n) = refl
+
+pub offset_hours : (east : ℤ) → IsWithinDay east → unsigned_abs east / 3600 ≤ 23
+offset_hours (pos n) h = let a = h.1 in let b : n < 86400 = omega (arith, ints) in omega arith
+offset_hours (negsuc n) h = let a = h.0 in let b : suc n < 86400 = omega (arith, ints) in omega arith
+
+pub offset_spelled : (east : ℤ) (rest : List ℕ) → IsWithinDay east → Stops rest → Offset (offset_text east ++ rest) east rest
+unfolding offset_text
+offset_spelled east rest h stops = let l = offset_hours east h in record {
+  is_minus = is_positive east;
+  unsigned = clock_text (unsigned_abs east) ++ rest;
+  sign = signed_spelled (is_positive east) (unsigned_abs east) rest (omega arith);
+  duration = duration_spelled 23 (not (is_positive east)) (unsigned_abs east) east rest l (omega arith) (offset_value east) stops;
+}
+
+needs_minus : (is_minus : Bool) (h m s : ℕ) (east : ℤ) → seconds_of (not is_minus) h m s ≡ east → is_positive east ≡ true → is_minus ≡ true
+needs_minus true h m s east v e = refl
+needs_minus false h m s east v e = absurd (west _ (subst (λ (z : ℤ). is_positive z ≡ true) (sym v) e))
+  where
+    west : (n : ℕ) → is_positive (neg_ℤ (pos n)) ≡ true → ⊥
+    west zero e = false≢true e
+    west (suc n) e = false≢true e
+
+pub offset_front : (bytes : List ℕ) (east : ℤ) (rest : List ℕ) → AreInPairs bytes → Offset bytes east rest → Front (offset_text east) bytes rest
+unfolding offset_text
+offset_front bytes east rest pairs o =
+    let s = sign_read bytes o.is_minus o.unsigned o.sign in
+    let d = o.duration in
+    signed_front (is_positive east) o.is_minus (unsigned_abs east) bytes o.unsigned rest s
+    (duration_front 23 (not o.is_minus) o.unsigned east rest (omega arith) (unsigned_pairs bytes o.is_minus o.unsigned s pairs) d)
+    (needs_minus o.is_minus d.h d.m d.s east d.value)
+
+pub offset_pairs : (east : ℤ) (rest : List ℕ) → IsWithinDay east → Stops rest → AreInPairs rest → AreInPairs (offset_text east ++ rest)
+unfolding offset_text
+offset_pairs east rest h stops pairs = let l = offset_hours east h in signed_pairs (is_positive east) (unsigned_abs east) rest (omega arith) stops pairs
+
+-- an offset begins with a digit or a minus
+pub offset_first : (east : ℤ) (rest : List ℕ) → IsWithinDay east → (b : ℕ) × (bs : List ℕ) × (offset_text east ++ rest ≡ b ∷ bs) × (b ≤ 57)
+unfolding offset_text
+offset_first (pos zero) rest h = let f = clock_first 0 rest (omega arith) in (f.0, f.1, f.2, digit_most f.0 f.3)
+offset_first (pos (suc n)) rest h = (minus, clock_text (suc n) ++ rest, refl, omega arith)
+offset_first (negsuc n) rest h =
+    let a = h.0 in let b : suc n < 86400 = omega (arith, ints) in
+    let f = clock_first (suc n) rest (omega arith) in (f.0, f.1, f.2, digit_most f.0 f.3)
+
+within_day : (negative : Bool) (h m s : ℕ) → h ≤ 23 → m ≤ 59 → s ≤ 59 → IsWithinDay (seconds_of negative h m s)
+within_day true h m s a b c = (omega (arith, ints), omega (arith, ints))
+within_day false h m s a b c = (omega (arith, ints), omega (arith, ints))
+
+pub offset_fits : (bytes : List ℕ) (east : ℤ) (rest : List ℕ) → Offset bytes east rest → IsWithinDay east
+offset_fits bytes east rest o = let d = o.duration in subst IsWithinDay d.value (within_day (not o.is_minus) d.h d.m d.s d.hours d.minutes d.seconds)
+
+-- ---- times of day
+time_value : (time : ℤ) → signed (is_negative time) (unsigned_abs time) ≡ time
+time_value (pos zero) = refl
+time_value (pos (suc n)) = refl
+time_value (negsuc n) = refl
+
+pub time_hours : (time : ℤ) → IsWithinWeek time → unsigned_abs time / 3600 ≤ 167
+time_hours (pos n) h = let a = h.1 in let b : n < 604800 = omega (arith, ints) in omega arith
+time_hours (negsuc n) h = let a = h.0 in let b : suc n < 604800 = omega (arith, ints) in omega arith
+
+extended_time_spelled : (time : ℤ) (rest : List ℕ) → IsWithinWeek time → Stops rest → Time true (time_text time ++ rest) time rest
+unfolding time_text
+extended_time_spelled time rest h stops = let l = time_hours time h in record {
+  is_minus = is_negative time;
+  unsigned = clock_text (unsigned_abs time) ++ rest;
+  sign = signed_spelled (is_negative time) (unsigned_abs time) rest (omega arith);
+  duration = duration_spelled 167 (is_negative time) (unsigned_abs time) time rest l (omega arith) (time_value time) stops;
+}
+
+plain_time_spelled : (time : ℤ) (rest : List ℕ) → IsPlainTime time → Stops rest → Time false (time_text time ++ rest) time rest
+unfolding time_text
+plain_time_spelled (pos n) rest h stops = let a = h.1 in let b : n < 90_000 = omega (arith, ints) in record {
+  is_minus = false;
+  unsigned = clock_text n ++ rest;
+  sign = (refl, refl);
+  duration = duration_spelled 24 false n (pos n) rest (omega arith) (omega arith) refl stops;
+}
+plain_time_spelled (negsuc n) rest h stops = let a = h.0 in absurd (omega (arith, ints))
+
+pub time_spelled : (extended : Bool) (time : ℤ) (rest : List ℕ) → IsTimeOf extended time → Stops rest → Time extended (time_text time ++ rest) time rest
+time_spelled true time rest h stops = extended_time_spelled time rest h stops
+time_spelled false time rest h stops = plain_time_spelled time rest h stops
+
+-- a text without extensions has no other times
+pub time_plain : (bytes : List ℕ) (time : ℤ) (rest : List ℕ) → Time false bytes time rest → IsPlainTime time
+time_plain bytes time rest t =
+    let d = t.duration in let a = d.hours in let b = d.minutes in let c = d.seconds in
+    subst IsPlainTime d.value (subst (λ (x : Bool). IsPlainTime (seconds_of x d.h d.m d.s)) (sym t.sign.0) (omega (arith, ints), omega (arith, ints)))
+
+time_minus : (is_minus : Bool) (h m s : ℕ) (time : ℤ) → seconds_of is_minus h m s ≡ time → is_negative time ≡ true → is_minus ≡ true
+time_minus true h m s time v e = refl
+time_minus false h m s time v e = absurd (false≢true (subst (λ (z : ℤ). is_negative z ≡ true) (sym v) e))
+
+limit_small : (extended : Bool) → time_limit extended < 1000
+limit_small true = omega arith
+limit_small false = omega arith
+
+pub time_front : (extended : Bool) (bytes : List ℕ) (time : ℤ) (rest : List ℕ) → AreInPairs bytes → Time extended bytes time rest → Front (time_text time) bytes rest
+unfolding time_text
+time_front extended bytes time rest pairs t =
+    let s = time_sign_read extended bytes t.is_minus t.unsigned t.sign in
+    let d = t.duration in
+    signed_front (is_negative time) t.is_minus (unsigned_abs time) bytes t.unsigned rest s
+    (duration_front (time_limit extended) t.is_minus t.unsigned time rest (limit_small extended) (unsigned_pairs bytes t.is_minus t.unsigned s pairs) d)
+    (time_minus t.is_minus d.h d.m d.s time d.value)
+
+pub time_pairs : (time : ℤ) (rest : List ℕ) → IsWithinWeek time → Stops rest → AreInPairs rest → AreInPairs (time_text time ++ rest)
+unfolding time_text
+time_pairs time rest h stops pairs = let l = time_hours time h in signed_pairs (is_negative time) (unsigned_abs time) rest (omega arith) stops pairs

@@ -1,0 +1,155 @@
+-- Decimal digits without zeros in front are the shortest that spell a number.
+use Rattle.std.proofs.Common.{◌≡◌, ℕ, ◌+◌, ◌/◌, ◌%◌, ◌<◌, ◌≤◌, arith, refl, subst, List, [], ◌∷◌, ◌++◌, length, true, inl, inr}
+use Rattle.std.specs.Fmt.{decimal}
+use Rattle.std.proofs.lemmas.Fmt.{decimal_digit, decimal_step}
+use Rattle.std.proofs.lemmas.Bool.{cases_lt, both_ways}
+use Rattle.std.proofs.lemmas.Bool.Decides.{nat_tests}
+use Rattle.tz_info.specs.Fronts.{is_digit, value_from}
+use Rattle.tz_info.specs.Pieces.{AllDigits, NoneFirst, Number, colon}
+use Rattle.tz_write.specs.WrittenTexts.{AreInPairs, TwoDigits}
+use Rattle.tz_write.specs.Steps.TextPieces.{pair_text}
+use Rattle.tz_write.proofs.Shortest.{Best, Front, front_cons}
+
+is_digit_of : (d : ℕ) → d < 10 → is_digit (48 + d) ≡ true
+is_digit_of d h = grind (arith, nat_tests)
+
+pub digit_least : (b : ℕ) → is_digit b ≡ true → 48 ≤ b
+digit_least b h = grind (arith, nat_tests)
+
+pub digit_most : (b : ℕ) → is_digit b ≡ true → b ≤ 57
+digit_most b h = grind (arith, nat_tests)
+
+two : (n : ℕ) → 10 ≤ n → n < 100 → decimal n ≡ (48 + n / 10) ∷ (48 + n % 10) ∷ []
+two n more low = rw (decimal_step n more (omega arith), decimal_digit (n / 10) (omega arith)) refl
+
+three : (n : ℕ) → 100 ≤ n → n < 1000 → decimal n ≡ (48 + n / 10 / 10) ∷ (48 + n / 10 % 10) ∷ (48 + n % 10) ∷ []
+three n more low = rw (decimal_step n (omega arith) (omega arith), two (n / 10) (omega arith) (omega arith)) refl
+
+-- ---- what they spell
+record Spells (n : ℕ) (ds : List ℕ) : Type 0 where
+  pub each : AllDigits ds
+  pub some : 0 < length ds
+  pub value : value_from 0 ds ≡ n
+
+spells_one : (n : ℕ) → n < 10 → Spells n ((48 + n) ∷ [])
+spells_one n h = record { each = (is_digit_of n h, tt); some = omega arith; value = omega arith }
+
+spells_two : (n : ℕ) → n < 100 → Spells n ((48 + n / 10) ∷ (48 + n % 10) ∷ [])
+spells_two n h = record { each = (is_digit_of (n / 10) (omega arith), (is_digit_of (n % 10) (omega arith), tt)); some = omega arith; value = omega arith }
+
+spells_three : (n : ℕ) → n < 1000 → Spells n ((48 + n / 10 / 10) ∷ (48 + n / 10 % 10) ∷ (48 + n % 10) ∷ [])
+spells_three n h = record { each = (is_digit_of (n / 10 / 10) (omega arith), (is_digit_of (n / 10 % 10) (omega arith), (is_digit_of (n % 10) (omega arith), tt))); some = omega arith; value = omega arith }
+
+spelled : (n : ℕ) → n < 1000 → Spells n (decimal n)
+spelled n h = elim (cases_lt n 10) [
+  | inl a ↦ rw (decimal_digit n a) (spells_one n a)
+  | inr a ↦ elim (cases_lt n 100) [
+    | inl b ↦ rw (two n a b) (spells_two n b)
+    | inr b ↦ rw (three n b h) (spells_three n h)
+  ]
+]
+
+pub number_spelled : (max n : ℕ) (rest : List ℕ) → n < 1000 → n ≤ max → NoneFirst is_digit rest → Number max (decimal n ++ rest) n rest
+number_spelled max n rest h l none = let s = spelled n h in
+    record { digits = decimal n; whole = refl; each = s.each; some = s.some; longest = none; value = s.value; limit = l }
+
+pub pair_spelled : (max n : ℕ) (rest : List ℕ) → n < 100 → n ≤ max → NoneFirst is_digit rest → Number max ((48 + n / 10) ∷ (48 + n % 10) ∷ rest) n rest
+pair_spelled max n rest h l none = let s = spells_two n h in
+    record { digits = (48 + n / 10) ∷ (48 + n % 10) ∷ []; whole = refl; each = s.each; some = s.some; longest = none; value = s.value; limit = l }
+
+-- ---- no fewer digits do
+least_one : (n d : ℕ) → is_digit d ≡ true → value_from 0 (d ∷ []) ≡ n → Best (decimal n) (d ∷ [])
+least_one n d h v = let a = digit_least d h in let b = digit_most d h in
+    let l : n < 10 = omega arith in
+    let e : d ≡ 48 + n = omega arith in
+    inl (rw (decimal_digit n l, e) refl)
+
+length_one : (n : ℕ) → n < 10 → length (decimal n) ≡ 1
+length_one n h = rw (decimal_digit n h) refl
+
+least_two : (n d e : ℕ) → is_digit d ≡ true → is_digit e ≡ true → value_from 0 (d ∷ e ∷ []) ≡ n → Best (decimal n) (d ∷ e ∷ [])
+least_two n d e h k v = let a = digit_least d h in let b = digit_most d h in let a' = digit_least e k in let b' = digit_most e k in
+    elim (cases_lt n 10) [
+      | inl low ↦ let l = length_one n low in inr (omega arith)
+      | inr more ↦
+          let l : n < 100 = omega arith in
+          let x : d ≡ 48 + n / 10 = omega arith in
+          let y : e ≡ 48 + n % 10 = omega arith in
+          inl (rw (two n more l, x, y) refl)
+    ]
+
+length_two : (n : ℕ) → n < 100 → length (decimal n) ≤ 2
+length_two n h = elim (cases_lt n 10) [ inl low ↦ let l = length_one n low in omega arith | inr more ↦ rw (two n more h) (omega arith) ]
+
+least_three : (n d e f : ℕ) → is_digit d ≡ true → is_digit e ≡ true → is_digit f ≡ true → value_from 0 (d ∷ e ∷ f ∷ []) ≡ n → Best (decimal n) (d ∷ e ∷ f ∷ [])
+least_three n d e f h k m v =
+    let a = digit_least d h in let b = digit_most d h in
+    let a' = digit_least e k in let b' = digit_most e k in
+    let a'' = digit_least f m in let b'' = digit_most f m in
+    elim (cases_lt n 100) [
+      | inl low ↦ let l = length_two n low in inr (omega arith)
+      | inr more ↦
+          let l : n < 1000 = omega arith in
+          let x : d ≡ 48 + n / 10 / 10 = omega arith in
+          let y : e ≡ 48 + n / 10 % 10 = omega arith in
+          let z : f ≡ 48 + n % 10 = omega arith in
+          inl (rw (three n more l, x, y, z) refl)
+    ]
+
+length_three : (n : ℕ) → n < 1000 → length (decimal n) ≤ 3
+length_three n h = elim (cases_lt n 100) [ inl low ↦ let l = length_two n low in omega arith | inr more ↦ rw (three n more h) (omega arith) ]
+
+decimal_best : (n : ℕ) (ds : List ℕ) → n < 1000 → AllDigits ds → 0 < length ds → value_from 0 ds ≡ n → Best (decimal n) ds
+decimal_best n [] h each some value = absurd (omega arith)
+decimal_best n (d ∷ []) h each some value = least_one n d each.0 value
+decimal_best n (d ∷ e ∷ []) h each some value = least_two n d e each.0 each.1.0 value
+decimal_best n (d ∷ e ∷ f ∷ []) h each some value = least_three n d e f each.0 each.1.0 each.1.1.0 value
+decimal_best n (d ∷ e ∷ f ∷ g ∷ ds) h each some value = let l = length_three n h in inr (omega arith)
+
+pub number_front : (max : ℕ) (bytes : List ℕ) (n : ℕ) (rest : List ℕ) → n < 1000 → Number max bytes n rest → Front (decimal n) bytes rest
+number_front max bytes n rest h p = record { front = p.digits; whole = p.whole; best = decimal_best n p.digits h p.each p.some p.value }
+
+-- two digits and no third are those of the number
+paired : (ds rest : List ℕ) (n : ℕ) → AllDigits ds → 0 < length ds → NoneFirst is_digit rest → value_from 0 ds ≡ n → TwoDigits (ds ++ rest) → ds ≡ (48 + n / 10) ∷ (48 + n % 10) ∷ []
+paired [] rest n each some none value pair = absurd (omega arith)
+paired (d ∷ []) [] n each some none value pair = absurd pair
+paired (d ∷ []) (r ∷ rs) n each some none value pair = absurd (both_ways _ none pair.1)
+paired (d ∷ e ∷ []) rest n each some none value pair =
+    let a = digit_least d each.0 in let b = digit_most d each.0 in
+    let a' = digit_least e each.1.0 in let b' = digit_most e each.1.0 in
+    let x : d ≡ 48 + n / 10 = omega arith in
+    let y : e ≡ 48 + n % 10 = omega arith in
+    rw (x, y) refl
+paired (d ∷ e ∷ f ∷ ds) rest n each some none value pair = absurd (both_ways _ pair.2 each.1.1.0)
+
+pub pair_front : (max : ℕ) (bytes after : List ℕ) (n : ℕ) (rest : List ℕ) → bytes ≡ colon ∷ after → AreInPairs bytes → Number max after n rest → Front (pair_text n) bytes rest
+pair_front max bytes after n rest e pairs p =
+    let h : AreInPairs (colon ∷ after) = subst AreInPairs e pairs in
+    let d = paired p.digits rest n p.each p.some p.longest p.value (subst TwoDigits p.whole (h.0 refl)) in
+    front_cons colon _ bytes after rest e (record { front = p.digits; whole = p.whole; best = inl d })
+
+-- ---- digits and colons
+pub pairs_digits : (ds rest : List ℕ) → AllDigits ds → AreInPairs rest → AreInPairs (ds ++ rest)
+pairs_digits [] rest each h = h
+pairs_digits (d ∷ ds) rest each h = let m = digit_most d each.0 in ((λ e. absurd (omega arith)), pairs_digits ds rest each.1 h)
+
+pub pairs_number : (n : ℕ) (rest : List ℕ) → n < 1000 → AreInPairs rest → AreInPairs (decimal n ++ rest)
+pairs_number n rest h p = pairs_digits (decimal n) rest (spelled n h).each p
+
+pub pairs_pair : (n : ℕ) (rest : List ℕ) → n < 100 → NoneFirst is_digit rest → AreInPairs rest → AreInPairs (pair_text n ++ rest)
+pairs_pair n rest h none p = let s = spells_two n h in
+    ((λ e. (s.each.0, s.each.1.0, none)), pairs_digits ((48 + n / 10) ∷ (48 + n % 10) ∷ []) rest s.each p)
+
+-- a number begins with a digit
+pub first_digit : (n : ℕ) → n < 1000 → (d : ℕ) × (ds : List ℕ) × (decimal n ≡ d ∷ ds) × (is_digit d ≡ true)
+first_digit n h = first (decimal n) (spelled n h).some (spelled n h).each
+  where
+    first : (xs : List ℕ) → 0 < length xs → AllDigits xs → (d : ℕ) × (ds : List ℕ) × (xs ≡ d ∷ ds) × (is_digit d ≡ true)
+    first [] s e = absurd (omega arith)
+    first (x ∷ xs) s e = (x, xs, refl, e.0)
+
+pub digits_of : (n : ℕ) → n < 1000 → AllDigits (decimal n)
+digits_of n h = (spelled n h).each
+
+pub pair_digits : (n : ℕ) → n < 100 → AllDigits ((48 + n / 10) ∷ (48 + n % 10) ∷ [])
+pair_digits n h = (spells_two n h).each

@@ -1,0 +1,32 @@
+-- Numbers that are written spell themselves.
+use Rattle.std.proofs.Common.{◌≡◌, ℕ, ℤ, ◌<◌, ◌^◌, List, ◌++◌, length, refl, ap, ◌∙◌, arith}
+use Rattle.std.proofs.Math.Facts.{Fits-of_z}
+use Rattle.std.proofs.lemmas.Int.{to_z-of_z}
+use Rattle.std.proofs.lemmas.Nat.{from_be_bytes-to_be_bytes_4, from_be_bytes-to_be_bytes_8}
+use Rattle.std.specs.Int.{w32, w64, cast_signed, cast_unsigned}
+use Rattle.std.specs.Prelude.{FitsSigned}
+use Rattle.tz_info.specs.FileContents.{signed}
+use Rattle.tz_info.specs.FileHeaders.{IsNumber}
+use Rattle.tz_write.specs.FileBytes.{number_bytes, signed_bytes}
+
+-- a count
+pub number_is : (n : ℕ) (rest : List ℕ) → n < 2 ^ 32 → IsNumber (number_bytes n ++ rest) n rest
+unfolding number_bytes
+number_is n rest h = record { four = number_bytes n; whole = refl; size = refl; value = from_be_bytes-to_be_bytes_4 n h }
+
+-- numbers in two's complement
+pub size_32 : (z : ℤ) → length (signed_bytes w32 z) ≡ 4
+unfolding signed_bytes
+size_32 z = refl
+
+pub size_64 : (z : ℤ) → length (signed_bytes w64 z) ≡ 8
+unfolding signed_bytes
+size_64 z = refl
+
+pub signed_32 : (z : ℤ) → FitsSigned w32 z → signed w32 (signed_bytes w32 z) ≡ z
+unfolding signed signed_bytes
+signed_32 z h = ap (cast_signed w32) (from_be_bytes-to_be_bytes_4 (cast_unsigned w32 z) (omega (arith, Fits-of_z {w = w32} h))) ∙ to_z-of_z w32 z h
+
+pub signed_64 : (z : ℤ) → FitsSigned w64 z → signed w64 (signed_bytes w64 z) ≡ z
+unfolding signed signed_bytes
+signed_64 z h = ap (cast_signed w64) (from_be_bytes-to_be_bytes_8 (cast_unsigned w64 z) (omega (arith, Fits-of_z {w = w64} h))) ∙ to_z-of_z w64 z h

@@ -1,0 +1,137 @@
+-- Records that are written spell their items.
+use Rattle.std.proofs.Common.{◌≡◌, ◌≢◌, ℕ, ℤ, suc, ◌+◌, ◌*◌, ◌<◌, ◌<ℤ◌, Bool, true, false, cond, nat_lt, ◌==◌, ◌&&◌, List, [], ◌∷◌, ◌++◌, length, get_or, drop, Option, Some, None, refl, ap, ◌∙◌, subst, arith}
+use Rattle.std.proofs.lemmas.Bool.{and_parts, false≢true}
+use Rattle.std.proofs.lemmas.Bool.Decides.{Decides-eqb, nat_tests}
+use Rattle.std.proofs.lemmas.Int.{ints}
+use Rattle.std.proofs.lemmas.List.{length-append, drop_more}
+use Rattle.std.proofs.lemmas.List.Concat.{flat_map_single}
+use Rattle.std.proofs.lemmas.List.Elements.{All-head, All-tail}
+use Rattle.std.proofs.lemmas.Slice.Eq.{starts_is}
+use Rattle.std.specs.Bool.{nat_eq}
+use Rattle.std.specs.Int.{w32, w64}
+use Rattle.std.specs.List.{flat_map, starts_with}
+use Rattle.std.specs.Prelude.{All, FitsSigned}
+use Rattle.tz_info.specs.FileContents.{time_of, AreRecords, SpellTransitions, SpellsLeapSecond, SpellLeapSeconds, HasNoZero, StandsAt, designation_of, IsMark, SpellsType, SpellTypes, least_offset}
+use Rattle.tz_info.specs.LocalTypes.{LocalType, IsUtOffset}
+use Rattle.tz_info.specs.Names.{IsNameOrNone, is_name_byte}
+use Rattle.tz_info.specs.declared.zone.leap_second.LeapSecond.{LeapSecond}
+use Rattle.tz_info.specs.declared.zone.transition.Transition.{Transition}
+use Rattle.tz_write.specs.FileBytes.{signed_bytes, time_bytes, index_bytes, mark_byte, type_bytes, leap_bytes}
+use Rattle.tz_write.specs.FileDesignations.{text_or_none, text_of, begins, place_of}
+use Rattle.tz_write.specs.WrittenFiles.{HasPlace}
+use Rattle.tz_write.specs.Steps.FileParts.{IsTime, IsEntry, IsType}
+use Rattle.tz_write.proofs.FileNumbers.{size_32, size_64, signed_32, signed_64}
+
+-- ---- records laid end to end
+pub record Spelled {X : Type 0} (size : ℕ) (Spells : List ℕ → X → Type 0) (f : X → List ℕ) (x : X) : Type 0 where
+  pub sized : length (f x) ≡ size
+  pub says : Spells (f x) x
+
+pub records_are : {X : Type 0} (size : ℕ) (Spells : List ℕ → X → Type 0) (f : X → List ℕ) (xs : List X) → All (Spelled size Spells f) xs → AreRecords size Spells (flat_map f xs) xs
+records_are size Spells f [] h = refl
+records_are size Spells f (x ∷ xs) h =
+    let first = All-head (Spelled size Spells f) x xs h in
+    (f x, flat_map f xs, refl, first.sized, first.says, records_are size Spells f xs (All-tail (Spelled size Spells f) x xs h))
+
+pub size_of_records : {X : Type 0} (size : ℕ) (f : X → List ℕ) (xs : List X) → ((x : X) → length (f x) ≡ size) → length (flat_map f xs) ≡ length xs * size
+size_of_records size f [] h = omega arith
+size_of_records size f (x ∷ xs) h =
+    let more = size_of_records size f xs h in let one = h x in let joined = length-append (f x) (flat_map f xs) in omega arith
+
+-- ---- transitions and leap seconds
+pub transitions_are : (ts : List Transition) → All IsTime ts → SpellTransitions 8 (flat_map time_bytes ts) (flat_map index_bytes ts) ts
+transitions_are ts h = record {
+  times_are = records_are 8 (λ bytes t. time_of 8 bytes ≡ t.unix_leap_time) time_bytes ts (λ k d l. record { sized = size_64 _; says = signed_64 _ (h k d l) });
+  indexes_are = flat_map_single (λ (t : Transition). t.type_index) ts;
+}
+
+pub leap_size : (leap : LeapSecond) → length (leap_bytes leap) ≡ 12
+unfolding leap_bytes
+leap_size leap = length-append (signed_bytes w64 leap.unix_leap_time) (signed_bytes w32 leap.correction) ∙ omega (arith, size_64 leap.unix_leap_time, size_32 leap.correction)
+
+leap_is : (leap : LeapSecond) → IsEntry leap → SpellsLeapSecond 8 (leap_bytes leap) leap
+unfolding leap_bytes
+leap_is leap h = record {
+  time = signed_bytes w64 leap.unix_leap_time;
+  correction = signed_bytes w32 leap.correction;
+  whole = refl;
+  size = size_64 leap.unix_leap_time;
+  time_is = signed_64 leap.unix_leap_time h.time;
+  correction_is = signed_32 leap.correction h.correction;
+}
+
+pub leaps_are : (leaps : List LeapSecond) → All IsEntry leaps → SpellLeapSeconds 8 (flat_map leap_bytes leaps) leaps
+leaps_are leaps h = records_are 12 (SpellsLeapSecond 8) leap_bytes leaps (λ k d l. record { sized = leap_size _; says = leap_is _ (h k d l) })
+
+-- ---- where a text stands
+less : (a b : ℕ) → nat_lt a b ≡ true → a < b
+less a b h = grind (arith, nat_tests)
+
+is_zero : (a : ℕ) → (a == 0) ≡ true → a ≡ 0
+is_zero a h = grind (arith, nat_tests)
+
+pub begins_is : (text bytes : List ℕ) → begins text bytes ≡ true → bytes ≡ text ++ (0 ∷ drop (length text + 1) bytes)
+unfolding begins
+begins_is text bytes h =
+    let p = and_parts (starts_with nat_eq bytes text) (nat_lt (length text) (length bytes) && (get_or bytes (length text) 0 == 0)) h in
+    let q = and_parts (nat_lt (length text) (length bytes)) (get_or bytes (length text) 0 == 0) p.1 in
+    let front = starts_is {E = nat_eq} Decides-eqb bytes text (starts_with nat_eq bytes text) refl in
+    front.0 p.0 ∙ ap (λ (r : List ℕ). text ++ r) (drop_more bytes (length text) 0 (less _ _ q.0) ∙ ap (λ (x : ℕ). x ∷ drop (length text + 1) bytes) (is_zero _ q.1))
+
+place_by : (t : Bool) (text : List ℕ) (b : ℕ) (bs : List ℕ) → HasNoZero text → begins text (b ∷ bs) ≡ t → cond t 0 (suc (place_of text bs)) < length (b ∷ bs)
+    → (place_of text bs < length bs → StandsAt bs (place_of text bs) text) → StandsAt (b ∷ bs) (cond t 0 (suc (place_of text bs))) text
+place_by true text b bs none e h later = record { before = []; after = drop (length text + 1) (b ∷ bs); whole = begins_is text (b ∷ bs) e; at = refl; ends = none }
+place_by false text b bs none e h later =
+    let s = later (omega arith) in
+    record { before = b ∷ s.before; after = s.after; whole = ap (λ (r : List ℕ). b ∷ r) s.whole; at = ap (λ n. suc n) s.at; ends = none }
+
+pub has_text : (text designations : List ℕ) → HasNoZero text → place_of text designations < length designations → StandsAt designations (place_of text designations) text
+has_text text [] none h = absurd (omega arith)
+has_text text (b ∷ bs) none h = place_by (begins text (b ∷ bs)) text b bs none refl h (has_text text bs none)
+
+-- ---- types
+pub type_size : (designations : List ℕ) (t : LocalType) → length (type_bytes designations t) ≡ 6
+unfolding type_bytes signed_bytes
+type_size designations t = refl
+
+mark_is : (dst : Bool) → IsMark (mark_byte dst) dst
+mark_is true = refl
+mark_is false = refl
+
+not_zero : (b : ℕ) → is_name_byte b ≡ true → b ≢ 0
+not_zero b h z = let no : is_name_byte 0 ≡ true = subst (λ n. is_name_byte n ≡ true) z h in false≢true no
+
+bytes_not_zero : (text : List ℕ) → ((i : ℕ) → i < length text → is_name_byte (get_or text i 0) ≡ true) → HasNoZero text
+bytes_not_zero [] h = tt
+bytes_not_zero (b ∷ bs) h = (not_zero b (h 0 (omega arith)), bytes_not_zero bs (λ i l. h (suc i) (omega arith)))
+
+no_zero : (name : Option (List ℕ)) → IsNameOrNone name → HasNoZero (text_or_none name)
+no_zero None h = tt
+no_zero (Some text) h = bytes_not_zero text h.2
+
+name_back : (name : Option (List ℕ)) → IsNameOrNone name → designation_of (text_or_none name) ≡ name
+name_back None h = refl
+name_back (Some []) h = let l = h.0 in absurd (omega arith)
+name_back (Some (b ∷ bs)) h = refl
+
+above : (z : ℤ) → IsUtOffset z → least_offset <ℤ z
+above z h = let l = h.0 in omega (arith, ints)
+
+fits : (z : ℤ) → IsUtOffset z → FitsSigned w32 z
+fits z h = let l = h.0 in let m = h.1 in omega (arith, ints)
+
+type_is : (designations : List ℕ) (t : LocalType) → HasPlace designations t → IsType t → SpellsType designations (type_bytes designations t) t
+unfolding type_bytes signed_bytes
+type_is designations t p h = record {
+  text = text_of t;
+  offset = signed_32 t.offset (fits t.offset h.offset);
+  above_least = above t.offset h.offset;
+  mark = mark_is t.dst;
+  stands = has_text (text_of t) designations (no_zero t.name h.name) p.stands;
+  name = name_back t.name h.name;
+  name_fits = h.name;
+}
+
+pub types_are : (designations : List ℕ) (types : List LocalType) → All (HasPlace designations) types → All IsType types → SpellTypes designations (flat_map (type_bytes designations) types) types
+types_are designations types p h =
+    records_are 6 (SpellsType designations) (type_bytes designations) types (λ k d l. record { sized = type_size designations _; says = type_is designations _ (p k d l) (h k d l) })

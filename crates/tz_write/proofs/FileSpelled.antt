@@ -1,0 +1,198 @@
+-- The file that is written spells the zone.
+use Rattle.std.proofs.Common.{◌≡◌, ◌≢◌, ℕ, ◌<◌, Bool, true, false, List, [], ◌∷◌, ◌++◌, length, get_or, refl, ◌∙◌, arith, inl}
+use Rattle.std.proofs.lemmas.Bool.Decides.{nat_tests}
+use Rattle.std.proofs.lemmas.Str.{IsUtf8-from_ascii}
+use Rattle.std.proofs.lemmas.Str.Ascii.{IsAscii-from_all}
+use Rattle.std.proofs.lemmas.List.Elements.{All-head, All-tail, All-weaker, All-append, All-cons, All-nil}
+use Rattle.std.specs.Char.{is_ascii_whitespace}
+use Rattle.std.specs.Prelude.{All, Option}
+use Rattle.tz_info.specs.FileBlocks.{Parts, IsBlock}
+use Rattle.tz_info.specs.FileContents.{HasNoZero}
+use Rattle.tz_info.specs.FileHeaders.{CountsAgree}
+use Rattle.tz_info.specs.FilePieces.{FilePieces, later_pieces, is_extended, HasPieces, IsSecondHalf, IsAfterFirstBlock}
+use Rattle.tz_info.specs.Footers.{IsFooter, SaysRule}
+use Rattle.tz_info.specs.Trims.{BeginsBare, EndsBare}
+use Rattle.tz_info.specs.TzFiles.{IsTzFile, SayZone}
+use Rattle.tz_info.specs.Zones.{Zone}
+use Rattle.tz_info.specs.declared.file.header.Counts.{Counts}
+use Rattle.tz_info.specs.declared.file.header.Place.TheVariants.{First, Second}
+use Rattle.tz_info.specs.declared.rule.transition_rule.TransitionRule.{TransitionRule}
+use Rattle.tz_write.specs.FileBytes.{number_bytes, counts_bytes, header_bytes, first_half, second_half, file_bytes, least_counts, least_block, zone_counts, zone_parts, block_bytes, footer_bytes, time_bytes, index_bytes, type_bytes, leap_bytes}
+use Rattle.tz_write.specs.FileDesignations.{designations_of}
+use Rattle.tz_write.specs.WrittenFiles.{HasCounts, HasPlace}
+use Rattle.tz_write.specs.Steps.FileParts.{IsSound}
+use Rattle.tz_write.proofs.FileHeads.{CountsFit, version_of, header_is}
+use Rattle.tz_write.proofs.FileNumbers.{size_64}
+use Rattle.tz_write.proofs.FileRecords.{size_of_records, transitions_are, leap_size, leaps_are, type_size, types_are}
+use Rattle.tz_write.proofs.FileSizes.{designations_size}
+
+-- ---- footers
+-- printing ASCII without spaces, and no colon in front
+pub record IsPlain (text : List ℕ) : Type 0 where
+  pub bytes : All (λ b. (32 < b) × (b < 127)) text
+  pub no_colon : get_or text 0 0 ≢ 58
+
+not_space : (b : ℕ) → 32 < b → is_ascii_whitespace b ≡ false
+not_space b h = grind (arith, nat_tests)
+
+bare_front : (text : List ℕ) → All (λ b. (32 < b) × (b < 127)) text → BeginsBare text
+bare_front [] h = tt
+bare_front (b ∷ bs) h = not_space b ((All-head (λ b. (32 < b) × (b < 127)) b bs h).0)
+
+bare_end : (text : List ℕ) → All (λ b. (32 < b) × (b < 127)) text → EndsBare text
+bare_end [] h = tt
+bare_end (b ∷ []) h = not_space b ((All-head (λ b. (32 < b) × (b < 127)) b [] h).0)
+bare_end (b ∷ c ∷ cs) h = bare_end (c ∷ cs) (All-tail (λ b. (32 < b) × (b < 127)) b (c ∷ cs) h)
+
+no_zeros : (text : List ℕ) → All (λ b. (32 < b) × (b < 127)) text → HasNoZero text
+no_zeros [] h = tt
+no_zeros (b ∷ bs) h =
+    let p = All-head (λ b. (32 < b) × (b < 127)) b bs h in let l = p.0 in
+    ((λ z. omega arith), no_zeros bs (All-tail (λ b. (32 < b) × (b < 127)) b bs h))
+
+ascii : (text : List ℕ) → All (λ b. (32 < b) × (b < 127)) text → All (λ b. b < 128) (footer_bytes text)
+ascii text h =
+    All-cons (λ b. b < 128) 10 (text ++ 10 ∷ []) (omega arith)
+    (All-append (λ b. b < 128) text (10 ∷ []) (All-weaker (λ b. (32 < b) × (b < 127)) (λ b. b < 128) (λ b p. let l = p.1 in omega arith) text h) (All-cons (λ b. b < 128) 10 [] (omega arith) (All-nil (λ b. b < 128))))
+
+pub footer_is : (extended : Bool) (text : List ℕ) (rule : Option TransitionRule) → IsPlain text → SaysRule extended text rule → IsFooter extended (footer_bytes text) rule
+footer_is extended text rule p says = record {
+  text = text;
+  has_text = record {
+    utf8 = IsUtf8-from_ascii (footer_bytes text) (IsAscii-from_all (footer_bytes text) (ascii text p.bytes));
+    newlines = record { after_first = text ++ 10 ∷ []; before_last = 10 ∷ text; starts = refl; ends = refl };
+    trimmed = record {
+      before = 10 ∷ [];
+      after = 10 ∷ [];
+      whole = refl;
+      space_before = (refl, tt);
+      space_after = (refl, tt);
+      first = bare_front text p.bytes;
+      last = bare_end text p.bytes;
+    };
+  };
+  no_colon = p.no_colon;
+  no_zero = no_zeros text p.bytes;
+  says = says;
+}
+
+-- ---- the first half
+least_fit : CountsFit least_counts
+least_fit = record {
+  ut_local = omega arith;
+  standard_wall = omega arith;
+  leap_seconds = omega arith;
+  transitions = omega arith;
+  types = omega arith;
+  designations = omega arith;
+}
+
+least_agree : CountsAgree least_counts
+least_agree = record { types = λ e. absurd (omega arith); designations = λ e. absurd (omega arith); ut_local = inl refl; standard_wall = inl refl }
+
+least_parts : Parts
+least_parts = record {
+  times = [];
+  type_indexes = [];
+  types = 0 ∷ 0 ∷ 0 ∷ 0 ∷ 0 ∷ 0 ∷ [];
+  designations = 0 ∷ [];
+  leap_seconds = [];
+  standard_wall = [];
+  ut_local = [];
+}
+
+first_block : (rest : List ℕ) → IsBlock 4 least_counts (least_block ++ rest) least_parts rest
+unfolding least_parts
+first_block rest = record {
+  whole = refl;
+  times = refl;
+  type_indexes = refl;
+  types = refl;
+  designations = refl;
+  leap_seconds = refl;
+  standard_wall = refl;
+  ut_local = refl;
+}
+
+-- ---- the second half
+zone_fit : (z : Zone) → HasCounts z → CountsFit (zone_counts z)
+zone_fit z h = record {
+  ut_local = omega arith;
+  standard_wall = omega arith;
+  leap_seconds = h.leaps;
+  transitions = h.transitions;
+  types = h.types;
+  designations = let s = designations_size z.types in omega arith;
+}
+
+some_designations : (z : Zone) → 0 < length z.types → All (HasPlace (designations_of z.types)) z.types → length (designations_of z.types) ≢ 0
+some_designations z some places e = by_first z.types (designations_of z.types) some places e
+  where
+    by_first : (types : List _) (designations : List ℕ) → 0 < length types → All (HasPlace designations) types → length designations ≢ 0
+    by_first [] designations some places e = omega arith
+    by_first (t ∷ ts) designations some places e = let p = (places 0 t some).stands in absurd (omega arith)
+
+zone_agree : (z : Zone) → 0 < length z.types → All (HasPlace (designations_of z.types)) z.types → CountsAgree (zone_counts z)
+zone_agree z some places = record { types = λ e. absurd (omega arith); designations = some_designations z some places; ut_local = inl refl; standard_wall = inl refl }
+
+second_block : (z : Zone) (rest : List ℕ) → IsBlock 8 (zone_counts z) (block_bytes (zone_parts z) rest) (zone_parts z) rest
+second_block z rest = record {
+  whole = refl;
+  times = size_of_records 8 time_bytes z.transitions (λ t. size_64 t.unix_leap_time);
+  type_indexes = size_of_records 1 index_bytes z.transitions (λ t. refl) ∙ omega arith;
+  types = size_of_records 6 (type_bytes (designations_of z.types)) z.types (type_size (designations_of z.types));
+  designations = refl;
+  leap_seconds = size_of_records 12 leap_bytes z.leaps leap_size;
+  standard_wall = refl;
+  ut_local = refl;
+}
+
+pieces_of : Bool → List ℕ → Zone → FilePieces
+pieces_of extended text z = later_pieces (record { version = version_of extended; counts = zone_counts z }) (zone_parts z) (footer_bytes text)
+
+second_is : (extended : Bool) (text : List ℕ) (z : Zone) → HasCounts z → 0 < length z.types → All (HasPlace (designations_of z.types)) z.types → IsSecondHalf (second_half extended text z) (pieces_of extended text z)
+unfolding second_half pieces_of
+second_is extended text z counts some places = record {
+  header = record { version = version_of extended; counts = zone_counts z };
+  after = block_bytes (zone_parts z) (footer_bytes text);
+  parts = zone_parts z;
+  footer = footer_bytes text;
+  head = header_is Second extended (zone_counts z) (block_bytes (zone_parts z) (footer_bytes text)) (zone_fit z counts) (zone_agree z some places);
+  block = second_block z (footer_bytes text);
+  says = refl;
+}
+
+after_is : (extended : Bool) (c : Counts) (p : Parts) (rest : List ℕ) (pieces : FilePieces) → IsSecondHalf rest pieces → IsAfterFirstBlock (version_of extended) c p rest pieces
+after_is true c p rest pieces h = h
+after_is false c p rest pieces h = h
+
+-- ---- the whole
+file_pieces : (extended : Bool) (text : List ℕ) (z : Zone) → HasCounts z → 0 < length z.types → All (HasPlace (designations_of z.types)) z.types → HasPieces (file_bytes extended text z) (pieces_of extended text z)
+unfolding file_bytes first_half header_bytes counts_bytes number_bytes
+file_pieces extended text z counts some places = record {
+  header = record { version = version_of extended; counts = least_counts };
+  after = least_block ++ second_half extended text z;
+  parts = least_parts;
+  rest = second_half extended text z;
+  head = header_is First extended least_counts (least_block ++ second_half extended text z) least_fit least_agree;
+  block = first_block (second_half extended text z);
+  tail = after_is extended least_counts least_parts (second_half extended text z) (pieces_of extended text z) (second_is extended text z counts some places);
+}
+
+extended_is : (extended : Bool) → is_extended (version_of extended) ≡ extended
+extended_is true = refl
+extended_is false = refl
+
+says_zone : (extended : Bool) (text : List ℕ) (z : Zone) → All (HasPlace (designations_of z.types)) z.types → IsSound z → IsFooter extended (footer_bytes text) z.rule → SayZone (pieces_of extended text z) z
+unfolding pieces_of
+says_zone extended text z places sound footer = record {
+  transitions = transitions_are z.transitions sound.times;
+  types = types_are (designations_of z.types) z.types places sound.types;
+  leaps = leaps_are z.leaps sound.leaps;
+  indicators = λ k e q. absurd (omega (arith, q));
+  rule = rw (extended_is extended) footer;
+}
+
+pub file_is : (extended : Bool) (text : List ℕ) (z : Zone) → HasCounts z → 0 < length z.types → All (HasPlace (designations_of z.types)) z.types → IsSound z → IsPlain text → SaysRule extended text z.rule → IsTzFile (file_bytes extended text z) z
+file_is extended text z counts some places sound plain says =
+    (pieces_of extended text z, file_pieces extended text z counts some places, says_zone extended text z places sound (footer_is extended text z.rule plain says))

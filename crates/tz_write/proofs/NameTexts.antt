@@ -1,0 +1,85 @@
+-- The texts of names.
+use Rattle.std.proofs.Common.{◌≡◌, ℕ, suc, ◌<◌, ◌≤◌, ◌≢◌, arith, refl, ap, ◌∙◌, sym, subst, List, [], ◌∷◌, ◌++◌, length, length-append, append_assoc, get_or, Bool, true, false, inl, inr, cond}
+use Rattle.std.specs.List.{list_all}
+use Rattle.std.proofs.lemmas.Bool.{and_parts, and_from, both_ways}
+use Rattle.std.proofs.lemmas.Bool.Decides.{nat_tests}
+use Rattle.tz_info.specs.Names.{is_name_byte, IsName}
+use Rattle.tz_info.specs.Pieces.{AllOf, NoneFirst, Without, Name, is_letter, is_not_greater, less, greater, colon}
+use Rattle.tz_write.specs.WrittenTexts.{AreInPairs}
+use Rattle.tz_write.specs.Steps.TextPieces.{name_text}
+use Rattle.tz_write.proofs.Shortest.{Front, front_cons}
+
+all_from : (p : ℕ → Bool) (bs : List ℕ) → list_all p bs ≡ true → AllOf p bs
+all_from p [] h = tt
+all_from p (b ∷ bs) h = let k = and_parts (p b) (list_all p bs) h in (k.0, all_from p bs k.1)
+
+all_to : (p : ℕ → Bool) (bs : List ℕ) → AllOf p bs → list_all p bs ≡ true
+all_to p [] h = refl
+all_to p (b ∷ bs) h = and_from (p b) (list_all p bs) h.0 (all_to p bs h.1)
+
+all_of : (p : ℕ → Bool) (bs : List ℕ) → ((k : ℕ) → k < length bs → p (get_or bs k 0) ≡ true) → AllOf p bs
+all_of p [] h = tt
+all_of p (b ∷ bs) h = (h 0 (omega arith), all_of p bs (λ k l. h (suc k) (omega arith)))
+
+pub name_bytes : (name : List ℕ) → IsName name → AllOf is_name_byte name
+name_bytes name h = all_of is_name_byte name h.2
+
+not_greater : (b : ℕ) → is_name_byte b ≡ true → is_not_greater b ≡ true
+not_greater b h = grind (arith, nat_tests)
+
+none_greater : (bs : List ℕ) → AllOf is_name_byte bs → AllOf is_not_greater bs
+none_greater [] h = tt
+none_greater (b ∷ bs) h = (not_greater b h.0, none_greater bs h.1)
+
+letter_least : (b : ℕ) → is_letter b ≡ true → 65 ≤ b
+letter_least b h = grind (arith, nat_tests)
+
+not_less : (bs rest : List ℕ) → 0 < length bs → AllOf is_letter bs → Without less (bs ++ rest)
+not_less [] rest some h = absurd (omega arith)
+not_less (b ∷ bs) rest some h = let l = letter_least b h.0 in λ e. absurd (omega arith)
+
+pub name_spelled : (name rest : List ℕ) → IsName name → NoneFirst is_letter rest → Name (name_text name ++ rest) name rest
+name_spelled name rest h none = elim (list_all is_letter name) as (λ t. list_all is_letter name ≡ t → Name (cond t name (less ∷ name ++ (greater ∷ [])) ++ rest) name rest) [
+  | true ↦ λ e. let each = all_from is_letter name e in let l = h.0 in inr (not_less name rest (omega arith) each, record { whole = refl; each = each; longest = none })
+  | false ↦ λ e. inl ((name ++ (greater ∷ [])) ++ rest, refl, record { whole = append_assoc name (greater ∷ []) rest; first = none_greater name (name_bytes name h) })
+] refl
+
+pub name_front : (bytes name rest : List ℕ) → Name bytes name rest → Front (name_text name) bytes rest
+name_front bytes name rest h = elim (list_all is_letter name) as (λ t. list_all is_letter name ≡ t → Front (cond t name (less ∷ name ++ (greater ∷ []))) bytes rest) [
+  | true ↦ λ e. elim h [
+    | inl a ↦ let l = length-append name (greater ∷ []) in record {
+      front = less ∷ name ++ (greater ∷ []);
+      whole = a.1 ∙ ap (λ (z : List ℕ). less ∷ z) (a.2.whole ∙ sym (append_assoc name (greater ∷ []) rest));
+      best = inr (omega arith);
+    }
+    | inr b ↦ record { front = name; whole = b.1.whole; best = inl refl }
+  ]
+  | false ↦ λ e. elim h [
+    | inl a ↦ front_cons less (name ++ (greater ∷ [])) bytes a.0 rest a.1 (record { front = name ++ (greater ∷ []); whole = a.2.whole ∙ sym (append_assoc name (greater ∷ []) rest); best = inl refl })
+    | inr b ↦ absurd (both_ways (list_all is_letter name) e (all_to is_letter name b.1.each))
+  ]
+] refl
+
+not_colon : (b : ℕ) → is_name_byte b ≡ true → b ≢ colon
+not_colon b h = λ e. absurd (both_ways (is_name_byte b) (subst (λ (x : ℕ). is_name_byte x ≡ false) (sym e) refl) h)
+
+name_bytes_pairs : (bs rest : List ℕ) → AllOf is_name_byte bs → AreInPairs rest → AreInPairs (bs ++ rest)
+name_bytes_pairs [] rest h pairs = pairs
+name_bytes_pairs (b ∷ bs) rest h pairs = ((λ e. absurd (not_colon b h.0 e)), name_bytes_pairs bs rest h.1 pairs)
+
+pub name_pairs : (name rest : List ℕ) → IsName name → AreInPairs rest → AreInPairs (name_text name ++ rest)
+name_pairs name rest h pairs = elim (list_all is_letter name) as (λ t. AreInPairs (cond t name (less ∷ name ++ (greater ∷ [])) ++ rest)) [
+  | true ↦ name_bytes_pairs name rest (name_bytes name h) pairs
+  | false ↦ ((λ e. absurd (omega arith)), rw (append_assoc name (greater ∷ []) rest) (name_bytes_pairs name (greater ∷ rest) (name_bytes name h) ((λ e. absurd (omega arith)), pairs)))
+]
+
+-- a name begins with a letter, a digit or a sign, and its text with a letter or `<`
+pub name_first : (name rest : List ℕ) → IsName name → (b : ℕ) × (bs : List ℕ) × (name_text name ++ rest ≡ b ∷ bs) × (58 < b)
+name_first name rest h = elim (list_all is_letter name) as (λ t. list_all is_letter name ≡ t → (b : ℕ) × (bs : List ℕ) × (cond t name (less ∷ name ++ (greater ∷ [])) ++ rest ≡ b ∷ bs) × (58 < b)) [
+  | true ↦ λ e. let l = h.0 in first name (omega arith) (all_from is_letter name e)
+  | false ↦ λ e. (less, (name ++ (greater ∷ [])) ++ rest, refl, omega arith)
+] refl
+  where
+    first : (bs : List ℕ) → 0 < length bs → AllOf is_letter bs → (b : ℕ) × (cs : List ℕ) × (bs ++ rest ≡ b ∷ cs) × (58 < b)
+    first [] some each = absurd (omega arith)
+    first (b ∷ bs) some each = let l = letter_least b each.0 in (b, bs ++ rest, refl, omega arith)

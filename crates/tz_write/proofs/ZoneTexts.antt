@@ -1,0 +1,121 @@
+-- The text of a zone: it gives the zone, and each other one is longer.
+use Rattle.std.proofs.Common.{◌≡◌, ◌≢◌, ℕ, ◌<◌, arith, ap, ◌∙◌, sym, subst, List, [], ◌∷◌, ◌++◌, length, length-append, true, false, inl, inr, ◌⊎◌, Option, Some, None, Result, Ok, Err, OnErr}
+use Rattle.std.specs.Char.{is_ascii_whitespace}
+use Rattle.std.proofs.lemmas.List.{append-nil}
+use Rattle.std.proofs.lemmas.Bool.Decides.{nat_tests}
+use Rattle.tz_info.specs.Fronts.{is_digit}
+use Rattle.tz_info.specs.Pieces.{NoneFirst}
+use Rattle.tz_info.specs.LocalTypes.{LocalType}
+use Rattle.tz_info.specs.PosixZones.{types_of, posix_zone, IsPosixZone}
+use Rattle.tz_info.specs.RuleTypes.{IsRule}
+use Rattle.tz_info.specs.Trims.{IsSpace, IsTrimmed}
+use Rattle.tz_info.specs.TzTexts.{IsTzText}
+use Rattle.tz_info.specs.Zones.{Zone, zone_of_rule}
+use Rattle.tz_info.specs.declared.rule.transition_rule.TransitionRule.{TransitionRule}
+use Rattle.tz_info.specs.declared.zone.leap_second.LeapSecond.{LeapSecond}
+use Rattle.tz_info.specs.declared.zone.transition.Transition.{Transition}
+use Rattle.tz_write.specs.WrittenTexts.{TwoDigits, AreInPairs, IsWrittenZone}
+use Rattle.tz_write.specs.Steps.TextPieces.{text_of, CanBeSpelled, HasZoneText}
+use Rattle.tz_write.proofs.Shortest.{Best, pairs_rest}
+use Rattle.tz_write.proofs.RuleTexts.{rule_spelled, rule_best, rule_pairs}
+use Rattle.tz_write.proofs.TextBytes.{text_are, text_first, trimmed_text}
+
+-- ---- white space at the ends
+not_both : (b : ℕ) → is_digit b ≡ true → is_ascii_whitespace b ≡ true → ⊥
+not_both b h k = grind (arith, nat_tests)
+
+stops_before : (bs after : List ℕ) → IsSpace after → NoneFirst is_digit (bs ++ after) → NoneFirst is_digit bs
+stops_before [] after space h = tt
+stops_before (b ∷ bs) after space h = h
+
+two_before : (bs after : List ℕ) → IsSpace after → TwoDigits (bs ++ after) → TwoDigits bs
+two_before [] [] space h = h
+two_before [] (c ∷ []) space h = absurd h
+two_before [] (c ∷ d ∷ ds) space h = absurd (not_both c h.0 space.0)
+two_before (a ∷ []) [] space h = h
+two_before (a ∷ []) (c ∷ cs) space h = absurd (not_both c h.1 space.0)
+two_before (a ∷ b ∷ bs) after space h = (h.0, h.1, stops_before bs after space h.2)
+
+pairs_before : (bs after : List ℕ) → IsSpace after → AreInPairs (bs ++ after) → AreInPairs bs
+pairs_before [] after space h = tt
+pairs_before (b ∷ bs) after space h = ((λ e. two_before bs after space (h.0 e)), pairs_before bs after space h.1)
+
+trimmed_pairs : (bytes text : List ℕ) → IsTrimmed bytes text → AreInPairs bytes → AreInPairs text
+trimmed_pairs bytes text t pairs = pairs_before text t.after t.space_after (pairs_rest t.before (text ++ t.after) (subst AreInPairs t.whole pairs))
+
+-- nothing at both ends, or a longer text
+trimmed_or_longer : (before text after : List ℕ) → (before ++ (text ++ after) ≡ text) ⊎ (length text < length (before ++ (text ++ after)))
+trimmed_or_longer [] text [] = inl (append-nil text)
+trimmed_or_longer [] text (c ∷ cs) = let l = length-append text (c ∷ cs) in inr (omega arith)
+trimmed_or_longer (b ∷ bs) text after = let l = length-append text after in let m = length-append bs (text ++ after) in inr (omega arith)
+
+best_of_trimmed : (text bytes trimmed : List ℕ) → IsTrimmed bytes trimmed → Best text trimmed → Best text bytes
+best_of_trimmed text bytes trimmed t best =
+    let whole = trimmed_or_longer t.before trimmed t.after in
+    subst (Best text) (sym t.whole) (elim best [
+      | inl e ↦ elim whole [ inl f ↦ inl (f ∙ e) | inr l ↦ let k = ap length e in inr (omega arith) ]
+      | inr m ↦ elim whole [ inl f ↦ let k = ap length f in inr (omega arith) | inr l ↦ inr (omega arith) ]
+    ])
+
+-- ---- the zone of types and a rule
+not_empty : (rule : TransitionRule) → CanBeSpelled rule → text_of rule ≢ []
+not_empty rule h e = let f = text_first rule h in let k = ap length (sym e ∙ f.2) in omega arith
+
+no_none : (r : TransitionRule) → Some r ≡ None → ⊥
+no_none r e = cc
+
+same_rule : (r s : TransitionRule) → Some r ≡ Some s → r ≡ s
+same_rule r s e = cc
+
+of_types : (types : List LocalType) (rule s : TransitionRule) → zone_of_rule types (Some rule) ≡ posix_zone s → (s ≡ rule) × (types ≡ types_of rule)
+of_types types rule s e =
+    let r : Some rule ≡ Some s = ap (λ (z : Zone). z.rule) e in
+    let k = same_rule rule s r in
+    (sym k, ap (λ (z : Zone). z.types) e ∙ ap types_of (sym k))
+
+-- a text that gives it spells the rule, but for white space at its ends
+spells_rule : (text : List ℕ) (types : List LocalType) (rule : TransitionRule) → IsPosixZone text (zone_of_rule types (Some rule)) → (trimmed : List ℕ) × IsTrimmed text trimmed × IsTzText false trimmed rule × (types ≡ types_of rule)
+spells_rule text types rule gives = elim gives [
+  | inl a ↦ absurd (no_none rule (ap (λ (z : Zone). z.rule) a.1))
+  | inr b ↦
+      let same = of_types types rule b.rule b.zone in
+      (b.trimmed, b.trims, subst (λ (r : TransitionRule). IsTzText false b.trimmed r) same.0 b.spells, same.1)
+]
+
+pub written_zone : (types : List LocalType) (rule : TransitionRule) → IsRule rule → HasZoneText types rule → IsWrittenZone (zone_of_rule types (Some rule)) (text_of rule)
+written_zone types rule fits h =
+    let named = h.1.0 in
+    record {
+      gives = inr (record {
+        some = not_empty rule named;
+        trimmed = text_of rule;
+        rule = rule;
+        trims = trimmed_text (text_of rule) (text_are rule fits named);
+        spells = rule_spelled false rule fits named h.1.1;
+        zone = ap (λ (x : List LocalType). zone_of_rule x (Some rule)) h.0;
+      });
+      pairs = rule_pairs rule fits named;
+      shortest = λ other gives pairs.
+          let s = spells_rule other types rule gives in
+          best_of_trimmed (text_of rule) other s.0 s.1 (rule_best false s.0 rule (trimmed_pairs other s.0 s.1 pairs) s.2);
+    }
+
+-- ---- transitions and leap seconds
+pub zone_is : (z : Zone) (types : List LocalType) (rule : Option TransitionRule) → (z.transitions ≡ []) × (z.leaps ≡ []) → types ≡ z.types → rule ≡ z.rule → zone_of_rule types rule ≡ z
+zone_is z types rule h t r =
+    ap (λ (x : List LocalType). zone_of_rule x rule) t
+    ∙ ap (λ (x : Option TransitionRule). zone_of_rule z.types x) r
+    ∙ sym (ap (λ (x : List LeapSecond). record { transitions = []; types = z.types; leaps = x; rule = z.rule }) h.1)
+    ∙ sym (ap (λ (x : List Transition). record { transitions = x; types = z.types; leaps = z.leaps; rule = z.rule }) h.0)
+
+-- ---- running out of memory
+pub gives_same_zone : (types : List LocalType) (rule : TransitionRule) (z : Zone) → IsRule rule → HasZoneText types rule → zone_of_rule types (Some rule) ≡ z → (text : List ℕ) × IsPosixZone text z
+gives_same_zone types rule z fits h e = (text_of rule, subst (IsPosixZone (text_of rule)) e (written_zone types rule fits h).gives)
+
+pub on_err : {A E : Type 0} (r : Result A E) (P : Type 0) → P → OnErr r P
+on_err (Ok a) P h = tt
+on_err (Err e) P h = h
+
+pub on_err_to : {A E : Type 0} (r : Result A E) (P Q : Type 0) → OnErr r P → (P → Q) → OnErr r Q
+on_err_to (Ok a) P Q h f = tt
+on_err_to (Err e) P Q h f = f h

@@ -1,0 +1,7 @@
+use Rattle.std.proofs.Common.{take}
+use Rattle.std.specs.Prelude.{All}
+use Rattle.tz_write.specs.WrittenFiles.{HasIndex}
+use Rattle.tz_write.proofs.file.contents.have_indexes.Given as goal
+
+abbrev pub invariant-loop-place : goal.invariant-loop-place
+invariant-loop-place l = All HasIndex (take l.place l.zone.transitions)

@@ -1,0 +1,5 @@
+use Rattle.tz_write.proofs.FileLimits.{file_limits}
+use Rattle.tz_write.proofs.laws.files.every_file.Goals as goal
+
+pub returns : goal.returns
+returns c = file_limits

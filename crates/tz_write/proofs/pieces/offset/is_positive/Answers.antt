@@ -1,0 +1,13 @@
+use Rattle.std.proofs.Common.{◌≡◌, ℤ, pos, negsuc, zero, suc, int_lt, refl, arith, w32}
+use Rattle.std.proofs.lemmas.Int.{to_z-of_z}
+use Rattle.std.proofs.lemmas.Bool.{lt-ltb}
+use Rattle.tz_write.specs.Steps.TextPieces.{is_positive}
+use Rattle.tz_write.proofs.pieces.offset.is_positive.Goals as goal
+
+tested : (z : ℤ) → int_lt (pos 0) z ≡ is_positive z
+tested (pos zero) = refl
+tested (pos (suc n)) = lt-ltb 0 (suc n) (omega arith)
+tested (negsuc n) = refl
+
+pub returns : goal.returns
+returns c = rw (to_z-of_z w32 c.args.seconds c.ranges.seconds) (tested c.args.seconds)

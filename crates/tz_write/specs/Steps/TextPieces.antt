@@ -1,0 +1,133 @@
+-- The texts of the pieces of a TZ text.
+use Rattle.std.specs.Prelude.{ℕ, ◌≡◌, zero, suc, ℤ, pos, negsuc, ◌+ℤ◌, ◌+◌, ◌/◌, ◌%◌, ◌==◌, ◌&&◌, ◌≤ℤ◌, ◌<ℤ◌, Bool, true, false, if◌then◌else◌, List, [], ◌∷◌, ◌++◌, decimal, Option, Some, None}
+use Rattle.std.specs.Int.RustNames.{unsigned_abs}
+use Rattle.std.specs.Ordering.{int_eq}
+use Rattle.std.specs.List.{list_all}
+use Rattle.tz_info.specs.Pieces.{comma, minus, dot, slash, colon, less, greater, letter_J, letter_M, is_letter}
+use Rattle.tz_info.specs.LocalTypes.{LocalType}
+use Rattle.tz_info.specs.Rules.{Alternate, IsWithinWeek}
+use Rattle.offset_core.specs.Offset.{IsWithinDay}
+use Rattle.tz_info.specs.TzTexts.{IsNamed}
+use Rattle.tz_info.specs.PosixZones.{types_of}
+use Rattle.tz_info.specs.declared.rule.day.DayForm.{DayForm}
+use Rattle.tz_info.specs.declared.rule.day.DayForm.TheVariants.{Julian1, Julian0, MonthWeekday}
+use Rattle.tz_info.specs.declared.rule.day.DayTime.{DayTime}
+use Rattle.tz_info.specs.declared.rule.transition_rule.TransitionRule.{TransitionRule}
+use Rattle.tz_info.specs.declared.rule.transition_rule.TransitionRule.TheVariants as rules
+
+-- ---- offsets and times
+-- a colon and a number below 100 in two digits
+abbrev pub pair_text : ℕ → List ℕ
+pair_text n = colon ∷ (48 + n / 10) ∷ (48 + n % 10) ∷ []
+
+-- seconds, left out where they are 0
+abbrev pub seconds_text : ℕ → List ℕ
+seconds_text s = if s == 0 then [] else pair_text s
+
+-- minutes and seconds, left out where both are 0
+abbrev pub minutes_text : ℕ → ℕ → List ℕ
+minutes_text m s = if (m == 0) && (s == 0) then [] else pair_text m ++ seconds_text s
+
+abbrev pub clock_text_of : ℕ → ℕ → ℕ → List ℕ
+clock_text_of h m s = decimal h ++ minutes_text m s
+
+-- so many seconds, as hours, minutes and seconds
+unfoldable pub clock_text : ℕ → List ℕ
+clock_text n = clock_text_of (n / 3600) (n / 60 % 60) (n % 60)
+
+-- with a minus in front, or with nothing
+abbrev pub signed_text : Bool → ℕ → List ℕ
+signed_text negative n = if negative then minus ∷ clock_text n else clock_text n
+
+abbrev pub is_positive : ℤ → Bool
+is_positive (pos zero) = false
+is_positive (pos (suc n)) = true
+is_positive (negsuc n) = false
+
+abbrev pub is_negative : ℤ → Bool
+is_negative (pos n) = false
+is_negative (negsuc n) = true
+
+-- an offset east of UTC has a minus
+unfoldable pub offset_text : ℤ → List ℕ
+offset_text east = signed_text (is_positive east) (unsigned_abs east)
+
+-- a time before midnight has one
+unfoldable pub time_text : ℤ → List ℕ
+time_text time = signed_text (is_negative time) (unsigned_abs time)
+
+-- a time that needs no extensions: from midnight on, and within 24 hours, 59 minutes and 59 seconds
+abbrev pub IsPlainTime : ℤ → Type 0
+IsPlainTime time = (pos 0 ≤ℤ time) × (time <ℤ pos 90_000)
+
+-- the times of texts with extensions and without
+abbrev pub IsTimeOf : Bool → ℤ → Type 0
+IsTimeOf true time = IsWithinWeek time
+IsTimeOf false time = IsPlainTime time
+
+-- the time after a date, left out at 2 o'clock
+abbrev pub time_after : ℤ → List ℕ
+time_after time = if int_eq time (pos 7_200) then [] else slash ∷ time_text time
+
+-- ---- names
+-- letters alone stand bare
+abbrev pub name_text : List ℕ → List ℕ
+name_text name = if list_all is_letter name then name else less ∷ name ++ (greater ∷ [])
+
+-- ---- days
+abbrev pub date_text : DayForm → List ℕ
+date_text (Julian1 n) = letter_J ∷ decimal n
+date_text (Julian0 n) = decimal n
+date_text (MonthWeekday month week weekday) = letter_M ∷ decimal month ++ (dot ∷ decimal week ++ (dot ∷ decimal weekday))
+
+abbrev pub day_text : DayTime → List ℕ
+day_text d = date_text d.day ++ time_after d.time
+
+-- ---- the whole
+-- the offset of daylight saving time, left out where it is an hour more than that of standard time
+abbrev pub dst_offset_text : ℤ → ℤ → List ℕ
+dst_offset_text std dst = if int_eq dst (std +ℤ pos 3_600) then [] else offset_text dst
+
+abbrev pub name_or_none : Option (List ℕ) → List ℕ
+name_or_none (Some name) = name
+name_or_none None = []
+
+abbrev pub name_of : LocalType → List ℕ
+name_of t = name_or_none t.name
+
+-- a type's name and offset
+abbrev pub type_text : LocalType → List ℕ
+type_text t = name_text (name_of t) ++ offset_text t.offset
+
+-- the days when daylight saving time starts and ends, each after a comma
+abbrev pub days_text : Alternate → List ℕ
+days_text a = comma ∷ day_text a.start ++ (comma ∷ day_text a.end)
+
+abbrev pub alternate_text : Alternate → List ℕ
+alternate_text a = type_text a.std ++ (name_text (name_of a.dst) ++ (dst_offset_text a.std.offset a.dst.offset ++ days_text a))
+
+abbrev pub text_of : TransitionRule → List ℕ
+text_of (rules.Fixed t) = type_text t
+text_of (rules.Alternate a) = alternate_text a
+
+-- the type has a name that a text can spell, and that mark
+abbrev pub IsNamedType : Bool → LocalType → Type 0
+IsNamedType dst t = (name : List ℕ) × IsNamed name dst t
+
+-- some text spells the rule
+abbrev pub CanBeSpelled : TransitionRule → Type 0
+CanBeSpelled (rules.Fixed t) = IsNamedType false t × IsWithinDay t.offset
+CanBeSpelled (rules.Alternate a) = IsNamedType false a.std × IsNamedType true a.dst
+
+-- a text with extensions, or without, has room for the rule's times
+abbrev pub AreTimesOf : Bool → TransitionRule → Type 0
+AreTimesOf extended (rules.Fixed t) = Unit {0}
+AreTimesOf extended (rules.Alternate a) = IsTimeOf extended a.start.time × IsTimeOf extended a.end.time
+
+-- a text without extensions spells the rule
+abbrev pub HasPlainText : TransitionRule → Type 0
+HasPlainText rule = CanBeSpelled rule × AreTimesOf false rule
+
+-- a text gives the zone of those types and that rule
+abbrev pub HasZoneText : List LocalType → TransitionRule → Type 0
+HasZoneText types rule = (types ≡ types_of rule) × HasPlainText rule

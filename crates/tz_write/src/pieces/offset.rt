@@ -1,0 +1,48 @@
+//! Offsets and times of day.
+
+ghost use Rattle.std.specs.Prelude.{◌≡◌, ◌++◌, ◌+ℤ◌, pos, OnOk, string_bytes};
+ghost use Rattle.offset_core.specs.Offset.{IsWithinDay};
+ghost use Rattle.tz_write.specs.Steps.TextPieces.{is_positive, is_negative, offset_text, time_text, dst_offset_text};
+
+use crate::pieces::clock::push_signed;
+use std::alloc::AllocError;
+
+// An offset east of UTC, which a text counts west of it.
+#[tactic(auto, unfolding(crate::specs::Steps::TextPieces::offset_text))]
+pub(crate) fn push_offset(text: &mut String, east: i32) -> Result<(), AllocError>
+    ensures { OnOk result (string_bytes text.new ≡ string_bytes text.old ++ offset_text east) }
+{
+    push_signed(text, is_positive(east), east.unsigned_abs())
+}
+
+// A time of day, which may lie before midnight.
+#[tactic(auto, unfolding(crate::specs::Steps::TextPieces::time_text))]
+pub(crate) fn push_time(text: &mut String, time: i32) -> Result<(), AllocError>
+    ensures { OnOk result (string_bytes text.new ≡ string_bytes text.old ++ time_text time) }
+{
+    push_signed(text, is_negative(time), time.unsigned_abs())
+}
+
+// The offset of daylight saving time, unless it is an hour more than that of standard time.
+pub(crate) fn push_dst_offset(text: &mut String, std: i32, dst: i32) -> Result<(), AllocError>
+    requires { IsWithinDay std }
+    ensures { OnOk result
+        (string_bytes text.new ≡ string_bytes text.old ++ dst_offset_text std dst) }
+{
+    if dst == std + 3_600 {
+        return Ok(());
+    }
+    push_offset(text, dst)
+}
+
+fn is_positive(seconds: i32) -> bool
+    ensures { result ≡ is_positive seconds }
+{
+    seconds > 0
+}
+
+fn is_negative(seconds: i32) -> bool
+    ensures { result ≡ is_negative seconds }
+{
+    seconds < 0
+}

@@ -1,0 +1,205 @@
+//! The TZ text of a rule.
+
+ghost use Rattle.std.specs.Prelude.{◌≡◌, ◌∷◌, ◌++◌, List, ℕ, true, false, OnOk, IsTrue, MatchBool, ◌↔◌, MatchResult, MatchOption, OnErr, Bool, Some, None, string_bytes};
+ghost use Rattle.tz_info.specs.Errors.{IsOutOfMemory};
+ghost use Rattle.tz_info.specs.Names.{IsName};
+ghost use Rattle.tz_info.specs.RuleTypes.{IsRule};
+ghost use Rattle.tz_info.specs.Rules.{IsAlternateRule};
+ghost use Rattle.offset_core.specs.Offset.{IsWithinDay};
+ghost use Rattle.tz_info.specs.TzTexts.{IsTzText};
+ghost use Rattle.tz_write.specs.WrittenTexts.{IsWrittenText, IsUnspelled};
+ghost use Rattle.tz_write.specs.Steps.TextPieces.{name_text, name_of, type_text, days_text, alternate_text, text_of, IsNamedType, IsPlainTime, CanBeSpelled, AreTimesOf, HasPlainText};
+
+use crate::pieces::day::push_day;
+use crate::pieces::name::push_name;
+use crate::pieces::offset::{push_dst_offset, push_offset};
+use std::alloc::{AllocError, Global};
+use tz_info::{AlternateTime, Error, LocalTimeType, TimeZoneName, TransitionRule};
+
+/// A TZ text that was written, and whether it is one with the extensions of RFC 8536 section 3.3.1:
+/// with hours of a time of day that are negative, or above 24.
+#[derive(Debug, Drop)]
+pub struct TzText {
+    /// The text.
+    pub text: String,
+    /// Whether it has extensions.
+    pub extended: bool,
+}
+
+/// Rules that are written as TZ texts.
+pub trait ToTzString {
+    /// The TZ text that spells the rule, or `None` if no text does: if a type has no name, or isn't
+    /// marked as standard or daylight saving time as the text would say, or if a rule of one type
+    /// has an offset of a day or more.
+    ///
+    /// ```text
+    /// let text = b"<EST>+05:00<EDT>,M3.2.0/02:00:00,M11.1.0";
+    /// let rule = TransitionRule::from_tz_string(text, false)?;
+    /// let written = rule.to_tz_string(alloc)?;    // EST5EDT,M3.2.0,M11.1.0
+    /// ```
+    ///
+    /// # Errors
+    ///
+    /// [`Error::OutOfMemory`] if there is no memory for the text.
+    fn to_tz_string(&self, alloc: Global) -> Result<Option<TzText>, Error>;
+}
+
+impl ToTzString for TransitionRule {
+    /// The shortest TZ text that spells the rule, with minutes and seconds in two digits.
+    fn to_tz_string(&self, alloc: Global) -> Result<Option<TzText>, Error>
+        // The text is the rule's, and the shortest; there is none only if no text spells the rule.
+        ensures written { MatchResult result
+            (λ answer. MatchOption answer (IsUnspelled self.now)
+            (λ t. IsWrittenText self.now (string_bytes t.text) t.extended))
+            (λ e. IsOutOfMemory e) }
+        // Running out of memory is answered only for a rule that some text spells.
+        ensures memory { OnErr result ((extended : Bool) × (text : List ℕ)
+            × IsTzText extended text self.now) }
+    {
+        if !can_be_spelled(self) {
+            return Ok(None);
+        }
+        let text = text_of(alloc, self)?;
+        Ok(Some(TzText {
+            text,
+            extended: !is_plain(self),
+        }))
+    }
+}
+
+// The rule's text.
+pub(crate) fn text_of(alloc: Global, rule: &TransitionRule) -> Result<String, Error>
+    ensures { MatchResult result
+        (λ text. string_bytes text ≡ text_of rule.now)
+        (λ e. IsOutOfMemory e) }
+{
+    let mut text = String::new(alloc);
+    push_rule(&mut text, rule)?;
+    Ok(text)
+}
+
+// Whether a text without extensions spells the rule.
+pub(crate) fn has_plain_text(rule: &TransitionRule) -> bool
+    ensures answer { IsTrue result ↔ HasPlainText rule.now }
+    ensures rule { IsRule rule.now }
+{
+    can_be_spelled(rule) && is_plain(rule)
+}
+
+// Whether some text spells the rule.
+fn can_be_spelled(rule: &TransitionRule) -> bool
+    ensures answer { IsTrue result ↔ CanBeSpelled rule.now }
+    ensures rule { IsRule rule.now }
+{
+    match rule {
+        TransitionRule::Fixed(local) => is_named(local, false) && is_within_day(local),
+        TransitionRule::Alternate(alternate) => are_named(alternate),
+    }
+}
+
+// Whether both types have their names and their marks.
+fn are_named(alternate: &AlternateTime) -> bool
+    ensures answer { IsTrue result ↔ (IsNamedType false alternate.now.std
+        × IsNamedType true alternate.now.dst) }
+    ensures rule { IsAlternateRule alternate.now }
+{
+    is_named(alternate.std(), false) && is_named(alternate.dst(), true)
+}
+
+// Whether the type has a name, and that mark.
+fn is_named(local: &LocalTimeType, dst: bool) -> bool
+    ensures { IsTrue result ↔ IsNamedType dst local.now }
+{
+    local.is_dst() == dst && has_name(local)
+}
+
+fn has_name(local: &LocalTimeType) -> bool
+    ensures { MatchBool result ((name : List ℕ) × IsName name × (local.now.name ≡ Some name))
+        (local.now.name ≡ None) }
+{
+    match local.name() {
+        Some(name) => is_some_name(name),
+        None => false,
+    }
+}
+
+// That the bytes of a name are one.
+fn is_some_name(name: &TimeZoneName) -> bool
+    ensures yes { result ≡ true }
+    ensures name { IsName name.now }
+{
+    !name.as_bytes().is_empty()
+}
+
+fn is_within_day(local: &LocalTimeType) -> bool
+    ensures { IsTrue result ↔ IsWithinDay local.now.offset }
+{
+    let offset = local.offset();
+    -86_400 < offset && offset < 86_400
+}
+
+// Whether a text without extensions has room for the rule's times.
+fn is_plain(rule: &TransitionRule) -> bool
+    ensures { IsTrue result ↔ AreTimesOf false rule.now }
+{
+    match rule {
+        TransitionRule::Fixed(_) => true,
+        TransitionRule::Alternate(alternate) => {
+            is_plain_time(alternate.dst_start_time()) && is_plain_time(alternate.dst_end_time())
+        }
+    }
+}
+
+fn is_plain_time(time: i32) -> bool
+    ensures { IsTrue result ↔ IsPlainTime time }
+{
+    0 <= time && time < 90_000
+}
+
+// The rule's text.
+fn push_rule(text: &mut String, rule: &TransitionRule) -> Result<(), AllocError>
+    ensures { OnOk result (string_bytes text.new ≡ string_bytes text.old ++ text_of rule.now) }
+{
+    match rule {
+        TransitionRule::Fixed(local) => push_type(text, local),
+        TransitionRule::Alternate(alternate) => push_alternate(text, alternate),
+    }
+}
+
+fn push_alternate(text: &mut String, alternate: &AlternateTime) -> Result<(), AllocError>
+    ensures { OnOk result
+        (string_bytes text.new ≡ string_bytes text.old ++ alternate_text alternate.now) }
+{
+    let (std, dst) = (alternate.std(), alternate.dst());
+    push_type(text, std)?;
+    push_name_of(text, dst)?;
+    push_dst_offset(text, std.offset(), dst.offset())?;
+    push_days(text, alternate)
+}
+
+// The days when daylight saving time starts and ends, each after a comma.
+fn push_days(text: &mut String, alternate: &AlternateTime) -> Result<(), AllocError>
+    ensures { OnOk result
+        (string_bytes text.new ≡ string_bytes text.old ++ days_text alternate.now) }
+{
+    push_day(text, alternate.dst_start(), alternate.dst_start_time())?;
+    push_day(text, alternate.dst_end(), alternate.dst_end_time())
+}
+
+// A type's name and offset.
+fn push_type(text: &mut String, local: &LocalTimeType) -> Result<(), AllocError>
+    ensures { OnOk result (string_bytes text.new ≡ string_bytes text.old ++ type_text local.now) }
+{
+    push_name_of(text, local)?;
+    push_offset(text, local.offset())
+}
+
+fn push_name_of(text: &mut String, local: &LocalTimeType) -> Result<(), AllocError>
+    ensures { OnOk result
+        (string_bytes text.new ≡ string_bytes text.old ++ name_text (name_of local.now)) }
+{
+    match local.name() {
+        Some(name) => push_name(text, name),
+        None => Ok(()),
+    }
+}

@@ -1,0 +1,132 @@
+//! The TZ text of a zone.
+
+ghost use Rattle.std.specs.Prelude.{◌≡◌, [], ◌∷◌, IsTrue, ◌↔◌, MatchOption, MatchResult, OnErr, List, ℕ, Some, None, pos, true, false, string_bytes};
+ghost use Rattle.tz_info.specs.Errors.{IsOutOfMemory};
+ghost use Rattle.tz_info.specs.LocalTypes.{plain_type};
+ghost use Rattle.tz_info.specs.PosixZones.{types_of, IsPosixZone};
+ghost use Rattle.tz_info.specs.RuleTypes.{IsRule};
+ghost use Rattle.tz_info.specs.Zones.{zone_of_rule};
+ghost use Rattle.tz_write.specs.WrittenTexts.{IsWrittenZone, IsNoPosixZone};
+ghost use Rattle.tz_write.specs.Steps.TextPieces.{HasZoneText};
+
+use crate::rule_text::{has_plain_text, text_of};
+use std::alloc::Global;
+use tz_info::{Error, LocalTimeType, TimeZone, TransitionRule};
+
+/// Zones that are written as TZ texts.
+pub trait ToPosixTz {
+    /// The TZ text that gives the zone, as `TimeZone::from_posix_tz` takes one, or `None` if no
+    /// text does: if the zone has transitions, leap seconds or other types than its rule's, or a
+    /// rule that no text without extensions spells.
+    ///
+    /// ```text
+    /// let zone = TimeZone::from_posix_tz(alloc, "<+0530>-05:30:00")?;
+    /// let written = zone.to_posix_tz(alloc)?;    // <+0530>-5:30
+    /// ```
+    ///
+    /// # Errors
+    ///
+    /// [`Error::OutOfMemory`] if there is no memory for the text.
+    fn to_posix_tz(&self, alloc: Global) -> Result<Option<String>, Error>;
+}
+
+impl ToPosixTz for TimeZone {
+    /// The shortest TZ text that gives the zone, with minutes and seconds in two digits: that of
+    /// the rule, where the zone is its rule alone, or the empty text for the zone of UTC.
+    fn to_posix_tz(&self, alloc: Global) -> Result<Option<String>, Error>
+        // The text is the zone's, and the shortest; there is none only if no text gives the zone.
+        ensures written { MatchResult result
+            (λ answer. MatchOption answer (IsNoPosixZone self.now)
+            (λ text. IsWrittenZone self.now (string_bytes text)))
+            (λ e. IsOutOfMemory e) }
+        // Running out of memory is answered only for a zone that some text gives.
+        ensures memory { OnErr result ((text : List ℕ) × IsPosixZone text self.now) }
+    {
+        if !is_rule_alone(self) {
+            return Ok(None);
+        }
+        let types = self.local_time_types();
+        match self.rule() {
+            Some(rule) => text_of_rule(alloc, types, rule),
+            None => Ok(text_of_utc(alloc, types)),
+        }
+    }
+}
+
+// Whether the zone has neither transitions nor leap seconds.
+fn is_rule_alone(zone: &TimeZone) -> bool
+    ensures { IsTrue result ↔ ((zone.now.transitions ≡ []) × (zone.now.leaps ≡ [])) }
+{
+    zone.transition_count() == 0 && zone.leap_seconds().is_empty()
+}
+
+// The text of the zone of those types and that rule.
+fn text_of_rule(
+    alloc: Global,
+    types: &[LocalTimeType],
+    rule: &TransitionRule,
+) -> Result<Option<String>, Error>
+    requires { IsRule rule.now }
+    ensures written { let zone = zone_of_rule types.now (Some rule.now) in
+        MatchResult result
+        (λ answer. MatchOption answer (IsNoPosixZone zone)
+        (λ text. IsWrittenZone zone (string_bytes text)))
+        (λ e. IsOutOfMemory e) }
+    ensures memory { OnErr result (HasZoneText types.now rule.now) }
+{
+    if !has_zone_text(types, rule) {
+        return Ok(None);
+    }
+    Ok(Some(text_of(alloc, rule)?))
+}
+
+// Whether a text gives the zone of those types and that rule.
+fn has_zone_text(types: &[LocalTimeType], rule: &TransitionRule) -> bool
+    ensures { IsTrue result ↔ HasZoneText types.now rule.now }
+{
+    are_types_of(types, rule) && has_plain_text(rule)
+}
+
+// The text of the zone of those types and no rule.
+fn text_of_utc(alloc: Global, types: &[LocalTimeType]) -> Option<String>
+    ensures { let zone = zone_of_rule types.now None in
+        MatchOption result (IsNoPosixZone zone)
+        (λ text. IsWrittenZone zone (string_bytes text)) }
+{
+    if is_only(types, &LocalTimeType::utc()) {
+        Some(String::new(alloc))
+    } else {
+        None
+    }
+}
+
+// Whether those are the types of the rule.
+fn are_types_of(types: &[LocalTimeType], rule: &TransitionRule) -> bool
+    ensures { IsTrue result ↔ (types.now ≡ types_of rule.now) }
+{
+    match rule {
+        TransitionRule::Fixed(local) => is_only(types, local),
+        TransitionRule::Alternate(alternate) => {
+            are_both(types, alternate.std(), alternate.dst())
+        }
+    }
+}
+
+fn is_only(types: &[LocalTimeType], local: &LocalTimeType) -> bool
+    ensures { IsTrue result ↔ (types.now ≡ local.now ∷ []) }
+{
+    types.len() == 1 && is_same(&types[0], local)
+}
+
+fn are_both(types: &[LocalTimeType], first: &LocalTimeType, second: &LocalTimeType) -> bool
+    ensures { IsTrue result ↔ (types.now ≡ first.now ∷ second.now ∷ []) }
+{
+    types.len() == 2 && is_same(&types[0], first) && is_same(&types[1], second)
+}
+
+fn is_same(local: &LocalTimeType, other: &LocalTimeType) -> bool
+    ensures { IsTrue result ↔ (local.now ≡ other.now) }
+{
+    tz_info::laws::equality::local_time_types();
+    local == other
+}

@@ -1,0 +1,6 @@
+use Rattle.zone_dump.specs.Tables.{line, leap_text}
+use Rattle.zone_dump.proofs.TableLaws.{piece_next}
+use Rattle.zone_dump.proofs.tables.push_leap_seconds.Goals as goal
+
+pub loop-leap-preserved : goal.loop-leap-preserved
+loop-leap-preserved c = piece_next (λ e. line (leap_text e)) _ _ _ c.args.leaps.now c.loop-leap.leap-index _ c.loop-leap-test.true c.loop-leap.invariant c.in_ok-push_leap_second.ensures

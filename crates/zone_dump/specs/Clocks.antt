@@ -1,0 +1,13 @@
+-- What clocks show.
+use Rattle.std.specs.Prelude.{ℕ, ℤ, int_le, ◌&&◌, Bool, List, if◌then◌else◌}
+use Rattle.std.specs.Fmt.{signed_decimal}
+use Rattle.naive_base.specs.Range.{first_second, last_second}
+use Rattle.naive_base.specs.Stamp.{of_secs}
+use Rattle.naive_base.specs.Text.{reading_text}
+
+-- the date and the time of so many seconds after 1970-01-01 00:00:00, or the seconds where the calendar's range ends
+abbrev pub is_shown : ℤ → Bool
+is_shown s = int_le first_second s && int_le s last_second
+
+unfoldable pub clock_words : ℤ → List ℕ
+clock_words s = if is_shown s then reading_text 32 (of_secs s 0) else signed_decimal s

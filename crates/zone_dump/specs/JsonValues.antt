@@ -1,0 +1,102 @@
+-- What the clocks of a zone do in some years, as a JSON value.
+use Rattle.std.specs.Prelude.{◌≡◌, ℕ, ℤ, ◌-ℤ◌, int_lt, unsigned_abs, List, [], ◌∷◌, length, map, Option, Some, None, codes, decimal, if◌then◌else◌}
+use Rattle.std.specs.Fmt.{signed_decimal}
+use Rattle.json.specs.Json.{Json, null, boolean, number, string, array, object, Members, no_members, member, document}
+use Rattle.json.specs.Value.{items_of}
+use Rattle.tz_info.specs.Changes.{AreChanges}
+use Rattle.tz_info.specs.LocalTypes.{LocalType}
+use Rattle.tz_info.specs.Zones.{Zone, TypeAt}
+use Rattle.tz_info.specs.declared.change.Change.{Change}
+use Rattle.tz_info.specs.declared.rule.day.DayForm.{DayForm}
+use Rattle.tz_info.specs.declared.rule.day.DayForm.TheVariants as days
+use Rattle.tz_info.specs.declared.rule.day.DayTime.{DayTime}
+use Rattle.tz_info.specs.declared.rule.transition_rule.TransitionRule.{TransitionRule}
+use Rattle.tz_info.specs.declared.rule.transition_rule.TransitionRule.TheVariants as rules
+use Rattle.tz_info.specs.declared.zone.leap_second.LeapSecond.{LeapSecond}
+use Rattle.zone_dump.specs.Clocks.{clock_words}
+use Rattle.zone_dump.specs.Spans.{year_second, year_until}
+
+abbrev pub members_from : List (List ℕ × Json) → Members
+members_from [] = no_members
+members_from (m ∷ ms) = member m.0 m.1 (members_from ms)
+
+-- an object of those names and values
+abbrev pub fields : List (List ℕ × Json) → Json
+fields ms = object (members_from ms)
+
+abbrev pub name_value : Option (List ℕ) → Json
+name_value None = null
+name_value (Some name) = string name
+
+-- a type of local time: seconds east of UTC, whether it is daylight saving time, and its name
+abbrev pub type_value : LocalType → Json
+type_value t =
+    fields ((codes "offset", number (signed_decimal t.offset)) ∷ (codes "dst", boolean t.dst) ∷ (codes "name", name_value t.name) ∷ [])
+
+-- clocks that go on by a greater offset skip the difference, a gap; those that go on by a lesser one repeat it, a fold
+abbrev pub step_name : ℤ → ℤ → List ℕ
+step_name before after = if int_lt before after then codes "gap" else if int_lt after before then codes "fold" else codes "none"
+
+-- a change: its second in Unix time and as UTC shows it, the types before and after, and the gap or the fold and its length in
+-- seconds
+abbrev pub change_value : Change → Json
+change_value c =
+    fields
+    ((codes "at", number (signed_decimal c.at))
+    ∷ (codes "utc", string (clock_words c.at))
+    ∷ (codes "before", type_value c.before)
+    ∷ (codes "after", type_value c.after)
+    ∷ (codes "step", string (step_name c.before.offset c.after.offset))
+    ∷ (codes "length", number (decimal (unsigned_abs (c.after.offset -ℤ c.before.offset))))
+    ∷ [])
+
+-- a day of each year in its form: `J` with n, `n` with n, or `M` with month, week and weekday
+abbrev pub day_value : DayForm → Json
+day_value (days.Julian1 n) = fields ((codes "form", string (codes "J")) ∷ (codes "n", number (decimal n)) ∷ [])
+day_value (days.Julian0 n) = fields ((codes "form", string (codes "n")) ∷ (codes "n", number (decimal n)) ∷ [])
+day_value (days.MonthWeekday month week weekday) =
+    fields
+    ((codes "form", string (codes "M")) ∷ (codes "month", number (decimal month)) ∷ (codes "week", number (decimal week))
+    ∷ (codes "weekday", number (decimal weekday)) ∷ [])
+
+-- a day of each year, and seconds after its midnight
+abbrev pub moment_value : DayTime → Json
+moment_value d = fields ((codes "day", day_value d.day) ∷ (codes "time", number (signed_decimal d.time)) ∷ [])
+
+-- what follows the last transition: nothing else, one type, or two types in turns
+abbrev pub rule_value : Option TransitionRule → Json
+rule_value None = null
+rule_value (Some (rules.Fixed t)) = fields ((codes "always", type_value t) ∷ [])
+rule_value (Some (rules.Alternate a)) =
+    fields
+    ((codes "std", type_value a.std) ∷ (codes "dst", type_value a.dst) ∷ (codes "start", moment_value a.start)
+    ∷ (codes "end", moment_value a.end) ∷ [])
+
+-- a leap second: the leap time from which on its correction stands, and the correction
+abbrev pub leap_value : LeapSecond → Json
+leap_value e = fields ((codes "leap_time", number (signed_decimal e.unix_leap_time)) ∷ (codes "correction", number (signed_decimal e.correction)) ∷ [])
+
+-- a list of values
+abbrev pub list_value : {A : Type 0} → (A → Json) → List A → Json
+list_value f xs = array (items_of (map f xs))
+
+-- the zone under that name, with those changes
+abbrev pub zone_value : List ℕ → ℤ → ℤ → Zone → List Change → Json
+zone_value name first last zone changes =
+    fields
+    ((codes "zone", string name)
+    ∷ (codes "from", number (signed_decimal first))
+    ∷ (codes "to", number (signed_decimal last))
+    ∷ (codes "transitions", number (decimal (length zone.transitions)))
+    ∷ (codes "types", number (decimal (length zone.types)))
+    ∷ (codes "rule", rule_value zone.rule)
+    ∷ (codes "leap_seconds", list_value leap_value zone.leaps)
+    ∷ (codes "changes", list_value change_value changes)
+    ∷ [])
+
+-- a JSON text of the zone, whose changes are exactly those from the first second of the first year to the last second of the last
+-- year in UTC, in order
+pub record IsJson (zone : Zone) (name : List ℕ) (first last : ℤ) (text : List ℕ) : Type 0 where
+  pub changes : List Change
+  pub all : AreChanges (TypeAt zone) (year_second first) (year_until last) changes
+  pub value_is : document text ≡ Some (zone_value name first last zone changes)

@@ -1,0 +1,9 @@
+pub mod Clocks
+pub mod JsonSteps
+pub mod JsonValues
+pub mod Spans
+pub mod Words
+pub mod Tables
+pub mod Zdump
+pub mod Forms
+pub mod Steps

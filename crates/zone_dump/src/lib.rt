@@ -1,0 +1,24 @@
+//! What the clocks of a zone do in some years, as a table, as `zdump` prints it, and as JSON.
+//!
+//! [`tell_file`] reads the bytes of a TZif file and writes a line or two for each change of the
+//! zone's clocks in those years, in order; [`tell_text`] does so for a TZ text. Nothing is written
+//! for a file or a text that is refused. [`to_json`] tells a zone in JSON.
+#![tactic(auto)]
+
+mod changes;
+mod clocks;
+mod form;
+mod json_text;
+mod tables;
+mod tell;
+mod words;
+mod years;
+mod zdump;
+
+pub use changes::changes_in;
+pub use form::Form;
+pub use json_text::to_json;
+pub use tables::table;
+pub use tell::{tell_file, tell_text};
+pub use years::Years;
+pub use zdump::zdump_lines;

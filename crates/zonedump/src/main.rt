@@ -1,0 +1,88 @@
+//! Prints what the clocks of time zones do: of TZif files, or of a TZ text.
+#![tactic(auto)]
+
+mod arguments;
+mod files;
+mod told;
+
+use std::process::ExitCode;
+use std::{env, io};
+use told::{Asked, What, tell_file, tell_text};
+
+// The status of a run that told all that was asked, of one that did not, and of wrong arguments.
+const TOLD: u8 = 0;
+
+const FAILED: u8 = 1;
+
+const WRONG: u8 = 2;
+
+fn main(rt: HostRuntime) -> ExitCode {
+    match run(&rt) {
+        Ok(status) => ExitCode::from(status),
+        Err(error) => {
+            let _ = eprintln!(rt; "zonedump: {error}");
+            ExitCode::from(FAILED)
+        }
+    }
+}
+
+fn run(rt: &HostRuntime) -> io::Result<u8> {
+    let words: Vec<String> = env::args(rt)?.collect(rt.alloc())?;
+    answer(rt, words.as_slice())
+}
+
+// Does what the words ask for.
+fn answer<'a>(rt: &HostRuntime, words: &'a [String]) -> io::Result<u8> {
+    let matches = match arguments::command(rt.alloc())?.try_get_matches_from(words) {
+        Ok(matches) => matches,
+        Err(error) => {
+            error.print(rt)?;
+            return Ok(error.exit_code() as u8);
+        }
+    };
+    let Some(years) = arguments::years_of(&matches) else {
+        eprintln!(rt; "zonedump: the years go from one of 1 to 9999 to the same or a later one")?;
+        return Ok(WRONG);
+    };
+    let what = match matches.get_str("write") {
+        Some(path) => What::Write(path),
+        None => {
+            if matches.get_flag("zdump") {
+                What::Zdump
+            } else if matches.get_flag("json") {
+                What::Json
+            } else {
+                What::Table
+            }
+        }
+    };
+    let asked = Asked { years, what };
+    if let Some(text) = matches.get_str("text") {
+        return Ok(status_of(tell_text(rt, text, asked)?));
+    }
+    let Some(files) = matches.get_strs("FILE") else {
+        return Ok(TOLD);
+    };
+    if let What::Write(_) = what
+        && files.len() > 1
+    {
+        eprintln!(rt; "zonedump: only one zone is written")?;
+        return Ok(WRONG);
+    }
+    tell_files(rt, files, asked)
+}
+
+// Tells each of the files. One that is refused leaves the others as they are.
+fn tell_files(rt: &HostRuntime, files: &[&str], asked: Asked<'_>) -> io::Result<u8> {
+    let mut status = TOLD;
+    for file in files {
+        if !tell_file(rt, file, asked)? {
+            status = FAILED;
+        }
+    }
+    Ok(status)
+}
+
+fn status_of(is_told: bool) -> u8 {
+    if is_told { TOLD } else { FAILED }
+}

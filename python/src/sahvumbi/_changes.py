@@ -1,0 +1,101 @@
+"""The changes of a zone's clocks in a stretch of time."""
+
+from __future__ import annotations
+
+from typing import TYPE_CHECKING, Any, NamedTuple, Union
+
+import numpy as np
+import numpy.typing as npt
+
+from ._columns import GREATEST, LEAST, Column, taken
+from ._door import Door
+from .errors import OUT_OF_RANGE, OutOfRangeError
+
+if TYPE_CHECKING:
+    import pandas
+
+#: An end of a stretch: seconds since 1970-01-01 00:00:00 UTC, or a datetime64 of any unit.
+Time = Union[int, np.integer, np.datetime64]
+
+
+class Changes(NamedTuple):
+    """Changes of a zone's clocks, in the order of time: each field has a value for each change."""
+
+    at: npt.NDArray[Any]
+    """The first second of the new type: int64 if the ends are numbers, else datetime64[s]."""
+    offset_before: npt.NDArray[Any]
+    """The offset at the second before it, as `Zone.offsets` has it: seconds, or timedelta64[s]."""
+    offset_after: npt.NDArray[Any]
+    """The offset at that second."""
+    is_dst_before: npt.NDArray[np.bool_]
+    """Whether it is daylight saving time at the second before."""
+    is_dst_after: npt.NDArray[np.bool_]
+    """Whether it is from that second on."""
+    name_before: npt.NDArray[np.str_]
+    """The abbreviation at the second before, such as EST; empty where the zone names none."""
+    name_after: npt.NDArray[np.str_]
+    """The abbreviation from that second on."""
+
+    def to_frame(self) -> pandas.DataFrame:
+        """A DataFrame with a row for each change. Seconds of datetime64 are told to be of UTC.
+
+        >>> from sahvumbi import Zone
+        >>> paris = Zone.from_text("CET-1CEST,M3.5.0,M10.5.0/3")
+        >>> changes = paris.changes(np.datetime64("2021"), np.datetime64("2022"))
+        >>> changes.to_frame()[["at", "offset_after", "name_after"]]
+                                 at    offset_after name_after
+        0 2021-03-28 01:00:00+00:00 0 days 02:00:00       CEST
+        1 2021-10-31 01:00:00+00:00 0 days 01:00:00        CET
+        """
+        import pandas
+
+        frame = pandas.DataFrame(self._asdict())
+        if self.at.dtype.kind == "M":
+            frame["at"] = frame["at"].dt.tz_localize("UTC")
+        return frame
+
+
+def of_stretch(door: Door, begin: Time, end: Time) -> Changes:
+    """The changes from `begin` on and before `end`."""
+    first, last = _end("from_", begin), _end("to", end)
+    if first.is_time != last.is_time:
+        raise TypeError("from_ and to are both numbers of seconds, or both datetime64")
+    found = door.changes(_second("from_", first), _second("to", last))
+    at, before, after = found["at"].copy(), found["before"], found["after"]
+    changes = Changes(
+        at,
+        before["offset"].copy(),
+        after["offset"].copy(),
+        before["is_dst"] != 0,
+        after["is_dst"] != 0,
+        before["abbreviation"].astype("U7"),
+        after["abbreviation"].astype("U7"),
+    )
+    if not first.is_time:
+        return changes
+    return changes._replace(
+        at=at.view("M8[s]"),
+        offset_before=changes.offset_before.astype("m8[s]"),
+        offset_after=changes.offset_after.astype("m8[s]"),
+    )
+
+
+def _end(name: str, value: Any) -> Column:
+    """An end of the stretch, as a column of one row."""
+    if isinstance(value, int) and not LEAST <= value <= GREATEST:
+        raise OutOfRangeError(None, value, OUT_OF_RANGE, "it does not fit int64", name)
+    try:
+        column = taken(value, may_be_aware=False)
+    except OutOfRangeError as error:
+        raise OutOfRangeError(None, error.value, error.number, error.words, name) from None
+    if column.series is not None or column.shape:
+        raise TypeError(f"{name} is one instant, and no column of them")
+    return column
+
+
+def _second(name: str, end: Column) -> int:
+    """The least second that does not come before the end."""
+    value = int(end.values[0])
+    if end.is_time and value == LEAST:
+        raise ValueError(f"{name} is NaT")
+    return -(-value // end.per_second)
