@@ -68,6 +68,8 @@ def without_leap_seconds(text):
 
 
 def main():
+    if len(sys.argv) < 2:
+        sys.exit(__doc__)
     program = sys.argv[1]
     folder = sys.argv[2] if len(sys.argv) > 2 else "/usr/share/zoneinfo"
     counts = collections.Counter()

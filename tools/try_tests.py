@@ -27,6 +27,8 @@ from sources import TOP, crates, uses
 
 RT = os.environ.get("RT", "rt")
 LAID = "tried"
+# The gate runs them beside its proofs, where they take longer than alone.
+SECONDS = "300"
 
 
 def texts_of(name):
@@ -89,7 +91,7 @@ def main():
         crate = repository(Path(folder), names)
         if "--fmt" in words:
             return lay_out(crate, names)
-        tried = subprocess.run([RT, "try", "--test"], cwd=crate, capture_output=True, text=True)
+        tried = subprocess.run([RT, "try", "--test", "--seconds", SECONDS], cwd=crate, capture_output=True, text=True)
     report = tried.stdout + tried.stderr
     ran = re.findall(r"(?m)^test of_(\w+)::\S+ \.\.\. ok$", report)
     if tried.returncode != 0 or len(ran) != wanted or wanted == 0:

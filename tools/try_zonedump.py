@@ -1,5 +1,6 @@
 #!/usr/bin/env python3
-"""Tries the built zonedump on wrong input: what it says, and its exit status. Tries its JSON, and the files that it writes.
+"""Tries the built zonedump on wrong input: what it says, and its exit status. Tries its JSON, its pictures, and the files that it
+writes.
 
 usage: tools/try_zonedump.py [ZONEDUMP]
 
@@ -7,35 +8,28 @@ ZONEDUMP is the built program (crates/zonedump/out/zonedump). It is run on a fol
 cut short, one above the limit, one that isn't there, a wrong TZ text and wrong arguments, on a good file among wrong ones, and
 with a full standard output. Each run must end with the status, the output and the line on standard error that are due. The JSON
 of a file and of a TZ text must have the changes of the table. A file that is written must be told as the one that was read, and
-show the same times in Python's zoneinfo. Prints a line for each run, and ends with status 1 if an answer differs. It takes a
-few seconds and builds nothing.
+show the same times in Python's zoneinfo. A picture must be the one in docs/, have the changes of the table as steps of its line
+at their places, and the wall clocks of the table in its panels. Prints a line for each run, and ends with status 1 if an answer
+differs. It takes a few seconds and builds nothing.
 """
 
 import json
+import re
 import subprocess
 import sys
 import tempfile
 import zipfile
 from datetime import datetime, timezone
 from pathlib import Path
+from xml.etree import ElementTree
 from zoneinfo import ZoneInfo
+
+from checks import check, exit_status
 
 HERE = Path(__file__).resolve().parent.parent
 STORED = HERE / "crates" / "zonedump"
 SECONDS = 60
 LIMIT = 64 << 20
-
-failures = 0
-
-
-def check(name, want, got):
-    """Compares what is due with what was given."""
-    global failures
-    if got == want:
-        print(f"ok      {name}")
-        return
-    failures += 1
-    print(f"DIFFERS {name}\n  due:   {want}\n  given: {got}")
 
 
 def run(program, *words, folder=None, redirect=""):
@@ -111,7 +105,66 @@ def try_write(program, folder):
     status, output, errors = run(program, "--write", "folder", "good", folder=folder)
     check("--write into a folder", (1, "", True), (status, output, errors.startswith("zonedump: folder: ")))
     several = run(program, "--write", "again", "good", "written", folder=folder)
-    check("--write of two files", (2, "", "zonedump: only one zone is written\n"), several)
+    check("--write of two files", (2, "", ONE_ZONE), several)
+
+
+def shapes(picture, name):
+    """The shapes and texts of that class in a picture."""
+    return [shape for shape in ElementTree.fromstring(picture).iter() if name in shape.get("class", "").split()]
+
+
+def second_of_year(year):
+    return int(datetime(year, 1, 1, tzinfo=timezone.utc).timestamp())
+
+
+def line_due(zone, seconds, first, last):
+    """The line of a picture with a step at each of those seconds, to the offset that zoneinfo tells."""
+    start, until = second_of_year(first), second_of_year(last + 1)
+    offsets = [int(datetime.fromtimestamp(second, timezone.utc).astimezone(zone).utcoffset().total_seconds())
+               for second in [start, *seconds]]
+    low, high = 3600 * (min(offsets) // 3600 - 1), 3600 * (max(offsets) // 3600 + 1)
+    across = [70 + (second - start) * 800 // (until - start) for second in seconds]
+    down = [70 + (high - offset) * 140 // (high - low) for offset in offsets]
+    return f"M70 {down[0]}" + "".join(f"H{x}V{y}" for x, y in zip(across, down[1:])) + "H870"
+
+
+def clocks_due(table):
+    """What stands in the panels of a picture for the changes of a table: before, after, and in UTC."""
+    form = r"(\S+ \S+ UTC)  (\S+ \S+) \S+ \w+ (\S+) -> (\S+ \S+) \S+ \w+ (\S+)  "
+    changes = [re.match(form, line).groups() for line in table.splitlines() if " UTC  " in line]
+    return sorted(word for c in changes for word in (c[0], f"{c[1]} {c[2]}", f"{c[3]} {c[4]}"))
+
+
+def try_svg(program, folder):
+    """Pictures, and what isn't drawn."""
+    data = STORED / "data"
+    year = ["--from", "2021", "--to", "2021"]
+    drawn = run(program, *year, "--svg", str(folder / "picture"), "New_York", folder=data)
+    check("--svg", (0, "", ""), drawn)
+    picture = (folder / "picture").read_bytes()
+    check("  the picture in docs/", (HERE / "docs" / "new_york_2021.svg").read_bytes(), picture)
+    table = run(program, *year, "New_York", folder=data)[1]
+    clocks_shown = [text.text for text in shapes(picture, "clock")]
+    seconds_shown = [text.text for text in shapes(picture, "middle") if text.text.endswith(" UTC")]
+    check("  its clocks", clocks_due(table), sorted(clocks_shown + seconds_shown))
+    check("  its panels", ["gap of 1 h", "fold of 1 h"], [text.text for text in shapes(picture, "what")])
+    with open(data / "New_York", "rb") as file:
+        zone = ZoneInfo.from_file(file)
+    for first, last in ((2021, 2021), (1900, 2037), (1500, 3000)):
+        span = ["--from", str(first), "--to", str(last)]
+        run(program, *span, "--svg", "line", "good", folder=folder)
+        seconds = seconds_of_table(run(program, *span, "good", folder=folder)[1])
+        line, = shapes((folder / "line").read_bytes(), "line")
+        check(f"  its line from {first} to {last}", line_due(zone, seconds, first, last), line.get("d"))
+    text = "<-03>3<-02>,M3.5.0/22,M10.5.0/23:30"
+    check("--svg of a text", (0, "", ""), run(program, *year, "--svg", "by_text", "--text", text, folder=folder))
+    check("  its title", [text], [title.text for title in shapes((folder / "by_text").read_bytes(), "title")])
+    check("--svg of a wrong file", refused("zip", MAGIC), run(program, "--svg", "picture", "zip", folder=folder))
+    check("  what was there stays", picture, (folder / "picture").read_bytes())
+    status, output, errors = run(program, "--svg", "folder", "good", folder=folder)
+    check("--svg into a folder", (1, "", True), (status, output, errors.startswith("zonedump: folder: ")))
+    check("--svg of two files", (2, "", ONE_ZONE), run(program, "--svg", "picture", "good", "limit", folder=folder))
+    check("  what was there stays", picture, (folder / "picture").read_bytes())
 
 
 def main():
@@ -131,6 +184,7 @@ def main():
         for file, why in WRONG.items():
             check(f"--json {file}", refused(file, why), run(program, "--json", file, folder=folder))
         try_write(program, folder)
+        try_svg(program, folder)
         check("a full standard output", (1, ""), run(program, "good", folder=folder, redirect=">/dev/full")[:2])
     for words in WRONG_WORDS:
         status, output, errors = run(program, *words)
@@ -138,8 +192,10 @@ def main():
     for text in WRONG_TEXTS:
         status, output, errors = run(program, "--text", text)
         check(f"--text {text!r}", (1, "", True), (status, output, f"{text}: not a TZ text: " in errors))
-    sys.exit(1 if failures else 0)
+    return exit_status()
 
+
+ONE_ZONE = "zonedump: only one zone is written or drawn\n"
 
 MAGIC = "not a TZif file: invalid TZif file: expected TZif at the front of a header (5)"
 SHORT = "not a TZif file: unexpected end: expected more bytes (7)"
@@ -154,11 +210,12 @@ WRONG = {
 WRONG_WORDS = (
     [], ["--from", "2040", "--to", "1990", "x"], ["--from", "0", "x"], ["--to", "10000", "x"], ["--from", "soon", "x"],
     ["--from", "-5", "x"], ["--from"], ["--until", "2000", "x"], ["--text"], ["--text", "UTC0", "x"],
-    ["--json", "--zdump", "x"], ["--write"],
+    ["--json", "--zdump", "x"], ["--write"], ["--svg"], ["--svg", "y", "--json", "x"], ["--svg", "y", "--zdump", "x"],
+    ["--svg", "y", "--write", "z", "x"],
 )
 
 WRONG_TEXTS = ("EST", "EST5EDT,M13.2.0,M11.1.0", "EST5EDT", "5")
 
 
 if __name__ == "__main__":
-    main()
+    sys.exit(main())

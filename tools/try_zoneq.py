@@ -14,24 +14,14 @@ import subprocess
 import sys
 from pathlib import Path
 
+from checks import check, exit_status
+
 HERE = Path(__file__).resolve().parent.parent
 STORED = HERE / "crates" / "zoneq"
 SECONDS = 60
 MEGABYTE = 1 << 20
 # Address space for a run on long lines: the program with its buffers takes some 5 MB of it.
 LITTLE = 32 * MEGABYTE
-
-failures = 0
-
-
-def check(name, want, got):
-    """Compares what is due with what was given."""
-    global failures
-    if got == want:
-        print(f"ok      {name}")
-        return
-    failures += 1
-    print(f"DIFFERS {name}\n  due:   {want}\n  given: {got}")
 
 
 def run(program, given=b"", redirect="", memory=None):
@@ -86,8 +76,7 @@ def main():
     check("a text too long for the memory", (1, b"ok 0 1 0 fixed\n", b"zoneq: out of memory\n"),
           run(program, b"text UTC0\ntext " + b"x" * (100 * MEGABYTE) + b"\nat 0\n", memory=LITTLE))
 
-    print(f"{failures} differ" if failures else "all as due")
-    return 1 if failures else 0
+    return exit_status()
 
 
 if __name__ == "__main__":

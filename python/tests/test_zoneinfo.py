@@ -42,7 +42,16 @@ def read(name):
         return Zone.from_file(DATABASE / name), ZoneInfo.from_file(file, key=name)
 
 
+def different_files():
+    """The files of the database, but for those with leap seconds; of those that are the same, one."""
+    paths = [path for path in DATABASE.rglob("*") if path.is_file() and "right" not in path.parts]
+    found = {path.read_bytes(): path for path in sorted(paths, reverse=True)}
+    return sorted(path for data, path in found.items() if data.startswith(b"TZif"))
+
+
 ZONES = {name: read(name) for name in NAMES}
+FILES = different_files()
+assert FILES
 
 
 def clock(zone, instant):
@@ -119,13 +128,7 @@ def test_near_changes(name):
 def test_every_zone():
     """Of each file of the database instants and local times of the years 1850 to 2300."""
     random = np.random.default_rng(0)
-    known = set()
-    for path in sorted(DATABASE.rglob("*")):
-        if not path.is_file() or "right" in path.parts or path.read_bytes()[:4] != b"TZif":
-            continue
-        if path.read_bytes() in known:
-            continue
-        known.add(path.read_bytes())
+    for path in FILES:
         ours, theirs = read(path)
         instants = random.integers(-3_786_825_600, 10_413_792_000, 60)
         locals_ = [clock(theirs, instant).replace(tzinfo=None) for instant in instants.tolist()]
@@ -136,7 +139,6 @@ def test_every_zone():
             assert seconds == [
                 local - reading.utcoffset() for local, reading in zip(locals_, readings)
             ], path
-    assert known
 
 
 @settings(max_examples=60)
@@ -170,13 +172,7 @@ def test_changes(name):
 def test_changes_of_every_zone():
     """Of each file of the database the changes of the years 2000 to 2011, asked each five days."""
     first, last = 946_684_800, 1_325_376_000
-    known = set()
-    for path in sorted(DATABASE.rglob("*")):
-        if not path.is_file() or "right" in path.parts or path.read_bytes()[:4] != b"TZif":
-            continue
-        if path.read_bytes() in known:
-            continue
-        known.add(path.read_bytes())
+    for path in FILES:
         ours, theirs = read(path)
         assert listed(ours.changes(first, last)) == changes(theirs, first, last - 1, 5 * DAY), path
 

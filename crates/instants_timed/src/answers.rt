@@ -21,36 +21,29 @@ const CHOICE: Choice = Choice {
     fold: FoldChoice::Earliest,
 };
 
-/// The sum of the answers about the values from one place to before another.
+/// The sum of the answers about the values from one place to before another. Each question has a
+/// loop of its own, so that nothing but its answers is timed.
 pub fn sum_of(alloc: Global, values: &Values, question: Question, from: usize, end: usize) -> i64 {
     let zone = &values.zone;
     let instants = part(&values.instants, from, end);
+    let pairs = part(&values.pairs, from, end);
+    let readings = part(&values.readings, from, end);
     match question {
-        Question::FieldsAt => sum(part(&values.seconds, from, end), |second| {
-            fields_at(zone, *second)
-        }),
-        Question::Fields => sum(instants, fields),
-        Question::FromFields => sum(part(&values.typed, from, end), |typed| {
-            from_fields(zone, typed)
-        }),
-        Question::MonthLater => sum(instants, month_later),
-        Question::DayLater => sum(instants, day_later),
-        Question::AtNine => sum(instants, at_nine),
-        Question::FiveMinutes => sum(instants, |instant| cut(instant, TimeDelta::minutes(5))),
-        Question::WholeDay => sum(instants, |instant| cut(instant, TimeDelta::days(1))),
-        Question::Difference => sum(part(&values.pairs, from, end), difference),
-        Question::Order => sum(part(&values.pairs, from, end), order),
-        Question::Print => sum(instants, |instant| printed(alloc, instant)),
-        Question::Elsewhere => sum(instants, |instant| elsewhere(&values.other, instant)),
-        Question::Resolve => sum(part(&values.readings, from, end), |reading| {
-            resolved(zone, reading)
-        }),
-        Question::InGap => sum(part(&values.skipped, from, end), |reading| {
-            resolved(zone, reading)
-        }),
-        Question::Daily => sum(part(&values.readings, from, end), |reading| {
-            daily(copy_of(zone), reading)
-        }),
+        Question::FieldsAt => fields_at(zone, part(&values.seconds, from, end)),
+        Question::Fields => fields(instants),
+        Question::FromFields => from_fields(zone, part(&values.typed, from, end)),
+        Question::MonthLater => months_later(instants),
+        Question::DayLater => days_later(instants),
+        Question::AtNine => at_nine(instants),
+        Question::FiveMinutes => cut(instants, TimeDelta::minutes(5)),
+        Question::WholeDay => cut(instants, TimeDelta::days(1)),
+        Question::Difference => differences(pairs),
+        Question::Order => orders(pairs),
+        Question::Print => printed(alloc, instants),
+        Question::Elsewhere => elsewhere(&values.other, instants),
+        Question::Resolve => resolved(zone, readings),
+        Question::InGap => resolved(zone, part(&values.skipped, from, end)),
+        Question::Daily => daily(zone, readings),
     }
 }
 
@@ -58,25 +51,119 @@ fn part<T>(items: &[T], from: usize, end: usize) -> &[T] {
     items.get(from..end).unwrap_or(&[])
 }
 
-fn sum<T, F: Fn(&T) -> i64>(items: &[T], answer: F) -> i64
-    requires { F.IsAlwaysCallable answer }
-{
+fn fields_at(zone: &KeptZone, seconds: &[i64]) -> i64 {
     let mut sum = 0i64;
-    for item in items {
-        sum = sum.wrapping_add(answer(item));
+    for second in seconds {
+        sum = sum.wrapping_add(number_at(zone, *second));
     }
     sum
 }
 
-fn fields_at(zone: &KeptZone, second: i64) -> i64 {
+fn fields(instants: &[DateTime<KeptZone>]) -> i64 {
+    let mut sum = 0i64;
+    for instant in instants {
+        sum = sum.wrapping_add(number_of(instant));
+    }
+    sum
+}
+
+fn from_fields(zone: &KeptZone, typed: &[Typed]) -> i64 {
+    let mut sum = 0i64;
+    for fields in typed {
+        sum = sum.wrapping_add(second_typed(zone, fields));
+    }
+    sum
+}
+
+fn months_later(instants: &[DateTime<KeptZone>]) -> i64 {
+    let mut sum = 0i64;
+    for instant in instants {
+        sum = sum.wrapping_add(second_of(instant.checked_add_months(Months::new(1))));
+    }
+    sum
+}
+
+fn days_later(instants: &[DateTime<KeptZone>]) -> i64 {
+    let mut sum = 0i64;
+    for instant in instants {
+        sum = sum.wrapping_add(second_of(instant.checked_add_days(Days::new(1))));
+    }
+    sum
+}
+
+fn at_nine(instants: &[DateTime<KeptZone>]) -> i64 {
+    let mut sum = 0i64;
+    for instant in instants {
+        sum = sum.wrapping_add(second_of(instant.with_hour(9)));
+    }
+    sum
+}
+
+fn cut(instants: &[DateTime<KeptZone>], length: TimeDelta) -> i64 {
+    let mut sum = 0i64;
+    for instant in instants {
+        sum = sum.wrapping_add(second_cut(instant, length));
+    }
+    sum
+}
+
+fn differences(pairs: &[Pair]) -> i64 {
+    let mut sum = 0i64;
+    for pair in pairs {
+        sum = sum.wrapping_add(pair.one.signed_duration_since(&pair.other).num_seconds());
+    }
+    sum
+}
+
+fn orders(pairs: &[Pair]) -> i64 {
+    let mut sum = 0i64;
+    for pair in pairs {
+        sum = sum.wrapping_add(i64::from(pair.one < pair.other));
+    }
+    sum
+}
+
+fn printed(alloc: Global, instants: &[DateTime<KeptZone>]) -> i64 {
+    let mut sum = 0i64;
+    for instant in instants {
+        sum = sum.wrapping_add(length_printed(alloc, instant));
+    }
+    sum
+}
+
+fn elsewhere(other: &KeptZone, instants: &[DateTime<KeptZone>]) -> i64 {
+    let mut sum = 0i64;
+    for instant in instants {
+        sum = sum.wrapping_add(second_shown(other, instant));
+    }
+    sum
+}
+
+fn resolved(zone: &KeptZone, readings: &[NaiveDateTime]) -> i64 {
+    let mut sum = 0i64;
+    for reading in readings {
+        sum = sum.wrapping_add(second_resolved(zone, reading));
+    }
+    sum
+}
+
+fn daily(zone: &KeptZone, readings: &[NaiveDateTime]) -> i64 {
+    let mut sum = 0i64;
+    for reading in readings {
+        sum = sum.wrapping_add(seconds_daily(copy_of(zone), reading));
+    }
+    sum
+}
+
+fn number_at(zone: &KeptZone, second: i64) -> i64 {
     match zone.timestamp_opt(second, 0) {
-        LocalResult::Single(instant) => fields(&instant),
+        LocalResult::Single(instant) => number_of(&instant),
         _ => NONE,
     }
 }
 
 // A number of the digits of 2020-01-02 03:04:05.
-fn fields(instant: &DateTime<KeptZone>) -> i64 {
+fn number_of(instant: &DateTime<KeptZone>) -> i64 {
     let date = i64::from(instant.year())
         .wrapping_mul(10_000)
         .wrapping_add(i64::from(instant.month()).wrapping_mul(100))
@@ -88,45 +175,25 @@ fn fields(instant: &DateTime<KeptZone>) -> i64 {
     date.wrapping_mul(1_000_000).wrapping_add(time)
 }
 
-fn from_fields(zone: &KeptZone, typed: &Typed) -> i64 {
+fn second_typed(zone: &KeptZone, typed: &Typed) -> i64 {
     let Some(date) = NaiveDate::from_ymd_opt(typed.year, typed.month, typed.day) else {
         return NONE;
     };
     match date.and_hms_opt(typed.hour, typed.minute, typed.second) {
-        Some(reading) => resolved(zone, &reading),
+        Some(reading) => second_resolved(zone, &reading),
         None => NONE,
     }
 }
 
-fn month_later(instant: &DateTime<KeptZone>) -> i64 {
-    second_of(instant.checked_add_months(Months::new(1)))
-}
-
-fn day_later(instant: &DateTime<KeptZone>) -> i64 {
-    second_of(instant.checked_add_days(Days::new(1)))
-}
-
-fn at_nine(instant: &DateTime<KeptZone>) -> i64 {
-    second_of(instant.with_hour(9))
-}
-
-fn cut(instant: &DateTime<KeptZone>, length: TimeDelta) -> i64 {
+fn second_cut(instant: &DateTime<KeptZone>, length: TimeDelta) -> i64 {
     match copy_of(instant).duration_trunc(length) {
         Ok(cut) => cut.timestamp(),
         Err(_) => NONE,
     }
 }
 
-fn difference(pair: &Pair) -> i64 {
-    pair.one.signed_duration_since(&pair.other).num_seconds()
-}
-
-fn order(pair: &Pair) -> i64 {
-    i64::from(pair.one < pair.other)
-}
-
 // The length of its text.
-fn printed(alloc: Global, instant: &DateTime<KeptZone>) -> i64 {
+fn length_printed(alloc: Global, instant: &DateTime<KeptZone>) -> i64 {
     match format!(in alloc; "{instant}") {
         Ok(text) => text.len() as i64,
         Err(_) => NONE,
@@ -134,19 +201,19 @@ fn printed(alloc: Global, instant: &DateTime<KeptZone>) -> i64 {
 }
 
 // The second that clocks of the other zone show, as if it were of UTC.
-fn elsewhere(other: &KeptZone, instant: &DateTime<KeptZone>) -> i64 {
+fn second_shown(other: &KeptZone, instant: &DateTime<KeptZone>) -> i64 {
     let there = instant.with_timezone(other);
     there
         .timestamp()
         .wrapping_add(i64::from(there.offset().fix().local_minus_utc()))
 }
 
-fn resolved(zone: &KeptZone, reading: &NaiveDateTime) -> i64 {
+fn second_resolved(zone: &KeptZone, reading: &NaiveDateTime) -> i64 {
     second_of(zone.resolve(reading, CHOICE).ok())
 }
 
 // The sum of the instants on four weeks, from the day of the reading on.
-fn daily(zone: KeptZone, reading: &NaiveDateTime) -> i64 {
+fn seconds_daily(zone: KeptZone, reading: &NaiveDateTime) -> i64 {
     let Some(half_past_two) = NaiveTime::from_hms_opt(2, 30, 0) else {
         return NONE;
     };

@@ -15,12 +15,13 @@ mod values;
 mod work_error;
 
 use question::Question;
+use std::alloc::Global;
 use std::io::{BufWriter, Write};
 use std::process::ExitCode;
 use std::{env, fs, str};
 use values::{COUNT, MANY, Values, copy_of};
 use work_error::WorkError;
-use zoned::{KeptZone, tz_info};
+use zoned::{DateTime, KeptZone, tz_info};
 
 fn main(rt: HostRuntime) -> ExitCode {
     match work(&rt) {
@@ -39,7 +40,9 @@ fn work(rt: &HostRuntime) -> Result<(), WorkError> {
         "times" => print_times(rt, &Values::new(rt.alloc(), zone, other, COUNT)?),
         "answers" => {
             let count = words.next().ok_or(WorkError::Usage)?;
-            let count: usize = count.parse().map_err(|_| WorkError::Usage)?;
+            let Ok(count) = count.parse::<usize>() else {
+                return Err(WorkError::Usage);
+            };
             print_answers(rt, &Values::new(rt.alloc(), zone, other, count)?)
         }
         _ => Err(WorkError::Usage),
@@ -49,7 +52,7 @@ fn work(rt: &HostRuntime) -> Result<(), WorkError> {
 fn print_times(rt: &HostRuntime, values: &Values) -> Result<(), WorkError> {
     for question in Question::ALL {
         let (nanoseconds, sum) = timing::least_nanoseconds(rt, rt.alloc(), values, question)?;
-        println!(rt; "{}\t{nanoseconds}\t{COUNT}\t{sum}", question.name())?;
+        print_time(rt, question.name(), nanoseconds, COUNT, sum)?;
     }
     let many = Values::new(
         rt.alloc(),
@@ -58,7 +61,17 @@ fn print_times(rt: &HostRuntime, values: &Values) -> Result<(), WorkError> {
         MANY,
     )?;
     let (nanoseconds, sum) = timing::least_nanoseconds_to_sort(rt, rt.alloc(), &many)?;
-    println!(rt; "sort\t{nanoseconds}\t{MANY}\t{sum}")?;
+    print_time(rt, "sort", nanoseconds, MANY, sum)
+}
+
+fn print_time(
+    rt: &HostRuntime,
+    name: &str,
+    nanoseconds: u128,
+    count: usize,
+    sum: i64,
+) -> Result<(), WorkError> {
+    println!(rt; "{name}\t{nanoseconds}\t{count}\t{sum}")?;
     Ok(())
 }
 
@@ -67,27 +80,53 @@ fn print_answers(rt: &HostRuntime, values: &Values) -> Result<(), WorkError> {
     for question in Question::ALL {
         for place in 0..values.seconds.len() {
             let answer = answers::sum_of(rt.alloc(), values, question, place, place + 1);
-            writeln!(output, "{}\t{answer}", question.name())?;
+            print_answer(&mut output, question.name(), answer)?;
         }
     }
-    for instant in &values.instants {
-        writeln!(output, "text\t{instant}")?;
-    }
+    print_texts(&mut output, &values.instants)?;
     for instant in timing::sorted(rt.alloc(), &values.instants)? {
-        writeln!(output, "sort\t{}", instant.timestamp())?;
+        print_answer(&mut output, "sort", instant.timestamp())?;
     }
     output.flush()?;
+    Ok(())
+}
+
+fn print_answer<W: Write>(output: &mut W, name: &str, answer: i64) -> Result<(), WorkError> {
+    writeln!(output, "{name}\t{answer}")?;
+    Ok(())
+}
+
+fn print_texts<W: Write>(output: &mut W, instants: &[DateTime<KeptZone>]) -> Result<(), WorkError> {
+    for instant in instants {
+        writeln!(output, "text\t{instant}")?;
+    }
     Ok(())
 }
 
 // The zone of a file.
 fn kept(rt: &HostRuntime, path: &str) -> Result<KeptZone, WorkError> {
     let bytes = fs::read(rt, path)?;
-    let parsed = if bytes.starts_with(b"TZif") {
-        tz_info::TimeZone::from_tz_data(rt.alloc(), &bytes).map_err(|_| WorkError::Zone)?
-    } else {
-        let text = str::from_utf8(&bytes).map_err(|_| WorkError::Zone)?;
-        tz_info::TimeZone::from_posix_tz(rt.alloc(), text).map_err(|_| WorkError::Zone)?
-    };
-    KeptZone::keep(rt.alloc(), parsed).map_err(|_| WorkError::Zone)
+    match KeptZone::keep(rt.alloc(), parsed(rt.alloc(), &bytes)?) {
+        Ok(zone) => Ok(zone),
+        Err(_) => Err(WorkError::Zone),
+    }
+}
+
+fn parsed(alloc: Global, bytes: &[u8]) -> Result<tz_info::TimeZone, WorkError> {
+    if bytes.starts_with(b"TZif") {
+        return spelled(tz_info::TimeZone::from_tz_data(alloc, bytes));
+    }
+    match str::from_utf8(bytes) {
+        Ok(text) => spelled(tz_info::TimeZone::from_posix_tz(alloc, text)),
+        Err(_) => Err(WorkError::Zone),
+    }
+}
+
+fn spelled(
+    answer: Result<tz_info::TimeZone, tz_info::Error>,
+) -> Result<tz_info::TimeZone, WorkError> {
+    match answer {
+        Ok(zone) => Ok(zone),
+        Err(_) => Err(WorkError::Zone),
+    }
 }

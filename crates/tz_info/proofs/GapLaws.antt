@@ -1,5 +1,5 @@
 -- Gaps: where the first second lies at which clocks show more than a local time that they never show.
-use Rattle.std.proofs.Common.{◌≡◌, ℕ, ◌+◌, ◌<◌, ◌≤◌, arith, refl, sym, ap, ◌∙◌, subst, length, get_or, ℤ, pos, ◌+ℤ◌, ◌-ℤ◌, ◌≤ℤ◌, ◌<ℤ◌, inl, inr, ◌⊎◌, ⊎_elim, ◌↔◌, Option, Some, None, slice_get}
+use Rattle.std.proofs.Common.{◌≡◌, ℕ, suc, ◌<◌, ◌≤◌, arith, refl, sym, ◌∙◌, subst, length, ℤ, pos, ◌+ℤ◌, ◌-ℤ◌, ◌≤ℤ◌, ◌<ℤ◌, inl, inr, ◌⊎◌, ◌↔◌, Option, Some, None, slice_get}
 use Rattle.std.proofs.lemmas.Int.{ints, by_lt_z}
 use Rattle.std.proofs.lemmas.Bool.{cases_lt}
 use Rattle.naive_base.specs.Year.{floor_div}
@@ -11,23 +11,23 @@ use Rattle.tz_info.specs.Leaps.{IsNear}
 use Rattle.tz_info.specs.LocalTypes.{LocalType}
 use Rattle.tz_info.specs.Moments.{AlternateAt}
 use Rattle.tz_info.specs.Rules.{Alternate as AlternateRule}
-use Rattle.tz_info.specs.Segments.{segment_of}
+use Rattle.tz_info.specs.RuleTypes.{RuleAt}
+use Rattle.tz_info.specs.Segments.{segment_of, table_count}
 use Rattle.tz_info.specs.Steps.Segments.{index_of}
-use Rattle.tz_info.specs.Steps.Gaps.{AreLess, AreLessInto, IsReach, Starts}
+use Rattle.tz_info.specs.Steps.Gaps.{AreLess, IsReach, IsPassed}
 use Rattle.tz_info.specs.Steps.NextMoments.{IsSteadyUntil}
-use Rattle.tz_info.specs.Steps.Starts.{IsReachedFrom}
 use Rattle.tz_info.specs.WallClocks.{Shows}
-use Rattle.tz_info.specs.WallPieces.{IsStart}
-use Rattle.tz_info.specs.Zones.{Zone, IsValid, IsTypeRefused, by_leap_time, by_rule, IsRefusedBy, IsRuleOrNone, RuleOrElse, TypeAt}
+use Rattle.tz_info.specs.WallPieces.{AreLessAmong, IsLastBefore, IsTypeBefore, Jumps, IsStart}
+use Rattle.tz_info.specs.Zones.{Zone, IsValid, IsTypeRefused, by_leap_time, by_rule, IsRefusedBy, IsRuleOrNone, RuleOrElse, HasType, TypeAt}
 use Rattle.tz_info.specs.declared.rule.transition_rule.TransitionRule.{TransitionRule}
 use Rattle.tz_info.specs.declared.rule.transition_rule.TransitionRule.TheVariants.{Fixed, Alternate}
-use Rattle.tz_info.specs.declared.zone.transition.Transition.{Transition}
+use Rattle.tz_info.specs.declared.zone.shown.Jump.{Jump}
 use Rattle.tz_info.proofs.ExtremeLaws.{at_most_greatest, at_least_least}
 use Rattle.tz_info.proofs.LeapOrder.{leap_times_answer}
 use Rattle.tz_info.proofs.RuleLaws.{rule_once, rule_year}
-use Rattle.tz_info.proofs.SegmentLaws.{segments_rise, segment_most, segment_at, type_before, type_from, type_in_from, come_by_time, come_at_time}
+use Rattle.tz_info.proofs.SegmentLaws.{segments_rise, segment_most, segment_at, type_before, type_from, type_in_from}
 use Rattle.tz_info.proofs.TableSearch.{Between}
-use Rattle.tz_info.proofs.WallSegments.{leap_time_of, rule_begun}
+use Rattle.tz_info.proofs.WallSegments.{leap_time_of, begun, type_here, listed_once, rule_begun}
 use Rattle.tz_info.proofs.ZoneLaws.{type_decided, type_once, some_once}
 
 abbrev pub IsNever : Zone → ℤ → Type 0
@@ -41,7 +41,7 @@ near_rule (Some (Alternate a)) u near h =
     h (year_of (floor_div u 86_400)) lies (rule_year u (year_of (floor_div u 86_400)) lies (omega (arith, ints, near), omega (arith, ints, near)))
 near_rule None u near h = h
 
-pub near_not_refused : (z : Zone) (u : ℤ) → IsValid z → IsNear u → IsTypeRefused z u → ⊥
+near_not_refused : (z : Zone) (u : ℤ) → IsValid z → IsNear u → IsTypeRefused z u → ⊥
 near_not_refused z u valid near (by_leap_time some refused) = leap_times_answer z.leaps u valid.leaps near.0 near.1 refused
 near_not_refused z u valid near (by_rule x of_second last refused) = near_rule z.rule u near refused
 
@@ -99,19 +99,6 @@ less_on z l i u v valid limits never one near far le a b less t k = by_lt_z (v +
     let shown : (w +ℤ t.offset) <ℤ l = not_more z l w t never near_w (subst (λ x. TypeAt z w x) is r.1) (omega (arith, ints)) in
     absurd (omega (arith, ints)))
 
--- from all seconds up to one of the segment to all before the next one begins
-less_until : (z : Zone) (l : ℤ) (i : ℕ) (seen s : ℤ) → IsValid z → IsRuleOrNone z.rule → IsNever z l → HasOneType z i → IsNear seen → AreLess z l seen → i ≤ segment_of z seen
-    → Starts z (i + 1) s → AreLess z l (s -ℤ pos 1)
-less_until z l i seen s valid limits never one near all at start u near_u before = by_lt_z seen u
-    (λ later.
-    let rises = segments_rise z seen u valid.transitions.rising valid.leaps (omega (arith, ints)) in
-    let most : segment_of z u < i + 1 = elim (cases_lt (segment_of z u) (i + 1)) [
-      | inl h ↦ h
-      | inr h ↦ let come = (start u near_u).0 h in absurd (omega (arith, ints))
-    ] in
-    less_on z l i seen u valid limits never one near near_u (omega (arith, ints)) (omega arith) (omega arith) (all seen near (omega (arith, ints))))
-    (λ h. all u near_u h)
-
 -- behind `high` clocks show more
 not_less : (z : Zone) (l low high s : ℤ) → IsValid z → IsRuleOrNone z.rule → IsReach z l low high → AreLess z l s → (high +ℤ pos 1) ≤ℤ s → ⊥
 not_less z l low high s valid limits reach all h =
@@ -125,36 +112,6 @@ less_low : (z : Zone) (l low high : ℤ) → IsNever z l → IsReach z l low hig
 less_low z l low high never reach u near h t k =
     let g = at_most_greatest z u (l -ℤ low) t reach.greatest k in
     not_more z l u t never near k (omega (arith, ints))
-
-pub less_into : (z : Zone) (l low high : ℤ) (i : ℕ) → IsNever z l → IsReach z l low high → segment_of z low ≡ i → AreLessInto z l i
-less_into z l low high i never reach at = record { seen = low; near = reach.near_low; less = less_low z l low high never reach; segment = omega arith }
-
--- ---- the next segment
--- the segment behind the transition at place k begins where that transition has come
-pub starts_at : (z : Zone) (k : ℕ) (t : Transition) (start : ℤ) → IsValid z → k < length z.transitions → t ≡ get_or z.transitions k t → IsReachedFrom z.leaps t.unix_leap_time start → Starts z (k + 1) start
-starts_at z k t start valid h item reached u near =
-    let x = leap_time_of z u valid near in
-    let come = come_by_time z.transitions x.0 k t valid.transitions.rising h in
-    let segment = come_at_time z u x.0 x.1 in
-    let time = ap (λ (s : Transition). s.unix_leap_time) item in
-    let here = reached u x.0 near x.1 in
-    ((λ g. here.0 (rw time (come.0 (omega arith)))), (λ g. let c = come.1 (rw (← time) (here.1 g)) in omega arith))
-
-pub record IsNext (z : Zone) (l low start : ℤ) : Type 0 where
-  pub near : IsNear start
-  pub near_before : IsNear (start -ℤ pos 1)
-  pub less : AreLess z l (start -ℤ pos 1)
-
-pub next_start : (z : Zone) (l low high : ℤ) (i : ℕ) (start : ℤ) → IsValid z → IsRuleOrNone z.rule → IsNever z l → IsReach z l low high → i < length z.transitions → segment_of z low ≤ i → AreLessInto z l i → Starts z (i + 1) start → IsNext z l low start
-next_start z l low high i start valid limits never reach h at k starts =
-    let less = less_until z l i k.seen start valid limits never (inl h) k.near k.less k.segment starts in
-    let from : low <ℤ start = by_lt_z low start (λ m. m) (λ m. let come = (starts low reach.near_low).1 m in absurd (omega arith)) in
-    let to : start ≤ℤ (high +ℤ pos 1) = by_lt_z (high +ℤ pos 1) start (λ m. absurd (not_less z l low high (start -ℤ pos 1) valid limits reach less (omega (arith, ints)))) (λ m. m) in
-    record {
-      near = (omega (arith, ints, reach.near_low), omega (arith, ints, reach.near_high));
-      near_before = (omega (arith, ints, reach.near_low), omega (arith, ints, reach.near_high));
-      less = less;
-    }
 
 -- ---- the first second that shows more
 -- each second that shows more comes from c on, where all near ones before c show less
@@ -187,70 +144,108 @@ less_at z l c s never far all here h u near le t k = by_lt_z u c
     let same : s ≡ t = type_once z u s t (subst (λ w. TypeAt z w s) (sym e) here) k in
     not_more z l u t never near k (subst (λ (x : LocalType). (u +ℤ x.offset) ≤ℤ l) same (omega (arith, ints))))
 
-pub less_more : (z : Zone) (l low start : ℤ) (i : ℕ) (s : LocalType) → IsNever z l → IsNext z l low start → Starts z (i + 1) start → TypeAt z start s → (start +ℤ s.offset) ≤ℤ l → AreLessInto z l (i + 1)
-less_more z l low start i s never next starts here h = record {
-  seen = start;
-  near = next.near;
-  less = less_at z l start s never next.near next.less here h;
-  segment = (starts start next.near).1 (omega (arith, ints));
-}
+-- ---- where a segment of the table begins
+pub jump_found : (z : Zone) (l low high start : ℤ) (j : Jump) (s t : LocalType) → IsValid z → IsRuleOrNone z.rule → IsNever z l → IsReach z l low high → Jumps z 0 (table_count z) l j → IsStart z.transitions z.leaps j.place start
+    → HasType z (index_of z.transitions j.place) s → HasType z j.before t → HasGap (TypeAt z) l t s start
+jump_found z l low high start j s t valid limits never reach jump begins has has_before =
+    let k : ℕ = j.place in
+    let begins_at : (u : ℤ) → IsNear u → (k ≤ segment_of z u) ↔ (start ≤ℤ u) = λ u near. begun z k start u valid begins near in
+    let earlier : jump.seen <ℤ start = by_lt_z jump.seen start (λ m. m) (λ m. let g = (begins_at jump.seen jump.near).1 m in let b = jump.later in absurd (omega arith)) in
+    let less : AreLess z l (start -ℤ pos 1) = λ u near h f here.
+    (let below : segment_of z u < k = elim (cases_lt (segment_of z u) k) [ inl m ↦ m | inr m ↦ let g = (begins_at u near).0 (omega arith) in absurd (omega (arith, ints)) ] in
+    jump.less u f near (omega arith) below here) in
+    let most : start ≤ℤ (high +ℤ pos 1) = by_lt_z (high +ℤ pos 1) start (λ m. absurd (not_less z l low high (start -ℤ pos 1) valid limits reach less (omega (arith, ints)))) (λ m. m) in
+    let near : IsNear start = (omega (arith, ints, jump.near), omega (arith, ints, reach.near_high)) in
+    let near_before : IsNear (start -ℤ pos 1) = (omega (arith, ints, jump.near), omega (arith, ints, reach.near_high)) in
+    let back : (start -ℤ pos 1) +ℤ pos 1 ≡ start = omega (arith, ints) in
+    let before : segment_of z (start -ℤ pos 1) < k = elim (cases_lt (segment_of z (start -ℤ pos 1)) k) [ inl m ↦ m | inr m ↦ let g = (begins_at (start -ℤ pos 1) near_before).0 (omega arith) in absurd (omega (arith, ints)) ] in
+    let last : IsLastBefore z k (start -ℤ pos 1) = record { near = near_before; near_next = rw back near; before = before; from = rw back ((begins_at start near).1 (omega (arith, ints))) } in
+    let f = near_type z start valid limits near in
+    let same : f.0 ≡ s = type_here z k start f.0 s valid jump.inside has (rw back at (jump.first (start -ℤ pos 1) last)) f.1 in
+    let here : TypeAt z start s = subst (TypeAt z start) same f.1 in
+    let more : l <ℤ (start +ℤ s.offset) = rw back at (jump.more (start -ℤ pos 1) s last (rw back here)) in
+    let g = near_type z (start -ℤ pos 1) valid limits near_before in
+    let same_before : g.0 ≡ t = listed_once z j.before g.0 t (jump.before.type (start -ℤ pos 1) g.0 last g.1) has_before in
+    gap_found z l low high start s t never reach near less here more (subst (TypeAt z (start -ℤ pos 1)) same_before g.1)
 
 -- ---- behind the last transition
--- where no second type follows, clocks would show less for ever
-steady_ends : (z : Zone) (l low high : ℤ) → IsValid z → IsRuleOrNone z.rule → IsNever z l → IsSteady z.rule → IsReach z l low high → AreLessInto z l (length z.transitions) → ⊥
-steady_ends z l low high valid limits never steady reach k =
-    let last : ℤ = high +ℤ pos 1 in
-    let begun = segment_most z k.seen valid.transitions.rising in
-    let at = k.segment in
-    not_less z l low high last valid limits reach
-    (λ u near_u h. by_lt_z k.seen u
-    (λ later.
-    let rises = segments_rise z k.seen u valid.transitions.rising valid.leaps (omega (arith, ints)) in
-    let most = segment_most z u valid.transitions.rising in
-    less_on z l (length z.transitions) k.seen u valid limits never (inr (steady, refl)) k.near near_u (omega (arith, ints)) (omega arith) (omega arith) (k.less k.seen k.near (omega (arith, ints))))
-    (λ before. k.less u near_u before))
+-- without a rule clocks would show less for ever
+pub none_ends : (z : Zone) (l low high : ℤ) → IsValid z → IsRuleOrNone z.rule → z.rule ≡ None → IsReach z l low high → AreLessAmong z 0 (table_count z) l → ⊥
+none_ends z l low high valid limits e reach all =
+    let table : table_count z ≡ suc (length z.transitions) = rw e refl in
+    not_less z l low high (high +ℤ pos 1) valid limits reach
+    (λ u near h t k. let most = segment_most z u valid.transitions.rising in all u t near (omega arith) (omega arith) k)
     (omega (arith, ints))
 
-pub none_ends : (z : Zone) (l low high : ℤ) → IsValid z → IsRuleOrNone z.rule → IsNever z l → z.rule ≡ None → IsReach z l low high → AreLessInto z l (length z.transitions) → ⊥
-none_ends z l low high valid limits never e = steady_ends z l low high valid limits never (subst IsSteady (sym e) tt)
-
-pub fixed_ends : (z : Zone) (f : LocalType) (l low high : ℤ) → IsValid z → IsRuleOrNone z.rule → IsNever z l → z.rule ≡ Some (Fixed f) → IsReach z l low high → AreLessInto z l (length z.transitions) → ⊥
-fixed_ends z f l low high valid limits never e = steady_ends z l low high valid limits never (subst IsSteady (sym e) tt)
+-- and by a rule of one type too
+pub fixed_ends : (z : Zone) (f : LocalType) (l low high last : ℤ) → IsValid z → IsRuleOrNone z.rule → IsNever z l → z.rule ≡ Some (Fixed f) → IsReach z l low high → IsPassed z l last → ⊥
+fixed_ends z f l low high last valid limits never e reach p =
+    let steady : IsSteady z.rule = subst IsSteady (sym e) tt in
+    not_less z l low high (high +ℤ pos 1) valid limits reach
+    (λ u near_u h. by_lt_z last u
+    (λ later.
+    let at = p.behind in
+    let rises = segments_rise z last u valid.transitions.rising valid.leaps (omega (arith, ints)) in
+    let most = segment_most z u valid.transitions.rising in
+    less_on z l (length z.transitions) last u valid limits never (inr (steady, refl)) p.near near_u (omega (arith, ints)) p.behind (omega arith) (p.less last p.near (omega (arith, ints))))
+    (λ before. p.less u near_u before))
+    (omega (arith, ints))
 
 -- ---- from moment to moment of a rule of two types
 rule_at : (z : Zone) (a : AlternateRule) (u : ℤ) (t : LocalType) → IsValid z → z.rule ≡ Some (Alternate a) → segment_of z u ≡ length z.transitions → TypeAt z u t → AlternateAt a u t
 rule_at z a u t valid rule e k = rw rule at (type_from z u t valid.transitions.rising (record { type = k; segment = e }))
 
-pub type_by_rule : (z : Zone) (a : AlternateRule) (u : ℤ) (t : LocalType) → IsValid z → z.rule ≡ Some (Alternate a) → IsNear u → segment_of z u ≡ length z.transitions → AlternateAt a u t → TypeAt z u t
-type_by_rule z a u t valid rule near e k =
+pub type_by_rule : (z : Zone) (rule : TransitionRule) (u : ℤ) (t : LocalType) → IsValid z → z.rule ≡ Some rule → IsNear u → segment_of z u ≡ length z.transitions → RuleAt rule u t → TypeAt z u t
+type_by_rule z rule u t valid is near e k =
     let time = leap_time_of z u valid near in
     let b : Between z.transitions time.0 (length z.transitions) (length z.transitions) = rw (sym time.1.sum) at (segment_at z u (length z.transitions) valid.transitions.rising e) in
-    (type_in_from z u time.0 t time.1 b (rw rule k)).type
+    (type_in_from z u time.0 t time.1 b (rw is k)).type
 
--- a second behind the last transition up to which clocks show less
-pub record IsPassed (z : Zone) (l last : ℤ) : Type 0 where
-  pub near : IsNear last
-  pub behind : segment_of z last ≡ length z.transitions
-  pub less : AreLess z l last
+-- the later of `low` and the second from which the rule is asked: all near seconds before it show less
+pub record IsBehindTable (z : Zone) (l m : ℤ) : Type 0 where
+  pub near : IsNear m
+  pub behind : segment_of z m ≡ length z.transitions
+  pub less : AreLess z l (m -ℤ pos 1)
 
-pub passed_first : (z : Zone) (l low high start m : ℤ) → IsValid z → IsNever z l → IsReach z l low high → IsStart z.transitions z.leaps (length z.transitions) start → ((u : ℤ) → (m ≤ℤ u) ↔ ((low ≤ℤ u) × (start ≤ℤ u)))
-    → AreLessInto z l (length z.transitions) → IsPassed z l m
-passed_first z l low high start m valid never reach begun is i =
+pub table_passed : (z : Zone) (l low high from m : ℤ) → IsValid z → IsRuleOrNone z.rule → IsNever z l → IsReach z l low high → IsStart z.transitions z.leaps (length z.transitions) from → ((u : ℤ) → (m ≤ℤ u) ↔ ((low ≤ℤ u) × (from ≤ℤ u)))
+    → AreLessAmong z 0 (length z.transitions) l → IsBehindTable z l m
+table_passed z l low high from m valid limits never reach start is all =
     let both = (is m).0 (omega (arith, ints)) in
-    let least = (is (m -ℤ pos 1)).1 in
+    let less : AreLess z l (m -ℤ pos 1) = λ u near h t k. by_lt_z u low
+    (λ g. less_low z l low high never reach u near (omega (arith, ints)) t k)
+    (λ g. by_lt_z u from
+    (λ i. let below : segment_of z u < length z.transitions = elim (cases_lt (segment_of z u) (length z.transitions)) [ inl j ↦ j | inr j ↦ let c = (begun z (length z.transitions) from u valid start near).0 (omega arith) in absurd (omega (arith, ints)) ] in all u t near (omega arith) below k)
+    (λ i. let c = (is u).1 (g, i) in absurd (omega (arith, ints)))) in
+    let most : m ≤ℤ (high +ℤ pos 1) = by_lt_z (high +ℤ pos 1) m (λ h. absurd (not_less z l low high (m -ℤ pos 1) valid limits reach less (omega (arith, ints)))) (λ h. h) in
+    let near : IsNear m = (omega (arith, ints, both.0, reach.near_low), omega (arith, ints, reach.near_high)) in
+    record { near = near; behind = (rule_begun z m from valid near start).1 both.1; less = less }
+
+-- where the rule's type shows more there, clocks jump there
+pub gap_at_rule : (z : Zone) (rule : TransitionRule) (l low high from m : ℤ) (index : ℕ) (s t : LocalType) → IsValid z → IsRuleOrNone z.rule → z.rule ≡ Some rule → IsNever z l → IsReach z l low high → IsStart z.transitions z.leaps (length z.transitions) from
+    → ((u : ℤ) → (m ≤ℤ u) ↔ ((low ≤ℤ u) × (from ≤ℤ u))) → IsBehindTable z l m → IsTypeBefore z (length z.transitions) index → HasType z index t → RuleAt rule m s → l <ℤ (m +ℤ s.offset) → HasGap (TypeAt z) l t s m
+gap_at_rule z rule l low high from m index s t valid limits of_zone never reach start is b before has k more =
+    let n : ℕ = length z.transitions in
+    let near_m = b.near in
     let near_low = reach.near_low in
-    let near_seen = i.near in
-    let of_seen : segment_of z i.seen ≡ length z.transitions = let most = segment_most z i.seen valid.transitions.rising in let at = i.segment in omega arith in
-    let from : start ≤ℤ i.seen = (rule_begun z i.seen start valid i.near begun).0 of_seen in
-    let to : (m ≤ℤ low) ⊎ (m ≤ℤ start) = by_lt_z low m
-    (λ h. by_lt_z start m (λ k. let c = least (omega (arith, ints), omega (arith, ints)) in absurd (omega (arith, ints))) (λ k. inr k))
-    (λ h. inl h) in
-    let near : IsNear m = ⊎_elim (λ h. (omega (arith, ints, both.0), omega (arith, ints, near_low))) (λ h. (omega (arith, ints, both.0, near_low), omega (arith, ints, near_seen))) to in
-    record {
-      near = near;
-      behind = (rule_begun z m start valid near begun).1 both.1;
-      less = ⊎_elim (λ h u near_u k t g. less_low z l low high never reach u near_u (omega (arith, ints)) t g) (λ h u near_u k t g. i.less u near_u (omega (arith, ints)) t g) to;
-    }
+    let here = type_by_rule z rule m s valid of_zone b.near b.behind k in
+    let later : low <ℤ m = by_lt_z low m (λ h. h) (λ h. let c = less_low z l low high never reach m b.near h s here in absurd (omega (arith, ints))) in
+    let near_before : IsNear (m -ℤ pos 1) = (omega (arith, ints, near_low), omega (arith, ints, near_m)) in
+    let back : (m -ℤ pos 1) +ℤ pos 1 ≡ m = omega (arith, ints) in
+    let not_yet : (m -ℤ pos 1) <ℤ from = by_lt_z (m -ℤ pos 1) from (λ h. h) (λ h. let c = (is (m -ℤ pos 1)).1 (omega (arith, ints), h) in absurd (omega (arith, ints))) in
+    let below : segment_of z (m -ℤ pos 1) < n = elim (cases_lt (segment_of z (m -ℤ pos 1)) n) [ inl j ↦ j | inr j ↦ let c = (begun z n from (m -ℤ pos 1) valid start near_before).0 (omega arith) in absurd (omega (arith, ints)) ] in
+    let at = b.behind in
+    let g = near_type z (m -ℤ pos 1) valid limits near_before in
+    let last : IsLastBefore z n (m -ℤ pos 1) = record { near = near_before; near_next = rw back b.near; before = below; from = rw back (omega arith) } in
+    let same : g.0 ≡ t = listed_once z index g.0 t (before.type (m -ℤ pos 1) g.0 last g.1) has in
+    gap_found z l low high m s t never reach b.near b.less here more (subst (TypeAt z (m -ℤ pos 1)) same g.1)
+
+-- where it doesn't, they show less up to there
+pub passed_at_rule : (z : Zone) (rule : TransitionRule) (l m : ℤ) (s : LocalType) → IsValid z → z.rule ≡ Some rule → IsNever z l → IsBehindTable z l m → RuleAt rule m s → (m +ℤ s.offset) ≤ℤ l → IsPassed z l m
+passed_at_rule z rule l m s valid of_zone never b k h = record {
+  near = b.near;
+  behind = b.behind;
+  less = less_at z l m s never b.near b.less (type_by_rule z rule m s valid of_zone b.near b.behind k) h;
+}
 
 -- from there until the rule's next moment they show less
 steady_less : (z : Zone) (a : AlternateRule) (l last next v : ℤ) → IsValid z → IsRuleOrNone z.rule → z.rule ≡ Some (Alternate a) → IsNever z l → IsPassed z l last → IsSteadyUntil a last next → IsNear v → last ≤ℤ v → v <ℤ next
@@ -268,7 +263,7 @@ steady_less z a l last next v valid limits rule never p steady near from before 
     let near_w : IsNear w = (omega (arith, ints, near, near_last), omega (arith, ints, near, near_last)) in
     let low : last ≤ℤ w = omega (arith, ints) in
     let there : AlternateAt a w t = subst (AlternateAt a w) same (steady.same w low (omega (arith, ints)) s.0 of_last) in
-    let shown : (w +ℤ t.offset) <ℤ l = not_more z l w t never near_w (type_by_rule z a w t valid rule near_w (rises w low) there) (omega (arith, ints)) in
+    let shown : (w +ℤ t.offset) <ℤ l = not_more z l w t never near_w (type_by_rule z (Alternate a) w t valid rule near_w (rises w low) there) (omega (arith, ints)) in
     absurd (omega (arith, ints)))
 
 -- the moment is near, clocks show less before it, and just before it the type is the one from the moment before
@@ -300,7 +295,7 @@ turn_next z a l low high last next valid limits rule never reach p steady =
         near_before = near_before;
         behind = segment next (omega (arith, ints));
         less = until (next -ℤ pos 1) (omega (arith, ints));
-        before = λ t k. type_by_rule z a (next -ℤ pos 1) t valid rule near_before (segment (next -ℤ pos 1) (omega (arith, ints))) (steady.same (next -ℤ pos 1) (omega (arith, ints)) (omega (arith, ints)) t k);
+        before = λ t k. type_by_rule z (Alternate a) (next -ℤ pos 1) t valid rule near_before (segment (next -ℤ pos 1) (omega (arith, ints))) (steady.same (next -ℤ pos 1) (omega (arith, ints)) (omega (arith, ints)) t k);
       },
       most,
     )
@@ -310,9 +305,9 @@ pub passed_more : (z : Zone) (a : AlternateRule) (l last next : ℤ) (s : LocalT
 passed_more z a l last next s valid rule never turn here h = record {
   near = turn.near;
   behind = turn.behind;
-  less = less_at z l next s never turn.near turn.less (type_by_rule z a next s valid rule turn.near turn.behind here) h;
+  less = less_at z l next s never turn.near turn.less (type_by_rule z (Alternate a) next s valid rule turn.near turn.behind here) h;
 }
 
 pub gap_of_turn : (z : Zone) (a : AlternateRule) (l low high last next : ℤ) (s t : LocalType) → IsValid z → z.rule ≡ Some (Alternate a) → IsNever z l → IsReach z l low high → IsTurn z a l last next → AlternateAt a next s → l <ℤ (next +ℤ s.offset) → AlternateAt a last t → HasGap (TypeAt z) l t s next
 gap_of_turn z a l low high last next s t valid rule never reach turn here more before =
-    gap_found z l low high next s t never reach turn.near turn.less (type_by_rule z a next s valid rule turn.near turn.behind here) more (turn.before t before)
+    gap_found z l low high next s t never reach turn.near turn.less (type_by_rule z (Alternate a) next s valid rule turn.near turn.behind here) more (turn.before t before)

@@ -107,6 +107,9 @@ saturated v u near = let a = near.0 in let b = near.1 in ((λ k. at_most v u a b
   from_most : (v u : ℤ) → neg_ℤ (pos 10_000_000_000_000) ≤ℤ u → u ≤ℤ pos 10_000_000_000_000 → v ≤ℤ u → saturate_signed w64 v ≤ℤ u
   from_most v u a b k = grind (arith, ints)
 
+pub saturated_rise : (v w : ℤ) → v ≤ℤ w → saturate_signed w64 v ≤ℤ saturate_signed w64 w
+saturated_rise v w h = grind (arith, ints)
+
 pub times_rise : (es : List LeapSecond) (i j : ℕ) (d : LeapSecond) → AreLeapSeconds es → i ≤ j → j < length es → (get_or es i d).unix_leap_time ≤ℤ (get_or es j d).unix_leap_time
 times_rise es i j d valid h l = rises (λ k. (get_or es k d).unix_leap_time) (length es) (λ k b. let t = ((follow es valid).next k d b).later in omega (arith, ints)) i j h l
 

@@ -37,6 +37,7 @@ pub mod SegmentLaws
 pub mod AnswerLaws
 pub mod LeapStarts
 pub mod WallPieces
+pub mod ShownLaws
 pub mod WallSegments
 pub mod OnePass
 pub mod ExtremeLaws

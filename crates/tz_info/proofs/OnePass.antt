@@ -5,27 +5,28 @@ use Rattle.std.proofs.lemmas.Bool.{cases_lt}
 use Rattle.std.proofs.lemmas.Int.{ints, by_lt_z}
 use Rattle.std.proofs.lemmas.List.{length_push, get_or_default}
 use Rattle.std.proofs.lemmas.List.Quantifiers.{all_pairs_push}
-use Rattle.offset_core.specs.declared.local_result.LocalResult.TheVariants.{None, Single, Ambiguous}
 use Rattle.tz_info.specs.Leaps.{AreLeapSeconds, least_time}
 use Rattle.tz_info.specs.LocalTypes.{LocalType, IsUtOffset}
 use Rattle.tz_info.specs.Segments.{table_count, table_count_by}
 use Rattle.tz_info.specs.Steps.Segments.{index_of}
-use Rattle.tz_info.specs.Steps.Answers.{joined}
+use Rattle.tz_info.specs.Steps.Shown.{together}
 use Rattle.tz_info.specs.Steps.Merging.{IsMerged}
-use Rattle.tz_info.specs.Steps.Pieces.{ArePieces, ArePiecesAt, IsGap, IsFold, IsCutAt, AreCutsCrossed, IsSegment}
-use Rattle.tz_info.specs.Steps.Starts.{IsCut, IsReachedFrom, IsLeapless}
+use Rattle.tz_info.specs.Steps.Pieces.{ArePieces, ArePiecesAt, IsGap, IsFold, IsCutAt, IsCutFrom, AreCutsCrossed, IsSegment}
+use Rattle.tz_info.specs.Steps.Starts.{IsReachedFrom, IsLeapless}
 use Rattle.tz_info.specs.Transitions.{AreRising}
-use Rattle.tz_info.specs.WallPieces.{answer_before, answer_at, AreInOrder, IsStart}
+use Rattle.tz_info.specs.WallPieces.{answer_before, answer_at, AreInOrder, IsStart, IsTypeBefore}
 use Rattle.tz_info.specs.Zones.{Zone, IsValid, HasType}
 use Rattle.tz_info.specs.declared.rule.transition_rule.TransitionRule.{TransitionRule}
 use Rattle.tz_info.specs.declared.zone.leap_second.LeapSecond.{LeapSecond}
 use Rattle.tz_info.specs.declared.zone.one_pass.Segment.{Segment}
 use Rattle.tz_info.specs.declared.zone.pieces.Piece.{Piece}
+use Rattle.tz_info.specs.declared.zone.shown.Jump.{Jump}
+use Rattle.tz_info.specs.declared.zone.shown.Shown.TheVariants.{Less, Skipped, Once, Several}
 use Rattle.tz_info.specs.declared.zone.transition.Transition.{Transition}
 use Rattle.tz_info.proofs.LeapStarts.{reached_first}
 use Rattle.tz_info.proofs.Prefixes.{le_true, le_false}
 use Rattle.tz_info.proofs.WallPieces.{Answer, StartBy, before_pushed, at_later, at_earlier, at_all, start_by_push}
-use Rattle.tz_info.proofs.WallSegments.{start_found, cut_found, piece, own_segment, listed_once, pieces_joined, first_pieces, inner_pieces, last_pieces}
+use Rattle.tz_info.proofs.WallSegments.{start_found, cut_from, cuts_rise, piece, own_segment, listed_once, pieces_joined, first_pieces, inner_pieces, last_pieces, type_own}
 
 -- ---- the pieces at a transition
 
@@ -65,7 +66,7 @@ leapless_between ts es d rising empty any low high = record {
 
 pub pieces_found : (z : Zone) (place : ℕ) (before behind : Segment) (second end start : ℤ) (p q : Piece) → IsSegment z (place - 1) before → IsSegment z place behind → IsStart z.transitions z.leaps place second
     → end ≡ saturate_signed w64 (second +ℤ before.offset) → start ≡ saturate_signed w64 (second +ℤ behind.offset)
-    → IsGap end start behind.index p q ⊎ IsFold end start before.index behind.index p q → ArePiecesAt z place p q
+    → IsGap place end start before.index behind.index p q ⊎ IsFold end start before.index behind.index p q → ArePiecesAt z place p q
 pieces_found z place before behind second end start p q b a s e f pieces = record {
   type_before = b.type;
   type = a.type;
@@ -75,17 +76,10 @@ pieces_found z place before behind second end start p q b a s e f pieces = recor
   listed = rw a.index at a.listed;
   offset_before = b.is_offset;
   offset = a.is_offset;
-  ends = cut_found z.transitions z.leaps place b.type.offset second (second +ℤ before.offset) end s b.is_offset e (ap (λ (o : ℤ). second +ℤ o) b.offset);
-  starts = cut_found z.transitions z.leaps place a.type.offset second (second +ℤ behind.offset) start s a.is_offset f (ap (λ (o : ℤ). second +ℤ o) a.offset);
+  ends = record { second = second; is_start = s; shown = rw b.offset at e };
+  starts = record { second = second; is_start = s; shown = rw a.offset at f };
   pieces = rw (b.index, a.index) at pieces;
 }
-
--- ---- no answer more
-
-joined_none : (a : Answer) → joined a None ≡ a
-joined_none None = refl
-joined_none (Single i) = refl
-joined_none (Ambiguous i j) = refl
 
 -- ---- pieces that are pushed
 
@@ -98,58 +92,84 @@ start_by_later ps a b by h = λ k d l. let q = by k d l in omega (arith, ints)
 pushed_start : (ps : List Piece) (p : Piece) (l : ℤ) → StartBy ps l → l ≤ℤ p.start → StartBy (ps ++ (p ∷ [])) p.start
 pushed_start ps p l by h = start_by_push ps p p.start (start_by_later ps l p.start by h) (omega (arith, ints))
 
+-- at no local time the pieces' last segment is behind it, which has no end
+abbrev IsOpen : Answer → List Piece → Type 0
+IsOpen b ps = (l : ℤ) (j : Jump) → together (answer_at b ps l) (Skipped j) ≡ answer_at b ps l
+
+open_push : (b : Answer) (ps : List Piece) (p : Piece) → IsOpen b ps → ((j : Jump) → together p.answer (Skipped j) ≡ p.answer) → IsOpen b (ps ++ (p ∷ []))
+open_push b ps p o h l j = by_lt_z l p.start
+    (λ k. rw (at_earlier b ps p l k) (o l j))
+    (λ k. rw (at_later b ps p l k) (h j))
+
 -- a segment without an end, behind one that ends at e: its start s comes later, or earlier
-gap_merged : (b : Answer) (ps : List Piece) (e s : ℤ) (y : ℕ) → AreInOrder ps → StartBy ps e → e ≤ℤ s
-    → IsMerged b (ps ++ (piece e None ∷ [])) None (piece s (Single y) ∷ []) ((ps ++ (piece e None ∷ [])) ++ (piece s (Single y) ∷ []))
-gap_merged b ps e s y order by h =
-    let closed = ps ++ (piece e None ∷ []) in
+gap_merged : (i : ℕ) (ps : List Piece) (e s : ℤ) (j : Jump) (x y : ℕ) → AreInOrder ps → IsOpen (Once i) ps → StartBy ps e → e ≤ℤ s
+    → IsMerged (Once i) (ps ++ (piece e (Less x) ∷ [])) (Skipped j) (piece s (Once y) ∷ []) ((ps ++ (piece e (Skipped j) ∷ [])) ++ (piece s (Once y) ∷ []))
+gap_merged i ps e s j x y order unended by h =
+    let b = Once i in
+    let p = piece e (Skipped j) in
+    let opened = ps ++ (p ∷ []) in
+    let r = piece e (Less x) in
+    let q = piece s (Once y) in
     record {
-      ordered = pushed_order closed (piece s (Single y)) (pushed_order ps (piece e None) order by) (start_by_push ps (piece e None) s (start_by_later ps e s by h) h);
-      count = length_push closed (piece s (Single y)) ∙ omega arith;
-      answers = λ l. rw (joined_none b) (by_lt_z l s
-          (λ before. rw (le_false s l before) (at_earlier b closed (piece s (Single y)) l before ∙ sym (joined_none (answer_at b closed l))))
-          (λ from. rw (le_true s l from) (at_later b closed (piece s (Single y)) l from ∙ sym (ap (λ a. joined a (Single y)) (at_later b ps (piece e None) l (omega (arith, ints)))))));
+      ordered = pushed_order opened q (pushed_order ps p order by) (start_by_push ps p s (start_by_later ps e s by h) h);
+      count = length_push opened q ∙ (let m = length_push ps p in let n = length_push ps r in omega arith);
+      answers = λ l. by_lt_z l s
+          (λ before. rw (le_false s l before) (at_earlier b opened q l before ∙ by_lt_z l e
+          (λ until. at_earlier b ps p l until ∙ sym (ap (λ a. together a (Skipped j)) (at_earlier b ps r l until) ∙ unended l j))
+          (λ behind. at_later b ps p l behind ∙ sym (ap (λ a. together a (Skipped j)) (at_later b ps r l behind)))))
+          (λ from. rw (le_true s l from) (at_later b opened q l from ∙ sym (ap (λ a. together a (Once y)) (at_later b ps r l (omega (arith, ints))))));
     }
 
-fold_merged : (b : Answer) (ps : List Piece) (e s : ℤ) (x y : ℕ) → AreInOrder ps → StartBy ps s → answer_before b ps ≡ Single x → s ≤ℤ e
-    → IsMerged b (ps ++ (piece e None ∷ [])) None (piece s (Single y) ∷ []) ((ps ++ (piece s (Ambiguous x y) ∷ [])) ++ (piece e (Single y) ∷ []))
-fold_merged b ps e s x y order by last h =
-    let opened = ps ++ (piece s (Ambiguous x y) ∷ []) in
-    let p = piece s (Ambiguous x y) in
-    let q = piece e (Single y) in
+fold_merged : (i : ℕ) (ps : List Piece) (e s : ℤ) (j : Jump) (x y : ℕ) → AreInOrder ps → IsOpen (Once i) ps → StartBy ps s → answer_before (Once i) ps ≡ Once x → s ≤ℤ e
+    → IsMerged (Once i) (ps ++ (piece e (Less x) ∷ [])) (Skipped j) (piece s (Once y) ∷ []) ((ps ++ (piece s (Several x y) ∷ [])) ++ (piece e (Once y) ∷ []))
+fold_merged i ps e s j x y order unended by last h =
+    let b = Once i in
+    let p = piece s (Several x y) in
+    let opened = ps ++ (p ∷ []) in
+    let r = piece e (Less x) in
+    let q = piece e (Once y) in
     record {
       ordered = pushed_order opened q (pushed_order ps p order by) (start_by_push ps p e (start_by_later ps s e by h) h);
-      count = length_push opened q ∙ (let m = length_push ps p in let n = length_push ps (piece e None) in omega arith);
-      answers = λ l. rw (joined_none b) (by_lt_z l s
-          (λ before. rw (le_false s l before, at_earlier b opened q l (omega (arith, ints)), at_earlier b ps p l before, at_earlier b ps (piece e None) l (omega (arith, ints))) (sym (joined_none (answer_at b ps l))))
+      count = length_push opened q ∙ (let m = length_push ps p in let n = length_push ps r in omega arith);
+      answers = λ l. by_lt_z l s
+          (λ before. rw (le_false s l before, at_earlier b opened q l (omega (arith, ints)), at_earlier b ps p l before, at_earlier b ps r l (omega (arith, ints))) (sym (unended l j)))
           (λ from. by_lt_z l e
-          (λ until. rw (le_true s l from, at_earlier b opened q l until, at_later b ps p l from, at_earlier b ps (piece e None) l until, at_all b ps l (start_by_later ps s l by from), last) refl)
-          (λ behind. rw (le_true s l from, at_later b opened q l behind, at_later b ps (piece e None) l behind) refl)));
+          (λ until. rw (le_true s l from, at_earlier b opened q l until, at_later b ps p l from, at_earlier b ps r l until, at_all b ps l (start_by_later ps s l by from), last) refl)
+          (λ behind. rw (le_true s l from, at_later b opened q l behind, at_later b ps r l behind) refl));
     }
 
 -- where the later segment ends too, at t
-end_merged : (b : Answer) (xs : List Piece) (s t : ℤ) (y : ℕ) (out : List Piece) → IsMerged b xs None (piece s (Single y) ∷ []) out → StartBy out t → StartBy xs t → s ≤ℤ t
-    → answer_before b xs ≡ None
-    → IsMerged b xs None (piece s (Single y) ∷ piece t None ∷ []) (out ++ (piece t None ∷ []))
-end_merged b xs s t y out m by by_xs h ended = record {
-  ordered = pushed_order out (piece t None) m.ordered by;
-  count = length_push out (piece t None) ∙ (let c = m.count in omega arith);
-  answers = λ l. by_lt_z l t
-      (λ before. at_earlier (joined b None) out (piece t None) l before ∙ m.answers l ∙ ap (joined (answer_at b xs l)) (sym (at_earlier None (piece s (Single y) ∷ []) (piece t None) l before)))
-      (λ from. at_later (joined b None) out (piece t None) l from ∙ sym (rw (at_later None (piece s (Single y) ∷ []) (piece t None) l from, at_all b xs l (start_by_later xs t l by_xs from), ended) refl));
-}
+end_merged : (i : ℕ) (xs : List Piece) (s t : ℤ) (j : Jump) (x y : ℕ) (out : List Piece) → IsMerged (Once i) xs (Skipped j) (piece s (Once y) ∷ []) out → StartBy out t → StartBy xs t → s ≤ℤ t
+    → answer_before (Once i) xs ≡ Less x
+    → IsMerged (Once i) xs (Skipped j) (piece s (Once y) ∷ piece t (Less y) ∷ []) (out ++ (piece t (Less y) ∷ []))
+end_merged i xs s t j x y out m by by_xs h ended =
+    let p = piece t (Less y) in
+    let others = piece s (Once y) ∷ [] in
+    record {
+      ordered = pushed_order out p m.ordered by;
+      count = length_push out p ∙ (let c = m.count in omega arith);
+      answers = λ l. by_lt_z l t
+          (λ before. at_earlier (Once i) out p l before ∙ m.answers l ∙ ap (together (answer_at (Once i) xs l)) (sym (at_earlier (Skipped j) others p l before)))
+          (λ from. at_later (Once i) out p l from ∙ sym (rw (at_later (Skipped j) others p l from, at_all (Once i) xs l (start_by_later xs t l by_xs from), ended) refl));
+    }
 
 -- ---- one segment more
 
+-- where the segment before that place starts, a clock of its type shows `latest` or less
+abbrev pub IsBegun : Zone → ℕ → ℤ → Type 0
+IsBegun z place latest = (t : LocalType) → HasType z (index_of z.transitions (place - 1)) t → (cut : ℤ) × IsCutFrom z (place - 1) t.offset cut × (cut ≤ℤ latest)
+
 -- the pieces of the first `place` segments where the last of them has no end: with any end that comes behind all their
 -- starts they are those of the segments, and as they stand where the last is the table's last
-pub record AreOpen (z : Zone) (place : ℕ) (before : Answer) (pieces : List Piece) (latest : ℤ) : Type 0 where
+pub record AreOpen (z : Zone) (place : ℕ) (first : ℕ) (pieces : List Piece) (latest : ℤ) : Type 0 where
   pub ordered : AreInOrder pieces
   pub started : StartBy pieces latest
-  pub last : answer_before before pieces ≡ Single (index_of z.transitions (place - 1))
-  pub closed : place ≤ length z.transitions → (t : LocalType) (end : ℤ) → HasType z (index_of z.transitions (place - 1)) t → IsUtOffset t.offset → IsCut z.transitions z.leaps place t.offset end → latest ≤ℤ end
-      → ArePieces z 0 place before (pieces ++ (piece end None ∷ []))
-  pub whole : length z.transitions < place → ArePieces z 0 place before pieces
+  pub unended : IsOpen (Once first) pieces
+  pub begun : 1 < place → IsBegun z place latest
+  pub last : answer_before (Once first) pieces ≡ Once (index_of z.transitions (place - 1))
+  pub closed : place ≤ length z.transitions → (t : LocalType) (end : ℤ) → HasType z (index_of z.transitions (place - 1)) t → IsUtOffset t.offset → IsCutFrom z place t.offset end → latest ≤ℤ end → (1 < place → latest <ℤ end)
+      → ArePieces z 0 place (Once first) (pieces ++ (piece end (Less (index_of z.transitions (place - 1))) ∷ []))
+  pub whole : length z.transitions < place → ArePieces z 0 place (Once first) pieces
 
 -- the table has all segments but the rule's, which is the last
 pub table_most : (z : Zone) → length z.transitions ≤ table_count z
@@ -159,99 +179,139 @@ table_most z = most_by z.rule (length z.transitions) where
   most_by none n = omega arith
 
 -- at first there is the first segment
-pub open_first : (z : Zone) (latest : ℤ) → IsValid z → 0 < length z.transitions → AreOpen z 1 (Single (index_of z.transitions 0)) [] latest
+pub open_first : (z : Zone) (latest : ℤ) → IsValid z → 0 < length z.transitions → AreOpen z 1 (index_of z.transitions 0) [] latest
 open_first z latest valid any = let table = table_most z in record {
   ordered = λ i j d k l. absurd (omega arith);
   started = λ k d l. absurd (omega arith);
+  unended = λ l j. refl;
+  begun = λ h. absurd (omega arith);
   last = refl;
-  closed = λ _ t end has offset cut _. first_pieces z end (index_of z.transitions 0) t valid (omega arith) any refl has offset cut;
+  closed = λ _ t end has offset cut _ _. first_pieces z end (index_of z.transitions 0) t valid (omega arith) any refl has offset cut;
   whole = λ h. absurd (omega arith);
 }
 
 -- the pieces where the next segment starts are pushed: what they give without an end of that segment
-record IsOpened (before : Answer) (pieces : List Piece) (end start : ℤ) (index : ℕ) (out : List Piece) (latest : ℤ) : Type 0 where
+record IsOpened (first : ℕ) (pieces : List Piece) (end start : ℤ) (jump : Jump) (index : ℕ) (out : List Piece) (latest : ℤ) : Type 0 where
   end_by : end ≤ℤ latest
   start_by : start ≤ℤ latest
-  merged : IsMerged before (pieces ++ (piece end None ∷ [])) None (piece start (Single index) ∷ []) out
+  merged : IsMerged (Once first) (pieces ++ (piece end (Less jump.before) ∷ [])) (Skipped jump) (piece start (Once index) ∷ []) out
   started : StartBy out latest
-  last : answer_before before out ≡ Single index
+  unended : IsOpen (Once first) out
+  last : answer_before (Once first) out ≡ Once index
 
-opened_by_gap : (b : Answer) (ps : List Piece) (latest e s : ℤ) (y : ℕ) (p q : Piece) → AreInOrder ps → StartBy ps latest → IsGap e s y p q → latest ≤ℤ p.start → IsOpened b ps e s y ((ps ++ (p ∷ [])) ++ (q ∷ [])) q.start
-opened_by_gap b ps latest e s y p q order by gap h =
+abbrev jump_at : ℕ → ℕ → Jump
+jump_at place index = record { place = place; before = index }
+
+opened_by_gap : (i : ℕ) (ps : List Piece) (latest e s : ℤ) (k x y : ℕ) (p q : Piece) → AreInOrder ps → IsOpen (Once i) ps → StartBy ps latest → IsGap k e s x y p q → latest ≤ℤ p.start → IsOpened i ps e s (jump_at k x) y ((ps ++ (p ∷ [])) ++ (q ∷ [])) q.start
+opened_by_gap i ps latest e s k x y p q order unended by gap h =
     let o = gap.order in
-    let i : latest ≤ℤ e = rw gap.none at h in
+    let f : latest ≤ℤ e = rw gap.none at h in
+    let b = Once i in
+    let first = piece e (Skipped (jump_at k x)) in
+    let next = piece s (Once y) in
     rw (gap.none, gap.next) (record {
       end_by = o;
       start_by = omega (arith, ints);
-      merged = gap_merged b ps e s y order (start_by_later ps latest e by i) o;
-      started = pushed_start (ps ++ (piece e None ∷ [])) (piece s (Single y)) e (pushed_start ps (piece e None) latest by i) o;
-      last = before_pushed b (ps ++ (piece e None ∷ [])) (piece s (Single y));
+      merged = gap_merged i ps e s (jump_at k x) x y order unended (start_by_later ps latest e by f) o;
+      started = pushed_start (ps ++ (first ∷ [])) next e (pushed_start ps first latest by f) o;
+      unended = open_push b (ps ++ (first ∷ [])) next (open_push b ps first unended (λ j. refl)) (λ j. refl);
+      last = before_pushed b (ps ++ (first ∷ [])) next;
     })
 
-opened_by_fold : (b : Answer) (ps : List Piece) (latest e s : ℤ) (x y : ℕ) (p q : Piece) → AreInOrder ps → StartBy ps latest → answer_before b ps ≡ Single x → IsFold e s x y p q → latest ≤ℤ p.start → IsOpened b ps e s y ((ps ++ (p ∷ [])) ++ (q ∷ [])) q.start
-opened_by_fold b ps latest e s x y p q order by last fold h =
+opened_by_fold : (i : ℕ) (ps : List Piece) (latest e s : ℤ) (k x y : ℕ) (p q : Piece) → AreInOrder ps → IsOpen (Once i) ps → StartBy ps latest → answer_before (Once i) ps ≡ Once x → IsFold e s x y p q → latest ≤ℤ p.start → IsOpened i ps e s (jump_at k x) y ((ps ++ (p ∷ [])) ++ (q ∷ [])) q.start
+opened_by_fold i ps latest e s k x y p q order unended by last fold h =
     let o = fold.order in
-    let i : latest ≤ℤ s = rw fold.both at h in
+    let f : latest ≤ℤ s = rw fold.both at h in
+    let b = Once i in
+    let first = piece s (Several x y) in
+    let next = piece e (Once y) in
     rw (fold.both, fold.next) (record {
       end_by = omega (arith, ints);
       start_by = o;
-      merged = fold_merged b ps e s x y order (start_by_later ps latest s by i) last o;
-      started = pushed_start (ps ++ (piece s (Ambiguous x y) ∷ [])) (piece e (Single y)) s (pushed_start ps (piece s (Ambiguous x y)) latest by i) o;
-      last = before_pushed b (ps ++ (piece s (Ambiguous x y) ∷ [])) (piece e (Single y));
+      merged = fold_merged i ps e s (jump_at k x) x y order unended (start_by_later ps latest s by f) last o;
+      started = pushed_start (ps ++ (first ∷ [])) next s (pushed_start ps first latest by f) o;
+      unended = open_push b (ps ++ (first ∷ [])) next (open_push b ps first unended (λ j. refl)) (λ j. refl);
+      last = before_pushed b (ps ++ (first ∷ [])) next;
     })
 
-opened : (z : Zone) (place : ℕ) (b : Answer) (ps : List Piece) (latest : ℤ) (p q : Piece) → AreOpen z place b ps latest → (a : ArePiecesAt z place p q) → latest ≤ℤ p.start → IsOpened b ps a.end a.start (index_of z.transitions place) ((ps ++ (p ∷ [])) ++ (q ∷ [])) q.start
-opened z place b ps latest p q o a h = ⊎_elim
-    (λ gap. opened_by_gap b ps latest a.end a.start (index_of z.transitions place) p q o.ordered o.started gap h)
-    (λ fold. opened_by_fold b ps latest a.end a.start (index_of z.transitions (place - 1)) (index_of z.transitions place) p q o.ordered o.started o.last fold h)
+opened : (z : Zone) (place i : ℕ) (ps : List Piece) (latest : ℤ) (p q : Piece) → AreOpen z place i ps latest → (a : ArePiecesAt z place p q) → latest ≤ℤ p.start
+    → IsOpened i ps a.end a.start (jump_at place (index_of z.transitions (place - 1))) (index_of z.transitions place) ((ps ++ (p ∷ [])) ++ (q ∷ [])) q.start
+opened z place i ps latest p q o a h = ⊎_elim
+    (λ gap. opened_by_gap i ps latest a.end a.start place (index_of z.transitions (place - 1)) (index_of z.transitions place) p q o.ordered o.unended o.started gap h)
+    (λ fold. opened_by_fold i ps latest a.end a.start place (index_of z.transitions (place - 1)) (index_of z.transitions place) p q o.ordered o.unended o.started o.last fold h)
     a.pieces
 
 -- the end of the segment before comes behind all that was pushed earlier
-ends_behind : (z : Zone) (place : ℕ) (latest : ℤ) (p q : Piece) → (a : ArePiecesAt z place p q) → latest ≤ℤ p.start → latest ≤ℤ a.end
-ends_behind z place latest p q a h = ⊎_elim
-    (λ gap. rw gap.none at h)
-    (λ fold. let o = fold.order in let i : latest ≤ℤ a.start = rw fold.both at h in omega (arith, ints))
+ends_behind : (z : Zone) (place : ℕ) (p q : Piece) → (a : ArePiecesAt z place p q) → p.start ≤ℤ a.end
+ends_behind z place p q a = ⊎_elim
+    (λ gap. rw gap.none (omega (arith, ints)))
+    (λ fold. rw fold.both fold.order)
     a.pieces
 
 pub within_table : (z : Zone) (k : ℕ) → k < table_count z → k ≤ length z.transitions
 within_table z k h = ⊎_elim (λ less. omega arith) (λ q. q.1) (own_segment z.rule k (length z.transitions) h)
 
+-- a segment that ends behind all that was pushed has a second, the last before the next segment
+type_ended : (z : Zone) (k : ℕ) (latest end : ℤ) (t : LocalType) → IsValid z → k < length z.transitions → (0 < k → IsBegun z (suc k) latest) → HasType z (index_of z.transitions k) t → IsCutFrom z (suc k) t.offset end → (0 < k → latest <ℤ end) → IsTypeBefore z (suc k) (index_of z.transitions k)
+type_ended z k latest end t valid n begun has cut behind =
+    let one : suc k - 1 ≡ k = omega arith in
+    type_own z k (index_of z.transitions k) t cut.second valid n refl has cut.is_start (λ h.
+    let c = rw one at (begun h t (rw one has)) in
+    let l = behind h in let m = c.2 in
+    (c.1.second, c.1.is_start, cuts_rise z k (suc k) t.offset c.0 end c.1 cut (omega (arith, ints))))
+
 -- the pieces of one segment more
-pub open_more : (z : Zone) (place : ℕ) (b : Answer) (ps out : List Piece) (latest : ℤ) (p q : Piece) → IsValid z → 0 < place → place < table_count z → AreOpen z place b ps latest → ArePiecesAt z place p q → latest ≤ℤ p.start → out ≡ (ps ++ (p ∷ [])) ++ (q ∷ []) → AreOpen z (suc place) b out q.start
-open_more z place b ps out latest p q valid inner_start table o a h e =
+pub open_more : (z : Zone) (place i : ℕ) (ps out : List Piece) (latest : ℤ) (p q : Piece) → IsValid z → 0 < place → place < table_count z → AreOpen z place i ps latest → ArePiecesAt z place p q → latest ≤ℤ p.start → (1 < place → latest <ℤ p.start) → out ≡ (ps ++ (p ∷ [])) ++ (q ∷ []) → AreOpen z (suc place) i out q.start
+open_more z zero i ps out latest p q valid inner_start table o a h strict e = absurd (omega arith)
+open_more z (suc k) i ps out latest p q valid inner_start table o a h strict e =
+    let place : ℕ = suc k in
     let n = within_table z place table in
     let one : suc place - 1 ≡ place = omega arith in
-    let first = o.closed n a.type_before a.end a.listed_before a.offset_before a.ends (ends_behind z place latest p q a h) in
-    let r = opened z place b ps latest p q o a h in
+    let back : place - 1 ≡ k = omega arith in
+    let x : ℕ = index_of z.transitions k in
+    let y : ℕ = index_of z.transitions place in
+    let j : Jump = jump_at place x in
+    let ended = ends_behind z place p q a in
+    let has_before : HasType z x a.type_before = rw back at a.listed_before in
+    let first : ArePieces z 0 place (Once i) (ps ++ (piece a.end (Less x) ∷ [])) = rw back at (o.closed n a.type_before a.end a.listed_before a.offset_before a.ends (omega (arith, ints)) (λ m. let s = strict m in omega (arith, ints))) in
+    let before : IsTypeBefore z place x = type_ended z k latest a.end a.type_before valid (omega arith) (λ m. o.begun (omega arith)) has_before a.ends (λ m. let s = strict (omega arith) in omega (arith, ints)) in
+    let closed = ps ++ (piece a.end (Less x) ∷ []) in
+    let all = (ps ++ (p ∷ [])) ++ (q ∷ []) in
+    let r : IsOpened i ps a.end a.start j y all q.start = rw back at (opened z place i ps latest p q o a h) in
+    let start_by = r.start_by in let end_by = r.end_by in
     rw e (record {
       ordered = r.merged.ordered;
       started = r.started;
+      unended = r.unended;
+      begun = λ m t has.
+          let same : t ≡ a.type = listed_once z y t a.type (rw one at has) a.listed in
+          rw (one, same) (a.start, a.starts, start_by);
       last = rw one r.last;
-      closed = λ inner t end has offset cut behind.
-          let same : t ≡ a.type = listed_once z (index_of z.transitions place) t a.type (rw one at has) a.listed in
-          let here : IsCut z.transitions z.leaps (suc place) a.type.offset end = rw same at cut in
-          let i = r.end_by in let j = r.start_by in
-          let segment = inner_pieces z place a.start end (index_of z.transitions place) a.type valid table inner_start inner refl a.listed a.offset a.starts here (omega (arith, ints)) in
-          let merged = end_merged b (ps ++ (piece a.end None ∷ [])) a.start end (index_of z.transitions place) ((ps ++ (p ∷ [])) ++ (q ∷ [])) r.merged (start_by_later ((ps ++ (p ∷ [])) ++ (q ∷ [])) q.start end r.started behind)
-          (start_by_later (ps ++ (piece a.end None ∷ [])) a.end end (pushed_start ps (piece a.end None) latest o.started (ends_behind z place latest p q a h)) (omega (arith, ints))) (omega (arith, ints)) (before_pushed b ps (piece a.end None)) in
-          rw (joined_none b) at (pieces_joined z 0 place (suc place) b None (ps ++ (piece a.end None ∷ [])) (piece a.start (Single (index_of z.transitions place)) ∷ piece end None ∷ []) (((ps ++ (p ∷ [])) ++ (q ∷ [])) ++ (piece end None ∷ [])) valid inner_start (omega arith) first segment merged);
-      whole = λ all.
-          let segment = last_pieces z place a.start (index_of z.transitions place) a.type valid table inner_start (omega arith) refl a.listed a.offset a.starts in
-          rw (joined_none b) at (pieces_joined z 0 place (suc place) b None (ps ++ (piece a.end None ∷ [])) (piece a.start (Single (index_of z.transitions place)) ∷ []) ((ps ++ (p ∷ [])) ++ (q ∷ [])) valid inner_start (omega arith) first segment r.merged);
+      closed = λ inner t end has offset cut behind after.
+          let same : t ≡ a.type = listed_once z y t a.type (rw one at has) a.listed in
+          let here : IsCutFrom z (suc place) a.type.offset end = rw same at cut in
+          let far = after (omega arith) in
+          let segment = inner_pieces z place x a.start end y a.type valid table inner_start inner refl a.listed a.offset a.starts here (cuts_rise z place (suc place) a.type.offset a.start end a.starts here (omega (arith, ints))) before in
+          let merged = end_merged i closed a.start end j x y all r.merged (start_by_later all q.start end r.started behind)
+          (start_by_later closed a.end end (pushed_start ps (piece a.end (Less x)) latest o.started (omega (arith, ints))) (omega (arith, ints))) (omega (arith, ints)) (before_pushed (Once i) ps (piece a.end (Less x))) in
+          rw one (pieces_joined z 0 place (suc place) (Once i) (Skipped j) closed (piece a.start (Once y) ∷ piece end (Less y) ∷ []) (all ++ (piece end (Less y) ∷ [])) valid inner_start (omega arith) first segment merged);
+      whole = λ last.
+          let segment = last_pieces z place x a.start y a.type valid table inner_start (omega arith) refl a.listed a.offset a.starts before in
+          pieces_joined z 0 place (suc place) (Once i) (Skipped j) closed (piece a.start (Once y) ∷ []) all valid inner_start (omega arith) first segment r.merged;
     })
 
 -- ---- cuts that cross
 
 pub first_cut : (z : Zone) (place : ℕ) (p q : Piece) → ArePiecesAt z place p q → IsCutAt z place p.start
 first_cut z place p q a = ⊎_elim
-    (λ gap. rw gap.none (record { type = a.type_before; listed = inl a.listed_before; is_cut = a.ends }))
-    (λ fold. rw fold.both (record { type = a.type; listed = inr a.listed; is_cut = a.starts }))
+    (λ gap. rw gap.none (record { type = a.type_before; listed = inl a.listed_before; is_cut = cut_from z place a.type_before.offset a.end a.offset_before a.ends }))
+    (λ fold. rw fold.both (record { type = a.type; listed = inr a.listed; is_cut = cut_from z place a.type.offset a.start a.offset a.starts }))
     a.pieces
 
 pub last_cut : (z : Zone) (place : ℕ) (p q : Piece) → ArePiecesAt z place p q → IsCutAt z place q.start
 last_cut z place p q a = ⊎_elim
-    (λ gap. rw gap.next (record { type = a.type; listed = inr a.listed; is_cut = a.starts }))
-    (λ fold. rw fold.next (record { type = a.type_before; listed = inl a.listed_before; is_cut = a.ends }))
+    (λ gap. rw gap.next (record { type = a.type; listed = inr a.listed; is_cut = cut_from z place a.type.offset a.start a.offset a.starts }))
+    (λ fold. rw fold.next (record { type = a.type_before; listed = inl a.listed_before; is_cut = cut_from z place a.type_before.offset a.end a.offset_before a.ends }))
     a.pieces
 
 -- the last cut before that place, or the least number where there is none
@@ -261,12 +321,16 @@ IsLatest z place latest = ((place ≡ 1) × (latest ≡ least_time)) ⊎ ((1 < p
 pub latest_more : (z : Zone) (place : ℕ) (cut : ℤ) → 0 < place → IsCutAt z place cut → IsLatest z (suc place) cut
 latest_more z place cut h c = let one : suc place - 1 ≡ place = omega arith in inr (omega arith, rw one c)
 
-pub crossed_by : (z : Zone) (place : ℕ) (latest cut : ℤ) → place ≤ length z.transitions → IsLatest z place latest → IsCutAt z place cut → least_time ≤ℤ cut → cut <ℤ latest → AreCutsCrossed z
-crossed_by z zero latest cut n l c low less = ⊎_elim (λ h. let e = h.0 in absurd (omega arith)) (λ h. let e = h.0 in absurd (omega arith)) l
-crossed_by z (suc k) latest cut n l c low less = ⊎_elim
-    (λ h. let e = h.1 in absurd (omega (arith, ints)))
-    (λ h.
-    let one : suc k - 1 ≡ k = omega arith in
-    let more = h.0 in
-    record { place = k; first = omega arith; within = n; cut = latest; next_cut = cut; is_cut = rw one at h.1; is_next_cut = c; crossed = less })
+pub crossed_by : (z : Zone) (place : ℕ) (latest cut : ℤ) → place ≤ length z.transitions → 1 < place → IsLatest z place latest → IsCutAt z place cut → cut ≤ℤ latest → AreCutsCrossed z
+crossed_by z zero latest cut n more l c less = absurd (omega arith)
+crossed_by z (suc k) latest cut n more l c less = ⊎_elim
+    (λ h. let e = h.0 in absurd (omega arith))
+    (λ h. let one : suc k - 1 ≡ k = omega arith in record { place = k; first = omega arith; within = n; cut = latest; next_cut = cut; is_cut = rw one at h.1; is_next_cut = c; crossed = less })
+    l
+
+-- a cut that does not come behind the latest is not before it where it is the first
+pub not_before : (z : Zone) (place : ℕ) (latest cut : ℤ) → IsLatest z place latest → least_time ≤ℤ cut → (1 < place → latest <ℤ cut) → latest ≤ℤ cut
+not_before z place latest cut l least after = ⊎_elim
+    (λ h. rw h.1 least)
+    (λ h. let s = after h.0 in omega (arith, ints))
     l

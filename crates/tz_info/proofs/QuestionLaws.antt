@@ -2,6 +2,7 @@
 use Rattle.std.proofs.Common.{◌≡◌, ◌≢◌, ℕ, zero, suc, ◌+◌, ◌<◌, arith, refl, ap, ◌∙◌, sym, subst, [], ◌∷◌, length, get_or, ℤ, ◌-ℤ◌, ◌≤ℤ◌, ◌<ℤ◌, ◌↔◌, inl, inr, ◌⊎◌, AllPairs, Contains, Option, Some, None}
 use Rattle.std.proofs.lemmas.Int.{ints}
 use Rattle.std.proofs.lemmas.Bool.{cases_lt}
+use Rattle.std.proofs.lemmas.Option.{none-some}
 use Rattle.std.proofs.lemmas.List.Elements.{All-contains, Contains-append_right}
 use Rattle.naive_base.specs.Range.{IsWide}
 use Rattle.tz_info.specs.Leaps.{IsLeapTime, IsNear}
@@ -160,6 +161,10 @@ asked_never a from l p std dst = nowhere (IsSecondFrom (Alternate a) from l) p p
   | inl e ↦ absurd (omega (arith, ints))
   | inr e ↦ absurd (omega (arith, ints))
 ]) refl
+
+-- ---- none, without a rule
+pub asked_none : (z : Zone) (l : ℤ) (p : ℕ) → z.rule ≡ None → IsAskedFor z l p p
+asked_none z l p e = nowhere (IsByRuleFor z l) p p (λ u k. none-some k.by_rule.rule (sym e ∙ k.by_rule.of_zone)) refl
 
 -- ---- none, where a transition comes after all of the local time's window
 pub asked_for_window : (z : Zone) (l low high : ℤ) (n : ℕ) (d : Transition) (p q : ℕ) → IsValid z → IsWindow z l low high → n < length z.transitions → high <ℤ (get_or z.transitions n d).unix_leap_time → q ≡ p → IsAskedFor z l p q

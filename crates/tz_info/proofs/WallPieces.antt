@@ -5,20 +5,20 @@ use Rattle.std.proofs.lemmas.Bool.{cases_lt}
 use Rattle.std.proofs.lemmas.List.{take_more, length_push, length-map}
 use Rattle.std.proofs.lemmas.List.Elements.{All-push}
 use Rattle.std.proofs.lemmas.List.Quantifiers.{all_pairs_push}
-use Rattle.offset_core.specs.declared.local_result.LocalResult.{LocalResult}
-use Rattle.offset_core.specs.declared.local_result.LocalResult.TheVariants.{None}
-use Rattle.tz_info.specs.Steps.Answers.{joined}
 use Rattle.tz_info.specs.Steps.Merging.{IsNext, IsStep}
 use Rattle.std.proofs.lemmas.Option.{none-some}
 use Rattle.std.specs.Prelude.{Option, Some as some, None as none, unwrap_or}
+use Rattle.tz_info.specs.Steps.Shown.{together}
 use Rattle.tz_info.specs.Steps.Search.{AreOrdered, ArePassed, IsLastOf}
 use Rattle.tz_info.specs.WallPieces.{answer_before, answer_at, AreInOrder}
 use Rattle.tz_info.specs.declared.zone.pieces.Piece.{Piece}
+use Rattle.tz_info.specs.declared.zone.shown.Shown.{Shown}
+use Rattle.tz_info.specs.declared.zone.shown.Shown.TheVariants.{Once}
 use Rattle.tz_info.proofs.Prefixes.{le_true, le_false, last_taken}
 use Rattle.tz_info.proofs.SearchSteps.{first_come, times_ordered}
 
 abbrev pub Answer : Type 0
-Answer = LocalResult ℕ
+Answer = Shown
 
 -- one piece more
 pub before_pushed : (b : Answer) (ps : List Piece) (p : Piece) → answer_before b (ps ++ (p ∷ [])) ≡ p.answer
@@ -67,17 +67,17 @@ pub record Merging (bx : Answer) (xs : List Piece) (by : Answer) (ys : List Piec
   pub ahead_x : (d : Piece) → i < length xs → StartBy out (get_or xs i d).start
   pub ahead_y : (d : Piece) → j < length ys → StartBy out (get_or ys j d).start
   pub started : (l : ℤ) → StartBy out l → StartBy (take i xs) l × StartBy (take j ys) l
-  pub answers : (l : ℤ) → answer_at (joined bx by) out l ≡ joined (answer_at bx (take i xs) l) (answer_at by (take j ys) l)
+  pub answers : (l : ℤ) → answer_at (together bx by) out l ≡ together (answer_at bx (take i xs) l) (answer_at by (take j ys) l)
 
 -- the next piece is that of xs
 merging_x : (bx : Answer) (xs : List Piece) (by : Answer) (ys out : List Piece) (i j : ℕ) (p : Piece) → AreInOrder xs → Merging bx xs by ys out i j → IsNext xs i ys j
-    → ((d : Piece) → p.start ≡ (get_or xs i d).start) → p.answer ≡ joined (answer_before bx (take (i + 1) xs)) (answer_before by (take j ys)) → Merging bx xs by ys (out ++ (p ∷ [])) (i + 1) j
+    → ((d : Piece) → p.start ≡ (get_or xs i d).start) → p.answer ≡ together (answer_before bx (take (i + 1) xs)) (answer_before by (take j ys)) → Merging bx xs by ys (out ++ (p ∷ [])) (i + 1) j
 merging_x bx xs by ys out i j p order m next starts is =
     let x : Piece = get_or xs i p in
     let inside = next.inside in
     let here = starts p in
     let more : take (i + 1) xs ≡ take i xs ++ (x ∷ []) = take_more xs i p inside in
-    let answer : p.answer ≡ joined x.answer (answer_before by (take j ys)) = is ∙ ap (λ a. joined a (answer_before by (take j ys))) (ap (answer_before bx) more ∙ before_pushed bx (take i xs) x) in
+    let answer : p.answer ≡ together x.answer (answer_before by (take j ys)) = is ∙ ap (λ a. together a (answer_before by (take j ys))) (ap (answer_before bx) more ∙ before_pushed bx (take i xs) x) in
     record {
       in_x = omega arith;
       in_y = m.in_y;
@@ -87,21 +87,21 @@ merging_x bx xs by ys out i j p order m next starts is =
       ahead_y = λ d l. start_by_push out p (get_or ys j d).start (m.ahead_y d l) (let s = starts d in let o = next.least d l in omega (arith, ints));
       started = λ l h. let s = start_by_pushed out p l h in let t = m.started l s.0 in (rw more (start_by_push (take i xs) x l t.0 (let q = s.1 in omega (arith, ints))), t.1);
       answers = λ l. by_lt_z l p.start
-          (λ before. at_earlier (joined bx by) out p l before ∙ m.answers l ∙ ap (λ a. joined a (answer_at by (take j ys) l)) (sym (rw more (at_earlier bx (take i xs) x l (omega (arith, ints))))))
+          (λ before. at_earlier (together bx by) out p l before ∙ m.answers l ∙ ap (λ a. together a (answer_at by (take j ys) l)) (sym (rw more (at_earlier bx (take i xs) x l (omega (arith, ints))))))
           (λ from.
           let by_now : StartBy out l = λ k d n. let h = m.ahead_x p inside k d n in omega (arith, ints) in
-          at_later (joined bx by) out p l from ∙ answer ∙ rw (more, at_later bx (take i xs) x l (omega (arith, ints)), at_all by (take j ys) l ((m.started l by_now).1)) refl);
+          at_later (together bx by) out p l from ∙ answer ∙ rw (more, at_later bx (take i xs) x l (omega (arith, ints)), at_all by (take j ys) l ((m.started l by_now).1)) refl);
     }
 
 -- the next piece is that of ys
 merging_y : (bx : Answer) (xs : List Piece) (by : Answer) (ys out : List Piece) (i j : ℕ) (p : Piece) → AreInOrder ys → Merging bx xs by ys out i j → IsNext ys j xs i
-    → ((d : Piece) → p.start ≡ (get_or ys j d).start) → p.answer ≡ joined (answer_before bx (take i xs)) (answer_before by (take (j + 1) ys)) → Merging bx xs by ys (out ++ (p ∷ [])) i (j + 1)
+    → ((d : Piece) → p.start ≡ (get_or ys j d).start) → p.answer ≡ together (answer_before bx (take i xs)) (answer_before by (take (j + 1) ys)) → Merging bx xs by ys (out ++ (p ∷ [])) i (j + 1)
 merging_y bx xs by ys out i j p order m next starts is =
     let y : Piece = get_or ys j p in
     let inside = next.inside in
     let here = starts p in
     let more : take (j + 1) ys ≡ take j ys ++ (y ∷ []) = take_more ys j p inside in
-    let answer : p.answer ≡ joined (answer_before bx (take i xs)) y.answer = is ∙ ap (λ a. joined (answer_before bx (take i xs)) a) (ap (answer_before by) more ∙ before_pushed by (take j ys) y) in
+    let answer : p.answer ≡ together (answer_before bx (take i xs)) y.answer = is ∙ ap (λ a. together (answer_before bx (take i xs)) a) (ap (answer_before by) more ∙ before_pushed by (take j ys) y) in
     record {
       in_x = m.in_x;
       in_y = omega arith;
@@ -111,15 +111,15 @@ merging_y bx xs by ys out i j p order m next starts is =
       ahead_y = λ d l. start_by_push out p (get_or ys (j + 1) d).start (λ k e n. let h = m.ahead_y d inside k e n in let o = order j (j + 1) d (omega arith) l in omega (arith, ints)) (let s = starts d in let o = order j (j + 1) d (omega arith) l in omega (arith, ints));
       started = λ l h. let s = start_by_pushed out p l h in let t = m.started l s.0 in (t.0, rw more (start_by_push (take j ys) y l t.1 (let q = s.1 in omega (arith, ints))));
       answers = λ l. by_lt_z l p.start
-          (λ before. at_earlier (joined bx by) out p l before ∙ m.answers l ∙ ap (λ a. joined (answer_at bx (take i xs) l) a) (sym (rw more (at_earlier by (take j ys) y l (omega (arith, ints))))))
+          (λ before. at_earlier (together bx by) out p l before ∙ m.answers l ∙ ap (λ a. together (answer_at bx (take i xs) l) a) (sym (rw more (at_earlier by (take j ys) y l (omega (arith, ints))))))
           (λ from.
           let by_now : StartBy out l = λ k d n. let h = m.ahead_y p inside k d n in omega (arith, ints) in
-          at_later (joined bx by) out p l from ∙ answer ∙ rw (more, at_later by (take j ys) y l (omega (arith, ints)), at_all bx (take i xs) l ((m.started l by_now).0)) refl);
+          at_later (together bx by) out p l from ∙ answer ∙ rw (more, at_later by (take j ys) y l (omega (arith, ints)), at_all bx (take i xs) l ((m.started l by_now).0)) refl);
     }
 
 -- the piece that comes next is added
 pub merging_more : (bx : Answer) (xs : List Piece) (by : Answer) (ys out after : List Piece) (i j i_after j_after : ℕ) (start : ℤ) (a : Answer) → AreInOrder xs → AreInOrder ys → Merging bx xs by ys out i j → IsStep xs i ys j start i_after j_after
-    → a ≡ joined (answer_before bx (take i_after xs)) (answer_before by (take j_after ys)) → after ≡ out ++ (record { start = start; answer = a } ∷ []) → Merging bx xs by ys after i_after j_after
+    → a ≡ together (answer_before bx (take i_after xs)) (answer_before by (take j_after ys)) → after ≡ out ++ (record { start = start; answer = a } ∷ []) → Merging bx xs by ys after i_after j_after
 merging_more bx xs by ys out after i j i_after j_after start a in_x in_y m (inl s) is e =
     let h = rw (s.passed, s.stays) at is in
     rw (e, s.passed, s.stays) (merging_x bx xs by ys out i j (record { start = start; answer = a }) in_x m s.next s.starts h)
@@ -135,7 +135,7 @@ step_count xs ys i j i_after j_after start (inr s) = let p = s.passed in let q =
 pub starts_in_order : (ps : List Piece) → AreInOrder ps → AreOrdered (map (λ (p : Piece). p.start) ps)
 starts_in_order ps order = times_ordered (λ (p : Piece). p.start) ps blank (λ i j h l. order i j blank h l) where
   blank : Piece
-  blank = record { start = pos 0; answer = None }
+  blank = record { start = pos 0; answer = Once 0 }
 
 -- the last of the pieces that have started answers, and where none has, what stands before them
 started : (b : Answer) (ps : List Piece) (l : ℤ) (n : ℕ) → ArePassed (map (λ (p : Piece). p.start) ps) l n → answer_at b ps l ≡ answer_before b (take n ps)

@@ -9,6 +9,7 @@ pub mod Answers
 pub mod Segments
 pub mod Validity
 pub mod Walk
+pub mod Shown
 pub mod Merging
 pub mod Starts
 pub mod Pieces

@@ -15,6 +15,7 @@ mod pieces;
 mod posix;
 pub(crate) mod probes;
 mod segments;
+mod shown;
 mod starts;
 mod table;
 mod time_zone;

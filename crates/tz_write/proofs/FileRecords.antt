@@ -18,7 +18,7 @@ use Rattle.tz_info.specs.declared.zone.leap_second.LeapSecond.{LeapSecond}
 use Rattle.tz_info.specs.declared.zone.transition.Transition.{Transition}
 use Rattle.tz_write.specs.FileBytes.{signed_bytes, time_bytes, index_bytes, mark_byte, type_bytes, leap_bytes}
 use Rattle.tz_write.specs.FileDesignations.{text_or_none, text_of, begins, place_of}
-use Rattle.tz_write.specs.WrittenFiles.{HasPlace}
+use Rattle.tz_write.specs.Steps.FileLayouts.{HasPlace}
 use Rattle.tz_write.specs.Steps.FileParts.{IsTime, IsEntry, IsType}
 use Rattle.tz_write.proofs.FileNumbers.{size_32, size_64, signed_32, signed_64}
 
@@ -105,7 +105,7 @@ bytes_not_zero : (text : List ℕ) → ((i : ℕ) → i < length text → is_nam
 bytes_not_zero [] h = tt
 bytes_not_zero (b ∷ bs) h = (not_zero b (h 0 (omega arith)), bytes_not_zero bs (λ i l. h (suc i) (omega arith)))
 
-no_zero : (name : Option (List ℕ)) → IsNameOrNone name → HasNoZero (text_or_none name)
+pub no_zero : (name : Option (List ℕ)) → IsNameOrNone name → HasNoZero (text_or_none name)
 no_zero None h = tt
 no_zero (Some text) h = bytes_not_zero text h.2
 

@@ -1,5 +1,5 @@
 -- The file that is written spells the zone.
-use Rattle.std.proofs.Common.{◌≡◌, ◌≢◌, ℕ, ◌<◌, Bool, true, false, List, [], ◌∷◌, ◌++◌, length, get_or, refl, ◌∙◌, arith, inl}
+use Rattle.std.proofs.Common.{◌≡◌, ◌≢◌, ℕ, ◌<◌, ◌≤◌, Bool, true, false, List, [], ◌∷◌, ◌++◌, length, get_or, refl, ◌∙◌, arith, inl}
 use Rattle.std.proofs.lemmas.Bool.Decides.{nat_tests}
 use Rattle.std.proofs.lemmas.Str.{IsUtf8-from_ascii}
 use Rattle.std.proofs.lemmas.Str.Ascii.{IsAscii-from_all}
@@ -11,6 +11,7 @@ use Rattle.tz_info.specs.FileContents.{HasNoZero}
 use Rattle.tz_info.specs.FileHeaders.{CountsAgree}
 use Rattle.tz_info.specs.FilePieces.{FilePieces, later_pieces, is_extended, HasPieces, IsSecondHalf, IsAfterFirstBlock}
 use Rattle.tz_info.specs.Footers.{IsFooter, SaysRule}
+use Rattle.tz_info.specs.LocalTypes.{LocalType}
 use Rattle.tz_info.specs.Trims.{BeginsBare, EndsBare}
 use Rattle.tz_info.specs.TzFiles.{IsTzFile, SayZone}
 use Rattle.tz_info.specs.Zones.{Zone}
@@ -18,13 +19,12 @@ use Rattle.tz_info.specs.declared.file.header.Counts.{Counts}
 use Rattle.tz_info.specs.declared.file.header.Place.TheVariants.{First, Second}
 use Rattle.tz_info.specs.declared.rule.transition_rule.TransitionRule.{TransitionRule}
 use Rattle.tz_write.specs.FileBytes.{number_bytes, counts_bytes, header_bytes, first_half, second_half, file_bytes, least_counts, least_block, zone_counts, zone_parts, block_bytes, footer_bytes, time_bytes, index_bytes, type_bytes, leap_bytes}
-use Rattle.tz_write.specs.FileDesignations.{designations_of}
-use Rattle.tz_write.specs.WrittenFiles.{HasCounts, HasPlace}
+use Rattle.tz_write.specs.Steps.FileLayouts.{HavePlaces}
+use Rattle.tz_write.specs.WrittenFiles.{HasCounts}
 use Rattle.tz_write.specs.Steps.FileParts.{IsSound}
 use Rattle.tz_write.proofs.FileHeads.{CountsFit, version_of, header_is}
 use Rattle.tz_write.proofs.FileNumbers.{size_64}
 use Rattle.tz_write.proofs.FileRecords.{size_of_records, transitions_are, leap_size, leaps_are, type_size, types_are}
-use Rattle.tz_write.proofs.FileSizes.{designations_size}
 
 -- ---- footers
 -- printing ASCII without spaces, and no colon in front
@@ -115,50 +115,47 @@ first_block rest = record {
 }
 
 -- ---- the second half
-zone_fit : (z : Zone) → HasCounts z → CountsFit (zone_counts z)
-zone_fit z h = record {
+zone_fit : (d : List ℕ) (z : Zone) → length d ≤ 263 → HasCounts z → CountsFit (zone_counts d z)
+zone_fit d z size h = record {
   ut_local = omega arith;
   standard_wall = omega arith;
   leap_seconds = h.leaps;
   transitions = h.transitions;
   types = h.types;
-  designations = let s = designations_size z.types in omega arith;
+  designations = omega (arith, size);
 }
 
-some_designations : (z : Zone) → 0 < length z.types → All (HasPlace (designations_of z.types)) z.types → length (designations_of z.types) ≢ 0
-some_designations z some places e = by_first z.types (designations_of z.types) some places e
-  where
-    by_first : (types : List _) (designations : List ℕ) → 0 < length types → All (HasPlace designations) types → length designations ≢ 0
-    by_first [] designations some places e = omega arith
-    by_first (t ∷ ts) designations some places e = let p = (places 0 t some).stands in absurd (omega arith)
+some_designations : (types : List LocalType) (d : List ℕ) → 0 < length types → HavePlaces d types → length d ≢ 0
+some_designations [] d some places e = omega (arith, some)
+some_designations (t ∷ ts) d some places e = let p = (places 0 t some).stands in omega (arith, p, e)
 
-zone_agree : (z : Zone) → 0 < length z.types → All (HasPlace (designations_of z.types)) z.types → CountsAgree (zone_counts z)
-zone_agree z some places = record { types = λ e. absurd (omega arith); designations = some_designations z some places; ut_local = inl refl; standard_wall = inl refl }
+zone_agree : (d : List ℕ) (z : Zone) → 0 < length z.types → HavePlaces d z.types → CountsAgree (zone_counts d z)
+zone_agree d z some places = record { types = λ e. absurd (omega arith); designations = some_designations z.types d some places; ut_local = inl refl; standard_wall = inl refl }
 
-second_block : (z : Zone) (rest : List ℕ) → IsBlock 8 (zone_counts z) (block_bytes (zone_parts z) rest) (zone_parts z) rest
-second_block z rest = record {
+second_block : (d : List ℕ) (z : Zone) (rest : List ℕ) → IsBlock 8 (zone_counts d z) (block_bytes (zone_parts d z) rest) (zone_parts d z) rest
+second_block d z rest = record {
   whole = refl;
   times = size_of_records 8 time_bytes z.transitions (λ t. size_64 t.unix_leap_time);
   type_indexes = size_of_records 1 index_bytes z.transitions (λ t. refl) ∙ omega arith;
-  types = size_of_records 6 (type_bytes (designations_of z.types)) z.types (type_size (designations_of z.types));
+  types = size_of_records 6 (type_bytes d) z.types (type_size d);
   designations = refl;
   leap_seconds = size_of_records 12 leap_bytes z.leaps leap_size;
   standard_wall = refl;
   ut_local = refl;
 }
 
-pieces_of : Bool → List ℕ → Zone → FilePieces
-pieces_of extended text z = later_pieces (record { version = version_of extended; counts = zone_counts z }) (zone_parts z) (footer_bytes text)
+pieces_of : Bool → List ℕ → List ℕ → Zone → FilePieces
+pieces_of extended text d z = later_pieces (record { version = version_of extended; counts = zone_counts d z }) (zone_parts d z) (footer_bytes text)
 
-second_is : (extended : Bool) (text : List ℕ) (z : Zone) → HasCounts z → 0 < length z.types → All (HasPlace (designations_of z.types)) z.types → IsSecondHalf (second_half extended text z) (pieces_of extended text z)
+second_is : (extended : Bool) (text d : List ℕ) (z : Zone) → length d ≤ 263 → HasCounts z → 0 < length z.types → HavePlaces d z.types → IsSecondHalf (second_half extended text d z) (pieces_of extended text d z)
 unfolding second_half pieces_of
-second_is extended text z counts some places = record {
-  header = record { version = version_of extended; counts = zone_counts z };
-  after = block_bytes (zone_parts z) (footer_bytes text);
-  parts = zone_parts z;
+second_is extended text d z size counts some places = record {
+  header = record { version = version_of extended; counts = zone_counts d z };
+  after = block_bytes (zone_parts d z) (footer_bytes text);
+  parts = zone_parts d z;
   footer = footer_bytes text;
-  head = header_is Second extended (zone_counts z) (block_bytes (zone_parts z) (footer_bytes text)) (zone_fit z counts) (zone_agree z some places);
-  block = second_block z (footer_bytes text);
+  head = header_is Second extended (zone_counts d z) (block_bytes (zone_parts d z) (footer_bytes text)) (zone_fit d z size counts) (zone_agree d z some places);
+  block = second_block d z (footer_bytes text);
   says = refl;
 }
 
@@ -167,32 +164,32 @@ after_is true c p rest pieces h = h
 after_is false c p rest pieces h = h
 
 -- ---- the whole
-file_pieces : (extended : Bool) (text : List ℕ) (z : Zone) → HasCounts z → 0 < length z.types → All (HasPlace (designations_of z.types)) z.types → HasPieces (file_bytes extended text z) (pieces_of extended text z)
+file_pieces : (extended : Bool) (text d : List ℕ) (z : Zone) → length d ≤ 263 → HasCounts z → 0 < length z.types → HavePlaces d z.types → HasPieces (file_bytes extended text d z) (pieces_of extended text d z)
 unfolding file_bytes first_half header_bytes counts_bytes number_bytes
-file_pieces extended text z counts some places = record {
+file_pieces extended text d z size counts some places = record {
   header = record { version = version_of extended; counts = least_counts };
-  after = least_block ++ second_half extended text z;
+  after = least_block ++ second_half extended text d z;
   parts = least_parts;
-  rest = second_half extended text z;
-  head = header_is First extended least_counts (least_block ++ second_half extended text z) least_fit least_agree;
-  block = first_block (second_half extended text z);
-  tail = after_is extended least_counts least_parts (second_half extended text z) (pieces_of extended text z) (second_is extended text z counts some places);
+  rest = second_half extended text d z;
+  head = header_is First extended least_counts (least_block ++ second_half extended text d z) least_fit least_agree;
+  block = first_block (second_half extended text d z);
+  tail = after_is extended least_counts least_parts (second_half extended text d z) (pieces_of extended text d z) (second_is extended text d z size counts some places);
 }
 
 extended_is : (extended : Bool) → is_extended (version_of extended) ≡ extended
 extended_is true = refl
 extended_is false = refl
 
-says_zone : (extended : Bool) (text : List ℕ) (z : Zone) → All (HasPlace (designations_of z.types)) z.types → IsSound z → IsFooter extended (footer_bytes text) z.rule → SayZone (pieces_of extended text z) z
+says_zone : (extended : Bool) (text d : List ℕ) (z : Zone) → HavePlaces d z.types → IsSound z → IsFooter extended (footer_bytes text) z.rule → SayZone (pieces_of extended text d z) z
 unfolding pieces_of
-says_zone extended text z places sound footer = record {
+says_zone extended text d z places sound footer = record {
   transitions = transitions_are z.transitions sound.times;
-  types = types_are (designations_of z.types) z.types places sound.types;
+  types = types_are d z.types places sound.types;
   leaps = leaps_are z.leaps sound.leaps;
   indicators = λ k e q. absurd (omega (arith, q));
   rule = rw (extended_is extended) footer;
 }
 
-pub file_is : (extended : Bool) (text : List ℕ) (z : Zone) → HasCounts z → 0 < length z.types → All (HasPlace (designations_of z.types)) z.types → IsSound z → IsPlain text → SaysRule extended text z.rule → IsTzFile (file_bytes extended text z) z
-file_is extended text z counts some places sound plain says =
-    (pieces_of extended text z, file_pieces extended text z counts some places, says_zone extended text z places sound (footer_is extended text z.rule plain says))
+pub file_is : (extended : Bool) (text d : List ℕ) (z : Zone) → length d ≤ 263 → HasCounts z → 0 < length z.types → HavePlaces d z.types → IsSound z → IsPlain text → SaysRule extended text z.rule → IsTzFile (file_bytes extended text d z) z
+file_is extended text d z size counts some places sound plain says =
+    (pieces_of extended text d z, file_pieces extended text d z size counts some places, says_zone extended text d z places sound (footer_is extended text z.rule plain says))

@@ -12,9 +12,11 @@ mod FilePlaces
 mod FileNumbers
 mod FileHeads
 mod FileRecords
-mod FileSizes
+mod FileMeetings
+mod FileNames
+mod FileRoom
+mod FileLayouts
 mod FileSpelled
 mod FileTexts
 mod FileWritten
 mod FileLimits
-mod FileNames

@@ -10,7 +10,7 @@ use Rattle.tz_info.specs.Zones.{Zone}
 use Rattle.tz_info.specs.declared.file.header.Counts.{Counts}
 use Rattle.tz_info.specs.declared.zone.leap_second.LeapSecond.{LeapSecond}
 use Rattle.tz_info.specs.declared.zone.transition.Transition.{Transition}
-use Rattle.tz_write.specs.FileDesignations.{text_of, place_of, designations_of}
+use Rattle.tz_write.specs.FileDesignations.{text_of, place_of}
 
 -- ---- numbers, the highest byte first
 -- a number of four bytes
@@ -78,15 +78,15 @@ type_bytes designations t = signed_bytes w32 t.offset ++ (mark_byte t.dst ∷ pl
 unfoldable pub leap_bytes : LeapSecond → List ℕ
 leap_bytes leap = signed_bytes w64 leap.unix_leap_time ++ signed_bytes w32 leap.correction
 
-abbrev pub zone_counts : Zone → Counts
-zone_counts z = counts_of (length z.leaps) (length z.transitions) (length z.types) (length (designations_of z.types))
+abbrev pub zone_counts : List ℕ → Zone → Counts
+zone_counts designations z = counts_of (length z.leaps) (length z.transitions) (length z.types) (length designations)
 
-abbrev pub zone_parts : Zone → Parts
-zone_parts z = record {
+abbrev pub zone_parts : List ℕ → Zone → Parts
+zone_parts designations z = record {
   times = flat_map time_bytes z.transitions;
   type_indexes = flat_map index_bytes z.transitions;
-  types = flat_map (type_bytes (designations_of z.types)) z.types;
-  designations = designations_of z.types;
+  types = flat_map (type_bytes designations) z.types;
+  designations = designations;
   leap_seconds = flat_map leap_bytes z.leaps;
   standard_wall = [];
   ut_local = [];
@@ -104,9 +104,10 @@ footer_bytes text = 10 ∷ (text ++ 10 ∷ [])
 unfoldable pub first_half : Bool → List ℕ
 first_half extended = header_bytes extended least_counts ++ least_block
 
-unfoldable pub second_half : Bool → List ℕ → Zone → List ℕ
-second_half extended text z = header_bytes extended (zone_counts z) ++ block_bytes (zone_parts z) (footer_bytes text)
+unfoldable pub second_half : Bool → List ℕ → List ℕ → Zone → List ℕ
+second_half extended text designations z =
+    header_bytes extended (zone_counts designations z) ++ block_bytes (zone_parts designations z) (footer_bytes text)
 
--- the file of that zone whose footer has that text
-unfoldable pub file_bytes : Bool → List ℕ → Zone → List ℕ
-file_bytes extended text z = first_half extended ++ second_half extended text z
+-- the file of that zone with those designations, whose footer has that text
+unfoldable pub file_bytes : Bool → List ℕ → List ℕ → Zone → List ℕ
+file_bytes extended text designations z = first_half extended ++ second_half extended text designations z

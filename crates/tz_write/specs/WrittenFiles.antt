@@ -1,12 +1,11 @@
 -- Which zones are written as files, and what is written.
 use Rattle.std.specs.Prelude.{ℕ, ◌≡◌, ◌<◌, ◌^◌, Bool, false, List, [], length, All, Option, Some, None}
-use Rattle.tz_info.specs.LocalTypes.{LocalType}
 use Rattle.tz_info.specs.TzFiles.{IsTzFile}
 use Rattle.tz_info.specs.Zones.{Zone}
 use Rattle.tz_info.specs.declared.rule.transition_rule.TransitionRule.{TransitionRule}
 use Rattle.tz_info.specs.declared.zone.transition.Transition.{Transition}
 use Rattle.tz_write.specs.FileBytes.{file_bytes}
-use Rattle.tz_write.specs.FileDesignations.{text_of, place_of, place_limit, designations_of}
+use Rattle.tz_write.specs.FileDesignations.{AreNamesIn, AreShortest}
 use Rattle.tz_write.specs.WrittenTexts.{IsUnspelled, IsWrittenText}
 
 -- a number of four bytes
@@ -22,16 +21,12 @@ pub record HasCounts (z : Zone) : Type 0 where
 abbrev pub HasIndex : Transition → Type 0
 HasIndex t = t.type_index < 256
 
--- the type's text stands in the designations, at a place that a byte can name
-pub record HasPlace (designations : List ℕ) (t : LocalType) : Type 0 where
-  pub stands : place_of (text_of t) designations < length designations
-  pub named : place_of (text_of t) designations < place_limit
-
 -- the second block has room for the zone
 pub record FitsBlock (z : Zone) : Type 0 where
   pub counts : HasCounts z
   pub indexes : All HasIndex z.transitions
-  pub places : All (HasPlace (designations_of z.types)) z.types
+  pub designations : List ℕ
+  pub names : AreNamesIn designations z.types
 
 -- there is no rule, or some text spells it
 abbrev pub HasText : Option TransitionRule → Type 0
@@ -42,6 +37,14 @@ HasText None = Unit {0}
 pub record IsWritable (z : Zone) : Type 0 where
   pub room : FitsBlock z
   pub rule : HasText z.rule
+
+-- numbers below 256
+abbrev pub AreBytes : List ℕ → Type 0
+AreBytes bytes = All (λ b. b < 256) bytes
+
+-- no file spells the zone, of whatever version
+abbrev pub IsInNoFile : Zone → Type 0
+IsInNoFile z = (bytes : List ℕ) → AreBytes bytes → ¬ (IsTzFile bytes z)
 
 -- the text of the footer, and whether it needs the extensions of version 3; no rule has the empty text
 abbrev pub IsFooterText : Option TransitionRule → List ℕ → Bool → Type 0
@@ -54,4 +57,6 @@ pub record IsWrittenFile (z : Zone) (bytes : List ℕ) : Type 0 where
   pub text : List ℕ
   pub extended : Bool
   pub footer : IsFooterText z.rule text extended
-  pub layout : bytes ≡ file_bytes extended text z
+  pub designations : List ℕ
+  pub names : AreShortest designations z.types
+  pub layout : bytes ≡ file_bytes extended text designations z

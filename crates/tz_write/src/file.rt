@@ -1,11 +1,9 @@
 //! Time zone files (TZif, RFC 8536): the bytes of the file of a zone.
 
-ghost use Rattle.std.specs.Prelude.{◌≡◌, IfOk, MatchOption, MatchResult, option_map, string_bytes};
+ghost use Rattle.std.specs.Prelude.{IfOk, IfSome, MatchOption, MatchResult, OnErr, option_map, string_bytes};
 ghost use Rattle.tz_info.specs.Errors.{IsOutOfMemory};
-ghost use Rattle.tz_write.specs.FileBytes.{zone_counts};
-ghost use Rattle.tz_write.specs.FileDesignations.{designations_of};
-ghost use Rattle.tz_write.specs.Steps.FileParts.{counts_in};
-ghost use Rattle.tz_write.specs.WrittenFiles.{FitsBlock, HasText, IsFooterText, IsWritable, IsWrittenFile};
+ghost use Rattle.tz_write.specs.Steps.FileParts.{HasRoom, IsLaidFile};
+ghost use Rattle.tz_write.specs.WrittenFiles.{HasText, IsFooterText, IsInNoFile, IsWritable, IsWrittenFile};
 
 mod contents;
 mod designations;
@@ -15,15 +13,13 @@ mod types;
 mod writer;
 
 use crate::rule_text::{ToTzString, TzText};
-use designations::designations_of;
-use header::Sizes;
 use std::alloc::{AllocError, Global};
 use tz_info::{Error, TimeZone, TransitionRule};
-use writer::{room_for, write_file};
+use writer::{Room, room_for, write_file};
 
 /// Zones that are written as TZif files.
 pub trait ToTzData {
-    /// The bytes of a TZif file that spells the zone, or `None` if none is written.
+    /// The bytes of a TZif file that spells the zone, or `None` if no file does.
     ///
     /// # Errors
     ///
@@ -37,9 +33,9 @@ impl ToTzData for TimeZone {
     /// block has the least counts, there are no indicators, and types whose names are the same, or
     /// of which one ends the other, share bytes.
     ///
-    /// `None` if a transition names a type past 255, a count has more than 32 bits, no text spells
-    /// the rule, or a name begins past byte 255 of the names, laid from the longest to the
-    /// shortest. Only the last leaves open that some file spells the zone.
+    /// `None` if no file spells the zone, of whatever version: if a transition names a type past
+    /// 255, a count has more than 32 bits, no text spells the rule, or the names have no room in any
+    /// order: each begins at a place that one byte can name.
     ///
     /// ```text
     /// if let Some(bytes) = zone.to_tz_data(alloc)? {
@@ -47,30 +43,44 @@ impl ToTzData for TimeZone {
     /// }
     /// ```
     fn to_tz_data(&self, alloc: Global) -> Result<Option<Vec<u8>>, Error>
-        // The file spells the zone; there is none only if the zone is not to be written so.
+        // The file spells the zone; there is none only if no file does.
         ensures written { MatchResult result
-            (λ answer. MatchOption answer (¬ (IsWritable self.now))
+            (λ answer. MatchOption answer (IsInNoFile self.now)
             (λ bytes. IsWrittenFile self.now bytes.items))
             (λ e. IsOutOfMemory e) }
+        // Running out of memory is answered only for a zone that can be written.
+        ensures memory { OnErr result (IsWritable self.now) }
     {
-        let designations = designations_of(alloc, self.local_time_types())?;
-        let Some(sizes) = room_for(self, &designations) else {
-            return Ok(None);
-        };
-        let Some(footer) = footer_of(alloc, self.rule())? else {
-            return Ok(None);
-        };
-        Ok(Some(file_of(alloc, self, &designations, sizes, &footer)?))
+        tz_data(alloc, self)
     }
+}
+
+/// What `to_tz_data` answers, and how the file's names are laid.
+pub(crate) fn tz_data(alloc: Global, zone: &TimeZone) -> Result<Option<Vec<u8>>, Error>
+    ensures written { MatchResult result
+        (λ answer. MatchOption answer (IsInNoFile zone.now)
+        (λ bytes. IsWrittenFile zone.now bytes.items))
+        (λ e. IsOutOfMemory e) }
+    ensures memory { OnErr result (IsWritable zone.now) }
+    ensures laid { IfOk result (λ answer. IfSome answer (λ bytes. IsLaidFile zone.now bytes.items)) }
+{
+    let Some(room) = room_for(zone) else {
+        return Ok(None);
+    };
+    let Some(footer) = footer_of(alloc, zone.rule())? else {
+        return Ok(None);
+    };
+    Ok(Some(file_of(alloc, zone, &room, &footer)?))
 }
 
 // The text of the footer, if there is one that spells the rule. No rule has the empty text.
 fn footer_of(alloc: Global, rule: Option<&TransitionRule>) -> Result<Option<TzText>, Error>
-    ensures { let ruled = option_map (λ r. r.now) rule.entry in
+    ensures written { let ruled = option_map (λ r. r.now) rule.entry in
         MatchResult result
         (λ answer. MatchOption answer (¬ (HasText ruled))
         (λ t. IsFooterText ruled (string_bytes t.text) t.extended))
         (λ e. IsOutOfMemory e) }
+    ensures memory { OnErr result (HasText (option_map (λ r. r.now) rule.entry)) }
 {
     match rule {
         None => Ok(Some(TzText {
@@ -84,16 +94,12 @@ fn footer_of(alloc: Global, rule: Option<&TransitionRule>) -> Result<Option<TzTe
 fn file_of(
     alloc: Global,
     zone: &TimeZone,
-    designations: &[u8],
-    sizes: Sizes,
+    room: &Room,
     footer: &TzText,
 ) -> Result<Vec<u8>, AllocError>
-    requires designations { designations.now ≡ designations_of zone.now.types }
-    requires room { FitsBlock zone.now }
-    requires counts { counts_in sizes ≡ zone_counts zone.now }
+    requires room { HasRoom zone.now room.now }
     requires footer { IsFooterText zone.now.rule (string_bytes footer.now.text) footer.now.extended }
-    ensures { IfOk result (λ v. IsWrittenFile zone.now v.items) }
+    ensures { IfOk result (λ v. IsWrittenFile zone.now v.items × IsLaidFile zone.now v.items) }
 {
-    let text = footer.text.as_bytes();
-    write_file(alloc, zone, designations, sizes, text, footer.extended)
+    write_file(alloc, zone, room, footer.text.as_bytes(), footer.extended)
 }

@@ -1,12 +1,6 @@
-//! Tests of wall clocks, by values that come from outside: the types that are in force when the
-//! clocks of a zone show a local time, and how many looks that takes.
+//! What tests of wall clocks ask. The tests beside it (`tried`) go by values that come from outside:
+//! the types that are in force when the clocks of a zone show a local time, and how many looks that
+//! takes.
 #![tactic(auto)]
 
-#[cfg(test)]
-mod gaps;
-#[cfg(test)]
-mod local_search;
-#[cfg(test)]
-mod values;
-#[cfg(test)]
-mod wall_clocks;
+pub mod values;

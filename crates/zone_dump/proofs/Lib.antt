@@ -1,2 +1,3 @@
 pub mod TableLaws
 mod JsonPutting
+mod PictureLaws

@@ -6,4 +6,9 @@ pub mod Words
 pub mod Tables
 pub mod Zdump
 pub mod Forms
+pub mod PictureChart
+pub mod PictureFrame
+pub mod PicturePanels
+pub mod PictureWords
+pub mod Pictures
 pub mod Steps

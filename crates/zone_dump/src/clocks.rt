@@ -29,7 +29,7 @@ impl fmt::Display for Utc<'_> {
 
 // A date and a time, so many seconds after 1970-01-01 00:00:00.
 #[derive(Clone, Copy)]
-struct Clock(i128);
+pub(crate) struct Clock(pub(crate) i128);
 
 impl fmt::Display for Clock {
     ghost output = { λ clock. Some (clock_words clock.0) };

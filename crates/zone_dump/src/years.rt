@@ -48,7 +48,7 @@ impl Years {
 }
 
 // The first second of a year that is in range, or the year after one.
-fn start_of(year: i32) -> i64
+pub(crate) fn start_of(year: i32) -> i64
     requires from { pos 1 ≤ℤ year }
     requires to { year ≤ℤ pos 10_000 }
     ensures value { result ≡ year_second year }

@@ -124,6 +124,7 @@
 //! | a wall-clock time | it, on each day | [`DailySeries::new`] |
 //! | the bytes or a text, and a wall clock | types of local time and instants in one call | [`WallClock`] |
 //! | a rule, or a zone that is its rule alone | its TZ text | [`ToTzString::to_tz_string`], [`ToPosixTz::to_posix_tz`] |
+//! | a parsed zone | the bytes of its TZif file | [`ToTzData::to_tz_data`] |
 //! | a zone that no file tells | it, as the zone of `DateTime`s | an implementation of [`TimeZone`] |
 //!
 //! # Zones that are borrowed, and zones that are kept
@@ -171,7 +172,7 @@ pub use offset_core::{
     Choice, FixedOffset, FoldChoice, GapChoice, LocalResult, MappedLocalTime, TimeDelta,
 };
 pub use tz_info;
-pub use tz_write::{ToPosixTz, ToTzString, TzText};
+pub use tz_write::{ToPosixTz, ToTzData, ToTzString, TzText};
 pub use zoned_kept::{KeepError, KeptChange, KeptOffset, KeptZone};
 pub use zoned_ref::{TimeZoneRef, WallClock, ZoneChange, ZoneOffset};
 pub use zoned_round::{DurationRound, RoundingError, SubsecRound};

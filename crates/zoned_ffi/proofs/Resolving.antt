@@ -1,15 +1,36 @@
 -- What a choice takes, told by instants.
-use Rattle.std.proofs.Common.{ℤ, ◌-ℤ◌, inl, inr}
+use Rattle.std.proofs.Common.{ℤ, ◌-ℤ◌, ◌≡◌, ◌∙◌, ap, inl, inr, subst, sym}
+use Rattle.std.proofs.Math.IntN.{+ℤ-neg_ℤ_cancel}
 use Rattle.naive_base.specs.Range.{IsInRange}
 use Rattle.offset_core.specs.declared.choice.Choice.{Choice}
-use Rattle.tz_info.specs.LocalTypes.{LocalType}
-use Rattle.tz_info.specs.Zones.{Zone}
+use Rattle.tz_info.specs.Gaps.{HasGap, IsBeforeGap}
+use Rattle.tz_info.specs.LocalTypes.{IsUtOffset, LocalType}
+use Rattle.tz_info.specs.WallClocks.{Shows}
+use Rattle.tz_info.specs.Zones.{Zone, TypeAt}
 use Rattle.zoned_ffi.specs.Resolved.{IsResolvedAt, IsTaken}
-use Rattle.zoned_ffi.specs.Steps.ResolvedInstants.{IsInstant}
+use Rattle.zoned_ffi.specs.Steps.ResolvedInstants.{IsInstant, IsTakenAs}
 use Rattle.zoned_ffi.specs.declared.resolved.Resolved.{Resolved}
+use Rattle.zoned_ffi.specs.declared.resolved.Taken.TheVariants.{InForce}
 
 pub resolved_by : (z : Zone) (choice : Choice) (local : ℤ) (t : LocalType) (w : Resolved) → IsInRange local → IsTaken z local choice t → IsInstant z (local -ℤ t.offset) w → IsResolvedAt z choice local w
 resolved_by z choice local t w in_range taken instant = elim instant [
   | inl found ↦ IsResolvedAt.found t found.1.0 in_range taken found.0 found.1.1 found.1.2
   | inr outside ↦ IsResolvedAt.taken_outside t in_range taken outside.0 outside.1
 ]
+
+-- a type that shows the local time is in force at that time less its offset
+pub in_force : (z : Zone) (local u : ℤ) (choice : Choice) (t : LocalType) (offset : ℤ) → Shows (TypeAt z) local u t → IsTaken z local choice t → offset ≡ t.offset
+    → IsUtOffset t.offset → IsTakenAs z local choice (InForce offset)
+in_force z local u choice t offset shows taken same bound =
+    let second : u ≡ local -ℤ t.offset = sym (+ℤ-neg_ℤ_cancel u t.offset) ∙ ap (λ v. v -ℤ t.offset) shows.shown in
+    let there = subst (λ v. TypeAt z (local -ℤ v) t) (sym same) (subst (λ v. TypeAt z v t) second shows.type) in
+    ((t, taken, same), inl (t, there, same, subst IsUtOffset (sym same) bound))
+
+pub before_gap : (z : Zone) (local : ℤ) (before after : LocalType) (at : ℤ) → HasGap (TypeAt z) local before after at → IsBeforeGap (TypeAt z) local before
+before_gap z local before after at gap = record {
+  never = gap.never;
+  first = at;
+  more = record { type = after; here = gap.here; more = gap.more };
+  least = gap.least;
+  before = gap.earlier;
+}

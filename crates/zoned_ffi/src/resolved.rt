@@ -3,20 +3,18 @@
 ghost use Rattle.std.specs.Prelude.{◌≡◌, ◌≢◌, ◌-ℤ◌, pos, length, MatchOption, MatchResult};
 ghost use Rattle.naive_base.specs.NaiveDateTime.{reading};
 ghost use Rattle.naive_base.specs.Range.{IsInRange};
-ghost use Rattle.offset_core.specs.WallAnswer.{IsNeverShown};
 ghost use Rattle.offset_core.specs.declared.choice.FoldChoice.{FoldChoice as AnyFold};
 ghost use Rattle.offset_core.specs.declared.choice.GapChoice.{GapChoice as AnyGap};
-ghost use Rattle.tz_info.specs.Gaps.{IsBeforeGap};
-ghost use Rattle.tz_info.specs.WallClocks.{Shows};
-ghost use Rattle.tz_info.specs.Zones.{TypeAt};
-ghost use Rattle.zoned_ffi.specs.Resolved.{AreResolved, IsChoice, IsChoiceOf, IsNoneTaken, IsResolvedAt, IsTaken, fold_number, gap_number, unresolved};
-ghost use Rattle.zoned_ffi.specs.Steps.ResolvedInstants.{IsInstant};
+ghost use Rattle.tz_info.specs.Zones.{Zone};
+ghost use Rattle.zoned_ffi.specs.Instants.{IsOffsetAt};
+ghost use Rattle.zoned_ffi.specs.Resolved.{AreResolved, IsChoice, IsChoiceOf, IsNoneTaken, IsResolvedAt, fold_number, gap_number, unresolved};
+ghost use Rattle.zoned_ffi.specs.Steps.ResolvedInstants.{IsInstant, IsTakenAs};
 
 use crate::instants::offset_at;
 use crate::refusal::OTHER_SIZE;
 use naive_base::NaiveDateTime;
-use offset_core::{Choice, FoldChoice, GapChoice, MappedLocalTime};
-use tz_info::{LocalTimeType, TimeZone};
+use offset_core::{Choice, FoldChoice, GapChoice};
+use tz_info::{TimeZone, TypesAround};
 
 // The local time lies in a gap, and the choice refuses gaps.
 const GAP: u32 = 21;
@@ -82,9 +80,30 @@ impl Resolved {
         let Some(reading) = NaiveDateTime::from_timestamp_opt(local, 0) else {
             return Resolved::none(OUT_OF_RANGE);
         };
-        match taken(zone, choice, reading) {
-            Ok(local_type) => Resolved::of_instant(zone, instant_by(local, local_type.offset())),
+        match offset_taken(zone, choice, reading) {
+            Ok(Taken::InForce(offset)) => Resolved::of_offset(local, offset),
+            Ok(Taken::BeforeGap(offset)) => {
+                Resolved::of_instant(zone, instant_by(local, offset))
+            }
             Err(number) => Resolved::none(number),
+        }
+    }
+
+    // The instant at which a clock at that offset shows the local time, where it is in range; the
+    // offset is in force there.
+    fn of_offset(local: i64, offset: i32) -> Resolved
+        requires { IsInRange local }
+        ensures { (z : Zone) → IsOffsetAt z (local -ℤ offset) offset
+            → IsInstant z (local -ℤ offset) result }
+    {
+        let instant = instant_by(local, offset);
+        match NaiveDateTime::from_timestamp_opt(instant, 0) {
+            Some(_) => Resolved {
+                number: 0,
+                offset,
+                instant,
+            },
+            None => Resolved::none(OUT_OF_RANGE),
         }
     }
 
@@ -121,33 +140,30 @@ fn instant_by(local: i64, offset: i32) -> i64
     local - i64::from(offset)
 }
 
-// The type by whose offset the choice takes the reading for an instant, or why it takes none.
-fn taken(zone: &TimeZone, choice: Choice, local: NaiveDateTime) -> Result<LocalTimeType, u32>
-    ensures { MatchResult result (λ t. IsTaken zone.now (reading local).s choice t)
-        (λ n. IsNoneTaken zone.now (reading local).s choice n) }
-{
-    match zone.find_local_time_type_from_local(local) {
-        Ok(MappedLocalTime::None) => taken_in_gap(zone, choice, local),
-        Ok(MappedLocalTime::Single(only)) => Ok(only),
-        Ok(MappedLocalTime::Ambiguous(first, last)) => match choice.fold {
-            FoldChoice::Refuse => Err(FOLD),
-            FoldChoice::Earliest => Ok(first),
-            FoldChoice::Latest => Ok(last),
-        },
-        Err(_) => unreachable!(),
-    }
+// The offset by which a choice takes a reading for an instant.
+#[derive(Clone, Copy)]
+enum Taken {
+    // It is in force at that instant, at which a clock at it shows the reading.
+    InForce(i32),
+    // It is in force before the gap that the reading lies in.
+    BeforeGap(i32),
 }
 
-fn taken_in_gap(zone: &TimeZone, choice: Choice, local: NaiveDateTime) -> Result<LocalTimeType, u32>
-    requires { IsNeverShown (Shows (TypeAt zone.now) (reading local).s) }
-    ensures { MatchResult result (λ t. IsTaken zone.now (reading local).s choice t)
+// What the choice takes for the reading, or why it takes nothing.
+fn offset_taken(zone: &TimeZone, choice: Choice, local: NaiveDateTime) -> Result<Taken, u32>
+    ensures { MatchResult result (λ taken. IsTakenAs zone.now (reading local).s choice taken)
         (λ n. IsNoneTaken zone.now (reading local).s choice n) }
 {
-    match choice.gap {
-        GapChoice::Refuse => Err(GAP),
-        GapChoice::ShiftForward => match zone.find_local_time_type_before_gap(local) {
-            Some(before) => Ok(before),
-            None => unreachable!(),
+    match zone.find_local_time_type_around(local) {
+        TypesAround::Single(only) => Ok(Taken::InForce(only.offset())),
+        TypesAround::Ambiguous(first, last) => match choice.fold {
+            FoldChoice::Refuse => Err(FOLD),
+            FoldChoice::Earliest => Ok(Taken::InForce(first.offset())),
+            FoldChoice::Latest => Ok(Taken::InForce(last.offset())),
+        },
+        TypesAround::Gap(gap) => match choice.gap {
+            GapChoice::Refuse => Err(GAP),
+            GapChoice::ShiftForward => Ok(Taken::BeforeGap(gap.before.offset())),
         },
     }
 }

@@ -1,5 +1,6 @@
 pub mod ForCallers
 mod Homes
+mod Narrow
 pub mod Instants
 pub mod Offsets
 pub mod Walls

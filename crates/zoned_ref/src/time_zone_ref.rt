@@ -1,12 +1,11 @@
 //! Parsed zones, borrowed.
-ghost use Rattle.std.specs.Prelude.{◌≡◌, ◌↔◌, IsTrue, IsSome, IfSome, All, ℤ};
+ghost use Rattle.std.specs.Prelude.{◌≡◌, ◌↔◌, IsTrue, IsSome, IfSome, ℤ};
 ghost use Rattle.offset_core.specs.Offset.{IsWithinDay};
 ghost use Rattle.zoned_time.specs.Zone.{IsFixed, IsZoneSecond};
 ghost use Rattle.zoned_ref.specs.OffsetAt.{offset_at};
-ghost use Rattle.zoned_ref.specs.Offsets.{IsNarrow, HasOneOffset, HasOffsets, AreOffsetsOf, rule_types};
+ghost use Rattle.zoned_ref.specs.Offsets.{IsNarrow, HasOneOffset, HasOffsets, AreOffsetsOf};
 
 use offset_core::FixedOffset;
-use tz_info::{LocalTimeType, TransitionRule};
 
 /// A parsed time zone as a zone of [`DateTime`](zoned_time::DateTime)s: at each instant it has the
 /// offset of the type of local time that is in force then.
@@ -86,23 +85,11 @@ fn has_offsets(zone: &tz_info::TimeZone)
 fn is_narrow(zone: &tz_info::TimeZone) -> bool
     ensures { IsTrue result ↔ IsNarrow zone.now }
 {
-    zone.local_time_types().iter().all(is_within_day) && has_narrow_rule(zone)
+    is_within_day(zone.least_offset()) && is_within_day(zone.greatest_offset())
 }
 
-fn has_narrow_rule(zone: &tz_info::TimeZone) -> bool
-    ensures { IsTrue result ↔ All (λ t. IsWithinDay t.offset) (rule_types zone.now.rule) }
+fn is_within_day(offset: i32) -> bool
+    ensures { IsTrue result ↔ IsWithinDay offset }
 {
-    match zone.rule() {
-        None => true,
-        Some(TransitionRule::Fixed(only)) => is_within_day(only),
-        Some(TransitionRule::Alternate(turns)) => {
-            is_within_day(turns.std()) && is_within_day(turns.dst())
-        }
-    }
-}
-
-fn is_within_day(local_type: &LocalTimeType) -> bool
-    ensures { IsTrue result ↔ IsWithinDay local_type.now.offset }
-{
-    FixedOffset::east_opt(local_type.offset()).is_some()
+    FixedOffset::east_opt(offset).is_some()
 }

@@ -1,11 +1,18 @@
 //! What the words of a call ask for.
 
+use crate::told::What;
 use clap::{Arg, ArgAction, ArgMatches, Command, value_parser};
 use std::alloc::{AllocError, Global};
 use zone_dump::Years;
 
 /// The words that the program takes.
 pub fn command<'a>(alloc: Global) -> Result<Command<'a>, AllocError> {
+    let command = Command::new(alloc, "zonedump").about("Prints what the clocks of time zones do");
+    with_zones(alloc, with_forms(alloc, with_years(alloc, command)?)?)
+}
+
+// The years that are asked for.
+fn with_years<'a>(alloc: Global, command: Command<'a>) -> Result<Command<'a>, AllocError> {
     let from = Arg::new(alloc, "from")
         .long("from")
         .value_name("YEAR")
@@ -18,6 +25,11 @@ pub fn command<'a>(alloc: Global) -> Result<Command<'a>, AllocError> {
         .value_parser(value_parser!(i32))
         .default_value("2037")
         .help("The last year of UTC");
+    command.arg(from)?.arg(to)
+}
+
+// What is done with the zones.
+fn with_forms<'a>(alloc: Global, command: Command<'a>) -> Result<Command<'a>, AllocError> {
     let zdump = Arg::new(alloc, "zdump")
         .long("zdump")
         .action(ArgAction::SetTrue)
@@ -31,6 +43,18 @@ pub fn command<'a>(alloc: Global) -> Result<Command<'a>, AllocError> {
         .long("write")
         .value_name("FILE")
         .help("Writes the zone as a TZif file, and prints nothing");
+    let svg = Arg::new(alloc, "svg")
+        .long("svg")
+        .value_name("FILE")
+        .help("Draws the zone as a picture of SVG, and prints nothing")
+        .conflicts_with("zdump")?
+        .conflicts_with("json")?
+        .conflicts_with("write")?;
+    command.arg(zdump)?.arg(json)?.arg(write)?.arg(svg)
+}
+
+// The zones: those of files, or that of a TZ text.
+fn with_zones<'a>(alloc: Global, command: Command<'a>) -> Result<Command<'a>, AllocError> {
     let text = Arg::new(alloc, "text")
         .long("text")
         .value_name("TZ")
@@ -40,15 +64,7 @@ pub fn command<'a>(alloc: Global) -> Result<Command<'a>, AllocError> {
         .action(ArgAction::Append)
         .help("TZif files")
         .required_unless_present("text")?;
-    Command::new(alloc, "zonedump")
-        .about("Prints what the clocks of time zones do")
-        .arg(from)?
-        .arg(to)?
-        .arg(zdump)?
-        .arg(json)?
-        .arg(write)?
-        .arg(text)?
-        .arg(files)
+    command.arg(text)?.arg(files)
 }
 
 /// The years that are asked for, if they are years from 1 to 9999 in order.
@@ -56,4 +72,19 @@ pub fn years_of(matches: &ArgMatches<'_>) -> Option<Years> {
     let first = matches.get_one::<i32>("from")?;
     let last = matches.get_one::<i32>("to")?;
     Years::new(first, last)
+}
+
+/// What is done with the zones.
+pub fn what_of<'a>(matches: &ArgMatches<'a>) -> What<'a> {
+    if let Some(path) = matches.get_str("write") {
+        What::Write(path)
+    } else if let Some(path) = matches.get_str("svg") {
+        What::Draw(path)
+    } else if matches.get_flag("zdump") {
+        What::Zdump
+    } else if matches.get_flag("json") {
+        What::Json
+    } else {
+        What::Table
+    }
 }

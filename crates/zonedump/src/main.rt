@@ -7,7 +7,7 @@ mod told;
 
 use std::process::ExitCode;
 use std::{env, io};
-use told::{Asked, What, tell_file, tell_text};
+use told::{Asked, tell_file, tell_text};
 
 // The status of a run that told all that was asked, of one that did not, and of wrong arguments.
 const TOLD: u8 = 0;
@@ -44,29 +44,18 @@ fn answer<'a>(rt: &HostRuntime, words: &'a [String]) -> io::Result<u8> {
         eprintln!(rt; "zonedump: the years go from one of 1 to 9999 to the same or a later one")?;
         return Ok(WRONG);
     };
-    let what = match matches.get_str("write") {
-        Some(path) => What::Write(path),
-        None => {
-            if matches.get_flag("zdump") {
-                What::Zdump
-            } else if matches.get_flag("json") {
-                What::Json
-            } else {
-                What::Table
-            }
-        }
+    let asked = Asked {
+        years,
+        what: arguments::what_of(&matches),
     };
-    let asked = Asked { years, what };
     if let Some(text) = matches.get_str("text") {
         return Ok(status_of(tell_text(rt, text, asked)?));
     }
     let Some(files) = matches.get_strs("FILE") else {
         return Ok(TOLD);
     };
-    if let What::Write(_) = what
-        && files.len() > 1
-    {
-        eprintln!(rt; "zonedump: only one zone is written")?;
+    if asked.what.is_of_one_zone() && files.len() > 1 {
+        eprintln!(rt; "zonedump: only one zone is written or drawn")?;
         return Ok(WRONG);
     }
     tell_files(rt, files, asked)

@@ -1,6 +1,7 @@
 //! What is told of one zone, or why it is refused.
 
 use crate::files;
+use std::alloc::Global;
 use std::fmt::Write;
 use std::io;
 use std::io::Write as _;
@@ -16,6 +17,15 @@ pub enum What<'a> {
     Json,
     /// It is written to the file of that name.
     Write(&'a str),
+    /// A picture of it is written to the file of that name.
+    Draw(&'a str),
+}
+
+impl What<'_> {
+    /// Whether it is done with one zone alone.
+    pub fn is_of_one_zone(&self) -> bool {
+        matches!(self, What::Write(_) | What::Draw(_))
+    }
 }
 
 /// What is done, and in which years.
@@ -25,70 +35,88 @@ pub struct Asked<'a> {
     pub what: What<'a>,
 }
 
+/// What a zone is told of.
+#[derive(Clone, Copy)]
+enum Source<'a> {
+    Text(&'a str),
+    File(&'a [u8]),
+}
+
+impl Source<'_> {
+    fn zone(self, alloc: Global) -> Result<TimeZone, Error> {
+        match self {
+            Source::Text(text) => TimeZone::from_posix_tz(alloc, text),
+            Source::File(bytes) => TimeZone::from_tz_data(alloc, bytes),
+        }
+    }
+
+    // Writes its zone in a form behind what `out` holds.
+    fn tell(
+        self,
+        alloc: Global,
+        years: Years,
+        form: Form<'_>,
+        out: &mut String,
+    ) -> Result<(), Error> {
+        match self {
+            Source::Text(text) => zone_dump::tell_text(alloc, text, years, form, out),
+            Source::File(bytes) => zone_dump::tell_file(alloc, bytes, years, form, out),
+        }
+    }
+
+    fn kind(self) -> &'static str {
+        match self {
+            Source::Text(_) => "TZ text",
+            Source::File(_) => "TZif file",
+        }
+    }
+}
+
 /// Tells the zone of a TZ text, or why it is refused, and whether it was told.
 pub fn tell_text(rt: &HostRuntime, text: &str, asked: Asked<'_>) -> io::Result<bool> {
-    let mut out = String::new(rt.alloc());
-    let told = match asked.what {
-        What::Table => {
-            writeln!(out, "{text}")?;
-            zone_dump::tell_text(rt.alloc(), text, asked.years, Form::Table, &mut out)
-        }
-        What::Zdump => {
-            zone_dump::tell_text(rt.alloc(), text, asked.years, Form::Zdump(text), &mut out)
-        }
-        What::Json => match TimeZone::from_posix_tz(rt.alloc(), text) {
-            Ok(zone) => return print_json(rt, text, &zone, asked.years),
-            Err(fault) => Err(fault),
-        },
-        What::Write(path) => match TimeZone::from_posix_tz(rt.alloc(), text) {
-            Ok(zone) => return write(rt, text, &zone, path),
-            Err(fault) => Err(fault),
-        },
-    };
-    match told {
-        Ok(()) => print(rt, out.as_bytes()),
-        Err(fault) => refuse(rt, text, "TZ text", &fault),
-    }
+    tell(rt, text, Source::Text(text), asked)
 }
 
 /// Tells the zone of a TZif file, or why it is refused, and whether it was told.
 pub fn tell_file(rt: &HostRuntime, file: &str, asked: Asked<'_>) -> io::Result<bool> {
-    let bytes = match files::read_limited(rt, file) {
-        Ok(Some(bytes)) => bytes,
+    match files::read_limited(rt, file) {
+        Ok(Some(bytes)) => tell(rt, file, Source::File(bytes.as_slice()), asked),
         Ok(None) => {
             eprintln!(rt; "zonedump: {file}: larger than 64 MiB")?;
-            return Ok(false);
+            Ok(false)
         }
         Err(error) => {
             eprintln!(rt; "zonedump: {file}: {error}")?;
-            return Ok(false);
+            Ok(false)
         }
-    };
-    tell_bytes(rt, file, bytes.as_slice(), asked)
+    }
 }
 
-fn tell_bytes(rt: &HostRuntime, file: &str, bytes: &[u8], asked: Asked<'_>) -> io::Result<bool> {
+fn tell(rt: &HostRuntime, name: &str, source: Source<'_>, asked: Asked<'_>) -> io::Result<bool> {
     let mut out = String::new(rt.alloc());
     let told = match asked.what {
         What::Table => {
-            writeln!(out, "{file}")?;
-            zone_dump::tell_file(rt.alloc(), bytes, asked.years, Form::Table, &mut out)
+            writeln!(out, "{name}")?;
+            source.tell(rt.alloc(), asked.years, Form::Table, &mut out)
         }
-        What::Zdump => {
-            zone_dump::tell_file(rt.alloc(), bytes, asked.years, Form::Zdump(file), &mut out)
-        }
-        What::Json => match TimeZone::from_tz_data(rt.alloc(), bytes) {
-            Ok(zone) => return print_json(rt, file, &zone, asked.years),
-            Err(fault) => Err(fault),
-        },
-        What::Write(path) => match TimeZone::from_tz_data(rt.alloc(), bytes) {
-            Ok(zone) => return write(rt, file, &zone, path),
+        What::Zdump => source.tell(rt.alloc(), asked.years, Form::Zdump(name), &mut out),
+        What::Json | What::Write(_) | What::Draw(_) => match source.zone(rt.alloc()) {
+            Ok(zone) => return give(rt, name, &zone, asked),
             Err(fault) => Err(fault),
         },
     };
     match told {
         Ok(()) => print(rt, out.as_bytes()),
-        Err(fault) => refuse(rt, file, "TZif file", &fault),
+        Err(fault) => refuse(rt, name, source.kind(), &fault),
+    }
+}
+
+// Gives the zone in a form that is no text of lines.
+fn give(rt: &HostRuntime, name: &str, zone: &TimeZone, asked: Asked<'_>) -> io::Result<bool> {
+    match asked.what {
+        What::Write(path) => write(rt, name, zone, path),
+        What::Draw(path) => draw(rt, name, zone, asked.years, path),
+        _ => print_json(rt, name, zone, asked.years),
     }
 }
 
@@ -113,18 +141,39 @@ fn print_json(rt: &HostRuntime, name: &str, zone: &TimeZone, years: Years) -> io
 
 // Writes the zone to a file.
 fn write(rt: &HostRuntime, name: &str, zone: &TimeZone, path: &str) -> io::Result<bool> {
-    let bytes = match zone.to_tz_data(rt.alloc()) {
-        Ok(Some(bytes)) => bytes,
+    match zone.to_tz_data(rt.alloc()) {
+        Ok(Some(bytes)) => put(rt, path, bytes.as_slice()),
         Ok(None) => {
-            eprintln!(rt; "zonedump: {name}: no TZif file is written of this zone")?;
-            return Ok(false);
+            eprintln!(rt; "zonedump: {name}: no TZif file spells this zone")?;
+            Ok(false)
         }
         Err(_) => {
             eprintln!(rt; "zonedump: {name}: out of memory")?;
-            return Ok(false);
+            Ok(false)
         }
-    };
-    match files::write(rt, path, bytes.as_slice()) {
+    }
+}
+
+// Writes a picture of the zone to a file.
+fn draw(
+    rt: &HostRuntime,
+    name: &str,
+    zone: &TimeZone,
+    years: Years,
+    path: &str,
+) -> io::Result<bool> {
+    match zone_dump::draw(rt.alloc(), name, zone, years) {
+        Ok(picture) => put(rt, path, picture.as_bytes()),
+        Err(_) => {
+            eprintln!(rt; "zonedump: {name}: out of memory")?;
+            Ok(false)
+        }
+    }
+}
+
+// Writes those bytes to a file, or says why they can't be written.
+fn put(rt: &HostRuntime, path: &str, bytes: &[u8]) -> io::Result<bool> {
+    match files::write(rt, path, bytes) {
         Ok(()) => Ok(true),
         Err(error) => {
             eprintln!(rt; "zonedump: {path}: {error}")?;

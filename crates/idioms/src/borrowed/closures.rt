@@ -1,8 +1,9 @@
 //! What is asked of each instant of a borrowed zone by way of another instant, or of the zone: by
 //! loops, since closures that capture an instant or ask the zone aren't covered.
 
+use crate::borrowed::zones::hour;
 use std::alloc::{AllocError, Global};
-use zoned::{DateTime, TimeZoneRef, Timelike};
+use zoned::{DateTime, TimeZoneRef};
 
 pub fn any_after<'a>(
     instants: &[DateTime<TimeZoneRef<'a>>],
@@ -35,7 +36,7 @@ pub fn hours(
 ) -> Result<Vec<u32>, AllocError> {
     let mut hours = Vec::new(alloc);
     for instant in instants {
-        hours.push(instant.hour())?;
+        hours.push(hour(instant))?;
     }
     Ok(hours)
 }

@@ -1,9 +1,10 @@
 //! Instants of a borrowed zone copied.
 
+use crate::borrowed::zones::next_day;
 use crate::copy_of;
 use std::alloc::{AllocError, Global};
 use std::collections::BTreeMap;
-use zoned::{DateTime, Days, TimeZoneRef};
+use zoned::{DateTime, TimeZoneRef};
 
 pub fn twice<'a>(
     instant: &DateTime<TimeZoneRef<'a>>,
@@ -41,7 +42,7 @@ pub struct Daily<'a> {
 impl<'a> Daily<'a> {
     pub fn advance(&mut self) -> Option<DateTime<TimeZoneRef<'a>>> {
         let instant = copy_of(&self.next);
-        self.next = instant.checked_add_days(Days::new(1))?;
+        self.next = next_day(&instant)?;
         Some(instant)
     }
 }

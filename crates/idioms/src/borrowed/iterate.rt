@@ -21,12 +21,20 @@ pub fn seconds_of_days(
     Ok(seconds)
 }
 
-/// A series from its end, and `?` on an item.
+/// A series from its end.
+fn last_item<'a>(
+    series: &DailySeries<TimeZoneRef<'a>>,
+    days: u32,
+) -> Option<Result<DateTime<TimeZoneRef<'a>>, SeriesError>> {
+    series.days(days).rev().next()
+}
+
+/// That, and `?` on an item.
 pub fn last_of_days<'a>(
     series: &DailySeries<TimeZoneRef<'a>>,
     days: u32,
 ) -> Result<Option<DateTime<TimeZoneRef<'a>>>, SeriesError> {
-    match series.days(days).rev().next() {
+    match last_item(series, days) {
         Some(instant) => Ok(Some(instant?)),
         None => Ok(None),
     }

@@ -67,8 +67,27 @@ pub fn year(instant: &DateTime<TimeZoneRef<'_>>) -> i32 {
     instant.date_naive().year()
 }
 
+/// A function of its own, as `minute` and `noon` are: over a borrowed zone a function of several such
+/// calls takes long to prove.
+pub fn hour(instant: &DateTime<TimeZoneRef<'_>>) -> u32 {
+    instant.hour()
+}
+
+fn minute(instant: &DateTime<TimeZoneRef<'_>>) -> u32 {
+    instant.minute()
+}
+
 pub fn hour_and_minute(instant: &DateTime<TimeZoneRef<'_>>) -> (u32, u32) {
-    (instant.hour(), instant.minute())
+    (hour(instant), minute(instant))
+}
+
+fn noon<'a>(
+    zone: &TimeZoneRef<'a>,
+    year: i32,
+    month: u32,
+    day: u32,
+) -> Option<DateTime<TimeZoneRef<'a>>> {
+    zone.with_ymd_and_hms(year, month, day, 12, 0, 0).single()
 }
 
 /// The earlier of the instants at which the clocks of two zones show noon of a day.
@@ -80,8 +99,8 @@ pub fn first_noon<'a>(
 ) -> Option<DateTime<TimeZoneRef<'a>>> {
     let [one, other] = zones;
     let noons = [
-        one.with_ymd_and_hms(year, month, day, 12, 0, 0).single()?,
-        other.with_ymd_and_hms(year, month, day, 12, 0, 0).single()?,
+        noon(&one, year, month, day)?,
+        noon(&other, year, month, day)?,
     ];
     noons.iter().min().copied()
 }
@@ -104,7 +123,7 @@ impl<'a> Alarm<'a> {
     }
 
     pub fn a_day_later(self) -> Option<Alarm<'a>> {
-        let instant = self.instant.checked_add_days(Days::new(1))?;
+        let instant = next_day(&self.instant)?;
         Some(Alarm {
             zone: self.zone,
             instant,

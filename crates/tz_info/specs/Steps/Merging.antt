@@ -1,15 +1,15 @@
 -- Two lists of pieces, merged into one.
 use Rattle.std.specs.Prelude.{ℕ, ◌≡◌, ◌+◌, ◌<◌, ◌⊎◌, List, length, slice_index_or, ℤ, ◌≤ℤ◌}
-use Rattle.offset_core.specs.declared.local_result.LocalResult.{LocalResult}
-use Rattle.tz_info.specs.Steps.Answers.{joined}
+use Rattle.tz_info.specs.Steps.Shown.{together}
 use Rattle.tz_info.specs.WallPieces.{AreInOrder, answer_at}
 use Rattle.tz_info.specs.declared.zone.pieces.Piece.{Piece}
+use Rattle.tz_info.specs.declared.zone.shown.Shown.{Shown}
 
 -- what the pieces of earlier seconds and those of later ones give together
-pub record IsMerged (before_first : LocalResult ℕ) (first : List Piece) (before_last : LocalResult ℕ) (last : List Piece) (pieces : List Piece) : Type 0 where
+pub record IsMerged (before_first : Shown) (first : List Piece) (before_last : Shown) (last : List Piece) (pieces : List Piece) : Type 0 where
   pub ordered : AreInOrder pieces
   pub count : length pieces ≡ length first + length last
-  pub answers : (local : ℤ) → answer_at (joined before_first before_last) pieces local ≡ joined (answer_at before_first first local) (answer_at before_last last local)
+  pub answers : (local : ℤ) → answer_at (together before_first before_last) pieces local ≡ together (answer_at before_first first local) (answer_at before_last last local)
 
 -- the piece at place i of xs comes before that at place j of ys, if there is one
 pub record IsNext (xs : List Piece) (i : ℕ) (ys : List Piece) (j : ℕ) : Type 0 where

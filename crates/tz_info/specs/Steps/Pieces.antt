@@ -1,17 +1,19 @@
 -- The pieces of some neighbouring segments, and the search in them.
-use Rattle.std.specs.Prelude.{ℕ, zero, suc, ℤ, ◌≡◌, ◌⊎◌, ◌+◌, ◌-◌, ◌*◌, ◌<◌, ◌≤◌, ◌≤ℤ◌, ◌<ℤ◌, if◌then◌else◌, nat_lt, List, length, slice_get, Some as some}
+use Rattle.std.specs.Prelude.{ℕ, zero, suc, ℤ, ◌≡◌, ◌⊎◌, ◌+◌, ◌-◌, ◌*◌, ◌<◌, ◌≤◌, ◌+ℤ◌, ◌≤ℤ◌, if◌then◌else◌, nat_lt, List, length, slice_get, Some as some}
+use Rattle.std.specs.Int.{saturate_signed, w64}
 use Rattle.naive_base.specs.Range.{IsWide}
-use Rattle.offset_core.specs.WallAnswer.{IsWallAnswer}
 use Rattle.offset_core.specs.declared.local_result.LocalResult.{LocalResult}
 use Rattle.offset_core.specs.declared.local_result.LocalResult.TheVariants.{None, Single, Ambiguous}
 use Rattle.tz_info.specs.LocalTypes.{LocalType, IsUtOffset}
 use Rattle.tz_info.specs.Steps.Segments.{index_of}
 use Rattle.tz_info.specs.Steps.Starts.{IsCut}
-use Rattle.tz_info.specs.WallPieces.{AreInOrder, ListedAmong, answer_at}
+use Rattle.tz_info.specs.WallPieces.{AreInOrder, IsShownAmong, IsStart, answer_at}
 use Rattle.tz_info.specs.Zones.{Zone, HasType}
 use Rattle.tz_info.specs.declared.zone.one_pass.Segment.{Segment}
 use Rattle.tz_info.specs.declared.zone.pieces.Piece.{Piece}
 use Rattle.tz_info.specs.declared.zone.segments.Lists.{Lists}
+use Rattle.tz_info.specs.declared.zone.shown.Shown.{Shown}
+use Rattle.tz_info.specs.declared.zone.shown.Shown.TheVariants.{Skipped, Once, Several}
 
 -- the zone of lists that are lent
 abbrev pub zone_in : Lists → Zone
@@ -39,11 +41,11 @@ abbrev pub closing : ℕ → ℕ → ℕ
 closing n high = if nat_lt n high then 1 else 0
 
 -- the pieces answer for the segments from `low` on and before `high`
-pub record ArePieces (z : Zone) (low high : ℕ) (before : LocalResult ℕ) (pieces : List Piece) : Type 0 where
+pub record ArePieces (z : Zone) (low high : ℕ) (before : Shown) (pieces : List Piece) : Type 0 where
   pub ordered : AreInOrder pieces
   pub most : length pieces + opening low + closing (length z.transitions) high + 2 * low ≤ 2 * high
   pub some : low ≡ 0 → 0 < length z.transitions → 0 < length pieces
-  pub answers : (local : ℤ) → IsWide local → IsWallAnswer (ListedAmong z low high local) (answer_at before pieces local)
+  pub answers : (local : ℤ) → IsWide local → IsShownAmong z low high local (answer_at before pieces local)
 
 -- the index and the offset are those of the type in the segment at that place
 pub record IsSegment (z : Zone) (place : ℕ) (segment : Segment) : Type 0 where
@@ -54,16 +56,22 @@ pub record IsSegment (z : Zone) (place : ℕ) (segment : Segment) : Type 0 where
   pub offset : segment.offset ≡ type.offset
 
 -- one segment ends and the next starts: from the first of the two cuts up to the last neither shows the local time, as in a gap
-pub record IsGap (end start : ℤ) (index : ℕ) (first last : Piece) : Type 0 where
+pub record IsGap (place : ℕ) (end start : ℤ) (index_before index : ℕ) (first last : Piece) : Type 0 where
   pub order : end ≤ℤ start
-  pub none : first ≡ record { start = end; answer = None }
-  pub next : last ≡ record { start = start; answer = Single index }
+  pub none : first ≡ record { start = end; answer = Skipped (record { place = place; before = index_before }) }
+  pub next : last ≡ record { start = start; answer = Once index }
 
 -- or both do, as in a fold
 pub record IsFold (end start : ℤ) (index_before index : ℕ) (first last : Piece) : Type 0 where
   pub order : start ≤ℤ end
-  pub both : first ≡ record { start = start; answer = Ambiguous index_before index }
-  pub next : last ≡ record { start = end; answer = Single index }
+  pub both : first ≡ record { start = start; answer = Several index_before index }
+  pub next : last ≡ record { start = end; answer = Once index }
+
+-- `cut` is what a clock of that offset shows at the first second at which so many transitions have come, or the nearest number of 64 bits
+pub record IsCutFrom (z : Zone) (count : ℕ) (offset cut : ℤ) : Type 0 where
+  pub second : ℤ
+  pub is_start : IsStart z.transitions z.leaps count second
+  pub shown : cut ≡ saturate_signed w64 (second +ℤ offset)
 
 -- the two pieces where the segment at that place starts and the one before it ends
 pub record ArePiecesAt (z : Zone) (place : ℕ) (first last : Piece) : Type 0 where
@@ -75,9 +83,9 @@ pub record ArePiecesAt (z : Zone) (place : ℕ) (first last : Piece) : Type 0 wh
   pub listed : HasType z (index_of z.transitions place) type
   pub offset_before : IsUtOffset type_before.offset
   pub offset : IsUtOffset type.offset
-  pub ends : IsCut z.transitions z.leaps place type_before.offset end
-  pub starts : IsCut z.transitions z.leaps place type.offset start
-  pub pieces : IsGap end start (index_of z.transitions place) first last ⊎ IsFold end start (index_of z.transitions (place - 1)) (index_of z.transitions place) first last
+  pub ends : IsCutFrom z place type_before.offset end
+  pub starts : IsCutFrom z place type.offset start
+  pub pieces : IsGap place end start (index_of z.transitions (place - 1)) (index_of z.transitions place) first last ⊎ IsFold end start (index_of z.transitions (place - 1)) (index_of z.transitions place) first last
 
 -- `cut` is a local time at which the segment before that place ends, or the one at that place starts
 pub record IsCutAt (z : Zone) (place : ℕ) (cut : ℤ) : Type 0 where
@@ -85,7 +93,7 @@ pub record IsCutAt (z : Zone) (place : ℕ) (cut : ℤ) : Type 0 where
   pub listed : HasType z (index_of z.transitions (place - 1)) type ⊎ HasType z (index_of z.transitions place) type
   pub is_cut : IsCut z.transitions z.leaps place type.offset cut
 
--- of two neighbouring transitions the later one cuts the axis before the earlier one does
+-- of two neighbouring transitions the later one cuts the axis where the earlier one does, or before it
 pub record AreCutsCrossed (z : Zone) : Type 0 where
   pub place : ℕ
   pub first : 0 < place
@@ -94,4 +102,4 @@ pub record AreCutsCrossed (z : Zone) : Type 0 where
   pub next_cut : ℤ
   pub is_cut : IsCutAt z place cut
   pub is_next_cut : IsCutAt z (suc place) next_cut
-  pub crossed : next_cut <ℤ cut
+  pub crossed : next_cut ≤ℤ cut

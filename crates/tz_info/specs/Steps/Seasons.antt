@@ -1,5 +1,5 @@
 -- Seasons: the moments of one year, for several seconds near it.
-use Rattle.std.specs.Prelude.{ℤ, ◌≤ℤ◌, ◌<ℤ◌}
+use Rattle.std.specs.Prelude.{ℤ, pos, ◌-ℤ◌, ◌≤ℤ◌, ◌<ℤ◌}
 use Rattle.tz_info.specs.Moments.{AlternateAt, IsRuleTime, type_when}
 use Rattle.tz_info.specs.Rules.{Alternate}
 use Rattle.tz_info.specs.Steps.Turns.{is_dst_by_one}
@@ -8,6 +8,10 @@ use Rattle.tz_info.specs.declared.rule.alternate.Season.{Season}
 -- the second u lies in the season
 abbrev pub IsDecidedIn : Season → ℤ → Type 0
 IsDecidedIn s u = (s.from ≤ℤ u) × (u <ℤ s.until)
+
+-- the season decides at the second u and at the one before, both of the rule's years
+abbrev pub IsAmid : Season → ℤ → Type 0
+IsAmid s u = (IsRuleTime u × IsRuleTime (u -ℤ pos 1)) × IsDecidedIn s u × IsDecidedIn s (u -ℤ pos 1)
 
 -- at each second of the season its two moments alone decide
 pub record IsSeason (a : Alternate) (s : Season) : Type 0 where

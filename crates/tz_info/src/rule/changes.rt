@@ -9,7 +9,7 @@ ghost use Rattle.tz_info.specs.Changes.{IsChange, HasNoChange, IsFirst, IsFirstC
 ghost use Rattle.tz_info.specs.Moments.{AlternateAt, IsRuleYear, IsRuleTime, IsYearOf, type_when};
 ghost use Rattle.tz_info.specs.Rules.{IsAlternateRule};
 ghost use Rattle.tz_info.specs.Steps.Changes.{AreFrom, AreUntil, IsAfterIn, IsIdle, IsIdleUntil, IsInStretch, IsOneOf, IsUpToIn, earlier_of, later_of, moments_near, new_year};
-ghost use Rattle.tz_info.specs.Steps.Seasons.{IsDecidedIn, IsSeason};
+ghost use Rattle.tz_info.specs.Steps.Seasons.{IsAmid, IsDecidedIn, IsSeason};
 
 use crate::change::Change;
 use crate::local_time_type::LocalTimeType;
@@ -100,10 +100,7 @@ impl AlternateTime {
     #[inline(always)]
     fn change_amid(&self, season: Season, second: i64) -> Option<Change>
         requires season { IsSeason self.now season }
-        requires time { IsRuleTime second }
-        requires decides { IsDecidedIn season second }
-        requires time_before { IsRuleTime (second -ℤ pos 1) }
-        requires decides_before { IsDecidedIn season (second -ℤ pos 1) }
+        requires amid { IsAmid season second }
         ensures { MatchOption result
             (HasNoChange (AlternateAt self.now) (λ u. u ≡ second))
             (λ c. IsChange (AlternateAt self.now) c × (c.at ≡ second)) }

@@ -237,7 +237,7 @@ impl TimeZone {
     }
 
     // The type of that index.
-    fn listed(&self, index: usize) -> &LocalTimeType
+    pub(super) fn listed(&self, index: usize) -> &LocalTimeType
         requires { index < length self.now.types }
         ensures { HasType self.now index result.now }
     {

@@ -1,22 +1,29 @@
 //! Gaps: what is in force around a local time that no clock shows.
 
-ghost use Rattle.std.specs.Prelude.{◌≡◌, ◌<◌, ◌+◌, length, pos, ◌+ℤ◌, ◌-ℤ◌, MatchOption, Some};
+ghost use Rattle.std.specs.Prelude.{◌≡◌, length, ◌+ℤ◌, MatchOption, Some};
 ghost use Rattle.naive_base.specs.NaiveDateTime.{reading};
 ghost use Rattle.naive_base.specs.Range.{IsWide};
 ghost use Rattle.offset_core.specs.WallAnswer.{IsNeverShown};
 ghost use Rattle.tz_info.specs.Around.{IsAround};
+ghost use Rattle.tz_info.specs.Counts.{HasRoom, RoseWithin};
 ghost use Rattle.tz_info.specs.Steps.Looks.{HasRoomFor};
 ghost use Rattle.tz_info.specs.Gaps.{IsBeforeGap, HasGap, IsShown};
 ghost use Rattle.tz_info.specs.Leaps.{IsNear};
-ghost use Rattle.tz_info.specs.Steps.Gaps.{AreLessInto, IsReach, Starts};
+ghost use Rattle.tz_info.specs.Looks.{RoseAround};
+ghost use Rattle.tz_info.specs.Questions.{IsAskedFor};
+ghost use Rattle.tz_info.specs.RuleTypes.{RuleAt};
+ghost use Rattle.tz_info.specs.Segments.{table_count};
+ghost use Rattle.tz_info.specs.Steps.Gaps.{IsReach, IsPassed};
 ghost use Rattle.tz_info.specs.WallClocks.{Shows};
-ghost use Rattle.tz_info.specs.Zones.{IsValid, IsRuleOrNone, TypeAt};
+ghost use Rattle.tz_info.specs.WallPieces.{AreLessAmong, IsTypeBefore, Jumps, IsShownAmong};
+ghost use Rattle.tz_info.specs.Zones.{TypeAt};
 ghost use Rattle.tz_info.specs.declared.rule.transition_rule.TransitionRule.TheVariants.{Alternate};
 
 use crate::local_time_type::{LocalTimeType, second_showing};
 use crate::rule::{AlternateTime, TransitionRule};
 use crate::zone::around::{Gap, TypesAround};
 use crate::zone::probes::Probes;
+use crate::zone::shown::{Jump, Shown};
 use crate::zone::starts::{first_second, later};
 use crate::zone::time_zone::TimeZone;
 use naive_base::NaiveDateTime;
@@ -40,9 +47,31 @@ impl TimeZone {
     pub fn find_local_time_type_around(&self, local: NaiveDateTime) -> TypesAround
         ensures { IsAround (TypeAt self.now) (reading local).s result }
     {
+        self.find_local_time_type_around_counted(local, &mut Probes::new())
+    }
+
+    /// As [`TimeZone::find_local_time_type_around`], and counts as
+    /// [`TimeZone::find_local_time_type_from_local_counted`] does. In a gap one transition is
+    /// looked at besides, and otherwise none.
+    ///
+    /// In a gap that the rule makes, its types around the gap are not counted as questions.
+    ///
+    /// Requires: [`Probes::has_room`].
+    pub fn find_local_time_type_around_counted(
+        &self,
+        local: NaiveDateTime,
+        probes: &mut Probes,
+    ) -> TypesAround
+        requires { HasRoom probes.old }
+        ensures found { IsAround (TypeAt self.now) (reading local).s result }
+        ensures cost { RoseAround self.now result probes.old probes.new }
+        ensures questions { IsAskedFor self.now (reading local).s
+            probes.old.rule_questions probes.new.rule_questions }
+    {
         let second = local.secs_since_epoch();
-        match self.wall_answer(second, &mut Probes::new()) {
-            MappedLocalTime::None => TypesAround::Gap(self.gap_at(second)),
+        let (shown, answer) = self.wall_answer_of(second, probes);
+        match answer {
+            MappedLocalTime::None => TypesAround::Gap(self.gap_at(second, shown, probes)),
             MappedLocalTime::Single(only) => TypesAround::Single(only),
             MappedLocalTime::Ambiguous(first, last) => TypesAround::Ambiguous(first, last),
         }
@@ -66,30 +95,40 @@ impl TimeZone {
         }
     }
 
-    // Looks at the second at which each segment begins, from the one of the earliest second that
-    // may show the local time on.
-    fn gap_at(&self, local: i64) -> Gap
+    // The gap in the table, or behind it.
+    fn gap_at(&self, local: i64, shown: Shown, probes: &mut Probes) -> Gap
         requires local { IsWide local }
         requires never { IsNeverShown (Shows (TypeAt self.now) local) }
-        ensures { HasGap (TypeAt self.now) local result.before result.after result.at }
+        requires shown { IsShownAmong self.now 0 (table_count self.now) local shown }
+        requires room { HasRoomFor 1 probes.old.reads }
+        ensures gap { HasGap (TypeAt self.now) local result.before result.after result.at }
+        ensures cost { RoseWithin probes.old probes.new 1 0 }
     {
-        let mut probes = Probes::new();
-        let _types = self.local_time_types();
-        let count = self.transition_count();
-        let reach = self.reach(local);
-        let first = self.passed_count(self.leap_time_near(reach.low), &mut probes);
-        for place in first..count {
-            let start = self.start_behind(place, &mut probes);
-            let here = self.type_near(start);
-            if local < shown_at(here, start) {
-                return Gap {
-                    before: *self.type_before(start),
-                    after: *here,
-                    at: start,
-                };
-            }
+        match shown {
+            Shown::Less(before) => self.gap_of_rule(local, before),
+            Shown::Skipped(jump) => self.gap_of_jump(local, jump, probes),
+            Shown::Once(_) => unreachable!(),
+            Shown::Several(_, _) => unreachable!(),
         }
-        self.gap_of_rule(local, reach)
+    }
+
+    // The gap where the segment at the jump's place begins.
+    fn gap_of_jump(&self, local: i64, jump: Jump, probes: &mut Probes) -> Gap
+        requires local { IsWide local }
+        requires never { IsNeverShown (Shows (TypeAt self.now) local) }
+        requires jump { Jumps self.now 0 (table_count self.now) local jump }
+        requires room { HasRoomFor 1 probes.old.reads }
+        ensures gap { HasGap (TypeAt self.now) local result.before result.after result.at }
+        ensures cost { RoseWithin probes.old probes.new 1 0 }
+    {
+        let _types = self.local_time_types();
+        let _reach = self.reach(local);
+        let transition = self.transition(jump.place - 1, probes);
+        Gap {
+            before: *self.listed(jump.before),
+            after: *self.listed(transition.type_index),
+            at: first_second(&self.leap_seconds, transition.unix_leap_time),
+        }
     }
 
     fn reach(&self, local: i64) -> Reach
@@ -103,80 +142,61 @@ impl TimeZone {
         }
     }
 
-    // The first second at which the transition at that place has come.
-    fn start_behind(&self, place: usize, probes: &mut Probes) -> i64
-        requires place { place < length self.now.transitions }
-        requires room { HasRoomFor 1 probes.old.reads }
-        ensures start { Starts self.now (place + 1) result }
-        ensures cost { probes.new ≡ record probes.old { reads = probes.old.reads + 1 } }
-    {
-        let _types = self.local_time_types();
-        let transition = self.transition(place, probes);
-        first_second(&self.leap_seconds, transition.unix_leap_time)
-    }
-
-    // The type at a second that is near enough to have one.
-    fn type_near(&self, second: i64) -> &LocalTimeType
-        requires { IsNear second }
-        ensures { TypeAt self.now second result.now }
-    {
-        let _types = self.local_time_types();
-        match self.find_local_time_type(second) {
-            Ok(found) => found,
-            Err(_) => unreachable!(),
-        }
-    }
-
-    // The type at the second before that one.
-    fn type_before(&self, second: i64) -> &LocalTimeType
-        requires { IsNear (second -ℤ pos 1) }
-        ensures { TypeAt self.now (second -ℤ pos 1) result.now }
-    {
-        self.type_near(second - 1)
-    }
-
-    // After the last transition clocks come to show more only where a rule turns from its lesser
-    // offset to the greater.
-    fn gap_of_rule(&self, local: i64, reach: Reach) -> Gap
+    // The gap from the last transition on, before which clocks show less, at the end by the type
+    // of that index.
+    fn gap_of_rule(&self, local: i64, before: usize) -> Gap
         requires local { IsWide local }
         requires never { IsNeverShown (Shows (TypeAt self.now) local) }
-        requires reach { IsReach self.now local reach.low reach.high }
-        requires less { AreLessInto self.now local (length self.now.transitions) }
+        requires less { AreLessAmong self.now 0 (table_count self.now) local }
+        requires before { IsTypeBefore self.now (table_count self.now) before }
         ensures { HasGap (TypeAt self.now) local result.before result.after result.at }
     {
         let _types = self.local_time_types();
+        let _reach = self.reach(local);
         match &self.last_rule {
             None => unreachable!(),
-            Some(rule) => self.gap_by_rule(rule, local, reach),
+            Some(rule) => self.gap_by_rule(rule, local, before),
         }
     }
 
-    fn gap_by_rule(&self, rule: &TransitionRule, local: i64, reach: Reach) -> Gap
+    // Clocks come to show more where the rule begins, or where it turns from its lesser offset to
+    // the greater.
+    fn gap_by_rule(&self, rule: &TransitionRule, local: i64, before: usize) -> Gap
         requires local { IsWide local }
         requires rule { self.now.rule ≡ Some rule.now }
         requires never { IsNeverShown (Shows (TypeAt self.now) local) }
-        requires reach { IsReach self.now local reach.low reach.high }
-        requires less { AreLessInto self.now local (length self.now.transitions) }
+        requires less { AreLessAmong self.now 0 (length self.now.transitions) local }
+        requires before { IsTypeBefore self.now (length self.now.transitions) before }
         ensures { HasGap (TypeAt self.now) local result.before result.after result.at }
     {
         let _types = self.local_time_types();
+        let reach = self.reach(local);
+        let first = later(reach.low, self.index.rule_from());
+        let here = type_near(rule, first);
+        if local < shown_at(here, first) {
+            return Gap {
+                before: *self.listed(before),
+                after: *here,
+                at: first,
+            };
+        }
         match rule {
             TransitionRule::Fixed(_) => unreachable!(),
-            TransitionRule::Alternate(turns) => self.gap_by_turns(turns, local, reach),
+            TransitionRule::Alternate(turns) => self.gap_by_turns(turns, local, reach, first),
         }
     }
 
     // Goes from moment to moment of the rule, until clocks show more.
-    fn gap_by_turns(&self, turns: &AlternateTime, local: i64, reach: Reach) -> Gap
+    fn gap_by_turns(&self, turns: &AlternateTime, local: i64, reach: Reach, first: i64) -> Gap
         requires local { IsWide local }
         requires rule { self.now.rule ≡ Some (Alternate turns.now) }
         requires never { IsNeverShown (Shows (TypeAt self.now) local) }
         requires reach { IsReach self.now local reach.low reach.high }
-        requires less { AreLessInto self.now local (length self.now.transitions) }
+        requires passed { IsPassed self.now local first }
         ensures { HasGap (TypeAt self.now) local result.before result.after result.at }
     {
         let _types = self.local_time_types();
-        let mut last = later(reach.low, self.index.rule_from());
+        let mut last = first;
         let mut next = turns.next_moment(last);
         while shown_at(turns.type_at(next), next) <= local {
             last = next;
@@ -187,6 +207,17 @@ impl TimeZone {
             after: *turns.type_at(next),
             at: next,
         }
+    }
+}
+
+// The rule's type at a second that is near enough to have one.
+fn type_near(rule: &TransitionRule, second: i64) -> &LocalTimeType
+    requires { IsNear second }
+    ensures { RuleAt rule.now second result.now }
+{
+    match rule {
+        TransitionRule::Fixed(only) => only,
+        TransitionRule::Alternate(turns) => turns.type_at(second),
     }
 }
 

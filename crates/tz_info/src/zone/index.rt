@@ -18,10 +18,10 @@ use crate::zone::one_pass::pieces_in_one_pass;
 use crate::zone::pieces::Piece;
 use crate::zone::probes::Probes;
 use crate::zone::segments::{Lists, Pieces, index_of_segment, listed, pieces_of, table_count};
+use crate::zone::shown::Shown;
 use crate::zone::starts::start_of;
 use crate::zone::timeline::{Timed, Timeline};
 use crate::zone::transition::Transition;
-use offset_core::MappedLocalTime;
 use std::alloc::Global;
 use std::marker::Model;
 
@@ -29,7 +29,7 @@ use std::marker::Model;
 // counted.
 #[derive(Drop)]
 pub(super) struct Index {
-    before: MappedLocalTime<usize>,
+    before: Shown,
     pieces: Timeline<Piece>,
     rule_from: i64,
 }
@@ -112,13 +112,11 @@ impl Index {
         requires valid { IsValid (zone_in lists) }
         ensures { IsIndex (zone_in lists.entry) result }
     {
+        let index = index_of_segment(lists, 0);
+        let _local_type = listed(lists.types, index);
         let before = match lists.rule {
-            Some(_) => MappedLocalTime::None,
-            None => {
-                let index = index_of_segment(lists, 0);
-                let _local_type = listed(lists.types, index);
-                MappedLocalTime::Single(index)
-            }
+            Some(_) => Shown::Less(index),
+            None => Shown::Once(index),
         };
         Index {
             before,
@@ -144,7 +142,7 @@ impl Index {
 
     // The answer of the last piece that starts at or before the local time.
     #[inline(always)]
-    pub(super) fn answer(&self, local: i64, probes: &mut Probes) -> MappedLocalTime<usize>
+    pub(super) fn answer(&self, local: i64, probes: &mut Probes) -> Shown
         requires { HasRoomFor (digits (length self.now.pieces)) probes.old.piece_reads }
         ensures answer { result ≡ answer_at self.now.before self.now.pieces local }
         ensures cost { RoseByPieces probes.old probes.new (digits (length self.now.pieces)) 0 }

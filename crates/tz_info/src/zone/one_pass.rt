@@ -1,6 +1,6 @@
 //! The pieces of a zone's table in one pass over its transitions, where their cuts come in order.
 
-ghost use Rattle.std.specs.Prelude.{◌≡◌, ◌+ℤ◌, ◌-◌, ◌<◌, ◌≤◌, length, IsTrue, MatchOption, MatchResult};
+ghost use Rattle.std.specs.Prelude.{◌≡◌, ◌+ℤ◌, ◌≤ℤ◌, ◌<ℤ◌, ◌-◌, ◌<◌, ◌≤◌, length, IsTrue, IsFalse, MatchOption, MatchResult};
 ghost use Rattle.std.specs.Int.{saturate_signed, w64};
 ghost use Rattle.tz_info.specs.Leaps.{AreLeapSeconds};
 ghost use Rattle.tz_info.specs.LocalTypes.{IsUtOffset};
@@ -16,9 +16,9 @@ use crate::error::Error;
 use crate::zone::leap_second::LeapSecond;
 use crate::zone::pieces::Piece;
 use crate::zone::segments::{Lists, Pieces, index_of_segment, listed, table_count};
-use crate::zone::starts::{cut_of, start_of};
+use crate::zone::shown::{Jump, Shown};
+use crate::zone::starts::{cut_at, start_of};
 use crate::zone::transition::Transition;
-use offset_core::MappedLocalTime;
 use std::alloc::Global;
 
 // How far from 1970 a transition may lie whose time takes an offset within 64 bits.
@@ -31,8 +31,8 @@ struct Segment {
     offset: i64,
 }
 
-// The pieces of the table, two for each transition. None where a transition cuts the axis before
-// the one before it does, as where the two lie closer together than their offsets differ.
+// The pieces of the table, two for each transition. None where a transition does not cut the
+// axis behind the one before it, as where the two lie closer together than their offsets differ.
 //
 // Most zones have no leap seconds, and there the pass is made without them: it is written once and
 // compiled twice.
@@ -84,7 +84,7 @@ fn pieces_by(alloc: Global, lists: Lists, leapless: bool) -> Result<Option<Piece
     for place in 1..count {
         let behind = segment_at(lists, place);
         let (first, last) = pieces_at(lists, place, before, behind, leapless);
-        if first.start < latest {
+        if is_crossed(place, latest, first.start) {
             return Ok(None);
         }
         pieces.push_reserved(first);
@@ -93,20 +93,30 @@ fn pieces_by(alloc: Global, lists: Lists, leapless: bool) -> Result<Option<Piece
         before = behind;
     }
     if count == lists.transitions.len() {
-        let last_type = listed(lists.types, index_of_segment(lists, count - 1));
-        let end = cut_of(lists.transitions, lists.leaps, count, last_type);
-        if end < latest {
+        let index = index_of_segment(lists, count - 1);
+        let last_type = listed(lists.types, index);
+        let end = cut_at(start_of(lists.transitions, lists.leaps, count), last_type);
+        if is_crossed(count, latest, end) {
             return Ok(None);
         }
         pieces.push_reserved(Piece {
             start: end,
-            answer: MappedLocalTime::None,
+            answer: Shown::Less(index),
         });
     }
     Ok(Some(Pieces {
-        before: MappedLocalTime::Single(index_of_segment(lists, 0)),
+        before: Shown::Once(index_of_segment(lists, 0)),
         pieces,
     }))
+}
+
+// Whether the next cut, at that place, does not come behind the latest, if there is one.
+#[inline(always)]
+fn is_crossed(place: usize, latest: i64, cut: i64) -> bool
+    ensures crossed { IsTrue result → (1 < place) × (cut ≤ℤ latest) }
+    ensures behind { IsFalse result → 1 < place → latest <ℤ cut }
+{
+    place > 1 && cut <= latest
 }
 
 // The segment after so many transitions.
@@ -143,13 +153,13 @@ fn pieces_at(
     let end = cut_by(second, before.offset, leapless);
     let start = cut_by(second, behind.offset, leapless);
     let (first, answer, last) = if end <= start {
-        (end, MappedLocalTime::None, start)
+        let jump = Jump {
+            place,
+            before: before.index,
+        };
+        (end, Shown::Skipped(jump), start)
     } else {
-        (
-            start,
-            MappedLocalTime::Ambiguous(before.index, behind.index),
-            end,
-        )
+        (start, Shown::Several(before.index, behind.index), end)
     };
     (
         Piece {
@@ -158,7 +168,7 @@ fn pieces_at(
         },
         Piece {
             start: last,
-            answer: MappedLocalTime::Single(behind.index),
+            answer: Shown::Once(behind.index),
         },
     )
 }

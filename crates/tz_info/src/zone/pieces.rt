@@ -5,26 +5,24 @@ ghost use Rattle.tz_info.specs.Steps.Merging.{IsMerged, IsNext, IsStep};
 ghost use Rattle.tz_info.specs.WallPieces.{answer_before, AreInOrder};
 ghost use Rattle.tz_info.specs.declared.error.Error.TheVariants.{OutOfMemory};
 
-use crate::answers::joined;
 use crate::error::Error;
-use offset_core::MappedLocalTime;
+use crate::zone::shown::{Shown, together};
 use std::alloc::Global;
 
-// From its start on, and until the next piece starts, a local time has this answer, by indexes of
-// types.
+// From its start on, and until the next piece starts, a local time has this answer.
 #[derive(Clone, Copy, Debug)]
 pub(super) struct Piece {
     pub(super) start: i64,
-    pub(super) answer: MappedLocalTime<usize>,
+    pub(super) answer: Shown,
 }
 
 // The pieces of earlier seconds and those of later ones, merged: where one of either starts, so
 // does one of them.
 pub(super) fn merged(
     alloc: Global,
-    before_first: &MappedLocalTime<usize>,
+    before_first: &Shown,
     first: &[Piece],
-    before_last: &MappedLocalTime<usize>,
+    before_last: &Shown,
     last: &[Piece],
 ) -> Result<Vec<Piece>, Error>
     requires first { AreInOrder first.now }
@@ -41,7 +39,7 @@ pub(super) fn merged(
         let (start, first_passed, last_passed) = next_start(first, i, last, j);
         i = first_passed;
         j = last_passed;
-        let answer = joined(
+        let answer = together(
             answer_before(before_first, first, i),
             answer_before(before_last, last, j),
         );
@@ -51,11 +49,7 @@ pub(super) fn merged(
 }
 
 // The answer of the piece before that place.
-fn answer_before(
-    before: &MappedLocalTime<usize>,
-    pieces: &[Piece],
-    place: usize,
-) -> MappedLocalTime<usize>
+fn answer_before(before: &Shown, pieces: &[Piece], place: usize) -> Shown
     requires { place ≤ length pieces.now }
     ensures { result ≡ answer_before before.now (take place pieces.now) }
 {

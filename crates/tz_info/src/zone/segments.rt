@@ -5,18 +5,18 @@ ghost use Rattle.tz_info.specs.LocalTypes.{IsUtOffset};
 ghost use Rattle.tz_info.specs.Segments.{table_count};
 ghost use Rattle.tz_info.specs.Steps.Segments.{index_of};
 ghost use Rattle.tz_info.specs.Steps.Pieces.{zone_in, ArePieces};
+ghost use Rattle.tz_info.specs.WallPieces.{IsTypeBefore};
 ghost use Rattle.tz_info.specs.Zones.{IsValid};
 ghost use Rattle.tz_info.specs.declared.error.Error.TheVariants.{OutOfMemory};
 
-use crate::answers::joined;
 use crate::error::Error;
 use crate::local_time_type::LocalTimeType;
 use crate::rule::TransitionRule;
 use crate::zone::leap_second::LeapSecond;
 use crate::zone::pieces::{Piece, merged};
-use crate::zone::starts::cut_of;
+use crate::zone::shown::{Jump, Shown, together};
+use crate::zone::starts::{cut_at, start_of};
 use crate::zone::transition::Transition;
-use offset_core::MappedLocalTime;
 use std::alloc::Global;
 
 // The lists of a zone, lent.
@@ -51,6 +51,25 @@ pub(super) fn index_of_segment(lists: Lists, place: usize) -> usize
     lists.transitions[place - 1].type_index
 }
 
+// The index of the type at the last second before the segment after so many transitions: that of
+// the last segment before it that begins earlier. Where two transitions come at one second, as a
+// leap second apart, the segment between them has no second.
+pub(super) fn index_before(lists: Lists, place: usize) -> usize
+    requires valid { IsValid (zone_in lists) }
+    requires some { 0 < place }
+    requires place { place ≤ length lists.transitions.now }
+    ensures { IsTypeBefore (zone_in lists.entry) place result }
+{
+    let start = start_of(lists.transitions, lists.leaps, place);
+    let mut latest = place - 1;
+    while latest > 0 && start_of(lists.transitions, lists.leaps, latest) >= start {
+        latest -= 1;
+    }
+    let index = index_of_segment(lists, latest);
+    let _local_type = listed(lists.types, index);
+    index
+}
+
 // The type of that index.
 pub(super) fn listed(types: &[LocalTimeType], index: usize) -> &LocalTimeType
     requires { index < length types.now }
@@ -65,7 +84,7 @@ pub(super) fn listed(types: &[LocalTimeType], index: usize) -> &LocalTimeType
 // The pieces of some neighbouring segments, and what stands before the first.
 #[derive(Debug, Drop)]
 pub(super) struct Pieces {
-    pub(super) before: MappedLocalTime<usize>,
+    pub(super) before: Shown,
     pub(super) pieces: Vec<Piece>,
 }
 
@@ -96,7 +115,7 @@ fn first_pieces(alloc: Global, lists: Lists) -> Result<Pieces, Error>
 {
     let index = index_of_segment(lists, 0);
     let local_type = listed(lists.types, index);
-    let before = MappedLocalTime::Single(index);
+    let before = Shown::Once(index);
     if lists.transitions.is_empty() {
         return Ok(Pieces {
             before,
@@ -104,8 +123,8 @@ fn first_pieces(alloc: Global, lists: Lists) -> Result<Pieces, Error>
         });
     }
     let end = Piece {
-        start: cut_of(lists.transitions, lists.leaps, 1, local_type),
-        answer: MappedLocalTime::None,
+        start: cut_at(start_of(lists.transitions, lists.leaps, 1), local_type),
+        answer: Shown::Less(index),
     };
     let pieces = vec![in alloc; end]?;
     Ok(Pieces { before, pieces })
@@ -122,25 +141,23 @@ fn last_pieces(alloc: Global, lists: Lists) -> Result<Pieces, Error>
         s.before s.pieces.items)
         (λ e. e ≡ OutOfMemory) }
 {
-    let index = index_of_segment(lists, lists.transitions.len());
+    let place = lists.transitions.len();
+    let before = index_before(lists, place);
+    let index = index_of_segment(lists, place);
     let local_type = listed(lists.types, index);
+    let second = start_of(lists.transitions, lists.leaps, place);
     let start = Piece {
-        start: cut_of(
-            lists.transitions,
-            lists.leaps,
-            lists.transitions.len(),
-            local_type,
-        ),
-        answer: MappedLocalTime::Single(index),
+        start: cut_at(second, local_type),
+        answer: Shown::Once(index),
     };
     let pieces = vec![in alloc; start]?;
     Ok(Pieces {
-        before: MappedLocalTime::None,
+        before: Shown::Skipped(Jump { place, before }),
         pieces,
     })
 }
 
-// A segment between two transitions. It may have no width, as where they are a leap second apart.
+// A segment between two transitions. It may have no second, as where they are a leap second apart.
 fn inner_pieces(alloc: Global, lists: Lists, place: usize) -> Result<Pieces, Error>
     requires valid { IsValid (zone_in lists) }
     requires some { 0 < place }
@@ -152,25 +169,26 @@ fn inner_pieces(alloc: Global, lists: Lists, place: usize) -> Result<Pieces, Err
 {
     let index = index_of_segment(lists, place);
     let local_type = listed(lists.types, index);
-    let start = cut_of(lists.transitions, lists.leaps, place, local_type);
-    let end = cut_of(lists.transitions, lists.leaps, place + 1, local_type);
-    if start >= end {
+    let first = start_of(lists.transitions, lists.leaps, place);
+    let next = start_of(lists.transitions, lists.leaps, place + 1);
+    if first >= next {
         return Ok(Pieces {
-            before: MappedLocalTime::None,
+            before: Shown::Less(index_before(lists, place + 1)),
             pieces: Vec::new(alloc),
         });
     }
-    let first = Piece {
-        start,
-        answer: MappedLocalTime::Single(index),
+    let start = Piece {
+        start: cut_at(first, local_type),
+        answer: Shown::Once(index),
     };
-    let last = Piece {
-        start: end,
-        answer: MappedLocalTime::None,
+    let end = Piece {
+        start: cut_at(next, local_type),
+        answer: Shown::Less(index),
     };
-    let pieces = vec![in alloc; first, last]?;
+    let before = index_before(lists, place);
+    let pieces = vec![in alloc; start, end]?;
     Ok(Pieces {
-        before: MappedLocalTime::None,
+        before: Shown::Skipped(Jump { place, before }),
         pieces,
     })
 }
@@ -203,7 +221,7 @@ pub(super) fn pieces_of(
         &last.pieces,
     )?;
     Ok(Pieces {
-        before: joined(first.before, last.before),
+        before: together(first.before, last.before),
         pieces,
     })
 }

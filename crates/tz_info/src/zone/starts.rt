@@ -5,7 +5,7 @@ ghost use Rattle.std.specs.Int.{saturate_signed, w64};
 ghost use Rattle.tz_info.specs.Leaps.{AreLeapSeconds, corrections};
 ghost use Rattle.tz_info.specs.Lists.{last_else};
 ghost use Rattle.tz_info.specs.LocalTypes.{IsUtOffset};
-ghost use Rattle.tz_info.specs.Steps.Starts.{HaveCome, IsReachedFrom, IsCut};
+ghost use Rattle.tz_info.specs.Steps.Starts.{HaveCome, IsReachedFrom};
 ghost use Rattle.tz_info.specs.Transitions.{AreRising};
 ghost use Rattle.tz_info.specs.WallPieces.{IsStart};
 
@@ -66,25 +66,9 @@ pub(super) fn start_of(transitions: &[Transition], leaps: &[LeapSecond], count: 
 }
 
 // What a clock of that type shows at the second.
-fn cut_at(second: i64, local_type: &LocalTimeType) -> i64
+pub(super) fn cut_at(second: i64, local_type: &LocalTimeType) -> i64
     ensures offset { IsUtOffset local_type.now.offset }
     ensures sum { result ≡ saturate_signed w64 (second +ℤ local_type.now.offset) }
 {
     second.saturating_add(local_type.offset() as i64)
-}
-
-// What a clock of that type shows at the first second at which so many transitions have come.
-pub(super) fn cut_of(
-    transitions: &[Transition],
-    leaps: &[LeapSecond],
-    count: usize,
-    local_type: &LocalTimeType,
-) -> i64
-    requires leaps { AreLeapSeconds leaps.now }
-    requires rising { AreRising transitions.now }
-    requires some { 0 < count }
-    requires count { count ≤ length transitions.now }
-    ensures { IsCut transitions.now leaps.now count local_type.now.offset result }
-{
-    cut_at(start_of(transitions, leaps, count), local_type)
 }

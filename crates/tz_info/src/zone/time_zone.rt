@@ -7,6 +7,7 @@ ghost use Rattle.tz_info.specs.Errors.{IsLocalTimeTypeError, IsOutOfMemory, IsOu
 ghost use Rattle.tz_info.specs.Leaps.{IsLeapTime, IsLeapTimeRefused, IsUnixTime, IsUnixTimeRefused};
 ghost use Rattle.tz_info.specs.LocalTypes.{IsUtOffset};
 ghost use Rattle.tz_info.specs.WallPieces.{WallIndex, IsIndex};
+ghost use Rattle.tz_info.specs.Windows.{IsGreatest, IsLeast, offsets};
 ghost use Rattle.tz_info.specs.Zones.{Zone, IsValid, IsRuleOrNone, plain_zone, zone_of_rule, zone_of_type};
 ghost use Rattle.tz_info.specs.declared.error.Error.TheVariants.{OutOfMemory};
 
@@ -280,6 +281,20 @@ impl TimeZone {
         ensures { option_map (λ r. r.now) result ≡ self.now.rule }
     {
         self.last_rule.as_ref()
+    }
+
+    /// The least offset of the zone's types and of its rule's, in seconds east of UTC.
+    pub fn least_offset(&self) -> i32
+        ensures { IsLeast (offsets self.now.types self.now.rule) result }
+    {
+        self.extremes.least
+    }
+
+    /// The greatest offset of the zone's types and of its rule's, in seconds east of UTC.
+    pub fn greatest_offset(&self) -> i32
+        ensures { IsGreatest (offsets self.now.types self.now.rule) result }
+    {
+        self.extremes.greatest
     }
 
     /// How many pieces the zone's index of the wall-clock axis has.

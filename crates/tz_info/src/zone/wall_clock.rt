@@ -8,7 +8,9 @@ ghost use Rattle.offset_core.specs.WallAnswer.{IsWallAnswer};
 ghost use Rattle.tz_info.specs.Counts.{HasRoom, RoseWithin};
 ghost use Rattle.tz_info.specs.Looks.{RoseByWallClock};
 ghost use Rattle.tz_info.specs.Questions.{IsAskedFor};
+ghost use Rattle.tz_info.specs.Segments.{table_count};
 ghost use Rattle.tz_info.specs.WallClocks.{Shows};
+ghost use Rattle.tz_info.specs.WallPieces.{IsShownAmong, wall_of};
 ghost use Rattle.tz_info.specs.Steps.Looks.{HasRoomFor};
 ghost use Rattle.tz_info.specs.Steps.Pieces.{AreBelow, AreListed};
 ghost use Rattle.tz_info.specs.Steps.Walk.{IsShownIn};
@@ -19,6 +21,7 @@ use crate::error::Error;
 use crate::local_time_type::LocalTimeType;
 use crate::rule::TransitionRule;
 use crate::zone::probes::Probes;
+use crate::zone::shown::Shown;
 use crate::zone::time_zone::TimeZone;
 use naive_base::NaiveDateTime;
 use offset_core::MappedLocalTime;
@@ -90,12 +93,30 @@ impl TimeZone {
         ensures counted { IsAskedFor self.now local
             probes.old.rule_questions probes.new.rule_questions }
     {
+        self.wall_answer_of(local, probes).1
+    }
+
+    // What the table shows of the local time, and the answer of all seconds.
+    #[inline(always)]
+    pub(super) fn wall_answer_of(
+        &self,
+        local: i64,
+        probes: &mut Probes,
+    ) -> (Shown, MappedLocalTime<LocalTimeType>)
+        requires local { IsWide local }
+        requires room { HasRoom probes.old }
+        ensures shown { IsShownAmong self.now 0 (table_count self.now) local result.0 }
+        ensures found { IsWallAnswer (Shows (TypeAt self.now) local) result.1 }
+        ensures cost { RoseByWallClock self.now probes.old probes.new }
+        ensures counted { IsAskedFor self.now local
+            probes.old.rule_questions probes.new.rule_questions }
+    {
         let _transitions = self.transition_count();
-        let indexes = self.index.answer(local, probes);
-        let table = types_of(&self.local_types, indexes);
+        let shown = self.index.answer(local, probes);
+        let table = types_of(&self.local_types, shown);
         match &self.last_rule {
-            None => table,
-            Some(rule) => self.try_rule(rule, local, table, probes),
+            None => (shown, table),
+            Some(rule) => (shown, self.try_rule(rule, local, table, probes)),
         }
     }
 
@@ -126,20 +147,15 @@ impl TimeZone {
     }
 }
 
-// The types of those indexes.
+// The types of the indexes.
 #[inline(always)]
-fn types_of(
-    types: &[LocalTimeType],
-    indexes: MappedLocalTime<usize>,
-) -> MappedLocalTime<LocalTimeType>
-    requires { AreBelow (length types.now) indexes }
-    ensures { AreListed types.now indexes result }
+fn types_of(types: &[LocalTimeType], shown: Shown) -> MappedLocalTime<LocalTimeType>
+    requires { AreBelow (length types.now) (wall_of shown) }
+    ensures { AreListed types.now (wall_of shown) result }
 {
-    match indexes {
-        MappedLocalTime::None => MappedLocalTime::None,
-        MappedLocalTime::Single(only) => MappedLocalTime::Single(types[only]),
-        MappedLocalTime::Ambiguous(first, last) => {
-            MappedLocalTime::Ambiguous(types[first], types[last])
-        }
+    match shown {
+        Shown::Less(_) | Shown::Skipped(_) => MappedLocalTime::None,
+        Shown::Once(only) => MappedLocalTime::Single(types[only]),
+        Shown::Several(first, last) => { MappedLocalTime::Ambiguous(types[first], types[last]) }
     }
 }

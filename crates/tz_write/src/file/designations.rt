@@ -1,12 +1,69 @@
 //! The designations of a data block (RFC 8536 section 3.2), in which types with the same name, or
 //! with names of which one ends the other, share bytes.
 
-ghost use Rattle.std.specs.Prelude.{◌≡◌, ◌<◌, length, IfOk, OnOk};
+ghost use Rattle.std.specs.Prelude.{◌≡◌, ◌<◌, ◌≤◌, ◌+◌, ◌↔◌, [], ◌∷◌, ◌++◌, length, All, IsTrue, List, ℕ, MatchOption};
 ghost use Rattle.tz_info.specs.Names.{IsNameOrNone};
-ghost use Rattle.tz_write.specs.FileDesignations.{text_of, begins, place_of, with_text, with_text_of, with_texts, designations_of};
+ghost use Rattle.tz_write.specs.FileDesignations.{text_of, begins, place_of, AreNamesIn, AreShortest};
+ghost use Rattle.tz_write.specs.Steps.FileLayouts.{HasPlace, HavePlaces, with_text, ends, with_text_of, with_texts, before_last, laid, text_at, laid_from, ArePlaced, IsPlacedFrom, AreNotPlacedBefore, IsFirstPlaced, IsLaid};
 
-use std::alloc::{AllocError, Global};
+use std::marker::Model;
 use tz_info::LocalTimeType;
+
+// The last text begins at 255 at most, and has seven bytes and a 0 byte.
+const ROOM: usize = 263;
+
+/// Designations, made in place.
+#[derive(Drop)]
+pub struct Designations {
+    bytes: [u8; 263],
+    len: usize,
+}
+
+impl Model for Designations {
+    ghost use Rattle.std.specs.Prelude.{List, ℕ, take, ◌≤◌};
+
+    ghost Value = { List ℕ };
+
+    ghost view = { λ designations. take designations.len designations.bytes };
+
+    ghost invariant = { λ designations. designations.len ≤ 263 };
+}
+
+impl Designations {
+    fn new() -> Designations
+        ensures { result ≡ [] }
+    {
+        Designations {
+            bytes: [0; 263],
+            len: 0,
+        }
+    }
+
+    /// The bytes.
+    pub fn as_slice(&self) -> &[u8]
+        ensures bytes { result.now ≡ self.now }
+        ensures room { length self.now ≤ 263 }
+    {
+        &self.bytes[..self.len]
+    }
+
+    fn push(&mut self, byte: u8)
+        requires { length self.old < 263 }
+        ensures { self.new ≡ self.old ++ (byte ∷ []) }
+    {
+        self.bytes[self.len] = byte;
+        self.len += 1;
+    }
+
+    fn push_all(&mut self, text: &[u8])
+        requires { length self.old + length text.now ≤ 263 }
+        ensures { self.new ≡ self.old ++ text.now }
+    {
+        for byte in text {
+            self.push(*byte);
+        }
+    }
+}
 
 /// The name of a type, or nothing where it has none.
 pub fn text_of(local: &LocalTimeType) -> &[u8]
@@ -38,61 +95,137 @@ pub fn place_of(text: &[u8], designations: &[u8]) -> usize
     designations.len()
 }
 
-#[tactic(auto, unfolding(crate::specs::FileDesignations::with_text))]
-fn push_text(designations: &mut Vec<u8>, text: &[u8]) -> Result<(), AllocError>
-    ensures { OnOk result
-        (designations.new.items ≡ with_text designations.old.items text.now) }
+// The text at that place.
+fn text_at(designations: &[u8], place: usize) -> &[u8]
+    requires { place ≤ length designations.now }
+    ensures { result.now ≡ text_at designations.now place }
 {
-    let end = designations.len();
-    if place_of(text, designations) < end || end >= 256 {
-        return Ok(());
+    let rest = designations.split_at(place).1;
+    for end in 0..rest.len() {
+        if rest[end] == 0 {
+            return rest.split_at(end).0;
+        }
     }
-    designations.extend_from_slice(text)?;
-    designations.extend_from_slice(&[0])
+    rest
 }
 
-fn push_text_of(
-    designations: &mut Vec<u8>,
-    local: &LocalTimeType,
-    size: usize,
-) -> Result<(), AllocError>
-    ensures { OnOk result
-        (designations.new.items ≡ with_text_of size designations.old.items local.now) }
+#[tactic(auto, unfolding(crate::specs::Steps::FileLayouts::with_text))]
+fn push_text(designations: &mut Designations, text: &[u8])
+    ensures { designations.new ≡ with_text designations.old text.now }
+{
+    let end = designations.as_slice().len();
+    if place_of(text, designations.as_slice()) < end || end + text.len() >= ROOM {
+        return;
+    }
+    designations.push_all(text);
+    designations.push(0);
+}
+
+fn push_text_of(designations: &mut Designations, last: &[u8], local: &LocalTimeType, size: usize)
+    ensures { designations.new ≡ with_text_of last.now size designations.old local.now }
 {
     let text = text_of(local);
-    if text.len() != size {
-        return Ok(());
+    if text.len() == size && !last.ends_with(text) {
+        push_text(designations, text);
     }
-    push_text(designations, text)
 }
 
-#[tactic(auto, unfolding(crate::specs::FileDesignations::with_texts))]
-fn push_texts(
-    designations: &mut Vec<u8>,
-    types: &[LocalTimeType],
-    size: usize,
-) -> Result<(), AllocError>
-    ensures { OnOk result
-        (designations.new.items ≡ with_texts size designations.old.items types.now) }
+#[tactic(auto, unfolding(crate::specs::Steps::FileLayouts::with_texts))]
+fn push_texts(designations: &mut Designations, last: &[u8], types: &[LocalTimeType], size: usize)
+    ensures { designations.new ≡ with_texts last.now size designations.old types.now }
 {
     for local in types {
-        push_text_of(designations, local, size)?;
+        push_text_of(designations, last, local, size);
     }
-    Ok(())
 }
 
-/// The names of the types, each followed by a 0 byte. Names have seven to three bytes; no name is
-/// the empty text.
-#[tactic(auto, unfolding(crate::specs::FileDesignations::designations_of))]
-pub fn designations_of(alloc: Global, types: &[LocalTimeType]) -> Result<Vec<u8>, AllocError>
-    ensures designations { IfOk result (λ v. v.items ≡ designations_of types.now) }
+// The names of the types, each followed by a 0 byte, the longest first; but that text is the last.
+#[tactic(auto, unfolding(crate::specs::Steps::FileLayouts::laid, crate::specs::Steps::FileLayouts::before_last))]
+fn laid(types: &[LocalTimeType], last: &[u8]) -> Designations
+    ensures { result ≡ laid last.now types.now }
 {
-    let mut designations = Vec::new(alloc);
-    push_texts(&mut designations, types, 7)?;
-    push_texts(&mut designations, types, 6)?;
-    push_texts(&mut designations, types, 5)?;
-    push_texts(&mut designations, types, 4)?;
-    push_texts(&mut designations, types, 3)?;
-    push_texts(&mut designations, types, 0)?;
-    Ok(designations)
+    let mut designations = Designations::new();
+    push_texts(&mut designations, last, types, 7);
+    push_texts(&mut designations, last, types, 6);
+    push_texts(&mut designations, last, types, 5);
+    push_texts(&mut designations, last, types, 4);
+    push_texts(&mut designations, last, types, 3);
+    push_text(&mut designations, last);
+    designations
+}
+
+fn has_place(designations: &[u8], local: &LocalTimeType) -> bool
+    ensures { IsTrue result ↔ HasPlace designations.now local.now }
+{
+    let place = place_of(text_of(local), designations);
+    place < designations.len() && place < 256
+}
+
+/// Whether the text of each type stands in the designations, at a place that a byte can name.
+pub fn have_places(designations: &[u8], types: &[LocalTimeType]) -> bool
+    ensures places { IsTrue result ↔ HavePlaces designations.now types.now }
+{
+    for local in types {
+        if !has_place(designations, local) {
+            return false;
+        }
+    }
+    true
+}
+
+// Whether each type has its place, and no more bytes are laid than in order.
+fn are_placed(designations: &[u8], types: &[LocalTimeType], most: usize) -> bool
+    requires { most ≡ length (laid [] types.now) }
+    ensures { IsTrue result ↔ ArePlaced designations.now types.now }
+{
+    designations.len() <= most && have_places(designations, types)
+}
+
+// The names with the one at that place of those in order as the last. Names have three bytes.
+fn laid_from(types: &[LocalTimeType], in_order: &[u8], place: usize) -> Option<Designations>
+    requires order { in_order.now ≡ laid [] types.now }
+    requires place { place ≤ length in_order.now }
+    ensures { MatchOption result
+        (¬ (IsPlacedFrom types.now place))
+        (λ d. IsPlacedFrom types.now place × (d ≡ laid_from types.now place)) }
+{
+    let last = text_at(in_order, place);
+    if last.len() < 3 {
+        return None;
+    }
+    let designations = laid(types, last);
+    if !are_placed(designations.as_slice(), types, in_order.len()) {
+        return None;
+    }
+    Some(designations)
+}
+
+// With another name as the last: in order the last one, or a text that ends it, begins past byte
+// 255.
+fn laid_otherwise(types: &[LocalTimeType], in_order: &[u8]) -> Option<Designations>
+    requires { in_order.now ≡ laid [] types.now }
+    ensures { MatchOption result
+        (AreNotPlacedBefore types.now (length in_order.now))
+        (λ d. IsFirstPlaced types.now d) }
+{
+    for place in 0..in_order.len() {
+        if let Some(designations) = laid_from(types, in_order, place) {
+            return Some(designations);
+        }
+    }
+    None
+}
+
+/// The designations of the types, if any has them at places that a byte can name.
+pub fn designations_of(types: &[LocalTimeType]) -> Option<Designations>
+    requires { 0 < length types.now }
+    ensures { MatchOption result
+        (All (λ t. IsNameOrNone t.name) types.now → (d : List ℕ) → ¬ (AreNamesIn d types.now))
+        (λ d. HavePlaces d types.now × IsLaid types.now d × AreShortest d types.now) }
+{
+    let in_order = laid(types, &[]);
+    if have_places(in_order.as_slice(), types) {
+        return Some(in_order);
+    }
+    laid_otherwise(types, in_order.as_slice())
 }

@@ -1,34 +1,15 @@
 //! The local time types of a data block (RFC 8536 section 3.2).
 
-ghost use Rattle.std.specs.Prelude.{◌≡◌, ◌↔◌, ◌++◌, All, IsTrue, OnOk};
+ghost use Rattle.std.specs.Prelude.{◌≡◌, ◌++◌, All, OnOk};
 ghost use Rattle.std.specs.List.{flat_map};
 ghost use Rattle.tz_write.specs.FileBytes.{mark_byte, type_bytes};
-ghost use Rattle.tz_write.specs.WrittenFiles.{HasPlace};
+ghost use Rattle.tz_write.specs.Steps.FileLayouts.{HasPlace, HavePlaces};
 ghost use Rattle.tz_write.specs.Steps.FileParts.{IsType};
 
 use crate::file::designations::{place_of, text_of};
 use crate::file::numbers::push_signed_32;
 use std::alloc::AllocError;
 use tz_info::LocalTimeType;
-
-fn has_place(designations: &[u8], local: &LocalTimeType) -> bool
-    ensures { IsTrue result ↔ HasPlace designations.now local.now }
-{
-    let place = place_of(text_of(local), designations);
-    place < designations.len() && place < 256
-}
-
-/// Whether the text of each type stands in the designations, at a place that a byte can name.
-pub fn have_places(designations: &[u8], types: &[LocalTimeType]) -> bool
-    ensures { IsTrue result ↔ All (HasPlace designations.now) types.now }
-{
-    for local in types {
-        if !has_place(designations, local) {
-            return false;
-        }
-    }
-    true
-}
 
 fn mark_byte(is_dst: bool) -> u8
     ensures { result ≡ mark_byte is_dst }
@@ -58,7 +39,7 @@ pub fn push_types(
     designations: &[u8],
     types: &[LocalTimeType],
 ) -> Result<(), AllocError>
-    requires { All (HasPlace designations.now) types.now }
+    requires { HavePlaces designations.now types.now }
     ensures appended { OnOk result
         (bytes.new.items ≡ bytes.old.items ++ flat_map (type_bytes designations.now) types.now) }
     ensures sound { OnOk result (All IsType types.now) }

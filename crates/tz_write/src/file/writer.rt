@@ -1,16 +1,25 @@
 //! A file from its first byte to its last.
 
-ghost use Rattle.std.specs.Prelude.{◌≡◌, ◌<◌, ◌++◌, [], All, OnOk, IfOk, MatchOption, length};
+ghost use Rattle.std.specs.Prelude.{◌≡◌, ◌<◌, ◌≤◌, ◌++◌, [], All, OnOk, IfOk, MatchOption, length};
+ghost use Rattle.tz_info.specs.Names.{IsNameOrNone};
 ghost use Rattle.tz_write.specs.FileBytes.{zone_counts, zone_parts, block_bytes, footer_bytes, second_half, file_bytes};
-ghost use Rattle.tz_write.specs.FileDesignations.{designations_of};
-ghost use Rattle.tz_write.specs.WrittenFiles.{IsCount, HasCounts, HasIndex, HasPlace, FitsBlock};
-ghost use Rattle.tz_write.specs.Steps.FileParts.{counts_in, IsSound};
+ghost use Rattle.tz_write.specs.WrittenFiles.{IsCount, HasCounts, HasIndex, FitsBlock};
+ghost use Rattle.tz_write.specs.Steps.FileLayouts.{HavePlaces};
+ghost use Rattle.tz_write.specs.Steps.FileParts.{counts_in, HasRoom, IsSound};
 
 use crate::file::contents::{have_indexes, push_indexes, push_leap_seconds, push_times};
+use crate::file::designations::{Designations, designations_of};
 use crate::file::header::{Sizes, push_first_half, push_header};
-use crate::file::types::{have_places, push_types};
+use crate::file::types::push_types;
 use std::alloc::{AllocError, Global};
 use tz_info::TimeZone;
+
+/// What a block of a zone has in it: its designations, and how many there are of each thing.
+#[derive(Drop)]
+pub struct Room {
+    pub designations: Designations,
+    pub sizes: Sizes,
+}
 
 fn count_of(count: usize) -> Option<u32>
     ensures { MatchOption result (¬ (IsCount count)) (λ n. IsCount count × (n ≡ count)) }
@@ -22,9 +31,9 @@ fn count_of(count: usize) -> Option<u32>
 }
 
 fn sizes_of(zone: &TimeZone, designations: &[u8]) -> Option<Sizes>
-    requires { designations.now ≡ designations_of zone.now.types }
+    requires { length designations.now ≤ 263 }
     ensures { MatchOption result (¬ (HasCounts zone.now))
-        (λ sizes. HasCounts zone.now × (counts_in sizes ≡ zone_counts zone.now)) }
+        (λ sizes. HasCounts zone.now × (counts_in sizes ≡ zone_counts designations.now zone.now)) }
 {
     let leap_seconds = count_of(zone.leap_count())?;
     let transitions = count_of(zone.transition_count())?;
@@ -37,25 +46,31 @@ fn sizes_of(zone: &TimeZone, designations: &[u8]) -> Option<Sizes>
     })
 }
 
-/// The counts of the second block, if it has room for the zone.
-pub fn room_for(zone: &TimeZone, designations: &[u8]) -> Option<Sizes>
-    requires { designations.now ≡ designations_of zone.now.types }
-    ensures { MatchOption result (¬ (FitsBlock zone.now))
-        (λ sizes. FitsBlock zone.now × (counts_in sizes ≡ zone_counts zone.now)) }
+/// What stands in the second block, if it has room for the zone.
+pub fn room_for(zone: &TimeZone) -> Option<Room>
+    ensures { MatchOption result
+        (All (λ t. IsNameOrNone t.name) zone.now.types → ¬ (FitsBlock zone.now))
+        (λ room. HasRoom zone.now room) }
 {
-    if !have_indexes(zone) || !have_places(designations, zone.local_time_types()) {
+    if !have_indexes(zone) {
         return None;
     }
-    sizes_of(zone, designations)
+    let Some(designations) = designations_of(zone.local_time_types()) else {
+        return None;
+    };
+    let sizes = sizes_of(zone, designations.as_slice())?;
+    Some(Room {
+        designations,
+        sizes,
+    })
 }
 
 // The parts of the second block, one after the other; no indicators.
 fn push_block(bytes: &mut Vec<u8>, zone: &TimeZone, designations: &[u8]) -> Result<(), AllocError>
-    requires designations { designations.now ≡ designations_of zone.now.types }
     requires indexes { All HasIndex zone.now.transitions }
-    requires places { All (HasPlace designations.now) zone.now.types }
+    requires places { HavePlaces designations.now zone.now.types }
     ensures appended { OnOk result
-        (bytes.new.items ≡ bytes.old.items ++ block_bytes (zone_parts zone.now) []) }
+        (bytes.new.items ≡ bytes.old.items ++ block_bytes (zone_parts designations.now zone.now) []) }
     ensures sound { OnOk result (IsSound zone.now) }
 {
     push_times(bytes, zone)?;
@@ -78,20 +93,17 @@ fn push_footer(bytes: &mut Vec<u8>, text: &[u8]) -> Result<(), AllocError>
 fn push_second_half(
     bytes: &mut Vec<u8>,
     zone: &TimeZone,
-    designations: &[u8],
-    sizes: Sizes,
+    room: &Room,
     text: &[u8],
     extended: bool,
 ) -> Result<(), AllocError>
-    requires designations { designations.now ≡ designations_of zone.now.types }
-    requires room { FitsBlock zone.now }
-    requires counts { counts_in sizes ≡ zone_counts zone.now }
+    requires { HasRoom zone.now room.now }
     ensures appended { OnOk result
-        (bytes.new.items ≡ bytes.old.items ++ second_half extended text.now zone.now) }
+        (bytes.new.items ≡ bytes.old.items ++ second_half extended text.now room.now.designations zone.now) }
     ensures sound { OnOk result (IsSound zone.now) }
 {
-    push_header(bytes, extended, sizes)?;
-    push_block(bytes, zone, designations)?;
+    push_header(bytes, extended, room.sizes)?;
+    push_block(bytes, zone, room.designations.as_slice())?;
     push_footer(bytes, text)
 }
 
@@ -100,21 +112,18 @@ fn push_second_half(
 pub fn write_file(
     alloc: Global,
     zone: &TimeZone,
-    designations: &[u8],
-    sizes: Sizes,
+    room: &Room,
     text: &[u8],
     extended: bool,
 ) -> Result<Vec<u8>, AllocError>
-    requires designations { designations.now ≡ designations_of zone.now.types }
-    requires room { FitsBlock zone.now }
-    requires counts { counts_in sizes ≡ zone_counts zone.now }
-    ensures bytes { IfOk result (λ v. v.items ≡ file_bytes extended text.now zone.now) }
+    requires { HasRoom zone.now room.now }
+    ensures bytes { IfOk result (λ v. v.items ≡ file_bytes extended text.now room.now.designations zone.now) }
     ensures sound { OnOk result (IsSound zone.now) }
     ensures some { 0 < length zone.now.types }
 {
     let _types = zone.type_count();
     let mut bytes = Vec::new(alloc);
     push_first_half(&mut bytes, extended)?;
-    push_second_half(&mut bytes, zone, designations, sizes, text, extended)?;
+    push_second_half(&mut bytes, zone, room, text, extended)?;
     Ok(bytes)
 }

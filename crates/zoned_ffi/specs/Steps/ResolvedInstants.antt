@@ -1,13 +1,22 @@
 -- What is written of an instant that a choice takes.
-use Rattle.std.specs.Prelude.{ℤ, ◌≡◌, ◌⊎◌}
+use Rattle.std.specs.Prelude.{ℤ, ◌-ℤ◌, ◌≡◌, ◌⊎◌}
 use Rattle.naive_base.specs.Range.{IsInRange}
+use Rattle.offset_core.specs.declared.choice.Choice.{Choice}
+use Rattle.tz_info.specs.LocalTypes.{LocalType}
 use Rattle.tz_info.specs.Zones.{Zone}
 use Rattle.zoned_ffi.specs.Instants.{IsOffsetAt}
-use Rattle.zoned_ffi.specs.Resolved.{unresolved}
+use Rattle.zoned_ffi.specs.Resolved.{IsTaken, unresolved}
 use Rattle.zoned_ffi.specs.declared.resolved.Resolved.{Resolved}
+use Rattle.zoned_ffi.specs.declared.resolved.Taken.{Taken}
+use Rattle.zoned_ffi.specs.declared.resolved.Taken.TheVariants.{InForce, BeforeGap}
 
 -- the second u and the offset in force there, or that u is out of range
 abbrev pub IsInstant : Zone → ℤ → Resolved → Type 0
 IsInstant z u w =
     (IsInRange u × ((offset : ℤ) × IsOffsetAt z u offset × (w ≡ record { number = 0; offset = offset; instant = u })))
     ⊎ (¬ (IsInRange u) × (w ≡ unresolved 23))
+
+-- the choice takes a type of that offset; one that shows the local time is in force at the instant
+abbrev pub IsTakenAs : Zone → ℤ → Choice → Taken → Type 0
+IsTakenAs z local choice (InForce offset) = ((t : LocalType) × IsTaken z local choice t × (offset ≡ t.offset)) × IsOffsetAt z (local -ℤ offset) offset
+IsTakenAs z local choice (BeforeGap offset) = (t : LocalType) × IsTaken z local choice t × (offset ≡ t.offset)

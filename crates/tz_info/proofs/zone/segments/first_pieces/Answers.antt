@@ -14,5 +14,7 @@ pub returns : goal.returns
 returns c =
     let t = c.if-is_empty.false in let e = c.is_empty.ensures in
     let some : 0 < length c.args.lists.transitions.now = grind (arith, nat_tests) in
-    let fc : SFits w64 c.cut_of.result = search rules in
-    rw (simp to_z-of_z at c.in_ok-pieces.ensures.items) (first_pieces _ c.cut_of.result c.index_of_segment-index.result c.listed-local_type.result.now c.requires.valid c.requires.place some c.index_of_segment-index.ensures.index c.listed-local_type.ensures.listed c.listed-local_type.ensures.offset c.cut_of.ensures)
+    let fs : SFits w64 c.start_of.result = search rules in
+    let fc : SFits w64 c.cut_at.result = search rules in
+    rw (simp to_z-of_z at c.in_ok-pieces.ensures.items) (first_pieces _ c.cut_at.result c.index_of_segment-index.result c.listed-local_type.result.now c.requires.valid c.requires.place some c.index_of_segment-index.ensures.index c.listed-local_type.ensures.listed c.listed-local_type.ensures.offset
+    (record { second = c.start_of.result; is_start = c.start_of.ensures; shown = simp to_z-of_z at c.cut_at.ensures.sum }))

@@ -1,4 +1,6 @@
-use Rattle.std.proofs.Common.{sym, subst}
+use Rattle.std.proofs.Common.{ap, MatchResult, Result, Ok, Err, sym, subst, ◌∙◌}
+use Rattle.std.specs.Result.{IsErrAnd}
+use Rattle.tz_info.specs.Errors.{number_of, IsOutOfMemory}
 use Rattle.tz_info.specs.TzFiles.{IsTzFile}
 use Rattle.tz_write.proofs.laws.files.written_and_read.Goals as goal
 
@@ -8,3 +10,15 @@ returns-in_ok-from_tz_data-in-Some c =
     let written = rw c.in-Some.is at c.in_ok-to_tz_data.ensures.written in
     let spelled = subst (λ b. IsTzFile b z) (sym c.deref.ensures.value) written.spells in
     c.in_ok-from_tz_data-in-Some.ensures.only z spelled c.local_time_types-types.ensures.valid
+
+told_is : {A E : Type 0} (r : Result A E) (P : A → Type 0) (Q R : E → Type 0) → IsErrAnd r R → ((e : E) → R e → Q e) → MatchResult r P Q
+told_is (Ok a) P Q R h f = absurd h
+told_is (Err e) P Q R h f = f e h
+
+pub returns-in_err-from_tz_data-in-Some : goal.returns-in_err-from_tz_data-in-Some
+returns-in_err-from_tz_data-in-Some c =
+    let z = c.args.zone.now in
+    let written = rw c.in-Some.is at c.in_ok-to_tz_data.ensures.written in
+    let spelled = subst (λ b. IsTzFile b z) (sym c.deref.ensures.value) written.spells in
+    let memory = c.in_err-from_tz_data-in-Some.ensures.only z spelled c.local_time_types-types.ensures.valid in
+    told_is c.from_residual-in_err-from_tz_data-in-Some.result _ IsOutOfMemory _ (c.from_residual-in_err-from_tz_data-in-Some.ensures.1) (λ e is. ap number_of (is ∙ memory))

@@ -10,7 +10,7 @@ pub returns : goal.returns
 returns c =
     let a = c.args.self.now in
     let fs = c.ranges.second in
-    let low = c.requires.time_before.0 in let high = c.requires.time_before.1 in
+    let low = c.requires.amid.0.1.0 in let high = c.requires.amid.0.1.1 in
     let fb : SFits w64 (c.args.second -ℤ pos 1) = omega (arith, ints) in
     change_made (AlternateAt a) c.args.second c.type_when.result.now c.type_when-2.result.now c.between.result (rule_type_once a) fs fb
     (rw c.type_when.ensures (simp to_z-of_z at c.is_dst_amid-before.ensures)) (rw c.type_when-2.ensures (simp to_z-of_z at c.is_dst_amid-after.ensures)) (simp to_z-of_z at c.between.ensures)

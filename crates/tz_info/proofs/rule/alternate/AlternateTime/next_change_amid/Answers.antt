@@ -44,41 +44,14 @@ returns-then-moment-end c =
     let fb : SFits w64 (c.next_after-moment.result -ℤ pos 1) = omega (arith, ints) in
     simp to_z-of_z (next_nothing c.args.self.now c.args.season c.args.after c.earlier_of-end.result c.next_after-moment.result c.requires.season c.requires.decides until next)
 
-pub change_amid-requires-clause-time : goal.change_amid-requires-clause-time
-change_amid-requires-clause-time c =
-    let at = goal.at.change_amid-requires-clause-time c in
+pub change_amid-requires-clause-amid : goal.change_amid-requires-clause-amid
+change_amid-requires-clause-amid c =
+    let at = goal.at.change_amid-requires-clause-amid c in
     let (fe, later, until, years) = end_of at.After-earlier_of-end in
     let (fm, next) = moment_of at.After-next_after-moment in
-    let low = c.requires.time.0 in let l = next.later in
+    let low = c.requires.time.0 in let from = c.requires.decides.0 in let l = next.later in
     let sooner = simp to_z-of_z at c.if-moment-end.false in
-    simp to_z-of_z (omega (arith, ints), omega (arith, ints))
-
-pub change_amid-requires-clause-decides : goal.change_amid-requires-clause-decides
-change_amid-requires-clause-decides c =
-    let at = goal.at.change_amid-requires-clause-decides c in
-    let (fe, later, until, years) = end_of at.After-earlier_of-end in
-    let (fm, next) = moment_of at.After-next_after-moment in
-    let low = c.requires.decides.0 in let l = next.later in
-    let sooner = simp to_z-of_z at c.if-moment-end.false in
-    simp to_z-of_z (omega (arith, ints), omega (arith, ints))
-
-pub change_amid-requires-clause-time_before : goal.change_amid-requires-clause-time_before
-change_amid-requires-clause-time_before c =
-    let at = goal.at.change_amid-requires-clause-time_before c in
-    let (fe, later, until, years) = end_of at.After-earlier_of-end in
-    let (fm, next) = moment_of at.After-next_after-moment in
-    let low = c.requires.time.0 in let l = next.later in
-    let sooner = simp to_z-of_z at c.if-moment-end.false in
-    simp to_z-of_z (omega (arith, ints), omega (arith, ints))
-
-pub change_amid-requires-clause-decides_before : goal.change_amid-requires-clause-decides_before
-change_amid-requires-clause-decides_before c =
-    let at = goal.at.change_amid-requires-clause-decides_before c in
-    let (fe, later, until, years) = end_of at.After-earlier_of-end in
-    let (fm, next) = moment_of at.After-next_after-moment in
-    let low = c.requires.decides.0 in let l = next.later in
-    let sooner = simp to_z-of_z at c.if-moment-end.false in
-    simp to_z-of_z (omega (arith, ints), omega (arith, ints))
+    simp to_z-of_z (((omega (arith, ints), omega (arith, ints)), (omega (arith, ints), omega (arith, ints))), (omega (arith, ints), omega (arith, ints)), (omega (arith, ints), omega (arith, ints)))
 
 pub returns-in-Some : goal.returns-in-Some
 returns-in-Some c =

@@ -41,41 +41,14 @@ returns-then-moment-begin c =
     let (fm, latest) = moment_of at.After-last_up_to-moment in
     simp to_z-of_z (last_nothing c.args.self.now c.args.season c.args.last c.later_of-begin.result c.last_up_to-moment.result c.requires.season c.requires.decides from latest)
 
-pub change_amid-requires-clause-time : goal.change_amid-requires-clause-time
-change_amid-requires-clause-time c =
-    let at = goal.at.change_amid-requires-clause-time c in
+pub change_amid-requires-clause-amid : goal.change_amid-requires-clause-amid
+change_amid-requires-clause-amid c =
+    let at = goal.at.change_amid-requires-clause-amid c in
     let (fb, most, from, years) = begin_of at.After-later_of-begin in
     let (fm, latest) = moment_of at.After-last_up_to-moment in
-    let high = c.requires.time.1 in let u = latest.up_to in
+    let high = c.requires.time.1 in let until = c.requires.decides.1 in let u = latest.up_to in
     let later = simp to_z-of_z at c.if-moment-begin.false in
-    simp to_z-of_z (omega (arith, ints), omega (arith, ints))
-
-pub change_amid-requires-clause-decides : goal.change_amid-requires-clause-decides
-change_amid-requires-clause-decides c =
-    let at = goal.at.change_amid-requires-clause-decides c in
-    let (fb, most, from, years) = begin_of at.After-later_of-begin in
-    let (fm, latest) = moment_of at.After-last_up_to-moment in
-    let high = c.requires.decides.1 in let u = latest.up_to in
-    let later = simp to_z-of_z at c.if-moment-begin.false in
-    simp to_z-of_z (omega (arith, ints), omega (arith, ints))
-
-pub change_amid-requires-clause-time_before : goal.change_amid-requires-clause-time_before
-change_amid-requires-clause-time_before c =
-    let at = goal.at.change_amid-requires-clause-time_before c in
-    let (fb, most, from, years) = begin_of at.After-later_of-begin in
-    let (fm, latest) = moment_of at.After-last_up_to-moment in
-    let high = c.requires.time.1 in let u = latest.up_to in
-    let later = simp to_z-of_z at c.if-moment-begin.false in
-    simp to_z-of_z (omega (arith, ints), omega (arith, ints))
-
-pub change_amid-requires-clause-decides_before : goal.change_amid-requires-clause-decides_before
-change_amid-requires-clause-decides_before c =
-    let at = goal.at.change_amid-requires-clause-decides_before c in
-    let (fb, most, from, years) = begin_of at.After-later_of-begin in
-    let (fm, latest) = moment_of at.After-last_up_to-moment in
-    let high = c.requires.decides.1 in let u = latest.up_to in
-    let later = simp to_z-of_z at c.if-moment-begin.false in
-    simp to_z-of_z (omega (arith, ints), omega (arith, ints))
+    simp to_z-of_z (((omega (arith, ints), omega (arith, ints)), (omega (arith, ints), omega (arith, ints))), (omega (arith, ints), omega (arith, ints)), (omega (arith, ints), omega (arith, ints)))
 
 pub returns-in-Some : goal.returns-in-Some
 returns-in-Some c =

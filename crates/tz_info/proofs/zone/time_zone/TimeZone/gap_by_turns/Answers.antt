@@ -1,37 +1,27 @@
-use Rattle.std.proofs.Common.{arith, ◌+ℤ◌, ◌≤ℤ◌, ◌<ℤ◌, ◌≡◌, length, subst, w64, to_z-of_z, rules}
+use Rattle.std.proofs.Common.{arith, ◌+ℤ◌, ◌≤ℤ◌, ◌<ℤ◌, ◌≡◌, subst, w64, to_z-of_z, rules}
 use mir.Val.{SFits}
 use Rattle.std.proofs.lemmas.Int.{ints}
 use Rattle.tz_info.specs.Gaps.{HasGap}
 use Rattle.tz_info.specs.LocalTypes.{LocalType}
-use Rattle.tz_info.specs.WallPieces.{IsStart}
 use Rattle.tz_info.specs.Zones.{TypeAt}
 use Rattle.tz_info.specs.declared.rule.transition_rule.TransitionRule.TheVariants.{Alternate}
-use Rattle.tz_info.proofs.GapLaws.{IsPassed, passed_first, passed_more, turn_next, gap_of_turn}
+use Rattle.tz_info.proofs.GapLaws.{passed_more, turn_next, gap_of_turn}
 use Rattle.tz_info.proofs.RuleLaws.{rule_once}
 use Rattle.tz_info.proofs.zone.time_zone.TimeZone.gap_by_turns.Goals as goal
-use Rattle.tz_info.proofs.zone.time_zone.TimeZone.gap_by_turns.Goals.{After-later-last}
-
--- up to the second from which on the rule is followed clocks show less
-first : (c : goal.After-later-last) → SFits w64 c.later-last.result → IsPassed c.args.self.now c.args.local c.later-last.result
-first c fl =
-    let fw : SFits w64 c.args.reach.low = search rules in
-    let ff : SFits w64 c.rule_from.result = search rules in
-    let begun : IsStart c.args.self.now.transitions c.args.self.now.leaps (length c.args.self.now.transitions) c.rule_from.result = rw c.rule_from.ensures (rw (← c.self.view_is) c.self.invariant.index.rule_from) in
-    passed_first c.args.self.now c.args.local c.args.reach.low c.args.reach.high c.rule_from.result c.later-last.result c.local_time_types-types.ensures.valid c.requires.never c.requires.reach begun (simp to_z-of_z at c.later-last.ensures) c.requires.less
 
 pub next_moment-next-requires : goal.next_moment-next-requires
 next_moment-next-requires c =
-    let fl : SFits w64 c.later-last.result = search rules in
-    let near = (first c fl).near in
+    let ff = c.ranges.first in
+    let near = c.requires.passed.near in
     simp to_z-of_z (omega (arith, ints, near.0, near.1), omega (arith, ints, near.0, near.1))
 
 pub loop-last-init : goal.loop-last-init
 loop-last-init c =
     let fc = c.ranges.local in
-    let fl : SFits w64 c.later-last.result = search rules in
+    let ff = c.ranges.first in
     let fn : SFits w64 c.next_moment-next.result = search rules in
     simp to_z-of_z (record {
-      passed = first (goal.at.loop-last-init c).After-later-last fl;
+      passed = c.requires.passed;
       steady = simp to_z-of_z at c.next_moment-next.ensures;
     })
 

@@ -1,6 +1,6 @@
 use Rattle.std.proofs.Common.{pos, ◌+ℤ◌, ◌-ℤ◌, unsigned_abs}
 use Rattle.tz_info.specs.Steps.NextMoments.{IsSteadyUntil}
-use Rattle.tz_info.proofs.GapLaws.{IsPassed}
+use Rattle.tz_info.specs.Steps.Gaps.{IsPassed}
 use Rattle.tz_info.proofs.zone.time_zone.TimeZone.gap_by_turns.Given as goal
 
 abbrev pub invariant-loop-last : goal.invariant-loop-last

@@ -1,5 +1,6 @@
 use Rattle.std.proofs.Common.{ap, sym, ◌∙◌, to_z-of_z}
 use Rattle.tz_info.specs.Zones.{Zone}
+use Rattle.tz_info.proofs.QuestionLaws.{asked_none}
 use Rattle.tz_info.proofs.WalkLaws.{tried_last}
 use Rattle.tz_info.proofs.zone.time_zone.TimeZone.try_last.Goals as goal
 
@@ -8,3 +9,6 @@ returns-in-None-clause-found c =
     let fl = c.ranges.local in
     tried_last c.args.self.now c.args.local c.args.current.unix_leap_time c.args.answer c.try_from.result c.local_time_types-types.ensures.valid
     (ap (λ (z : Zone). z.rule) (sym c.self.view_is) ∙ c.in-None.is) c.requires.begin (rw c.requires.index at (simp to_z-of_z at c.try_from.ensures)) c.requires.seen
+
+pub returns-in-None-clause-counted : goal.returns-in-None-clause-counted
+returns-in-None-clause-counted c = asked_none c.args.self.now c.args.local _ (ap (λ (z : Zone). z.rule) (sym c.self.view_is) ∙ c.in-None.is)

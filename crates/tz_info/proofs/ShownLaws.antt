@@ -1,0 +1,78 @@
+-- What neighbouring segments show of a local time, put together.
+use Rattle.std.proofs.Common.{◌≡◌, ℕ, ◌≤◌, arith, refl, ℤ, inl, inr}
+use Rattle.std.proofs.lemmas.Bool.{cases_lt}
+use Rattle.tz_info.specs.Segments.{segment_of}
+use Rattle.tz_info.specs.Steps.Answers.{joined}
+use Rattle.tz_info.specs.Steps.Shown.{together}
+use Rattle.tz_info.specs.WallPieces.{wall_of, AreLessAmong, Jumps, IsSideAmong}
+use Rattle.tz_info.specs.Zones.{Zone}
+use Rattle.tz_info.specs.declared.zone.shown.Jump.{Jump}
+use Rattle.tz_info.specs.declared.zone.shown.Shown.{Shown}
+use Rattle.tz_info.specs.declared.zone.shown.Shown.TheVariants.{Less, Skipped, Once, Several}
+
+-- the wall clock's answers are joined
+pub wall_together : (a b : Shown) → wall_of (together a b) ≡ joined (wall_of a) (wall_of b)
+wall_together (Less x) b = refl
+wall_together (Skipped j) (Less y) = refl
+wall_together (Skipped j) (Skipped k) = refl
+wall_together (Skipped j) (Once i) = refl
+wall_together (Skipped j) (Several i m) = refl
+wall_together (Once h) (Less y) = refl
+wall_together (Once h) (Skipped k) = refl
+wall_together (Once h) (Once i) = refl
+wall_together (Once h) (Several i m) = refl
+wall_together (Several g h) (Less y) = refl
+wall_together (Several g h) (Skipped k) = refl
+wall_together (Several g h) (Once i) = refl
+wall_together (Several g h) (Several i m) = refl
+
+less_joined : (z : Zone) (low middle high : ℕ) (l : ℤ) → AreLessAmong z low middle l → AreLessAmong z middle high l → AreLessAmong z low high l
+less_joined z low middle high l a b u t near from below k = elim (cases_lt (segment_of z u) middle) [
+  | inl h ↦ a u t near from h k
+  | inr g ↦ b u t near (omega arith) below k
+]
+
+-- of segments more the jump is the first one
+wider : (z : Zone) (low middle high : ℕ) (l : ℤ) (j : Jump) → middle ≤ high → Jumps z low middle l j → Jumps z low high l j
+wider z low middle high l j h a = record {
+  some = a.some;
+  inside = let i = a.inside in omega arith;
+  less = a.less;
+  seen = a.seen;
+  near = a.near;
+  later = a.later;
+  first = a.first;
+  more = a.more;
+  before = a.before;
+}
+
+behind : (z : Zone) (low middle high : ℕ) (l : ℤ) (j : Jump) → AreLessAmong z low middle l → Jumps z middle high l j → Jumps z low high l j
+behind z low middle high l j less b = record {
+  some = b.some;
+  inside = b.inside;
+  less = less_joined z low middle j.place l less b.less;
+  seen = b.seen;
+  near = b.near;
+  later = b.later;
+  first = b.first;
+  more = b.more;
+  before = b.before;
+}
+
+pub side_together : (z : Zone) (low middle high : ℕ) (l : ℤ) (a b : Shown) → middle ≤ high → IsSideAmong z low middle l a → IsSideAmong z middle high l b → IsSideAmong z low high l (together a b)
+side_together z low middle high l (Less x) (Less y) h a b = (less_joined z low middle high l a.0 b.0, b.1)
+side_together z low middle high l (Less x) (Skipped k) h a b = behind z low middle high l k a.0 b
+side_together z low middle high l (Less x) (Once i) h a b = tt
+side_together z low middle high l (Less x) (Several i m) h a b = tt
+side_together z low middle high l (Skipped j) (Less y) h a b = wider z low middle high l j h a
+side_together z low middle high l (Skipped j) (Skipped k) h a b = wider z low middle high l j h a
+side_together z low middle high l (Skipped j) (Once i) h a b = tt
+side_together z low middle high l (Skipped j) (Several i m) h a b = tt
+side_together z low middle high l (Once f) (Less y) h a b = tt
+side_together z low middle high l (Once f) (Skipped k) h a b = tt
+side_together z low middle high l (Once f) (Once i) h a b = tt
+side_together z low middle high l (Once f) (Several i m) h a b = tt
+side_together z low middle high l (Several f g) (Less y) h a b = tt
+side_together z low middle high l (Several f g) (Skipped k) h a b = tt
+side_together z low middle high l (Several f g) (Once i) h a b = tt
+side_together z low middle high l (Several f g) (Several i m) h a b = tt

@@ -1,0 +1,27 @@
+use Rattle.std.proofs.Common.{arith, to_z-of_z, w64, rules}
+use mir.Val.{SFits}
+use Rattle.std.proofs.lemmas.Int.{ints}
+use Rattle.tz_info.specs.Steps.Pieces.{zone_in}
+use Rattle.tz_info.proofs.WallSegments.{up_to_less, type_latest}
+use Rattle.tz_info.proofs.zone.segments.index_before.Goals as goal
+use Rattle.tz_info.proofs.zone.segments.index_before.Goals.{then-loop-latest-test+else-start_of-start, else-loop-latest-test}
+
+pub loop-latest-preserved : goal.loop-latest-preserved
+loop-latest-preserved c =
+    let fs : SFits w64 c.start_of-start.result = search rules in
+    let fr : SFits w64 c.start_of.result = search rules in
+    let less = c.loop-latest.invariant.less in
+    record {
+      less = omega arith;
+      all = up_to_less (zone_in c.args.lists) c.args.place c.loop-latest.latest c.start_of-start.result c.start_of.result c.requires.valid c.start_of-start.ensures c.start_of.ensures (omega (arith, ints)) (omega arith) c.loop-latest.invariant.all;
+    }
+
+pub returns : goal.returns
+returns c =
+    let fs : SFits w64 c.start_of-start.result = search rules in
+    let less = c.loop-latest.invariant.less in
+    let found = type_latest (zone_in c.args.lists) c.args.place c.loop-latest.latest c.index_of_segment-index.result c.start_of-start.result c.requires.valid less c.requires.place c.index_of_segment-index.ensures.index c.index_of_segment-index.ensures.below c.start_of-start.ensures c.loop-latest.invariant.all in
+    elim c.loop-latest-test.branch [
+      | then-loop-latest-test+else-start_of-start w ↦ let fr : SFits w64 w.start_of.result = search rules in found (λ h. (w.start_of.result, w.start_of.ensures, omega (arith, ints)))
+      | else-loop-latest-test w ↦ found (λ h. absurd (let t = w.loop-latest-test.false in omega arith))
+    ]

@@ -1,0 +1,43 @@
+use Rattle.std.proofs.Common.{◌≡◌, ◌+◌, ◌-◌, ◌<◌, arith, ap, sym, ◌∙◌, subst, length, to_z-of_z, w64, rules}
+use mir.Val.{SFits}
+use Rattle.tz_info.specs.Steps.Gaps.{IsReach}
+use Rattle.tz_info.specs.Steps.Segments.{index_of}
+use Rattle.tz_info.specs.Steps.Starts.{IsReachedFrom}
+use Rattle.tz_info.specs.WallPieces.{IsStart}
+use Rattle.tz_info.specs.Zones.{Zone, HasType}
+use Rattle.tz_info.specs.declared.zone.transition.Transition.{Transition}
+use Rattle.tz_info.proofs.GapLaws.{jump_found}
+use Rattle.tz_info.proofs.OnePass.{within_table}
+use Rattle.tz_info.proofs.SegmentLaws.{index_next}
+use Rattle.tz_info.proofs.WallSegments.{start_found}
+use Rattle.tz_info.proofs.zone.time_zone.TimeZone.gap_of_jump.Goals as goal
+
+pub transition-transition-requires-clause-place : goal.transition-transition-requires-clause-place
+transition-transition-requires-clause-place c =
+    let some = c.requires.jump.some in
+    let within = within_table c.args.self.now c.args.jump.place c.requires.jump.inside in
+    omega arith
+
+pub returns-clause-gap : goal.returns-clause-gap
+returns-clause-gap c =
+    let z = c.args.self.now in
+    let known = c.local_time_types-types.ensures in
+    let fl = c.ranges.local in
+    let fw : SFits w64 c.reach-reach.result.low = search rules in
+    let fh : SFits w64 c.reach-reach.result.high = search rules in
+    let reach : IsReach z c.args.local c.reach-reach.result.low c.reach-reach.result.high = simp to_z-of_z at c.reach-reach.ensures in
+    let t = c.transition-transition.result in
+    let s = c.first_second.result in
+    let ft : SFits w64 t.unix_leap_time = search rules in
+    let fs : SFits w64 s = search rules in
+    let place = c.args.jump.place in
+    let some = c.requires.jump.some in
+    let within = within_table z place c.requires.jump.inside in
+    let back : place - 1 + 1 ≡ place = omega arith in
+    let item = c.transition-transition.ensures.item in
+    let reached = rw c.deref.ensures.value at (simp to_z-of_z at c.first_second.ensures) in
+    let leaps : c.self.inside.leap_seconds.items ≡ z.leaps = ap (λ (y : Zone). y.leaps) c.self.view_is in
+    let start : IsStart z.transitions z.leaps place s = start_found z.transitions z.leaps place t s known.valid.transitions.rising some within (subst (λ (x : Transition). IsReachedFrom z.leaps x.unix_leap_time s) item (subst (λ es. IsReachedFrom es t.unix_leap_time s) leaps reached)) in
+    let index : index_of z.transitions place ≡ t.type_index = rw back at (index_next z.transitions (place - 1) t (omega arith)) ∙ sym (ap (λ (x : Transition). x.type_index) item) in
+    let has : HasType z (index_of z.transitions place) c.listed-2.result.now = rw index c.listed-2.ensures in
+    simp to_z-of_z (jump_found z c.args.local c.reach-reach.result.low c.reach-reach.result.high s c.args.jump c.listed-2.result.now c.listed.result.now known.valid known.rule c.requires.never reach c.requires.jump start has c.listed.ensures)

@@ -1,0 +1,8 @@
+use Rattle.std.proofs.Common.{w32, to_z-of_z, rules}
+use mir.Val.{SFits}
+use Rattle.tz_info.proofs.zone.time_zone.TimeZone.least_offset.Goals as goal
+
+pub returns : goal.returns
+returns c =
+    let fits : SFits w32 c.self.inside.extremes.least = search rules in
+    simp to_z-of_z (rw (← c.self.view_is) c.self.invariant.extremes.least)

@@ -1,0 +1,18 @@
+-- What earlier segments and later ones show of a local time together.
+use Rattle.tz_info.specs.declared.zone.shown.Shown.{Shown}
+use Rattle.tz_info.specs.declared.zone.shown.Shown.TheVariants.{Less, Skipped, Once, Several}
+
+abbrev pub together : Shown → Shown → Shown
+together (Less b) a = a
+together (Skipped j) (Less b) = Skipped j
+together (Skipped j) (Skipped k) = Skipped j
+together (Skipped j) (Once i) = Once i
+together (Skipped j) (Several i k) = Several i k
+together (Once i) (Less b) = Once i
+together (Once i) (Skipped j) = Once i
+together (Once i) (Once k) = Several i k
+together (Once i) (Several k m) = Several i m
+together (Several i k) (Less b) = Several i k
+together (Several i k) (Skipped j) = Several i k
+together (Several i k) (Once m) = Several i m
+together (Several i k) (Several m n) = Several i n

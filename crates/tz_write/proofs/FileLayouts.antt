@@ -1,0 +1,368 @@
+-- Where any designations have the names of the types at places that a byte can name, those that are laid have them.
+use Rattle.std.proofs.Common.{◌≡◌, ◌≢◌, ℕ, suc, ◌+◌, ◌*◌, ◌<◌, ◌≤◌, Bool, true, false, cond, nat_lt, ◌==◌, List, [], ◌∷◌, ◌++◌, length, get_or, drop, append_assoc, Option, Some, None, refl, sym, ap, ◌∙◌, subst, arith, ◌⊎◌, inl, inr}
+use Rattle.std.proofs.Math.Seq.{drop-append_seam}
+use Rattle.std.proofs.lemmas.Bool.{cases_lt}
+use Rattle.std.proofs.lemmas.Bool.Decides.{nat_tests}
+use Rattle.std.proofs.lemmas.List.{length-append}
+use Rattle.std.proofs.lemmas.List.Elements.{All-nil, All-cons, All-head, All-tail, All-weaker}
+use Rattle.std.specs.Prelude.{All, MatchOption}
+use Rattle.tz_info.specs.FileContents.{HasNoZero, StandsAt}
+use Rattle.tz_info.specs.LocalTypes.{LocalType}
+use Rattle.tz_info.specs.Names.{IsNameOrNone}
+use Rattle.tz_write.specs.FileDesignations.{text_or_none, text_of, place_of, IsNamedIn, AreNamesIn, AreShortest}
+use Rattle.tz_write.specs.Steps.FileLayouts.{HasPlace, HavePlaces, with_text, ends, before_last, laid, before_zero, text_at, laid_from, ArePlaced, IsPlacedFrom, AreNotPlacedBefore, IsFirstPlaced, IsLaid, In_order, Otherwise}
+use Rattle.tz_write.proofs.FileMeetings.{Stands, Ends, Meeting, In_front, Behind, Is_end, Has_end, meet}
+use Rattle.tz_write.proofs.FileNames.{less, not_less, less_again, ends_of, ends_again, place_behind, place_kept, place_of_put, In, put_in, end_in, in_stands}
+use Rattle.tz_write.proofs.FileRecords.{has_text, no_zero}
+use Rattle.tz_write.proofs.FileRoom.{Room, Given, room_of, before_room, before_in, before_filled, kept, put}
+
+-- ---- texts
+name_size : (name : Option (List ℕ)) → IsNameOrNone name → (length (text_or_none name) ≤ 7) × ((length (text_or_none name) ≡ 0) ⊎ (3 ≤ length (text_or_none name)))
+name_size None h = (omega arith, inl refl)
+name_size (Some text) h = (h.1, inr h.0)
+
+nothing : (s : List ℕ) → length s ≡ 0 → s ≡ []
+nothing [] h = refl
+nothing (x ∷ xs) h = absurd (omega (arith, h))
+
+nothing_more : (s : List ℕ) → s ++ [] ≡ s
+nothing_more [] = refl
+nothing_more (x ∷ xs) = ap (λ (r : List ℕ). x ∷ r) (nothing_more xs)
+
+ends_itself : (text : List ℕ) → Ends text text
+ends_itself text = record { front = []; is = refl }
+
+whole_size : (bytes b x a : List ℕ) → bytes ≡ b ++ (x ++ (0 ∷ a)) → length bytes ≡ length b + length x + 1 + length a
+whole_size bytes b x a e = omega (arith, ap length e, length-append b (x ++ (0 ∷ a)), length-append x (0 ∷ a))
+
+-- the text at the place where a text stands
+not_same : (b : ℕ) → b ≢ 0 → (b == 0) ≡ false
+not_same b h = by_test (b == 0) refl
+  where
+    zero_is : (b : ℕ) → (b == 0) ≡ true → b ≡ 0
+    zero_is b h = grind (arith, nat_tests)
+
+    by_test : (t : Bool) → (b == 0) ≡ t → t ≡ false
+    by_test false e = refl
+    by_test true e = absurd (h (zero_is b e))
+
+front_is : (text rest : List ℕ) → HasNoZero text → before_zero (text ++ (0 ∷ rest)) ≡ text
+front_is [] rest none = refl
+front_is (b ∷ bs) rest none = rw (not_same b none.0) (ap (λ (s : List ℕ). b ∷ s) (front_is bs rest none.1))
+
+text_found : (designations text : List ℕ) → HasNoZero text → In designations text → text_at designations (place_of text designations) ≡ text
+text_found designations text none h =
+    let s = has_text text designations none h in
+    let gone : drop (place_of text designations) designations ≡ text ++ (0 ∷ s.after) =
+    ap (λ (n : ℕ). drop n designations) (sym s.at) ∙ (ap (λ (d : List ℕ). drop (length s.before) d) s.whole ∙ drop-append_seam s.before (text ++ (0 ∷ s.after))) in
+    ap before_zero gone ∙ front_is text s.after none
+
+-- ---- the type whose text ends last
+pub record Greatest (key : LocalType → ℕ) (types : List LocalType) : Type 0 where
+  pub most : LocalType
+  pub place : ℕ
+  pub inside : place < length types
+  pub is : (d : LocalType) → get_or types place d ≡ most
+  pub above : All (λ t. key t ≤ key most) types
+
+greatest : (key : LocalType → ℕ) (t : LocalType) (ts : List LocalType) → Greatest key (t ∷ ts)
+greatest key t [] = record {
+  most = t;
+  place = 0;
+  inside = omega arith;
+  is = λ d. refl;
+  above = All-cons (λ x. key x ≤ key t) t [] (omega arith) (All-nil (λ x. key x ≤ key t));
+}
+greatest key t (u ∷ us) =
+    let r = greatest key u us in
+    elim (cases_lt (key r.most) (key t)) [
+      | inl l ↦ record {
+        most = t;
+        place = 0;
+        inside = omega arith;
+        is = λ d. refl;
+        above = All-cons (λ x. key x ≤ key t) t (u ∷ us) (omega arith) (All-weaker (λ x. key x ≤ key r.most) (λ x. key x ≤ key t) (λ x k. omega (arith, k, l)) (u ∷ us) r.above);
+      }
+      | inr m ↦ record {
+        most = r.most;
+        place = suc r.place;
+        inside = omega (arith, r.inside);
+        is = λ d. r.is d;
+        above = All-cons (λ x. key x ≤ key r.most) t (u ∷ us) m r.above;
+      }
+    ]
+
+-- ---- designations that have the names
+pub record Served (bytes : List ℕ) (t : LocalType) : Type 0 where
+  pub named : IsNameOrNone t.name
+  pub stands : StandsAt bytes (place_of (text_of t) bytes) (text_of t)
+  pub low : place_of (text_of t) bytes < 256
+
+served : (bytes : List ℕ) (t : LocalType) → IsNameOrNone t.name → IsNamedIn bytes t → Served bytes t
+served bytes t named h =
+    let s = h.stands in
+    let at = subst (λ (b : List ℕ). place_of (text_of t) b ≤ length s.before) (sym s.whole) (place_behind (text_of t) s.before s.after) in
+    record {
+      named = named;
+      stands = has_text (text_of t) bytes s.ends (omega (arith, at, whole_size bytes s.before (text_of t) s.after s.whole));
+      low = omega (arith, at, h.named, s.at);
+    }
+
+-- the byte behind the text, and of two texts before one 0 byte the longer
+key_in : List ℕ → LocalType → ℕ
+key_in bytes t = 8 * (place_of (text_of t) bytes + length (text_of t)) + length (text_of t)
+
+-- the text stands in front of the last one, or ends where that ends
+pub record EndsWith (bytes : List ℕ) (m t : LocalType) : Type 0 where
+  pub ends : Ends (text_of m) (text_of t)
+  pub at : place_of (text_of t) bytes + length (text_of t) ≡ place_of (text_of m) bytes + length (text_of m)
+
+no_front : (m text : List ℕ) → length (m ++ text) ≤ length text → m ++ text ≡ text
+no_front [] text l = refl
+no_front (x ∷ xs) text l = absurd (omega (arith, l, length-append xs text))
+
+where_by : (bytes : List ℕ) (m t : LocalType) (sm : Served bytes m) (st : Served bytes t) → length (text_of m) ≤ 7 → key_in bytes t ≤ key_in bytes m
+    → Meeting sm.stands.before (text_of m) sm.stands.after st.stands.before (text_of t) st.stands.after → Stands sm.stands.before (text_of t) ⊎ EndsWith bytes m t
+unfolding key_in
+where_by bytes m t sm st short top (In_front e h) = inl (record { before = st.stands.before; after = e; whole = h })
+where_by bytes m t sm st short top (Behind e h) =
+    absurd (omega (arith, top, short, whole_size sm.stands.after e (text_of t) st.stands.after h, whole_size bytes sm.stands.before (text_of m) sm.stands.after sm.stands.whole, whole_size bytes st.stands.before (text_of t) st.stands.after st.stands.whole, sm.stands.at, st.stands.at))
+where_by bytes m t sm st short top (Is_end f h l) = inr (record {
+  ends = record { front = f; is = h };
+  at = omega (arith, ap length l, whole_size bytes sm.stands.before (text_of m) sm.stands.after sm.stands.whole, whole_size bytes st.stands.before (text_of t) st.stands.after st.stands.whole, sm.stands.at, st.stands.at);
+})
+where_by bytes m t sm st short top (Has_end f h l) =
+    let at : place_of (text_of t) bytes + length (text_of t) ≡ place_of (text_of m) bytes + length (text_of m) =
+    omega (arith, ap length l, whole_size bytes sm.stands.before (text_of m) sm.stands.after sm.stands.whole, whole_size bytes st.stands.before (text_of t) st.stands.after st.stands.whole, sm.stands.at, st.stands.at) in
+    inr (record { ends = record { front = []; is = sym (h ∙ no_front f (text_of m) (omega (arith, top, at, ap length h))) }; at = at })
+
+where_is : (bytes : List ℕ) (m t : LocalType) (sm : Served bytes m) → Served bytes t → key_in bytes t ≤ key_in bytes m → Stands sm.stands.before (text_of t) ⊎ EndsWith bytes m t
+where_is bytes m t sm st top =
+    where_by bytes m t sm st ((name_size m.name sm.named).0) top
+    (meet sm.stands.before (text_of m) sm.stands.after st.stands.before (text_of t) st.stands.after sm.stands.ends st.stands.ends (sym sm.stands.whole ∙ st.stands.whole))
+
+-- ---- laid with that text as the last
+low_by : (p q : Bool) (designations more text : List ℕ) → In designations text → place_of text (cond p designations (cond q (designations ++ more) designations)) ≤ place_of text designations
+low_by true q designations more text h = omega arith
+low_by false true designations more text h = place_kept text designations more h
+low_by false false designations more text h = omega arith
+
+kept_low : (designations other text : List ℕ) → In designations text → place_of text (with_text designations other) ≤ place_of text designations
+unfolding with_text
+kept_low designations other text h =
+    low_by (nat_lt (place_of other designations) (length designations)) (nat_lt (length designations + length other) 263) designations (other ++ 0 ∷ []) text h
+
+not_in : (designations text : List ℕ) → length designations ≤ place_of text designations → nat_lt (place_of text designations) (length designations) ≡ false
+not_in designations text out = by_test (nat_lt (place_of text designations) (length designations)) refl
+  where
+    by_test : (b : Bool) → nat_lt (place_of text designations) (length designations) ≡ b → b ≡ false
+    by_test false e = refl
+    by_test true e = absurd (omega (arith, out, less (place_of text designations) (length designations) e))
+
+put_is : (designations text : List ℕ) → length designations ≤ place_of text designations → length designations + length text < 263 → with_text designations text ≡ designations ++ (text ++ 0 ∷ [])
+unfolding with_text
+put_is designations text out room = rw (not_in designations text out, less_again (length designations + length text) 263 room) refl
+
+-- a text has its place in what is laid, if it stands before the last one, or else in what that ends
+in_place : (designations last : List ℕ) (t : LocalType) → IsNameOrNone t.name → length designations ≤ 256 → In designations (text_of t) → HasPlace (with_text designations last) t
+in_place designations last t name short h = record {
+  name = name;
+  stands = kept designations last (text_of t) h;
+  named = omega (arith, kept_low designations last (text_of t) h, h, short);
+}
+
+at_end : (designations last : List ℕ) (t : LocalType) → IsNameOrNone t.name → Ends last (text_of t) → length designations ≤ place_of last designations → length designations + length last < 263
+    → length designations + length last < 256 + length (text_of t) → HasPlace (with_text designations last) t
+at_end designations last t name e out room low =
+    subst (λ (d : List ℕ). HasPlace d t) (sym (put_is designations last out room))
+    (record { name = name; stands = put_in designations last (text_of t) e; named = omega (arith, place_of_put designations last (text_of t) e, low) })
+
+at_the_end : (bytes designations : List ℕ) (m t : LocalType) (sm : Served bytes m) → Served bytes t → Room (text_of m) designations sm.stands.before 3
+    → (designations ≡ []) ⊎ In designations [] → length designations ≤ place_of (text_of m) designations → length designations ≤ place_of (text_of t) designations → Ends (text_of m) (text_of t)
+    → Stands sm.stands.before (text_of t) ⊎ EndsWith bytes m t → HasPlace (with_text designations (text_of m)) t
+at_the_end bytes designations m t sm st r filled out away e (inr q) =
+    at_end designations (text_of m) t st.named e out (omega (arith, r.fits, sm.stands.at, sm.low, (name_size m.name sm.named).0)) (omega (arith, r.fits, sm.stands.at, q.at, st.low))
+at_the_end bytes designations m t sm st r filled out away e (inl s) =
+    let short = (name_size m.name sm.named).0 in
+    at_end designations (text_of m) t st.named e out (omega (arith, r.fits, sm.stands.at, sm.low, short))
+    (elim ((name_size t.name st.named).1) [
+      | inl none ↦ elim filled [
+        | inl empty ↦ omega (arith, ap length empty, short)
+        | inr zero ↦ absurd (omega (arith, away, subst (λ (x : List ℕ). In designations x) (sym (nothing (text_of t) none)) zero))
+      ]
+      | inr three ↦ omega (arith, three, short, sm.low, sm.stands.at, room_of (text_of m) designations sm.stands.before (text_of t) 3 r st.stands.ends (inr e) s away)
+    ])
+
+has_end : (last text : List ℕ) → ((Ends last text → ⊥) → ⊥) → Ends last text
+has_end last text h = by_test (ends last text) refl
+  where
+    true_false : true ≡ false → ⊥
+    true_false e = cc
+
+    by_test : (b : Bool) → ends last text ≡ b → Ends last text
+    by_test true e = ends_of last text e
+    by_test false e = absurd (h (λ k. true_false (sym (ends_again last text k) ∙ e)))
+
+laid_place : (bytes designations : List ℕ) (m t : LocalType) (sm : Served bytes m) → Served bytes t → Room (text_of m) designations sm.stands.before 3 → (designations ≡ []) ⊎ In designations []
+    → (3 ≤ length (text_of t) → length (text_of t) ≤ 7 → (Ends (text_of m) (text_of t) → ⊥) → In designations (text_of t)) → Stands sm.stands.before (text_of t) ⊎ EndsWith bytes m t
+    → HasPlace (with_text designations (text_of m)) t
+laid_place bytes designations m t sm st r filled put_in_before where_t =
+    elim (cases_lt (place_of (text_of t) designations) (length designations)) [
+      | inl l ↦ in_place designations (text_of m) t st.named (omega (arith, r.fits, sm.stands.at, sm.low)) l
+      | inr away ↦
+          let size = name_size t.name st.named in
+          let e = has_end (text_of m) (text_of t) (λ free. elim size.1 [
+            | inl none ↦ free (record { front = text_of m; is = sym (ap (λ (s : List ℕ). text_of m ++ s) (nothing (text_of t) none) ∙ nothing_more (text_of m)) })
+            | inr three ↦ absurd (omega (arith, away, put_in_before three size.0 free))
+          ]) in
+          elim (cases_lt (place_of (text_of m) designations) (length designations)) [
+            | inl l ↦ absurd (omega (arith, away, end_in designations (text_of m) (text_of t) sm.stands.ends e l))
+            | inr out ↦ at_the_end bytes designations m t sm st r filled out away e where_t
+          ]
+    ]
+
+-- ---- all types
+given_before : (bytes : List ℕ) (m : LocalType) (sm : Served bytes m) (t : LocalType) → Served bytes t → key_in bytes t ≤ key_in bytes m → Given (text_of m) sm.stands.before t
+given_before bytes m sm t st top = record {
+  none = st.stands.ends;
+  stands = λ free. elim (where_is bytes m t sm st top) [ inl s ↦ s | inr q ↦ absurd (free q.ends) ];
+}
+
+places_with : (bytes : List ℕ) (types : List LocalType) (m : LocalType) (sm : Served bytes m) → All (Served bytes) types → All (λ t. key_in bytes t ≤ key_in bytes m) types → HavePlaces (laid (text_of m) types) types
+unfolding laid
+places_with bytes types m sm s top =
+    let given : All (Given (text_of m) sm.stands.before) types = λ i d l. given_before bytes m sm (get_or types i d) (s i d l) (top i d l) in
+    let r = before_room (text_of m) sm.stands.before types given in
+    let f = before_filled (text_of m) types in
+    let p = before_in (text_of m) sm.stands.before types (omega (arith, sm.stands.at, sm.low)) given in
+    λ i d l. laid_place bytes (before_last (text_of m) types) m (get_or types i d) sm (s i d l) r f (p i d l) (where_is bytes m (get_or types i d) sm (s i d l) (top i d l))
+
+-- ---- the texts stand in what is laid in order
+with_last : List ℕ → List ℕ → List ℕ
+with_last before last = before ++ (last ++ 0 ∷ [])
+
+stands_with : (bytes : List ℕ) (m t : LocalType) (sm : Served bytes m) → Stands sm.stands.before (text_of t) ⊎ EndsWith bytes m t → Stands (with_last sm.stands.before (text_of m)) (text_of t)
+unfolding with_last
+stands_with bytes m t sm (inl s) =
+    let more = text_of m ++ 0 ∷ [] in
+    record {
+      before = s.before;
+      after = s.after ++ more;
+      whole = ap (λ (x : List ℕ). x ++ more) s.whole ∙ (append_assoc s.before (text_of t ++ (0 ∷ s.after)) more ∙ ap (λ (x : List ℕ). s.before ++ x) (append_assoc (text_of t) (0 ∷ s.after) more));
+    }
+stands_with bytes m t sm (inr q) =
+    let b = sm.stands.before in let f = q.ends.front in
+    record {
+      before = b ++ f;
+      after = [];
+      whole = ap (λ (x : List ℕ). b ++ (x ++ 0 ∷ [])) q.ends.is ∙ (ap (λ (x : List ℕ). b ++ x) (append_assoc f (text_of t) (0 ∷ [])) ∙ sym (append_assoc b f (text_of t ++ 0 ∷ [])));
+    }
+
+with_last_size : (before last : List ℕ) → length (with_last before last) ≡ length before + length last + 1
+unfolding with_last
+with_last_size before last = omega (arith, length-append before (last ++ 0 ∷ []), length-append last (0 ∷ []))
+
+no_text : (bytes : List ℕ) (t : LocalType) → Stands bytes (text_of t) → Stands bytes []
+no_text bytes t s = record { before = s.before ++ text_of t; after = s.after; whole = s.whole ∙ sym (append_assoc s.before (text_of t) (0 ∷ s.after)) }
+
+not_of_none : (text : List ℕ) → 3 ≤ length text → Ends [] text → ⊥
+not_of_none text l e = omega (arith, l, ap length e.is, length-append e.front text)
+
+in_order_in : (bytes : List ℕ) (types : List LocalType) (m : LocalType) (sm : Served bytes m) → All (Served bytes) types → All (λ t. key_in bytes t ≤ key_in bytes m) types
+    → All (λ t. In (laid [] types) (text_of t)) types
+unfolding laid
+in_order_in bytes types m sm s top i d l =
+    let others = with_last sm.stands.before (text_of m) in
+    let stands : All (λ t. Stands others (text_of t)) types = λ i d l. stands_with bytes m (get_or types i d) sm (where_is bytes m (get_or types i d) sm (s i d l) (top i d l)) in
+    let given : All (Given [] others) types = λ i d l. record { none = (s i d l).stands.ends; stands = λ free. stands i d l } in
+    let short : length others ≤ 263 = omega (arith, with_last_size sm.stands.before (text_of m), sm.stands.at, sm.low, (name_size m.name sm.named).0) in
+    let t = get_or types i d in
+    let size = name_size t.name (s i d l).named in
+    let c = before_last [] types in
+    elim size.1 [
+      | inl none ↦ subst (λ (x : List ℕ). In (with_text c []) x) (sym (nothing (text_of t) none))
+          (put c [] (λ out. omega (arith, short, room_of [] c others [] 3 (before_room [] others types given) tt (inl (omega arith)) (no_text others t (stands i d l)) out)))
+      | inr three ↦ kept c [] (text_of t) (before_in [] others types short given i d l three size.0 (not_of_none (text_of t) three))
+    ]
+
+-- ---- no shorter ones
+short_by : (p q : Bool) (last designations others : List ℕ) → nat_lt (place_of last designations) (length designations) ≡ p → HasNoZero last → Stands others last → Room last designations others 3
+    → length (cond p designations (cond q (designations ++ (last ++ 0 ∷ [])) designations)) ≤ length others
+short_by true q last designations others e none stands r = omega (arith, r.fits)
+short_by false false last designations others e none stands r = omega (arith, r.fits)
+short_by false true last designations others e none stands r =
+    omega (arith, length-append designations (last ++ 0 ∷ []), length-append last (0 ∷ []), room_of last designations others last 3 r none (inr (ends_itself last)) stands (not_less (place_of last designations) (length designations) e))
+
+laid_short : (last others : List ℕ) (types : List LocalType) → HasNoZero last → Stands others last → All (Given last others) types → length (laid last types) ≤ length others
+unfolding laid with_text
+laid_short last others types none stands given =
+    let c = before_last last types in
+    short_by (nat_lt (place_of last c) (length c)) (nat_lt (length c + length last) 263) last c others refl none stands (before_room last others types given)
+
+named_given : (bytes : List ℕ) (t : LocalType) → IsNamedIn bytes t → Given [] bytes t
+named_given bytes t h = record { none = h.stands.ends; stands = λ free. record { before = h.stands.before; after = h.stands.after; whole = h.stands.whole } }
+
+in_order_short : (types : List LocalType) (others : List ℕ) → 0 < length types → AreNamesIn others types → length (laid [] types) ≤ length others
+in_order_short [] others some names = absurd (omega (arith, some))
+in_order_short (t ∷ ts) others some names =
+    let first = All-head (IsNamedIn others) t ts names in
+    laid_short [] others (t ∷ ts) tt (no_text others t (record { before = first.stands.before; after = first.stands.after; whole = first.stands.whole }))
+    (All-weaker (IsNamedIn others) (Given [] others) (named_given others) (t ∷ ts) names)
+
+-- ---- what is laid
+placed_with : (bytes : List ℕ) (types : List LocalType) (m : LocalType) (sm : Served bytes m) → All (Served bytes) types → All (λ t. key_in bytes t ≤ key_in bytes m) types → In (laid [] types) (text_of m)
+    → ArePlaced (laid (text_of m) types) types
+placed_with bytes types m sm s top found =
+    let inside = in_order_in bytes types m sm s top in record {
+      places = places_with bytes types m sm s top;
+      short = laid_short (text_of m) (laid [] types) types sm.stands.ends (in_stands (laid [] types) (text_of m) sm.stands.ends found)
+          (λ i d l. record { none = (s i d l).stands.ends; stands = λ free. in_stands (laid [] types) (text_of (get_or types i d)) (s i d l).stands.ends (inside i d l) });
+    }
+
+pub none_laid : (types : List LocalType) (bytes : List ℕ) → All (λ t. IsNameOrNone t.name) types → AreNamesIn bytes types → ¬ (HavePlaces (laid [] types) types)
+    → AreNotPlacedBefore types (length (laid [] types)) → ⊥
+none_laid [] bytes named names unplaced none = unplaced (All-nil (HasPlace (laid [] [])))
+none_laid (t ∷ ts) bytes named names unplaced none =
+    let types = t ∷ ts in
+    let s : All (Served bytes) types = λ i d l. served bytes (get_or types i d) (named i d l) (names i d l) in
+    let g = greatest (key_in bytes) t ts in
+    let m = g.most in
+    let sm : Served bytes m = subst (Served bytes) (g.is t) (s g.place t g.inside) in
+    let found : In (laid [] types) (text_of m) = subst (λ (x : LocalType). In (laid [] types) (text_of x)) (g.is t) (in_order_in bytes types m sm s g.above g.place t g.inside) in
+    let text = text_found (laid [] types) (text_of m) sm.stands.ends found in
+    elim ((name_size m.name sm.named).1) [
+      | inl nothing_there ↦ unplaced (subst (λ (x : List ℕ). HavePlaces (laid x types) types) (nothing (text_of m) nothing_there) (places_with bytes types m sm s g.above))
+      | inr three ↦ none (place_of (text_of m) (laid [] types)) found (record {
+        name = omega (arith, three, ap length text);
+        placed = subst (λ (x : List ℕ). ArePlaced (laid x types) types) (sym text) (placed_with bytes types m sm s g.above found);
+      })
+    ]
+
+-- ---- places are names
+named_in : (designations : List ℕ) (t : LocalType) → HasPlace designations t → IsNamedIn designations t
+named_in designations t h = record { place = place_of (text_of t) designations; stands = has_text (text_of t) designations (no_zero t.name h.name) h.stands; named = h.named }
+
+pub are_named : (designations : List ℕ) (types : List LocalType) → HavePlaces designations types → AreNamesIn designations types
+are_named designations types h = All-weaker (HasPlace designations) (IsNamedIn designations) (named_in designations) types h
+
+shortest : (types : List LocalType) (designations : List ℕ) → 0 < length types → HavePlaces designations types → length designations ≤ length (laid [] types) → AreShortest designations types
+shortest types designations some h short = record {
+  names = are_named designations types h;
+  shortest = λ other names. omega (arith, short, in_order_short types other some names);
+}
+
+pub laid_in_order : (types : List LocalType) (designations : List ℕ) → 0 < length types → designations ≡ laid [] types → HavePlaces designations types
+    → HavePlaces designations types × IsLaid types designations × AreShortest designations types
+laid_in_order types designations some e h = (h, In_order h e, shortest types designations some h (omega (arith, ap length e)))
+
+pub laid_with_last : (types : List LocalType) (designations : List ℕ) → 0 < length types → ¬ (HavePlaces (laid [] types) types) → IsFirstPlaced types designations
+    → HavePlaces designations types × IsLaid types designations × AreShortest designations types
+laid_with_last types designations some unplaced h =
+    let p : ArePlaced designations types = subst (λ (d : List ℕ). ArePlaced d types) (sym h.laid_is) h.placed.placed in
+    (p.places, Otherwise unplaced h, shortest types designations some p.places p.short)
+
+pub laid_if_any : (types : List LocalType) (r : Option (List ℕ)) → 0 < length types → ¬ (HavePlaces (laid [] types) types)
+    → MatchOption r (AreNotPlacedBefore types (length (laid [] types))) (λ d. IsFirstPlaced types d)
+    → MatchOption r (All (λ t. IsNameOrNone t.name) types → (d : List ℕ) → ¬ (AreNamesIn d types)) (λ d. HavePlaces d types × IsLaid types d × AreShortest d types)
+laid_if_any types None some unplaced h = λ named d names. none_laid types d named names unplaced h
+laid_if_any types (Some d) some unplaced h = laid_with_last types d some unplaced h

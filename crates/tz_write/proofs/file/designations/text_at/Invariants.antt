@@ -1,0 +1,6 @@
+use Rattle.std.proofs.Common.{◌≡◌, ◌++◌, drop, take}
+use Rattle.tz_write.specs.Steps.FileLayouts.{before_zero}
+use Rattle.tz_write.proofs.file.designations.text_at.Given as goal
+
+abbrev pub invariant-loop-end : goal.invariant-loop-end
+invariant-loop-end l = before_zero l.rest ≡ take l.end l.rest ++ before_zero (drop l.end l.rest)

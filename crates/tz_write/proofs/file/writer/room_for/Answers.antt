@@ -1,0 +1,8 @@
+use Rattle.std.proofs.Common.{subst}
+use Rattle.tz_write.specs.FileDesignations.{AreNamesIn}
+use Rattle.tz_write.proofs.file.writer.room_for.Goals as goal
+
+pub returns-in_default : goal.returns-in_default
+returns-in_default c =
+    let same = c.local_time_types.ensures.types in
+    λ named fit. c.in_default.ensures (rw same named) fit.designations (rw same fit.names)
