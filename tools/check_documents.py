@@ -32,7 +32,9 @@ WRONG_BODIES = TOP / "docs/WRONG_BODIES.md"
 MAP = TOP / "docs/MAP.md"
 KNOWN = TOP / "tools/known_words.txt"
 INDEX = "## Index of the words that contracts cite\n"
-EDITS = {"## Tried by the gate": "must-fail", "## Tried by hand": "must-fail-by-hand"}
+EDITS = {
+    "## Tried by the gate": "must-fail", "## Tried by the gate in part": "must-fail-in-part", "## Tried by hand": "must-fail-by-hand",
+}
 WORD = r"[A-Za-z_][A-Za-z0-9_]*"
 
 

@@ -30,6 +30,11 @@ def crates():
     return list(uses())
 
 
+def is_static(crate):
+    """Whether crates.txt makes it a static library, which no crate can stand on."""
+    return any(row.split(":")[0].split() == [crate, "staticlib"] for row in text_of(TOP / "crates.txt").splitlines())
+
+
 def libraries_below(crate):
     """This repository's libraries that a crate stands on, also through others."""
     direct = [library for library in uses()[crate] if library in uses()]

@@ -6,7 +6,8 @@ usage: tools/try_tests.py [--fmt] [NAME ..]
 `rt ci` proves each test of a crate's src/, which takes seconds to minutes for a test. What a test tells of values from outside
 it tells when it runs. So most tests stand beside their crate: each text of crates/NAME/tried is a module that uses the crate
 by its name, as a client does. All of them, or those of the named crates, are laid into one crate beside a copy of this
-repository's libraries, and `rt try --test` runs them: it stops at what Rust would panic at, and proves nothing.
+repository's libraries, and `rt try --test` runs them: it stops at what Rust would panic at, and proves nothing. No crate can
+stand on a static library: its texts are laid into the copy of that crate itself.
 
 With --fmt the texts are laid out as `rt fmt` lays out code, and none is run.
 
@@ -23,7 +24,7 @@ import sys
 import tempfile
 from pathlib import Path
 
-from sources import TOP, crates, uses
+from sources import TOP, crates, is_static, uses
 
 RT = os.environ.get("RT", "rt")
 LAID = "tried"
@@ -36,23 +37,29 @@ def texts_of(name):
 
 
 def repository(top, names):
-    """A copy of this repository with one crate more, which has the tests of those crates. Returns its folder."""
-    below = {library for name in names for library in [name, *uses()[name]]}
+    """A copy of this repository with one crate more. Returns each crate that has tests laid in, with the names whose they are."""
+    apart = [name for name in names if not is_static(name)]
+    below = {library for name in apart for library in [name, *uses()[name]]}
     for file in ("HANDLES", "crates.txt"):
         shutil.copy(TOP / file, top / file)
-    with (top / "crates.txt").open("a") as file:
-        file.write(f"{LAID}: {' '.join(sorted(below))}\n")
     left = shutil.ignore_patterns("out", "must-fail*", LAID)
     shutil.copytree(TOP / "crates", top / "crates", ignore=left)
-    lay(top / "crates" / LAID / "src", names)
-    return top / "crates" / LAID
+    laid_in = {top / "crates" / name: [name] for name in names if is_static(name)}
+    if apart:
+        with (top / "crates.txt").open("a") as file:
+            file.write(f"{LAID}: {' '.join(sorted(below))}\n")
+        laid_in[top / "crates" / LAID] = apart
+    for crate, those in laid_in.items():
+        lay(crate / "src", those)
+    return laid_in
 
 
 def lay(src, names):
     """The tests of crate NAME are the modules of the module of_NAME."""
-    src.mkdir(parents=True)
-    tests = [f"#[cfg(test)]\nmod of_{name};\n" for name in names]
-    (src / "lib.rt").write_text("#![tactic(auto)]\n" + "".join(tests))
+    src.mkdir(parents=True, exist_ok=True)
+    root = src / "lib.rt"
+    text = root.read_text() if root.exists() else "#![tactic(auto)]\n"
+    root.write_text(text + "".join(f"#[cfg(test)]\nmod of_{name};\n" for name in names))
     for name in names:
         (src / f"of_{name}").mkdir()
         modules = [f"mod {text.stem};\n" for text in texts_of(name)]
@@ -79,6 +86,15 @@ def count(name):
     return sum(len(re.findall(r"(?m)^#\[test\]$", text.read_text())) for text in texts_of(name))
 
 
+def reports(laid_in):
+    """What is said of the tests of each crate, and the worst status."""
+    tried = [
+        subprocess.run([RT, "try", "--test", "--seconds", SECONDS], cwd=crate, capture_output=True, text=True)
+        for crate in laid_in
+    ]
+    return "".join(run.stdout + run.stderr for run in tried), max(run.returncode for run in tried)
+
+
 def main():
     having = [name for name in crates() if texts_of(name)]
     words = sys.argv[1:]
@@ -88,18 +104,19 @@ def main():
         sys.exit(f"no tests of {', '.join(lacking)}: there are those of {', '.join(having)}")
     wanted = sum(count(name) for name in names)
     with tempfile.TemporaryDirectory() as folder:
-        crate = repository(Path(folder), names)
+        laid_in = repository(Path(folder), names)
         if "--fmt" in words:
-            return lay_out(crate, names)
-        tried = subprocess.run([RT, "try", "--test", "--seconds", SECONDS], cwd=crate, capture_output=True, text=True)
-    report = tried.stdout + tried.stderr
+            for crate, those in laid_in.items():
+                lay_out(crate, those)
+            return 0
+        report, status = reports(laid_in)
     ran = re.findall(r"(?m)^test of_(\w+)::\S+ \.\.\. ok$", report)
-    if tried.returncode != 0 or len(ran) != wanted or wanted == 0:
+    if status != 0 or len(ran) != wanted or wanted == 0:
         print(report)
     for name in names:
         print(f"{name}: {ran.count(name)} of {count(name)} tests passed")
-    print(f"{len(ran)} of {wanted} tests passed, status {tried.returncode}")
-    return 0 if tried.returncode == 0 and len(ran) == wanted > 0 else 1
+    print(f"{len(ran)} of {wanted} tests passed, status {status}")
+    return 0 if status == 0 and len(ran) == wanted > 0 else 1
 
 
 if __name__ == "__main__":

@@ -7,8 +7,6 @@
 
 mod error;
 mod meeting;
-#[cfg(test)]
-mod tests;
 mod zone;
 
 pub use error::MeetingError;

@@ -1,11 +1,11 @@
 -- The list of a stretch's changes: there is no other, and how it begins and ends.
-use Rattle.std.proofs.Common.{◌≡◌, ℕ, zero, suc, ◌<◌, arith, refl, sym, ap, ◌∙◌, List, [], ◌∷◌, ◌++◌, length, get_or, ℤ, pos, ◌+ℤ◌, ◌-ℤ◌, ◌≤ℤ◌, ◌<ℤ◌, ◌⊎◌, inl, inr, All, Option, Some, None, MatchOption, ◌↔◌, w64, subst}
-use Rattle.std.specs.Prelude.{AllPairs, Contains}
+use Rattle.std.proofs.Common.{◌≡◌, ℕ, zero, suc, ◌+◌, add-zero, add-suc, append_assoc, ◌<◌, arith, refl, sym, ap, ◌∙◌, List, [], ◌∷◌, ◌++◌, length, get_or, ℤ, pos, ◌+ℤ◌, ◌-ℤ◌, ◌≤ℤ◌, ◌<ℤ◌, inl, inr, Option, Some, None, MatchOption, ◌↔◌, w64, subst}
+use Rattle.std.specs.Prelude.{Contains}
 use Rattle.std.proofs.lemmas.List.{append-nil, length-append}
 use mir.Val.{SFits}
 use Rattle.std.proofs.lemmas.Int.{ints, by_lt_z}
 use Rattle.std.proofs.lemmas.List.Elements.{Contains-get_or, Contains-push, Contains-push_cases, Contains-append_left}
-use Rattle.std.proofs.lemmas.List.Kept.{AllPairs-cons}
+use Rattle.std.proofs.lemmas.List.Quantifiers.{all_pairs_push}
 use Rattle.tz_info.specs.Changes.{IsChange, HasNoChange, IsFirstChange, IsLastChange, IsFirst, IsLast, IsFromUntil, AreChanges}
 use Rattle.tz_info.specs.ChangesLeft.{changes_left}
 use Rattle.tz_info.specs.Leaps.{least_time}
@@ -14,68 +14,17 @@ use Rattle.tz_info.specs.declared.change.Change.{Change}
 use Rattle.tz_info.specs.declared.zone.all_changes.Changes.{Changes}
 use Rattle.tz_info.specs.Steps.ChangeLists.{change_here, changes_in, changes_of, seconds_between, type_or_none}
 use Rattle.tz_info.specs.Zones.{Zone, IsValid, IsRuleOrNone, TypeAt}
-use Rattle.tz_info.proofs.ChangeSearch.{InForce, IsOnce, last_moved}
+use Rattle.tz_info.proofs.ChangeSearch.{InForce, IsOnce}
 use Rattle.tz_info.proofs.Prefixes.{lt_true, lt_false}
 use Rattle.tz_info.proofs.SecondTypes.{AreTypes, here_listed, types_told}
 use Rattle.tz_info.proofs.ZoneLaws.{type_once}
 
--- ---- elements of a list
-contains_head : {X : Type 0} (x : X) (xs : List X) → Contains (x ∷ xs) x
-contains_head x xs = (0, omega arith, refl)
-
-contains_tail : {X : Type 0} (x y : X) (xs : List X) → Contains xs y → Contains (x ∷ xs) y
-contains_tail x y xs (k, below, is) = (suc k, omega arith, is)
-
-contains_cases : {X : Type 0} (x y : X) (xs : List X) → Contains (x ∷ xs) y → (x ≡ y) ⊎ Contains xs y
-contains_cases x y xs (zero, below, is) = inl is
-contains_cases x y xs (suc k, below, is) = inr (k, omega arith, is)
-
 contains_none : {X : Type 0} (y : X) → Contains {X = X} [] y → ⊥
 contains_none y (k, below, is) = omega arith
 
--- ---- rising lists
-abbrev IsRising : List Change → Type 0
-IsRising changes = AllPairs (λ c d. c.at <ℤ d.at) changes
-
-rising_tail : (c : Change) (cs : List Change) → IsRising (c ∷ cs) → IsRising cs
-rising_tail c cs h = λ i j d l k. h (suc i) (suc j) d (omega arith) (omega arith)
-
-head_before : (c : Change) (cs : List Change) → IsRising (c ∷ cs) → (d : Change) → Contains cs d → c.at <ℤ d.at
-head_before c cs h d (k, below, is) = let r = h 0 (suc k) d (omega arith) (omega arith) in rw is at r
-
--- with the same elements they are the same list
-same_rising : (cs ds : List Change) → IsRising cs → IsRising ds → ((e : Change) → Contains cs e → Contains ds e) → ((e : Change) → Contains ds e → Contains cs e) → cs ≡ ds
-same_rising [] [] h k to from = refl
-same_rising [] (d ∷ ds) h k to from = absurd (contains_none d (from d (contains_head d ds)))
-same_rising (c ∷ cs) [] h k to from = absurd (contains_none c (to c (contains_head c cs)))
-same_rising (c ∷ cs) (d ∷ ds) h k to from =
-    let heads : c ≡ d = elim (contains_cases d c ds (to c (contains_head c cs))) [
-      | inl e ↦ sym e
-      | inr later ↦ elim (contains_cases c d cs (from d (contains_head d ds))) [
-        | inl e ↦ e
-        | inr after ↦
-            let a = head_before d ds k c later in
-            let b = head_before c cs h d after in
-            absurd (omega (arith, ints, a, b))
-      ]
-    ] in
-    let tails = same_rising cs ds (rising_tail c cs h) (rising_tail d ds k)
-    (λ e inside. elim (contains_cases d e ds (to e (contains_tail c e cs inside))) [
-      | inl same ↦ absurd (not_itself c e (heads ∙ same) (head_before c cs h e inside))
-      | inr rest ↦ rest
-    ])
-    (λ e inside. elim (contains_cases c e cs (from e (contains_tail d e ds inside))) [
-      | inl same ↦ absurd (not_itself d e (sym heads ∙ same) (head_before d ds k e inside))
-      | inr rest ↦ rest
-    ]) in
-    ap (λ x. x ∷ cs) heads ∙ ap (λ xs. d ∷ xs) tails
-  where
-    not_itself : (c e : Change) → c ≡ e → c.at <ℤ e.at → ⊥
-    not_itself c e same less = let t = ap (λ (x : Change). x.at) same in omega (arith, ints, less, t)
-
--- there is one list of the changes of a stretch
-pub changes_once : (f : InForce) (from until : ℤ) (cs ds : List Change) → AreChanges f from until cs → AreChanges f from until ds → cs ≡ ds
-changes_once f from until cs ds h k = same_rising cs ds h.rising k.rising (λ e inside. (k.each e).1 ((h.each e).0 inside)) (λ e inside. (h.each e).1 ((k.each e).0 inside))
+empty : (cs : List Change) → ((c : Change) → Contains cs c → ⊥) → cs ≡ []
+empty [] none = refl
+empty (c ∷ cs) none = absurd (none c (0, omega arith, refl))
 
 -- ---- how lists are made
 pub no_changes : (f : InForce) (from until : ℤ) → HasNoChange f (IsFromUntil from until) → AreChanges f from until []
@@ -88,68 +37,18 @@ no_changes f from until none = record {
 abbrev pub AreApart : InForce → Type 0
 AreApart f = (c d : Change) → IsChange f c → IsChange f d → c.at ≡ d.at → c ≡ d
 
-first_cases : (f : InForce) (from until : ℤ) (c : Change) → AreApart f → IsFirstChange f (IsFromUntil from until) c → (d : Change) → IsChange f d → IsFromUntil from until d.at → (c ≡ d) ⊎ IsFromUntil (c.at +ℤ pos 1) until d.at
-first_cases f from until c apart h d is inside =
-    let least = h.first d is inside in
-    by_lt_z c.at d.at
-    (λ less. let u = inside.1 in inr (omega (arith, ints, less), u))
-    (λ more. inl (apart c d h.is is (omega (arith, ints, least, more))))
-
--- the first change, and then those after it
-pub first_then : (f : InForce) (from until : ℤ) (c : Change) (cs : List Change) → AreApart f → IsFirstChange f (IsFromUntil from until) c → AreChanges f (c.at +ℤ pos 1) until cs → AreChanges f from until (c ∷ cs)
-first_then f from until c cs apart h rest = record {
-  rising = AllPairs-cons (λ a b. a.at <ℤ b.at) c cs (all_after c cs (λ d inside. ((rest.each d).0 inside).1.0)) rest.rising;
-  each = λ d. (
-    λ inside. elim (contains_cases c d cs inside) [
-      | inl same ↦ subst (λ (x : Change). IsChange f x × IsFromUntil from until x.at) same (h.is, h.inside)
-      | inr later ↦
-          let k = (rest.each d).0 later in
-          let low = h.inside.0 in
-          let l = k.1.0 in
-          (k.0, (omega (arith, ints, low, l), k.1.1))
-    ],
-    λ k. elim (first_cases f from until c apart h d k.0 k.1) [
-      | inl same ↦ subst (λ (x : Change). Contains (c ∷ cs) x) same (contains_head c cs)
-      | inr later ↦ contains_tail c d cs ((rest.each d).1 (k.0, later))
-    ],
-  );
-} where
-  all_after : (c : Change) (cs : List Change) → ((d : Change) → Contains cs d → (c.at +ℤ pos 1) ≤ℤ d.at) → All (λ d. c.at <ℤ d.at) cs
-  all_after c cs h = λ k d below. let l = h (get_or cs k d) (Contains-get_or cs k d below) in omega (arith, ints, l)
-
-last_cases : (f : InForce) (from until : ℤ) (c : Change) → AreApart f → IsLastChange f (IsFromUntil from until) c → (d : Change) → IsChange f d → IsFromUntil from until d.at → (c ≡ d) ⊎ IsFromUntil from c.at d.at
-last_cases f from until c apart h d is inside =
-    let most = h.last d is inside in
-    by_lt_z d.at c.at
-    (λ less. let u = inside.0 in inr (u, less))
-    (λ more. inl (apart c d h.is is (omega (arith, ints, most, more))))
-
-rising_push : (cs : List Change) (c : Change) → IsRising cs → ((d : Change) → Contains cs d → d.at <ℤ c.at) → IsRising (cs ++ c ∷ [])
-rising_push [] c h before = λ i j d l k. absurd (omega arith)
-rising_push (x ∷ xs) c h before = AllPairs-cons (λ a b. a.at <ℤ b.at) x (xs ++ c ∷ [])
-    (λ k d below. elim (Contains-push_cases xs c (get_or (xs ++ c ∷ []) k d) (Contains-get_or (xs ++ c ∷ []) k d below)) [
-      | inl inside ↦ head_before x xs h (get_or (xs ++ c ∷ []) k d) inside
-      | inr same ↦ subst (λ (y : Change). x.at <ℤ y.at) same (before x (contains_head x xs))
-    ])
-    (rising_push xs c (rising_tail x xs h) (λ d inside. before d (contains_tail x d xs inside)))
-
--- those before the last change, and then it
-pub then_last : (f : InForce) (from until : ℤ) (c : Change) (cs : List Change) → AreApart f → IsLastChange f (IsFromUntil from until) c → AreChanges f from c.at cs → AreChanges f from until (cs ++ c ∷ [])
-then_last f from until c cs apart h rest = record {
-  rising = rising_push cs c rest.rising (λ d inside. ((rest.each d).0 inside).1.1);
+-- a change at the last second comes behind those before it
+then_here : (f : InForce) (from last : ℤ) (c : Change) (cs : List Change) → AreApart f → IsChange f c → c.at ≡ last → from ≤ℤ last → AreChanges f from last cs → AreChanges f from (last +ℤ pos 1) (cs ++ c ∷ [])
+then_here f from last c cs apart is at low h = record {
+  rising = all_pairs_push (λ a b. a.at <ℤ b.at) cs c h.rising (λ k d below. rw at ((h.each (get_or cs k d)).0 (Contains-get_or cs k d below)).1.1);
   each = λ d. (
     λ inside. elim (Contains-push_cases cs c d inside) [
-      | inl earlier ↦
-          let k = (rest.each d).0 earlier in
-          let high = h.inside.1 in
-          let l = k.1.1 in
-          (k.0, (k.1.0, omega (arith, ints, high, l)))
-      | inr same ↦ subst (λ (x : Change). IsChange f x × IsFromUntil from until x.at) same (h.is, h.inside)
+      | inl earlier ↦ let k = (h.each d).0 earlier in let l = k.1.1 in (k.0, (k.1.0, omega (arith, ints, l)))
+      | inr same ↦ subst (λ (x : Change). IsChange f x × IsFromUntil from (last +ℤ pos 1) x.at) same (is, (omega (arith, ints, at, low), omega (arith, ints, at)))
     ],
-    λ k. elim (last_cases f from until c apart h d k.0 k.1) [
-      | inl same ↦ subst (λ (x : Change). Contains (cs ++ c ∷ []) x) same (Contains-push cs c)
-      | inr earlier ↦ Contains-append_left cs (c ∷ []) d ((rest.each d).1 (k.0, earlier))
-    ],
+    λ k. by_lt_z d.at last
+        (λ less. Contains-append_left cs (c ∷ []) d ((h.each d).1 (k.0, (k.1.0, less))))
+        (λ more. let l = k.1.1 in subst (λ (x : Change). Contains (cs ++ c ∷ []) x) (apart c d is k.0 (omega (arith, ints, at, l, more))) (Contains-push cs c)),
   );
 }
 
@@ -163,14 +62,6 @@ same_without f from last cs none h = record {
         (λ less. (h.each d).1 (k.0, (k.1.0, less)))
         (λ more. let l = k.1.1 in absurd (none d k.0 (omega (arith, ints, l, more)))),
   );
-}
-
--- a change at the last second is the last one
-pub last_at : (f : InForce) (from last : ℤ) (c : Change) → IsChange f c → c.at ≡ last → from ≤ℤ last → IsLastChange f (IsFromUntil from (last +ℤ pos 1)) c
-last_at f from last c is at low = record {
-  is = is;
-  inside = (omega (arith, ints, at, low), omega (arith, ints, at));
-  last = λ d is_d inside. let l = inside.1 in omega (arith, ints, at, l);
 }
 
 -- ---- the list that is made second by second
@@ -192,15 +83,14 @@ changes_made f types from (suc n) once told =
     let end : last +ℤ pos 1 ≡ from +ℤ pos (suc n) = omega (arith, ints) in
     subst (λ (until : ℤ). AreChanges f from until (changes_in types from n ++ change_here types last)) end (elim (here_listed f types last once told) [
       | inl none ↦ rw none.0 (rw (append-nil (changes_in types from n)) (same_without f from last (changes_in types from n) none.1 earlier))
-      | inr one ↦
-          let c = one.0 in
-          let at = one.3 in
-          rw one.1 (then_last f from (last +ℤ pos 1) c (changes_in types from n) (apart f once) (last_at f from last c one.2 at (omega (arith, ints))) (rw at earlier))
+      | inr one ↦ rw one.1 (then_here f from last one.0 (changes_in types from n) (apart f once) one.2 one.3 (omega (arith, ints)) earlier)
     ])
 
-until_is : (from until : ℤ) → from <ℤ until → from +ℤ pos (seconds_between from until) ≡ until
+until_is : (from until : ℤ) → from ≤ℤ until → from +ℤ pos (seconds_between from until) ≡ until
 unfolding seconds_between
-until_is from until less = rw (lt_true from until less) (omega (arith, ints, less))
+until_is from until late = by_lt_z from until
+    (λ less. rw (lt_true from until less) (omega (arith, ints, less)))
+    (λ more. rw (lt_false from until more) (omega (arith, ints, late, more)))
 
 none_between : (from until : ℤ) → until ≤ℤ from → seconds_between from until ≡ 0
 unfolding seconds_between
@@ -213,21 +103,43 @@ once_of z u s t h k = type_once z u s t h k
 pub changes_are : (z : Zone) (from until : ℤ) → IsValid z → IsRuleOrNone z.rule → AreChanges (TypeAt z) from until (changes_of z from until)
 unfolding changes_of
 changes_are z from until valid limits = by_lt_z from until
-    (λ less. subst (λ (u : ℤ). AreChanges (TypeAt z) from u (changes_in (type_or_none z) from (seconds_between from until))) (until_is from until less) (changes_made (TypeAt z) (type_or_none z) from (seconds_between from until) (once_of z) (types_told z valid limits)))
+    (λ less. subst (λ (u : ℤ). AreChanges (TypeAt z) from u (changes_in (type_or_none z) from (seconds_between from until))) (until_is from until (omega (arith, ints, less))) (changes_made (TypeAt z) (type_or_none z) from (seconds_between from until) (once_of z) (types_told z valid limits)))
     (λ late. rw (none_between from until late) (no_changes (TypeAt z) from until (λ d is inside. let l = inside.0 in let m = inside.1 in omega (arith, ints, l, m, late))))
 
 pub none_left : (z : Zone) (from until : ℤ) → IsValid z → IsRuleOrNone z.rule → HasNoChange (TypeAt z) (IsFromUntil from until) → changes_of z from until ≡ []
-none_left z from until valid limits none = changes_once (TypeAt z) from until (changes_of z from until) [] (changes_are z from until valid limits) (no_changes (TypeAt z) from until none)
+none_left z from until valid limits none = empty _ (λ c inside. let k = ((changes_are z from until valid limits).each c).0 inside in none c k.0 k.1)
+
+-- the seconds of two stretches, one after the other
+parts : (types : ℤ → Option LocalType) (from : ℤ) (m n : ℕ) → changes_in types from (m + n) ≡ changes_in types from m ++ changes_in types (from +ℤ pos m) n
+parts types from m zero = rw add-zero (sym (append-nil (changes_in types from m)))
+parts types from m (suc n) =
+    let e : (from +ℤ pos m) +ℤ pos n ≡ from +ℤ pos (m + n) = omega (arith, ints) in
+    rw (add-suc, e, parts types from m n) (append_assoc (changes_in types from m) (changes_in types (from +ℤ pos m) n) (change_here types (from +ℤ pos (m + n))))
+
+-- a change, those before it and those after it
+around : (z : Zone) (from until : ℤ) (c : Change) → IsValid z → IsRuleOrNone z.rule → IsChange (TypeAt z) c → IsFromUntil from until c.at → changes_of z from until ≡ changes_of z from c.at ++ c ∷ changes_of z (c.at +ℤ pos 1) until
+unfolding changes_of
+around z from until c valid limits is inside =
+    let low = inside.0 in let high = inside.1 in
+    let m = seconds_between from c.at in let n = seconds_between (c.at +ℤ pos 1) until in
+    let all = until_is from until (omega (arith, ints)) in let first = until_is from c.at low in let last = until_is (c.at +ℤ pos 1) until (omega (arith, ints)) in
+    let split : seconds_between from until ≡ m + (1 + n) = omega (arith, ints) in
+    let at : c.at +ℤ pos 0 ≡ c.at = omega (arith, ints) in
+    let here : change_here (type_or_none z) c.at ≡ c ∷ [] = elim (here_listed (TypeAt z) (type_or_none z) c.at (once_of z) (types_told z valid limits)) [
+      | inl none ↦ absurd (none.1 c is refl)
+      | inr one ↦ one.1 ∙ ap (λ d. d ∷ []) (apart (TypeAt z) (once_of z) one.0 c one.2 is one.3)
+    ] in
+    rw split (parts (type_or_none z) from m (1 + n) ∙ rw first (ap (λ cs. changes_in (type_or_none z) from m ++ cs) (parts (type_or_none z) c.at 1 n ∙ rw (at, here) refl)))
 
 pub first_left : (z : Zone) (from until : ℤ) (c : Change) → IsValid z → IsRuleOrNone z.rule → IsFirstChange (TypeAt z) (IsFromUntil from until) c → changes_of z from until ≡ c ∷ changes_of z (c.at +ℤ pos 1) until
-first_left z from until c valid limits first =
-    changes_once (TypeAt z) from until (changes_of z from until) (c ∷ changes_of z (c.at +ℤ pos 1) until) (changes_are z from until valid limits)
-    (first_then (TypeAt z) from until c (changes_of z (c.at +ℤ pos 1) until) (apart (TypeAt z) (once_of z)) first (changes_are z (c.at +ℤ pos 1) until valid limits))
+first_left z from until c valid limits h =
+    let none = none_left z from c.at valid limits (λ d is k. let u = h.inside.1 in let l = k.1 in let m = h.first d is (k.0, omega (arith, ints)) in omega (arith, ints)) in
+    rw none at (around z from until c valid limits h.is h.inside)
 
 pub last_left : (z : Zone) (from until : ℤ) (c : Change) → IsValid z → IsRuleOrNone z.rule → IsLastChange (TypeAt z) (IsFromUntil from until) c → changes_of z from until ≡ changes_of z from c.at ++ c ∷ []
-last_left z from until c valid limits last =
-    changes_once (TypeAt z) from until (changes_of z from until) (changes_of z from c.at ++ c ∷ []) (changes_are z from until valid limits)
-    (then_last (TypeAt z) from until c (changes_of z from c.at) (apart (TypeAt z) (once_of z)) last (changes_are z from c.at valid limits))
+last_left z from until c valid limits h =
+    let none = none_left z (c.at +ℤ pos 1) until valid limits (λ d is k. let u = h.inside.0 in let l = k.0 in let m = h.last d is (omega (arith, ints), k.1) in omega (arith, ints)) in
+    rw none at (around z from until c valid limits h.is h.inside)
 
 -- ---- the first and the last change of a stretch
 change_late : (f : InForce) (d : Change) → IsChange f d → least_time <ℤ d.at
@@ -252,26 +164,19 @@ first_of_stretch f from until after c (Some r) before h early = rw early.1 (reco
 pub none_of_stretch : (f : InForce) (from until after : ℤ) → IsBefore after from → HasNoChange f (λ u. after <ℤ u) → HasNoChange f (IsFromUntil from until)
 none_of_stretch f from until after before none = λ d is inside. none d is ((before d.at (change_late f d is)).1 inside.0)
 
-pub last_of_stretch : (f : InForce) (from last : ℤ) (c : Change) (r : Option Change) → IsLastChange f (λ u. u ≤ℤ last) c
-    → MatchOption r (c.at <ℤ from) (λ d. (from ≤ℤ c.at) × (d ≡ c)) → IsLast f (λ u. (from ≤ℤ u) × (u ≤ℤ last)) r
-last_of_stretch f from last c None h early = λ d is inside.
-    let l = h.last d is inside.1 in
-    let m = inside.0 in
+pub last_of_stretch : (f : InForce) (from until last : ℤ) (c : Change) (r : Option Change) → last ≡ until -ℤ pos 1 → IsLastChange f (λ u. u ≤ℤ last) c
+    → MatchOption r (c.at <ℤ from) (λ d. (from ≤ℤ c.at) × (d ≡ c)) → IsLast f (IsFromUntil from until) r
+last_of_stretch f from until last c None e h early = λ d is inside.
+    let m = inside.0 in let u = inside.1 in let l = h.last d is (omega (arith, ints, e, u)) in
     omega (arith, ints, l, m, early)
-last_of_stretch f from last c (Some r) h late = rw late.1 (record {
+last_of_stretch f from until last c (Some r) e h late = rw late.1 (record {
   is = h.is;
-  inside = (late.0, h.inside);
-  last = λ d is inside. h.last d is inside.1;
+  inside = let m = h.inside in (late.0, omega (arith, ints, e, m));
+  last = λ d is inside. let u = inside.1 in h.last d is (omega (arith, ints, e, u));
 })
 
-pub none_up_to : (f : InForce) (from last : ℤ) → HasNoChange f (λ u. u ≤ℤ last) → HasNoChange f (λ u. (from ≤ℤ u) × (u ≤ℤ last))
-none_up_to f from last none = λ d is inside. none d is inside.1
-
--- up to the second before an end, or before the end
-pub last_until : (f : InForce) (from until last : ℤ) (r : Option Change) → last ≡ until -ℤ pos 1 → IsLast f (λ u. (from ≤ℤ u) × (u ≤ℤ last)) r → IsLast f (IsFromUntil from until) r
-last_until f from until last r is h = last_moved f f _ _ r
-    (λ d c inside. let m = inside.1 in (c, (inside.0, omega (arith, ints, is, m))))
-    (λ d c inside. let m = inside.1 in (c, (inside.0, omega (arith, ints, is, m)))) h
+pub none_up_to : (f : InForce) (from until last : ℤ) → last ≡ until -ℤ pos 1 → HasNoChange f (λ u. u ≤ℤ last) → HasNoChange f (IsFromUntil from until)
+none_up_to f from until last e none = λ d is inside. let u = inside.1 in none d is (omega (arith, ints, e, u))
 
 -- no change comes before the first second of 64 bits
 pub none_before_all : (f : InForce) (from until : ℤ) → SFits w64 until → (SFits w64 (until -ℤ pos 1) → ⊥) → HasNoChange f (IsFromUntil from until)

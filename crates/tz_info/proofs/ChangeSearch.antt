@@ -1,11 +1,12 @@
 -- The first and the last change among seconds, and in a stretch.
-use Rattle.std.proofs.Common.{◌≡◌, ◌≢◌, ℕ, ◌+◌, arith, refl, sym, ap, ◌∙◌, List, get_or, ℤ, pos, ◌-ℤ◌, ◌≤ℤ◌, ◌<ℤ◌, ◌⊎◌, inl, inr, Option, Some, None, MatchOption, w64}
+use Rattle.std.proofs.Common.{◌≡◌, ◌≢◌, ℕ, ◌+◌, arith, refl, sym, ◌∙◌, List, get_or, ℤ, pos, ◌-ℤ◌, ◌≤ℤ◌, ◌<ℤ◌, ◌⊎◌, inl, inr, ⊎_elim, Bool, true, false, Option, Some, None, MatchOption, w64}
 use Rattle.std.proofs.lemmas.Int.{ints, by_lt_z}
 use Rattle.std.proofs.lemmas.Bool.{cases_lt}
 use mir.Val.{SFits}
-use Rattle.tz_info.specs.Changes.{IsChange, HasNoChange, IsFirstChange, IsLastChange, IsFirst, IsLast}
+use Rattle.tz_info.specs.Changes.{IsChange, HasNoChange, IsFirst, IsLast, IsLastChange}
+use Rattle.tz_info.specs.Leaps.{least_time}
 use Rattle.tz_info.specs.LocalTypes.{LocalType}
-use Rattle.tz_info.specs.Steps.Changes.{IsInStretch, IsOneOf, IsIdle, first_one, last_one, later_of, earlier_of}
+use Rattle.tz_info.specs.Steps.Changes.{IsInStretch, IsNearest, IsOneOf, IsIdle, Precedes, nearer_one}
 use Rattle.tz_info.specs.declared.change.Change.{Change}
 use Rattle.tz_info.proofs.Prefixes.{lt_true, lt_false}
 
@@ -24,114 +25,60 @@ one_more seconds n after last u one =
       | inr m ↦ let e : one.place ≡ n = omega arith in inr (rw e at one.is, one.inside)
     ]
 
-one_still : (seconds : List ℤ) (n : ℕ) (after last u : ℤ) → IsOneOf seconds n after last u → IsOneOf seconds (n + 1) after last u
-one_still seconds n after last u one = let b = one.below in record { place = one.place; below = omega arith; is = one.is; inside = one.inside }
+one_still : (seconds : List ℤ) (n : ℕ) (after last u : ℤ) → IsOneOf seconds n after last u ⊎ ((get_or seconds n (pos 0) ≡ u) × IsInStretch after last u) → IsOneOf seconds (n + 1) after last u
+one_still seconds n after last u (inl one) = let b = one.below in record { place = one.place; below = omega arith; is = one.is; inside = one.inside }
+one_still seconds n after last u (inr here) = record { place = n; below = omega arith; is = here.0; inside = here.1 }
 
-first_kept : (f : InForce) (seconds : List ℤ) (n : ℕ) (after last second : ℤ) (found : Option Change) → get_or seconds n (pos 0) ≡ second → IsIdle f after last second
-    → IsFirst f (IsOneOf seconds n after last) found → IsFirst f (IsOneOf seconds (n + 1) after last) found
-first_kept f seconds n after last second None e idle h = λ d is one. elim (one_more seconds n after last d.at one) [
-  | inl k ↦ h d is k
-  | inr k ↦ idle d is (sym k.0 ∙ e) k.1
-]
-first_kept f seconds n after last second (Some c) e idle h = record {
-  is = h.is;
-  inside = one_still seconds n after last c.at h.inside;
-  first = λ d is one. elim (one_more seconds n after last d.at one) [
-    | inl k ↦ h.first d is k
-    | inr k ↦ absurd (idle d is (sym k.0 ∙ e) k.1)
-  ];
-}
+-- the same changes, told otherwise
+pub nearest_moved : (w : Bool) (f g : InForce) (p q : ℤ → Type 0) (found : Option Change) → ((d : Change) → IsChange g d → q d.at → IsChange f d × p d.at) → ((d : Change) → IsChange f d → p d.at → IsChange g d × q d.at)
+    → IsNearest w f p found → IsNearest w g q found
+nearest_moved w f g p q None to from h = λ d is k. let m = to d is k in h d m.0 m.1
+nearest_moved w f g p q (Some c) to from h =
+    let m = from c h.is h.inside in
+    record { is = m.0; inside = m.1; nearest = λ d is k. let n = to d is k in h.nearest d n.0 n.1 }
 
--- the one found does not come later
-first_stays : (f : InForce) (seconds : List ℤ) (n : ℕ) (after last second : ℤ) (c : Change) → get_or seconds n (pos 0) ≡ second → c.at ≤ℤ second
-    → IsFirstChange f (IsOneOf seconds n after last) c → IsFirstChange f (IsOneOf seconds (n + 1) after last) c
-first_stays f seconds n after last second c e early h = record {
-  is = h.is;
-  inside = one_still seconds n after last c.at h.inside;
-  first = λ d is one. elim (one_more seconds n after last d.at one) [
-    | inl k ↦ h.first d is k
-    | inr k ↦ let i = k.0 in omega (arith, ints)
-  ];
-}
+-- of the nearest change of some seconds and that of others the one that comes first is the nearest one of all
+nearest_either : (w : Bool) (f : InForce) (p q : ℤ → Type 0) (found other : Option Change) → IsNearest w f p found → IsNearest w f q other → IsNearest w f (λ u. p u ⊎ q u) (nearer_one w found other)
+nearest_either w f p q None None h k = λ d is. ⊎_elim (h d is) (k d is)
+nearest_either w f p q None (Some d) h k = record { is = k.is; inside = inr k.inside; nearest = λ e is. ⊎_elim (λ i. absurd (h e is i)) (k.nearest e is) }
+nearest_either w f p q (Some c) None h k = record { is = h.is; inside = inl h.inside; nearest = λ e is. ⊎_elim (h.nearest e is) (λ i. absurd (k e is i)) }
+nearest_either true f p q (Some c) (Some d) h k = by_lt_z d.at c.at
+    (λ less. rw (lt_true d.at c.at less) (record { is = k.is; inside = inr k.inside; nearest = λ e is. ⊎_elim (λ i. let n = h.nearest e is i in omega (arith, ints)) (k.nearest e is) }))
+    (λ m. rw (lt_false d.at c.at m) (record { is = h.is; inside = inl h.inside; nearest = λ e is. ⊎_elim (h.nearest e is) (λ i. let n = k.nearest e is i in omega (arith, ints)) }))
+nearest_either false f p q (Some c) (Some d) h k = by_lt_z c.at d.at
+    (λ less. rw (lt_true c.at d.at less) (record { is = k.is; inside = inr k.inside; nearest = λ e is. ⊎_elim (λ i. let n = h.nearest e is i in omega (arith, ints)) (k.nearest e is) }))
+    (λ m. rw (lt_false c.at d.at m) (record { is = h.is; inside = inl h.inside; nearest = λ e is. ⊎_elim (h.nearest e is) (λ i. let n = k.nearest e is i in omega (arith, ints)) }))
 
--- a change comes at the second at place n, and none was found before it
-first_here : (f : InForce) (seconds : List ℤ) (n : ℕ) (after last second : ℤ) (found : Option Change) (c : Change) → get_or seconds n (pos 0) ≡ second → IsInStretch after last second → IsChange f c → c.at ≡ second
-    → ((e : Change) → found ≡ Some e → second <ℤ e.at) → IsFirst f (IsOneOf seconds n after last) found → IsFirstChange f (IsOneOf seconds (n + 1) after last) c
-first_here f seconds n after last second found c e inside is at less h = record {
-  is = is;
-  inside = record { place = n; below = omega arith; is = e ∙ sym at; inside = rw at inside };
-  first = λ d is_d one. elim (one_more seconds n after last d.at one) [
-    | inl k ↦ earlier found d is_d less h k
-    | inr k ↦ let i = k.0 in omega (arith, ints)
-  ];
-} where
-  earlier : (found : Option Change) (d : Change) → IsChange f d → ((e : Change) → found ≡ Some e → second <ℤ e.at) → IsFirst f (IsOneOf seconds n after last) found → IsOneOf seconds n after last d.at → c.at ≤ℤ d.at
-  earlier None d is_d less h k = absurd (h d is_d k)
-  earlier (Some e) d is_d less h k = let s = less e refl in let g = h.first d is_d k in omega (arith, ints)
+precedes_itself : (w : Bool) (x y : ℤ) → x ≡ y → Precedes w x y
+precedes_itself true x y e = omega (arith, ints)
+precedes_itself false x y e = omega (arith, ints)
 
--- one second more, of which is known whether it has a change in the stretch
+-- one second, of which is known whether it has a change in the stretch
 abbrev pub IsAsked : InForce → ℤ → ℤ → ℤ → Option Change → Type 0
 IsAsked f after last second other = MatchOption other (IsIdle f after last second) (λ c. IsChange f c × (c.at ≡ second) × IsInStretch after last second)
 
-pub first_more : (f : InForce) (seconds : List ℤ) (n : ℕ) (after last second : ℤ) (found other result : Option Change) → get_or seconds n (pos 0) ≡ second → result ≡ first_one found other
-    → IsAsked f after last second other → IsFirst f (IsOneOf seconds n after last) found → IsFirst f (IsOneOf seconds (n + 1) after last) result
-first_more f seconds n after last second None None result e is asked h = rw is (first_kept f seconds n after last second None e asked h)
-first_more f seconds n after last second None (Some d) result e is asked h = rw is (first_here f seconds n after last second None d e asked.2 asked.0 asked.1 (λ x same. cc) h)
-first_more f seconds n after last second (Some c) None result e is asked h = rw is (first_kept f seconds n after last second (Some c) e asked h)
-first_more f seconds n after last second (Some c) (Some d) result e is asked h = by_lt_z d.at c.at
-    (λ less. rw (is, lt_true d.at c.at less) (first_here f seconds n after last second (Some c) d e asked.2 asked.0 asked.1 (λ x same. let t : c ≡ x = cc in let u = ap (λ (y : Change). y.at) t in let v = asked.1 in omega (arith, ints)) h))
-    (λ m. rw (is, lt_false d.at c.at m) (first_stays f seconds n after last second c e (let v = asked.1 in omega (arith, ints)) h))
+asked : (w : Bool) (f : InForce) (after last second : ℤ) (other : Option Change) → IsAsked f after last second other → IsNearest w f (λ u. (second ≡ u) × IsInStretch after last u) other
+asked w f after last second None h = λ d is k. h d is (sym k.0) k.1
+asked w f after last second (Some c) h = record { is = h.0; inside = (sym h.1, rw h.1 h.2); nearest = λ d is k. precedes_itself w c.at d.at (h.1 ∙ k.0) }
 
-last_kept : (f : InForce) (seconds : List ℤ) (n : ℕ) (after last second : ℤ) (found : Option Change) → get_or seconds n (pos 0) ≡ second → IsIdle f after last second
-    → IsLast f (IsOneOf seconds n after last) found → IsLast f (IsOneOf seconds (n + 1) after last) found
-last_kept f seconds n after last second None e idle h = λ d is one. elim (one_more seconds n after last d.at one) [
-  | inl k ↦ h d is k
-  | inr k ↦ idle d is (sym k.0 ∙ e) k.1
-]
-last_kept f seconds n after last second (Some c) e idle h = record {
-  is = h.is;
-  inside = one_still seconds n after last c.at h.inside;
-  last = λ d is one. elim (one_more seconds n after last d.at one) [
-    | inl k ↦ h.last d is k
-    | inr k ↦ absurd (idle d is (sym k.0 ∙ e) k.1)
-  ];
-}
+-- one second more
+pub nearest_more : (w : Bool) (f : InForce) (seconds : List ℤ) (n : ℕ) (after last : ℤ) (found other : Option Change) → IsAsked f after last (get_or seconds n (pos 0)) other
+    → IsNearest w f (IsOneOf seconds n after last) found → IsNearest w f (IsOneOf seconds (n + 1) after last) (nearer_one w found other)
+nearest_more w f seconds n after last found other told h =
+    nearest_moved w f f _ (IsOneOf seconds (n + 1) after last) (nearer_one w found other)
+    (λ d is k. (is, one_more seconds n after last d.at k))
+    (λ d is k. (is, one_still seconds n after last d.at k))
+    (nearest_either w f (IsOneOf seconds n after last) _ found other h (asked w f after last (get_or seconds n (pos 0)) other told))
 
--- the one found does not come sooner
-last_stays : (f : InForce) (seconds : List ℤ) (n : ℕ) (after last second : ℤ) (c : Change) → get_or seconds n (pos 0) ≡ second → second ≤ℤ c.at
-    → IsLastChange f (IsOneOf seconds n after last) c → IsLastChange f (IsOneOf seconds (n + 1) after last) c
-last_stays f seconds n after last second c e late h = record {
-  is = h.is;
-  inside = one_still seconds n after last c.at h.inside;
-  last = λ d is one. elim (one_more seconds n after last d.at one) [
-    | inl k ↦ h.last d is k
-    | inr k ↦ let i = k.0 in omega (arith, ints)
-  ];
-}
+-- forwards from a second on, the nearest change is the first one after it
+pub first_behind : (f : InForce) (after : ℤ) (found : Option Change) → IsNearest true f (IsInStretch after (pos 9_223_372_036_854_775_807)) found → IsFirst f (λ u. after <ℤ u) found
+first_behind f after None h = λ d is later. let m = is.fits in h d is (later, omega (arith, ints))
+first_behind f after (Some c) h = record { is = h.is; inside = h.inside.0; first = λ d is later. let m = is.fits in h.nearest d is (later, omega (arith, ints)) }
 
--- a change comes at the second at place n, and none was found after it
-last_here : (f : InForce) (seconds : List ℤ) (n : ℕ) (after last second : ℤ) (found : Option Change) (c : Change) → get_or seconds n (pos 0) ≡ second → IsInStretch after last second → IsChange f c → c.at ≡ second
-    → ((e : Change) → found ≡ Some e → e.at <ℤ second) → IsLast f (IsOneOf seconds n after last) found → IsLastChange f (IsOneOf seconds (n + 1) after last) c
-last_here f seconds n after last second found c e inside is at more h = record {
-  is = is;
-  inside = record { place = n; below = omega arith; is = e ∙ sym at; inside = rw at inside };
-  last = λ d is_d one. elim (one_more seconds n after last d.at one) [
-    | inl k ↦ later found d is_d more h k
-    | inr k ↦ let i = k.0 in omega (arith, ints)
-  ];
-} where
-  later : (found : Option Change) (d : Change) → IsChange f d → ((e : Change) → found ≡ Some e → e.at <ℤ second) → IsLast f (IsOneOf seconds n after last) found → IsOneOf seconds n after last d.at → d.at ≤ℤ c.at
-  later None d is_d more h k = absurd (h d is_d k)
-  later (Some e) d is_d more h k = let s = more e refl in let g = h.last d is_d k in omega (arith, ints)
-
-pub last_more : (f : InForce) (seconds : List ℤ) (n : ℕ) (after last second : ℤ) (found other result : Option Change) → get_or seconds n (pos 0) ≡ second → result ≡ last_one found other
-    → IsAsked f after last second other → IsLast f (IsOneOf seconds n after last) found → IsLast f (IsOneOf seconds (n + 1) after last) result
-last_more f seconds n after last second None None result e is asked h = rw is (last_kept f seconds n after last second None e asked h)
-last_more f seconds n after last second None (Some d) result e is asked h = rw is (last_here f seconds n after last second None d e asked.2 asked.0 asked.1 (λ x same. cc) h)
-last_more f seconds n after last second (Some c) None result e is asked h = rw is (last_kept f seconds n after last second (Some c) e asked h)
-last_more f seconds n after last second (Some c) (Some d) result e is asked h = by_lt_z c.at d.at
-    (λ less. rw (is, lt_true c.at d.at less) (last_here f seconds n after last second (Some c) d e asked.2 asked.0 asked.1 (λ x same. let t : c ≡ x = cc in let u = ap (λ (y : Change). y.at) t in let v = asked.1 in omega (arith, ints)) h))
-    (λ m. rw (is, lt_false c.at d.at m) (last_stays f seconds n after last second c e (let v = asked.1 in omega (arith, ints)) h))
+-- and backwards the last one up to it
+pub last_before : (f : InForce) (last : ℤ) (found : Option Change) → IsNearest false f (IsInStretch least_time last) found → IsLast f (λ u. u ≤ℤ last) found
+last_before f last None h = λ d is up_to. let m = is.fits_before in h d is (omega (arith, ints), up_to)
+last_before f last (Some c) h = record { is = h.is; inside = h.inside.1; last = λ d is up_to. let m = is.fits_before in h.nearest d is (omega (arith, ints), up_to) }
 
 -- ---- the change at one second
 -- at each second one type is in force
@@ -172,32 +119,7 @@ last_moved f g p q (Some c) to from h =
     let m = from c h.is h.inside in
     record { is = m.0; inside = m.1; last = λ d is k. let n = to d is k in h.last d n.0 n.1 }
 
--- ---- the later one of two seconds
-pub later_both : (x y : ℤ) → (x ≤ℤ later_of x y) × (y ≤ℤ later_of x y)
-later_both x y = by_lt_z y x
-    (λ l. rw (lt_true y x l) (omega (arith, ints), omega (arith, ints)))
-    (λ m. rw (lt_false y x m) (omega (arith, ints), omega (arith, ints)))
-
-pub later_one : (x y : ℤ) → (later_of x y ≡ x) ⊎ (later_of x y ≡ y)
-later_one x y = by_lt_z y x (λ l. inl (rw (lt_true y x l) refl)) (λ m. inr (rw (lt_false y x m) refl))
-
-pub later_below : (x y u : ℤ) → x <ℤ u → y <ℤ u → later_of x y <ℤ u
-later_below x y u h k = elim (later_one x y) [ inl e ↦ rw e h | inr e ↦ rw e k ]
-
-pub below_later : (x y u : ℤ) → later_of x y <ℤ u → (x <ℤ u) × (y <ℤ u)
-below_later x y u h = let b = later_both x y in let l = b.0 in let m = b.1 in (omega (arith, ints), omega (arith, ints))
-
-pub later_most : (x y u : ℤ) → x ≤ℤ u → y ≤ℤ u → later_of x y ≤ℤ u
-later_most x y u h k = elim (later_one x y) [ inl e ↦ rw e h | inr e ↦ rw e k ]
-
--- ---- the earlier one of two seconds
-pub earlier_both : (x y : ℤ) → (earlier_of x y ≤ℤ x) × (earlier_of x y ≤ℤ y)
-earlier_both x y = by_lt_z x y
-    (λ l. rw (lt_true x y l) (omega (arith, ints), omega (arith, ints)))
-    (λ m. rw (lt_false x y m) (omega (arith, ints), omega (arith, ints)))
-
-pub earlier_one : (x y : ℤ) → (earlier_of x y ≡ x) ⊎ (earlier_of x y ≡ y)
-earlier_one x y = by_lt_z x y (λ l. inl (rw (lt_true x y l) refl)) (λ m. inr (rw (lt_false x y m) refl))
-
-pub earlier_least : (x y u : ℤ) → u ≤ℤ x → u ≤ℤ y → u ≤ℤ earlier_of x y
-earlier_least x y u h k = elim (earlier_one x y) [ inl e ↦ rw e h | inr e ↦ rw e k ]
+-- the last change up to a second, if it comes after `begin`
+pub last_after : (f : InForce) (begin last : ℤ) (c : Change) (r : Option Change) → IsLastChange f (λ u. u ≤ℤ last) c → MatchOption r (c.at ≤ℤ begin) (λ d. (begin <ℤ c.at) × (d ≡ c)) → IsLast f (λ u. (begin <ℤ u) × (u ≤ℤ last)) r
+last_after f begin last c None h early = λ d is inside. let l = h.last d is inside.1 in let m = inside.0 in omega (arith, ints)
+last_after f begin last c (Some d) h late = rw late.1 (record { is = h.is; inside = (late.0, h.inside); last = λ e is inside. h.last e is inside.1 })

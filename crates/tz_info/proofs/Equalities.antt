@@ -59,7 +59,7 @@ option_self E exact None = refl
 option_self E exact (Some x) = self E exact x
 
 -- ---- rules
-type_exact : IsExact type_eq.it
+pub type_exact : IsExact type_eq.it
 type_exact a b = search rules
 
 day_time_exact : IsExact day_time_eq.it

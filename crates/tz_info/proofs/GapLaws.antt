@@ -1,12 +1,11 @@
 -- Gaps: where the first second lies at which clocks show more than a local time that they never show.
-use Rattle.std.proofs.Common.{◌≡◌, ℕ, suc, ◌<◌, ◌≤◌, arith, refl, sym, ◌∙◌, subst, length, ℤ, pos, ◌+ℤ◌, ◌-ℤ◌, ◌≤ℤ◌, ◌<ℤ◌, inl, inr, ◌⊎◌, ◌↔◌, Option, Some, None, slice_get}
+use Rattle.std.proofs.Common.{◌≡◌, ℕ, suc, ◌<◌, arith, refl, sym, ◌∙◌, subst, length, ℤ, pos, ◌+ℤ◌, ◌-ℤ◌, ◌≤ℤ◌, ◌<ℤ◌, inl, inr, ◌⊎◌, ◌↔◌, Option, Some, None, slice_get}
 use Rattle.std.proofs.lemmas.Int.{ints, by_lt_z}
-use Rattle.std.proofs.lemmas.Bool.{cases_lt}
 use Rattle.naive_base.specs.Year.{floor_div}
 use Rattle.naive_base.specs.DateOf.{year_of}
 use Rattle.naive_base.proofs.ForCallers.{lies_in}
 use Rattle.offset_core.specs.WallAnswer.{IsNeverShown}
-use Rattle.tz_info.specs.Gaps.{ShowsMore, HasGap}
+use Rattle.tz_info.specs.Gaps.{HasGap}
 use Rattle.tz_info.specs.Leaps.{IsNear}
 use Rattle.tz_info.specs.LocalTypes.{LocalType}
 use Rattle.tz_info.specs.Moments.{AlternateAt}
@@ -14,7 +13,7 @@ use Rattle.tz_info.specs.Rules.{Alternate as AlternateRule}
 use Rattle.tz_info.specs.RuleTypes.{RuleAt}
 use Rattle.tz_info.specs.Segments.{segment_of, table_count}
 use Rattle.tz_info.specs.Steps.Segments.{index_of}
-use Rattle.tz_info.specs.Steps.Gaps.{AreLess, IsReach, IsPassed}
+use Rattle.tz_info.specs.Steps.Gaps.{AreLess, IsReach, IsPassed, IsBehindTable}
 use Rattle.tz_info.specs.Steps.NextMoments.{IsSteadyUntil}
 use Rattle.tz_info.specs.WallClocks.{Shows}
 use Rattle.tz_info.specs.WallPieces.{AreLessAmong, IsLastBefore, IsTypeBefore, Jumps, IsStart}
@@ -27,7 +26,7 @@ use Rattle.tz_info.proofs.LeapOrder.{leap_times_answer}
 use Rattle.tz_info.proofs.RuleLaws.{rule_once, rule_year}
 use Rattle.tz_info.proofs.SegmentLaws.{segments_rise, segment_most, segment_at, type_before, type_from, type_in_from}
 use Rattle.tz_info.proofs.TableSearch.{Between}
-use Rattle.tz_info.proofs.WallSegments.{leap_time_of, begun, type_here, listed_once, rule_begun}
+use Rattle.tz_info.proofs.WallSegments.{leap_time_of, begun, not_begun, type_here, listed_once, rule_begun}
 use Rattle.tz_info.proofs.ZoneLaws.{type_decided, type_once, some_once}
 
 abbrev pub IsNever : Zone → ℤ → Type 0
@@ -81,24 +80,6 @@ not_more : (z : Zone) (l u : ℤ) (t : LocalType) → IsNever z l → IsNear u �
 not_more z l u t never near k h = by_lt_z (u +ℤ t.offset) l (λ m. m) (λ m.
     absurd (never u t (record { fits = omega (arith, ints, near); type = k; shown = omega (arith, ints) })))
 
--- in a segment of one type: from a second that shows less on
-less_on : (z : Zone) (l : ℤ) (i : ℕ) (u v : ℤ) → IsValid z → IsRuleOrNone z.rule → IsNever z l → HasOneType z i → IsNear u → IsNear v → u ≤ℤ v → segment_of z u ≡ i → segment_of z v ≡ i → ((t : LocalType) → TypeAt z u t → (u +ℤ t.offset) <ℤ l) → (t : LocalType) → TypeAt z v t → (v +ℤ t.offset) <ℤ l
-less_on z l i u v valid limits never one near far le a b less t k = by_lt_z (v +ℤ t.offset) l (λ m. m) (λ m.
-    let s = near_type z u valid limits near in
-    let same : s.0 ≡ t = one_type z i u v s.0 t valid one a b s.1 k in
-    let h : (u +ℤ t.offset) <ℤ l = subst (λ (x : LocalType). (u +ℤ x.offset) <ℤ l) same (less s.0 s.1) in
-    let w : ℤ = l -ℤ t.offset in
-    let from : u ≤ℤ w = omega (arith, ints) in
-    let to : w ≤ℤ v = omega (arith, ints) in
-    let near_w : IsNear w = (omega (arith, ints, near, far), omega (arith, ints, near, far)) in
-    let low = segments_rise z u w valid.transitions.rising valid.leaps from in
-    let high = segments_rise z w v valid.transitions.rising valid.leaps to in
-    let c : segment_of z w ≡ i = omega arith in
-    let r = near_type z w valid limits near_w in
-    let is : r.0 ≡ t = one_type z i w v r.0 t valid one c b r.1 k in
-    let shown : (w +ℤ t.offset) <ℤ l = not_more z l w t never near_w (subst (λ x. TypeAt z w x) is r.1) (omega (arith, ints)) in
-    absurd (omega (arith, ints)))
-
 -- behind `high` clocks show more
 not_less : (z : Zone) (l low high s : ℤ) → IsValid z → IsRuleOrNone z.rule → IsReach z l low high → AreLess z l s → (high +ℤ pos 1) ≤ℤ s → ⊥
 not_less z l low high s valid limits reach all h =
@@ -114,59 +95,51 @@ less_low z l low high never reach u near h t k =
     not_more z l u t never near k (omega (arith, ints))
 
 -- ---- the first second that shows more
--- each second that shows more comes from c on, where all near ones before c show less
-least_near : (z : Zone) (l low high c : ℤ) → IsReach z l low high → IsNear c → AreLess z l (c -ℤ pos 1) → (u : ℤ) → ShowsMore (TypeAt z) l u → c ≤ℤ u
-least_near z l low high c reach far all u m = by_lt_z u c
-    (λ h.
-    let g = at_most_greatest z u (l -ℤ low) m.type reach.greatest m.here in
-    let k = m.more in
-    let near_u : IsNear u = (omega (arith, ints, reach.near_low), omega (arith, ints, far)) in
-    let less = all u near_u (omega (arith, ints)) m.type m.here in
-    absurd (omega (arith, ints)))
-    (λ h. h)
-
+-- where all near seconds before c show less, it is the first that shows more
 pub gap_found : (z : Zone) (l low high c : ℤ) (s t : LocalType) → IsNever z l → IsReach z l low high → IsNear c → AreLess z l (c -ℤ pos 1)
     → TypeAt z c s → l <ℤ (c +ℤ s.offset) → TypeAt z (c -ℤ pos 1) t → HasGap (TypeAt z) l t s c
 gap_found z l low high c s t never reach far all here more before = record {
   never = never;
   here = here;
   more = more;
-  least = least_near z l low high c reach far all;
+  least = λ u m. by_lt_z u c
+      (λ h.
+      let g = at_most_greatest z u (l -ℤ low) m.type reach.greatest m.here in
+      let k = m.more in
+      let near_u : IsNear u = (omega (arith, ints, reach.near_low), omega (arith, ints, far)) in
+      let less = all u near_u (omega (arith, ints)) m.type m.here in
+      absurd (omega (arith, ints)))
+      (λ h. h);
   earlier = before;
 }
 
--- a second more that shows less
-less_at : (z : Zone) (l c : ℤ) (s : LocalType) → IsNever z l → IsNear c → AreLess z l (c -ℤ pos 1) → TypeAt z c s → (c +ℤ s.offset) ≤ℤ l → AreLess z l c
-less_at z l c s never far all here h u near le t k = by_lt_z u c
-    (λ m. all u near (omega (arith, ints)) t k)
-    (λ m.
-    let e : u ≡ c = omega (arith, ints) in
-    let same : s ≡ t = type_once z u s t (subst (λ w. TypeAt z w s) (sym e) here) k in
-    not_more z l u t never near k (subst (λ (x : LocalType). (u +ℤ x.offset) ≤ℤ l) same (omega (arith, ints))))
+-- where a segment begins at c, the type before is the one before the segment
+gap_at_begin : (z : Zone) (l low high c : ℤ) (k index : ℕ) (s t : LocalType) → IsValid z → IsRuleOrNone z.rule → IsNever z l → IsReach z l low high → AreLess z l (c -ℤ pos 1) → IsLastBefore z k (c -ℤ pos 1) → IsTypeBefore z k index → HasType z index t
+    → TypeAt z c s → l <ℤ (c +ℤ s.offset) → HasGap (TypeAt z) l t s c
+gap_at_begin z l low high c k index s t valid limits never reach less last before has here more =
+    let back : (c -ℤ pos 1) +ℤ pos 1 ≡ c = omega (arith, ints) in
+    let g = near_type z (c -ℤ pos 1) valid limits last.near in
+    let same : g.0 ≡ t = listed_once z index g.0 t (before.type (c -ℤ pos 1) g.0 last g.1) has in
+    gap_found z l low high c s t never reach (rw back at last.near_next) less here more (subst (TypeAt z (c -ℤ pos 1)) same g.1)
 
 -- ---- where a segment of the table begins
 pub jump_found : (z : Zone) (l low high start : ℤ) (j : Jump) (s t : LocalType) → IsValid z → IsRuleOrNone z.rule → IsNever z l → IsReach z l low high → Jumps z 0 (table_count z) l j → IsStart z.transitions z.leaps j.place start
     → HasType z (index_of z.transitions j.place) s → HasType z j.before t → HasGap (TypeAt z) l t s start
 jump_found z l low high start j s t valid limits never reach jump begins has has_before =
     let k : ℕ = j.place in
-    let begins_at : (u : ℤ) → IsNear u → (k ≤ segment_of z u) ↔ (start ≤ℤ u) = λ u near. begun z k start u valid begins near in
-    let earlier : jump.seen <ℤ start = by_lt_z jump.seen start (λ m. m) (λ m. let g = (begins_at jump.seen jump.near).1 m in let b = jump.later in absurd (omega arith)) in
-    let less : AreLess z l (start -ℤ pos 1) = λ u near h f here.
-    (let below : segment_of z u < k = elim (cases_lt (segment_of z u) k) [ inl m ↦ m | inr m ↦ let g = (begins_at u near).0 (omega arith) in absurd (omega (arith, ints)) ] in
-    jump.less u f near (omega arith) below here) in
+    let earlier = (not_begun z k start jump.seen valid begins jump.near).0 jump.later in
+    let less : AreLess z l (start -ℤ pos 1) = λ u near h f here. jump.less u f near (omega arith) ((not_begun z k start u valid begins near).1 (omega (arith, ints))) here in
     let most : start ≤ℤ (high +ℤ pos 1) = by_lt_z (high +ℤ pos 1) start (λ m. absurd (not_less z l low high (start -ℤ pos 1) valid limits reach less (omega (arith, ints)))) (λ m. m) in
     let near : IsNear start = (omega (arith, ints, jump.near), omega (arith, ints, reach.near_high)) in
     let near_before : IsNear (start -ℤ pos 1) = (omega (arith, ints, jump.near), omega (arith, ints, reach.near_high)) in
     let back : (start -ℤ pos 1) +ℤ pos 1 ≡ start = omega (arith, ints) in
-    let before : segment_of z (start -ℤ pos 1) < k = elim (cases_lt (segment_of z (start -ℤ pos 1)) k) [ inl m ↦ m | inr m ↦ let g = (begins_at (start -ℤ pos 1) near_before).0 (omega arith) in absurd (omega (arith, ints)) ] in
-    let last : IsLastBefore z k (start -ℤ pos 1) = record { near = near_before; near_next = rw back near; before = before; from = rw back ((begins_at start near).1 (omega (arith, ints))) } in
+    let before = (not_begun z k start (start -ℤ pos 1) valid begins near_before).1 (omega (arith, ints)) in
+    let last : IsLastBefore z k (start -ℤ pos 1) = record { near = near_before; near_next = rw back near; before = before; from = rw back ((begun z k start start valid begins near).1 (omega (arith, ints))) } in
     let f = near_type z start valid limits near in
     let same : f.0 ≡ s = type_here z k start f.0 s valid jump.inside has (rw back at (jump.first (start -ℤ pos 1) last)) f.1 in
     let here : TypeAt z start s = subst (TypeAt z start) same f.1 in
     let more : l <ℤ (start +ℤ s.offset) = rw back at (jump.more (start -ℤ pos 1) s last (rw back here)) in
-    let g = near_type z (start -ℤ pos 1) valid limits near_before in
-    let same_before : g.0 ≡ t = listed_once z j.before g.0 t (jump.before.type (start -ℤ pos 1) g.0 last g.1) has_before in
-    gap_found z l low high start s t never reach near less here more (subst (TypeAt z (start -ℤ pos 1)) same_before g.1)
+    gap_at_begin z l low high start k j.before s t valid limits never reach less last jump.before has_before here more
 
 -- ---- behind the last transition
 -- without a rule clocks would show less for ever
@@ -177,23 +150,9 @@ none_ends z l low high valid limits e reach all =
     (λ u near h t k. let most = segment_most z u valid.transitions.rising in all u t near (omega arith) (omega arith) k)
     (omega (arith, ints))
 
--- and by a rule of one type too
-pub fixed_ends : (z : Zone) (f : LocalType) (l low high last : ℤ) → IsValid z → IsRuleOrNone z.rule → IsNever z l → z.rule ≡ Some (Fixed f) → IsReach z l low high → IsPassed z l last → ⊥
-fixed_ends z f l low high last valid limits never e reach p =
-    let steady : IsSteady z.rule = subst IsSteady (sym e) tt in
-    not_less z l low high (high +ℤ pos 1) valid limits reach
-    (λ u near_u h. by_lt_z last u
-    (λ later.
-    let at = p.behind in
-    let rises = segments_rise z last u valid.transitions.rising valid.leaps (omega (arith, ints)) in
-    let most = segment_most z u valid.transitions.rising in
-    less_on z l (length z.transitions) last u valid limits never (inr (steady, refl)) p.near near_u (omega (arith, ints)) p.behind (omega arith) (p.less last p.near (omega (arith, ints))))
-    (λ before. p.less u near_u before))
-    (omega (arith, ints))
-
--- ---- from moment to moment of a rule of two types
-rule_at : (z : Zone) (a : AlternateRule) (u : ℤ) (t : LocalType) → IsValid z → z.rule ≡ Some (Alternate a) → segment_of z u ≡ length z.transitions → TypeAt z u t → AlternateAt a u t
-rule_at z a u t valid rule e k = rw rule at (type_from z u t valid.transitions.rising (record { type = k; segment = e }))
+-- ---- behind the last transition the types are the rule's
+rule_at : (z : Zone) (rule : TransitionRule) (u : ℤ) (t : LocalType) → IsValid z → z.rule ≡ Some rule → segment_of z u ≡ length z.transitions → TypeAt z u t → RuleAt rule u t
+rule_at z rule u t valid is e k = rw is at (type_from z u t valid.transitions.rising (record { type = k; segment = e }))
 
 pub type_by_rule : (z : Zone) (rule : TransitionRule) (u : ℤ) (t : LocalType) → IsValid z → z.rule ≡ Some rule → IsNear u → segment_of z u ≡ length z.transitions → RuleAt rule u t → TypeAt z u t
 type_by_rule z rule u t valid is near e k =
@@ -201,113 +160,124 @@ type_by_rule z rule u t valid is near e k =
     let b : Between z.transitions time.0 (length z.transitions) (length z.transitions) = rw (sym time.1.sum) at (segment_at z u (length z.transitions) valid.transitions.rising e) in
     (type_in_from z u time.0 t time.1 b (rw is k)).type
 
--- the later of `low` and the second from which the rule is asked: all near seconds before it show less
-pub record IsBehindTable (z : Zone) (l m : ℤ) : Type 0 where
-  pub near : IsNear m
-  pub behind : segment_of z m ≡ length z.transitions
-  pub less : AreLess z l (m -ℤ pos 1)
+-- a second from there on lies behind the last transition too
+behind_on : (z : Zone) (l last : ℤ) → IsPassed z l last → IsValid z → (u : ℤ) → last ≤ℤ u → segment_of z u ≡ length z.transitions
+behind_on z l last p valid u h =
+    let rises = segments_rise z last u valid.transitions.rising valid.leaps h in
+    let most = segment_most z u valid.transitions.rising in
+    let at = p.behind in
+    omega arith
 
-pub table_passed : (z : Zone) (l low high from m : ℤ) → IsValid z → IsRuleOrNone z.rule → IsNever z l → IsReach z l low high → IsStart z.transitions z.leaps (length z.transitions) from → ((u : ℤ) → (m ≤ℤ u) ↔ ((low ≤ℤ u) × (from ≤ℤ u)))
-    → AreLessAmong z 0 (length z.transitions) l → IsBehindTable z l m
-table_passed z l low high from m valid limits never reach start is all =
-    let both = (is m).0 (omega (arith, ints)) in
-    let less : AreLess z l (m -ℤ pos 1) = λ u near h t k. by_lt_z u low
-    (λ g. less_low z l low high never reach u near (omega (arith, ints)) t k)
-    (λ g. by_lt_z u from
-    (λ i. let below : segment_of z u < length z.transitions = elim (cases_lt (segment_of z u) (length z.transitions)) [ inl j ↦ j | inr j ↦ let c = (begun z (length z.transitions) from u valid start near).0 (omega arith) in absurd (omega (arith, ints)) ] in all u t near (omega arith) below k)
-    (λ i. let c = (is u).1 (g, i) in absurd (omega (arith, ints)))) in
-    let most : m ≤ℤ (high +ℤ pos 1) = by_lt_z (high +ℤ pos 1) m (λ h. absurd (not_less z l low high (m -ℤ pos 1) valid limits reach less (omega (arith, ints)))) (λ h. h) in
-    let near : IsNear m = (omega (arith, ints, both.0, reach.near_low), omega (arith, ints, reach.near_high)) in
-    record { near = near; behind = (rule_begun z m from valid near start).1 both.1; less = less }
-
--- where the rule's type shows more there, clocks jump there
-pub gap_at_rule : (z : Zone) (rule : TransitionRule) (l low high from m : ℤ) (index : ℕ) (s t : LocalType) → IsValid z → IsRuleOrNone z.rule → z.rule ≡ Some rule → IsNever z l → IsReach z l low high → IsStart z.transitions z.leaps (length z.transitions) from
-    → ((u : ℤ) → (m ≤ℤ u) ↔ ((low ≤ℤ u) × (from ≤ℤ u))) → IsBehindTable z l m → IsTypeBefore z (length z.transitions) index → HasType z index t → RuleAt rule m s → l <ℤ (m +ℤ s.offset) → HasGap (TypeAt z) l t s m
-gap_at_rule z rule l low high from m index s t valid limits of_zone never reach start is b before has k more =
-    let n : ℕ = length z.transitions in
-    let near_m = b.near in
-    let near_low = reach.near_low in
-    let here = type_by_rule z rule m s valid of_zone b.near b.behind k in
-    let later : low <ℤ m = by_lt_z low m (λ h. h) (λ h. let c = less_low z l low high never reach m b.near h s here in absurd (omega (arith, ints))) in
-    let near_before : IsNear (m -ℤ pos 1) = (omega (arith, ints, near_low), omega (arith, ints, near_m)) in
-    let back : (m -ℤ pos 1) +ℤ pos 1 ≡ m = omega (arith, ints) in
-    let not_yet : (m -ℤ pos 1) <ℤ from = by_lt_z (m -ℤ pos 1) from (λ h. h) (λ h. let c = (is (m -ℤ pos 1)).1 (omega (arith, ints), h) in absurd (omega (arith, ints))) in
-    let below : segment_of z (m -ℤ pos 1) < n = elim (cases_lt (segment_of z (m -ℤ pos 1)) n) [ inl j ↦ j | inr j ↦ let c = (begun z n from (m -ℤ pos 1) valid start near_before).0 (omega arith) in absurd (omega (arith, ints)) ] in
-    let at = b.behind in
-    let g = near_type z (m -ℤ pos 1) valid limits near_before in
-    let last : IsLastBefore z n (m -ℤ pos 1) = record { near = near_before; near_next = rw back b.near; before = below; from = rw back (omega arith) } in
-    let same : g.0 ≡ t = listed_once z index g.0 t (before.type (m -ℤ pos 1) g.0 last g.1) has in
-    gap_found z l low high m s t never reach b.near b.less here more (subst (TypeAt z (m -ℤ pos 1)) same g.1)
-
--- where it doesn't, they show less up to there
-pub passed_at_rule : (z : Zone) (rule : TransitionRule) (l m : ℤ) (s : LocalType) → IsValid z → z.rule ≡ Some rule → IsNever z l → IsBehindTable z l m → RuleAt rule m s → (m +ℤ s.offset) ≤ℤ l → IsPassed z l m
-passed_at_rule z rule l m s valid of_zone never b k h = record {
-  near = b.near;
-  behind = b.behind;
-  less = less_at z l m s never b.near b.less (type_by_rule z rule m s valid of_zone b.near b.behind k) h;
-}
-
--- from there until the rule's next moment they show less
-steady_less : (z : Zone) (a : AlternateRule) (l last next v : ℤ) → IsValid z → IsRuleOrNone z.rule → z.rule ≡ Some (Alternate a) → IsNever z l → IsPassed z l last → IsSteadyUntil a last next → IsNear v → last ≤ℤ v → v <ℤ next
-    → (t : LocalType) → TypeAt z v t → (v +ℤ t.offset) <ℤ l
-steady_less z a l last next v valid limits rule never p steady near from before t k =
-    let rises : (w : ℤ) → last ≤ℤ w → segment_of z w ≡ length z.transitions = λ w h.
-    (let low = segments_rise z last w valid.transitions.rising valid.leaps h in let high = segment_most z w valid.transitions.rising in let at = p.behind in omega arith) in
+-- as long as the rule has one type, clocks show less
+steady_less : (z : Zone) (rule : TransitionRule) (l last v : ℤ) → IsValid z → IsRuleOrNone z.rule → z.rule ≡ Some rule → IsNever z l → IsPassed z l last → IsNear v → last ≤ℤ v
+    → ((w : ℤ) → last ≤ℤ w → w ≤ℤ v → (t : LocalType) → RuleAt rule last t → RuleAt rule w t) → (t : LocalType) → TypeAt z v t → (v +ℤ t.offset) <ℤ l
+steady_less z rule l last v valid limits is never p near from steady t k =
     let s = near_type z last valid limits p.near in
-    let of_last : AlternateAt a last s.0 = rule_at z a last s.0 valid rule p.behind s.1 in
-    let same : s.0 ≡ t = rule_once (Alternate a) v s.0 t (steady.same v from before s.0 of_last) (rule_at z a v t valid rule (rises v from) k) in
+    let of_last = rule_at z rule last s.0 valid is p.behind s.1 in
+    let same : s.0 ≡ t = rule_once rule v s.0 t (steady v from (omega (arith, ints)) s.0 of_last) (rule_at z rule v t valid is (behind_on z l last p valid v from) k) in
     let less : (last +ℤ t.offset) <ℤ l = subst (λ (x : LocalType). (last +ℤ x.offset) <ℤ l) same (p.less last p.near (omega (arith, ints)) s.0 s.1) in
     by_lt_z (v +ℤ t.offset) l (λ m. m) (λ m.
     let w : ℤ = l -ℤ t.offset in
     let near_last = p.near in
     let near_w : IsNear w = (omega (arith, ints, near, near_last), omega (arith, ints, near, near_last)) in
     let low : last ≤ℤ w = omega (arith, ints) in
-    let there : AlternateAt a w t = subst (AlternateAt a w) same (steady.same w low (omega (arith, ints)) s.0 of_last) in
-    let shown : (w +ℤ t.offset) <ℤ l = not_more z l w t never near_w (type_by_rule z (Alternate a) w t valid rule near_w (rises w low) there) (omega (arith, ints)) in
+    let there : RuleAt rule w t = subst (RuleAt rule w) same (steady w low (omega (arith, ints)) s.0 of_last) in
+    let shown : (w +ℤ t.offset) <ℤ l = not_more z l w t never near_w (type_by_rule z rule w t valid is near_w (behind_on z l last p valid w low) there) (omega (arith, ints)) in
     absurd (omega (arith, ints)))
 
+-- by a rule of one type they would for ever
+pub fixed_ends : (z : Zone) (f : LocalType) (l low high last : ℤ) → IsValid z → IsRuleOrNone z.rule → IsNever z l → z.rule ≡ Some (Fixed f) → IsReach z l low high → IsPassed z l last → ⊥
+fixed_ends z f l low high last valid limits never is reach p = not_less z l low high (high +ℤ pos 1) valid limits reach
+    (λ u near h. by_lt_z last u
+    (λ later. steady_less z (Fixed f) l last u valid limits is never p near (omega (arith, ints)) (λ w from to t k. k))
+    (λ before. p.less u near before))
+    (omega (arith, ints))
+
+-- ---- where the rule begins
+pub table_passed : (z : Zone) (l low high from m : ℤ) → IsValid z → IsRuleOrNone z.rule → IsNever z l → IsReach z l low high → IsStart z.transitions z.leaps (length z.transitions) from → ((u : ℤ) → (m ≤ℤ u) ↔ ((low ≤ℤ u) × (from ≤ℤ u)))
+    → AreLessAmong z 0 (length z.transitions) l → IsBehindTable z l low m
+table_passed z l low high from m valid limits never reach start is all =
+    let both = (is m).0 (omega (arith, ints)) in
+    let less : AreLess z l (m -ℤ pos 1) = λ u near h t k. by_lt_z u low
+    (λ g. less_low z l low high never reach u near (omega (arith, ints)) t k)
+    (λ g. by_lt_z u from
+    (λ i. all u t near (omega arith) ((not_begun z (length z.transitions) from u valid start near).1 i) k)
+    (λ i. let c = (is u).1 (g, i) in absurd (omega (arith, ints)))) in
+    let most : m ≤ℤ (high +ℤ pos 1) = by_lt_z (high +ℤ pos 1) m (λ h. absurd (not_less z l low high (m -ℤ pos 1) valid limits reach less (omega (arith, ints)))) (λ h. h) in
+    let near : IsNear m = (omega (arith, ints, both.0, reach.near_low), omega (arith, ints, reach.near_high)) in
+    record {
+      near = near;
+      behind = (rule_begun z m from valid near start).1 both.1;
+      less = less;
+      first = λ h. (not_begun z (length z.transitions) from (m -ℤ pos 1) valid start (omega (arith, ints, reach.near_low), omega (arith, ints, near))).1 (by_lt_z (m -ℤ pos 1) from (λ i. i) (λ i. let c = (is (m -ℤ pos 1)).1 (omega (arith, ints), i) in absurd (omega (arith, ints))));
+    }
+
+-- where the rule's type shows more there, clocks jump there
+pub gap_at_rule : (z : Zone) (rule : TransitionRule) (l low high m : ℤ) (index : ℕ) (s t : LocalType) → IsValid z → IsRuleOrNone z.rule → z.rule ≡ Some rule → IsNever z l → IsReach z l low high → IsBehindTable z l low m
+    → IsTypeBefore z (length z.transitions) index → HasType z index t → RuleAt rule m s → l <ℤ (m +ℤ s.offset) → HasGap (TypeAt z) l t s m
+gap_at_rule z rule l low high m index s t valid limits of_zone never reach b before has k more =
+    let near_m = b.near in
+    let near_low = reach.near_low in
+    let here = type_by_rule z rule m s valid of_zone b.near b.behind k in
+    let later : low <ℤ m = by_lt_z low m (λ h. h) (λ h. let c = less_low z l low high never reach m b.near h s here in absurd (omega (arith, ints))) in
+    let back : (m -ℤ pos 1) +ℤ pos 1 ≡ m = omega (arith, ints) in
+    let at = b.behind in
+    let last : IsLastBefore z (length z.transitions) (m -ℤ pos 1) = record { near = (omega (arith, ints, near_low), omega (arith, ints, near_m)); near_next = rw back b.near; before = b.first later; from = rw back (omega arith) } in
+    gap_at_begin z l low high m (length z.transitions) index s t valid limits never reach b.less last before has here more
+
+-- where it doesn't, they show less up to there
+pub passed_at_rule : (z : Zone) (rule : TransitionRule) (l m : ℤ) (s : LocalType) → IsValid z → z.rule ≡ Some rule → IsNever z l → IsNear m → segment_of z m ≡ length z.transitions → AreLess z l (m -ℤ pos 1) → RuleAt rule m s → (m +ℤ s.offset) ≤ℤ l → IsPassed z l m
+passed_at_rule z rule l m s valid of_zone never near behind less k h = record {
+  near = near;
+  behind = behind;
+  less = λ u far le t at. by_lt_z u m
+      (λ b. less u far (omega (arith, ints)) t at)
+      (λ b.
+      let e : u ≡ m = omega (arith, ints) in
+      let same : s ≡ t = type_once z u s t (subst (λ w. TypeAt z w s) (sym e) (type_by_rule z rule m s valid of_zone near behind k)) at in
+      not_more z l u t never far at (subst (λ (x : LocalType). (u +ℤ x.offset) ≤ℤ l) same (omega (arith, ints))));
+}
+
+-- ---- from moment to moment of a rule of two types
 -- the moment is near, clocks show less before it, and just before it the type is the one from the moment before
-pub record IsTurn (z : Zone) (a : AlternateRule) (l last next : ℤ) : Type 0 where
+pub record IsTurn (z : Zone) (a : AlternateRule) (l high last next : ℤ) : Type 0 where
+  pub later : last <ℤ next
+  pub near_last : IsNear last
   pub near : IsNear next
+  pub most : next ≤ℤ (high +ℤ pos 1)
   pub near_before : IsNear (next -ℤ pos 1)
   pub behind : segment_of z next ≡ length z.transitions
   pub less : AreLess z l (next -ℤ pos 1)
   pub before : (t : LocalType) → AlternateAt a last t → TypeAt z (next -ℤ pos 1) t
 
-pub turn_next : (z : Zone) (a : AlternateRule) (l low high last next : ℤ) → IsValid z → IsRuleOrNone z.rule → z.rule ≡ Some (Alternate a) → IsNever z l → IsReach z l low high → IsPassed z l last → IsSteadyUntil a last next
-    → IsTurn z a l last next × (next ≤ℤ (high +ℤ pos 1))
+pub turn_next : (z : Zone) (a : AlternateRule) (l low high last next : ℤ) → IsValid z → IsRuleOrNone z.rule → z.rule ≡ Some (Alternate a) → IsNever z l → IsReach z l low high → IsPassed z l last → IsSteadyUntil a last next → IsTurn z a l high last next
 turn_next z a l low high last next valid limits rule never reach p steady =
     let later = steady.later in
     let near_last = p.near in
     let near_high = reach.near_high in
     let until : (s : ℤ) → s <ℤ next → AreLess z l s = λ s h u near le t k. by_lt_z last u
-    (λ m. steady_less z a l last next u valid limits rule never p steady near (omega (arith, ints)) (omega (arith, ints)) t k)
+    (λ m. steady_less z (Alternate a) l last u valid limits rule never p near (omega (arith, ints)) (λ w from to. steady.same w from (omega (arith, ints))) t k)
     (λ m. p.less u near m t k) in
     let most : next ≤ℤ (high +ℤ pos 1) = by_lt_z (high +ℤ pos 1) next
     (λ h. absurd (not_less z l low high (high +ℤ pos 1) valid limits reach (until (high +ℤ pos 1) h) (omega (arith, ints))))
     (λ h. h) in
-    let near : IsNear next = (omega (arith, ints, near_last), omega (arith, ints, near_high)) in
     let near_before : IsNear (next -ℤ pos 1) = (omega (arith, ints, near_last), omega (arith, ints, near_high)) in
-    let segment : (w : ℤ) → last ≤ℤ w → segment_of z w ≡ length z.transitions = λ w h.
-    (let from = segments_rise z last w valid.transitions.rising valid.leaps h in let to = segment_most z w valid.transitions.rising in let at = p.behind in omega arith) in (
-      record {
-        near = near;
-        near_before = near_before;
-        behind = segment next (omega (arith, ints));
-        less = until (next -ℤ pos 1) (omega (arith, ints));
-        before = λ t k. type_by_rule z (Alternate a) (next -ℤ pos 1) t valid rule near_before (segment (next -ℤ pos 1) (omega (arith, ints))) (steady.same (next -ℤ pos 1) (omega (arith, ints)) (omega (arith, ints)) t k);
-      },
-      most,
-    )
+    let segment = behind_on z l last p valid in
+    record {
+      later = later;
+      near_last = near_last;
+      near = (omega (arith, ints, near_last), omega (arith, ints, near_high));
+      most = most;
+      near_before = near_before;
+      behind = segment next (omega (arith, ints));
+      less = until (next -ℤ pos 1) (omega (arith, ints));
+      before = λ t k. type_by_rule z (Alternate a) (next -ℤ pos 1) t valid rule near_before (segment (next -ℤ pos 1) (omega (arith, ints))) (steady.same (next -ℤ pos 1) (omega (arith, ints)) (omega (arith, ints)) t k);
+    }
 
 -- a moment at which they still show less
-pub passed_more : (z : Zone) (a : AlternateRule) (l last next : ℤ) (s : LocalType) → IsValid z → z.rule ≡ Some (Alternate a) → IsNever z l → IsTurn z a l last next → AlternateAt a next s → (next +ℤ s.offset) ≤ℤ l → IsPassed z l next
-passed_more z a l last next s valid rule never turn here h = record {
-  near = turn.near;
-  behind = turn.behind;
-  less = less_at z l next s never turn.near turn.less (type_by_rule z (Alternate a) next s valid rule turn.near turn.behind here) h;
-}
+pub passed_more : (z : Zone) (a : AlternateRule) (l high last next : ℤ) (s : LocalType) → IsValid z → z.rule ≡ Some (Alternate a) → IsNever z l → IsTurn z a l high last next → AlternateAt a next s → (next +ℤ s.offset) ≤ℤ l → IsPassed z l next
+passed_more z a l high last next s valid rule never turn here h = passed_at_rule z (Alternate a) l next s valid rule never turn.near turn.behind turn.less here h
 
-pub gap_of_turn : (z : Zone) (a : AlternateRule) (l low high last next : ℤ) (s t : LocalType) → IsValid z → z.rule ≡ Some (Alternate a) → IsNever z l → IsReach z l low high → IsTurn z a l last next → AlternateAt a next s → l <ℤ (next +ℤ s.offset) → AlternateAt a last t → HasGap (TypeAt z) l t s next
+pub gap_of_turn : (z : Zone) (a : AlternateRule) (l low high last next : ℤ) (s t : LocalType) → IsValid z → z.rule ≡ Some (Alternate a) → IsNever z l → IsReach z l low high → IsTurn z a l high last next → AlternateAt a next s → l <ℤ (next +ℤ s.offset) → AlternateAt a last t → HasGap (TypeAt z) l t s next
 gap_of_turn z a l low high last next s t valid rule never reach turn here more before =
     gap_found z l low high next s t never reach turn.near turn.less (type_by_rule z (Alternate a) next s valid rule turn.near turn.behind here) more (turn.before t before)

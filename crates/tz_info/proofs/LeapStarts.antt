@@ -1,5 +1,5 @@
 -- The first second at which a leap time has come.
-use Rattle.std.proofs.Common.{◌≡◌, ℕ, zero, suc, ◌-◌, ◌<◌, ◌≤◌, arith, List, [], ◌∷◌, length, get_or, take, true, ℤ, pos, neg_ℤ, ◌+ℤ◌, ◌-ℤ◌, ◌≤ℤ◌, ◌<ℤ◌, int_le, inl, inr, ◌↔◌, w64}
+use Rattle.std.proofs.Common.{◌≡◌, ℕ, zero, suc, ◌-◌, ◌<◌, ◌≤◌, arith, List, [], ◌∷◌, length, get_or, take, true, ℤ, pos, ◌+ℤ◌, ◌-ℤ◌, ◌≤ℤ◌, ◌<ℤ◌, int_le, inl, inr, ◌↔◌, w64}
 use Rattle.std.specs.Int.{saturate_signed}
 use Rattle.std.specs.List.Sorted.{IsPartitionedBy}
 use Rattle.std.proofs.lemmas.Int.{ints, by_lt_z}
@@ -100,12 +100,7 @@ reached_later es x u y n d valid h l =
 
 -- a number held within 64 bits stands on the same side of each second near now
 pub saturated : (v u : ℤ) → IsNear u → (saturate_signed w64 v ≤ℤ u) ↔ (v ≤ℤ u)
-saturated v u near = let a = near.0 in let b = near.1 in ((λ k. at_most v u a b k), (λ k. from_most v u a b k)) where
-  at_most : (v u : ℤ) → neg_ℤ (pos 10_000_000_000_000) ≤ℤ u → u ≤ℤ pos 10_000_000_000_000 → saturate_signed w64 v ≤ℤ u → v ≤ℤ u
-  at_most v u a b k = grind (arith, ints)
-
-  from_most : (v u : ℤ) → neg_ℤ (pos 10_000_000_000_000) ≤ℤ u → u ≤ℤ pos 10_000_000_000_000 → v ≤ℤ u → saturate_signed w64 v ≤ℤ u
-  from_most v u a b k = grind (arith, ints)
+saturated v u near = let a = near.0 in let b = near.1 in ((λ k. grind (arith, ints)), (λ k. grind (arith, ints)))
 
 pub saturated_rise : (v w : ℤ) → v ≤ℤ w → saturate_signed w64 v ≤ℤ saturate_signed w64 w
 saturated_rise v w h = grind (arith, ints)

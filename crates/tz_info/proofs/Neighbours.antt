@@ -1,6 +1,6 @@
 -- Only a year's own moments and those of its two neighbours can enclose a second of the year.
 use Rattle.std.proofs.Common.{◌≡◌, arith, ℤ, pos, neg_ℤ, Bool, true, false, not, cond, ◌||◌, ◌+ℤ◌, ◌-ℤ◌, ◌≤ℤ◌, ◌<ℤ◌, ◌*ℤ◌, refl, inl, inr, ◌⊎◌, ⊎_elim, int_le, sym, ◌∙◌, ap}
-use Rattle.std.proofs.lemmas.Bool.{not-false}
+use Rattle.std.proofs.lemmas.Bool.{not-false, or_cases, or_left, or_right}
 use Rattle.std.proofs.lemmas.Int.{by_lt_z, ints}
 use Rattle.naive_base.specs.Year.{year_start}
 use Rattle.naive_base.proofs.ForCallers.{floors, year_step, days_at_least, starts_rise}
@@ -79,35 +79,18 @@ between_true first last u from before = grind (arith, ints)
 between_is : (first last u : ℤ) → is_between first last u ≡ true → (first ≤ℤ u) × (u <ℤ last)
 between_is first last u h = grind (arith, ints)
 
-or_cases : (a b c : Bool) → (a || b || c) ≡ true → (a ≡ true) ⊎ ((b ≡ true) ⊎ (c ≡ true))
-or_cases true b c h = inl refl
-or_cases false true c h = inr (inl refl)
-or_cases false false c h = inr (inr h)
-
-or_first : (a b c : Bool) → a ≡ true → (a || b || c) ≡ true
-or_first a b c h = rw h refl
-
-or_second : (a b c : Bool) → b ≡ true → (a || b || c) ≡ true
-or_second true b c h = refl
-or_second false b c h = rw h refl
-
-or_third : (a b c : Bool) → c ≡ true → (a || b || c) ≡ true
-or_third true b c h = refl
-or_third false true c h = refl
-or_third false false c h = h
-
 three_found : (firsts lasts : ℤ → ℤ) (year u : ℤ) → is_in_three firsts lasts year u ≡ true → IsInSomeYear firsts lasts u
 three_found firsts lasts year u h =
     let found : (other : ℤ) → is_between (firsts other) (lasts other) u ≡ true → IsInSomeYear firsts lasts u =
     λ other t. let b = between_is (firsts other) (lasts other) u t in (other, b.0, b.1) in
-    ⊎_elim (found (year -ℤ pos 1)) (⊎_elim (found year) (found (year +ℤ pos 1))) (or_cases _ _ _ h)
+    ⊎_elim (λ t. ⊎_elim (found (year -ℤ pos 1)) (found year) (or_cases _ _ t)) (found (year +ℤ pos 1)) (or_cases _ _ h)
 
 three_all : (firsts lasts : ℤ → ℤ) (year u : ℤ) → IsNear firsts → IsNear lasts → IsYearOf u year → IsInSomeYear firsts lasts u → is_in_three firsts lasts year u ≡ true
 three_all firsts lasts year u near_first near_last of_second (other, from, before) =
     let asked : ℤ → Bool = λ z. is_between (firsts z) (lasts z) u in
     let here : (z : ℤ) → other ≡ z → asked z ≡ true = λ z same. rw (← same) (between_true (firsts other) (lasts other) u from before) in
     let x = asked (year -ℤ pos 1) in let v = asked year in let w = asked (year +ℤ pos 1) in
-    ⊎_elim (λ same. or_first x v w (here _ same)) (⊎_elim (λ same. or_second x v w (here _ same)) (λ same. or_third x v w (here _ same)))
+    ⊎_elim (λ same. or_left (x || v) w (or_left x v (here _ same))) (⊎_elim (λ same. or_left (x || v) w (or_right x v (here _ same))) (λ same. or_right (x || v) w (here _ same)))
     (place year other (not_earlier lasts u year other near_last of_second before) (not_later firsts u year other near_first of_second from))
 
 -- the moments of each year keep that margin from its ends

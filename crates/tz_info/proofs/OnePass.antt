@@ -5,14 +5,14 @@ use Rattle.std.proofs.lemmas.Bool.{cases_lt}
 use Rattle.std.proofs.lemmas.Int.{ints, by_lt_z}
 use Rattle.std.proofs.lemmas.List.{length_push, get_or_default}
 use Rattle.std.proofs.lemmas.List.Quantifiers.{all_pairs_push}
-use Rattle.tz_info.specs.Leaps.{AreLeapSeconds, least_time}
+use Rattle.tz_info.specs.Leaps.{AreLeapSeconds}
 use Rattle.tz_info.specs.LocalTypes.{LocalType, IsUtOffset}
 use Rattle.tz_info.specs.Segments.{table_count, table_count_by}
 use Rattle.tz_info.specs.Steps.Segments.{index_of}
 use Rattle.tz_info.specs.Steps.Shown.{together}
 use Rattle.tz_info.specs.Steps.Merging.{IsMerged}
 use Rattle.tz_info.specs.Steps.Pieces.{ArePieces, ArePiecesAt, IsGap, IsFold, IsCutAt, IsCutFrom, AreCutsCrossed, IsSegment}
-use Rattle.tz_info.specs.Steps.Starts.{IsReachedFrom, IsLeapless}
+use Rattle.tz_info.specs.Steps.Starts.{IsLeapless}
 use Rattle.tz_info.specs.Transitions.{AreRising}
 use Rattle.tz_info.specs.WallPieces.{answer_before, answer_at, AreInOrder, IsStart, IsTypeBefore}
 use Rattle.tz_info.specs.Zones.{Zone, IsValid, HasType}
@@ -21,7 +21,7 @@ use Rattle.tz_info.specs.declared.zone.leap_second.LeapSecond.{LeapSecond}
 use Rattle.tz_info.specs.declared.zone.one_pass.Segment.{Segment}
 use Rattle.tz_info.specs.declared.zone.pieces.Piece.{Piece}
 use Rattle.tz_info.specs.declared.zone.shown.Jump.{Jump}
-use Rattle.tz_info.specs.declared.zone.shown.Shown.TheVariants.{Less, Skipped, Once, Several}
+use Rattle.tz_info.specs.declared.zone.shown.Shown.TheVariants.{Less, Skipped, Once}
 use Rattle.tz_info.specs.declared.zone.transition.Transition.{Transition}
 use Rattle.tz_info.proofs.LeapStarts.{reached_first}
 use Rattle.tz_info.proofs.Prefixes.{le_true, le_false}
@@ -30,13 +30,10 @@ use Rattle.tz_info.proofs.WallSegments.{start_found, cut_from, cuts_rise, piece,
 
 -- ---- the pieces at a transition
 
-reached_leapless : (es : List LeapSecond) (x : ℤ) → AreLeapSeconds es → length es ≡ 0 → IsReachedFrom es x x
-reached_leapless es x valid e = λ u y near l.
-    reached_first es x u y valid (record { within = omega arith; before = λ k d h. absurd (omega arith); after = λ k d h m. absurd (omega arith) }) l
-
 -- without leap seconds so many transitions have come from the time of the last of them on
 pub start_leapless : (ts : List Transition) (es : List LeapSecond) (count : ℕ) (d : Transition) → AreLeapSeconds es → AreRising ts → 0 < count → count ≤ length ts → IsLeapless ts es → IsStart ts es count (get_or ts (count - 1) d).unix_leap_time
-start_leapless ts es count d valid rising any h leapless = start_found ts es count d (get_or ts (count - 1) d).unix_leap_time rising any h (reached_leapless es (get_or ts (count - 1) d).unix_leap_time valid leapless.none)
+start_leapless ts es count d valid rising any h leapless = let none = leapless.none in start_found ts es count d (get_or ts (count - 1) d).unix_leap_time rising any h (λ u y near l.
+    reached_first es (get_or ts (count - 1) d).unix_leap_time u y valid (record { within = omega arith; before = λ k d h. absurd (omega arith); after = λ k d h m. absurd (omega arith) }) l)
 
 pub at_least : (x : ℤ) → int_le (neg_ℤ (pos 4_611_686_018_427_387_904)) x ≡ true → neg_ℤ (pos 4_611_686_018_427_387_904) ≤ℤ x
 at_least x h = grind (arith, ints)
@@ -89,9 +86,6 @@ pushed_order ps p order by = all_pairs_push (λ (a b : Piece). a.start ≤ℤ b.
 start_by_later : (ps : List Piece) (a b : ℤ) → StartBy ps a → a ≤ℤ b → StartBy ps b
 start_by_later ps a b by h = λ k d l. let q = by k d l in omega (arith, ints)
 
-pushed_start : (ps : List Piece) (p : Piece) (l : ℤ) → StartBy ps l → l ≤ℤ p.start → StartBy (ps ++ (p ∷ [])) p.start
-pushed_start ps p l by h = start_by_push ps p p.start (start_by_later ps l p.start by h) (omega (arith, ints))
-
 -- at no local time the pieces' last segment is behind it, which has no end
 abbrev IsOpen : Answer → List Piece → Type 0
 IsOpen b ps = (l : ℤ) (j : Jump) → together (answer_at b ps l) (Skipped j) ≡ answer_at b ps l
@@ -100,43 +94,6 @@ open_push : (b : Answer) (ps : List Piece) (p : Piece) → IsOpen b ps → ((j :
 open_push b ps p o h l j = by_lt_z l p.start
     (λ k. rw (at_earlier b ps p l k) (o l j))
     (λ k. rw (at_later b ps p l k) (h j))
-
--- a segment without an end, behind one that ends at e: its start s comes later, or earlier
-gap_merged : (i : ℕ) (ps : List Piece) (e s : ℤ) (j : Jump) (x y : ℕ) → AreInOrder ps → IsOpen (Once i) ps → StartBy ps e → e ≤ℤ s
-    → IsMerged (Once i) (ps ++ (piece e (Less x) ∷ [])) (Skipped j) (piece s (Once y) ∷ []) ((ps ++ (piece e (Skipped j) ∷ [])) ++ (piece s (Once y) ∷ []))
-gap_merged i ps e s j x y order unended by h =
-    let b = Once i in
-    let p = piece e (Skipped j) in
-    let opened = ps ++ (p ∷ []) in
-    let r = piece e (Less x) in
-    let q = piece s (Once y) in
-    record {
-      ordered = pushed_order opened q (pushed_order ps p order by) (start_by_push ps p s (start_by_later ps e s by h) h);
-      count = length_push opened q ∙ (let m = length_push ps p in let n = length_push ps r in omega arith);
-      answers = λ l. by_lt_z l s
-          (λ before. rw (le_false s l before) (at_earlier b opened q l before ∙ by_lt_z l e
-          (λ until. at_earlier b ps p l until ∙ sym (ap (λ a. together a (Skipped j)) (at_earlier b ps r l until) ∙ unended l j))
-          (λ behind. at_later b ps p l behind ∙ sym (ap (λ a. together a (Skipped j)) (at_later b ps r l behind)))))
-          (λ from. rw (le_true s l from) (at_later b opened q l from ∙ sym (ap (λ a. together a (Once y)) (at_later b ps r l (omega (arith, ints))))));
-    }
-
-fold_merged : (i : ℕ) (ps : List Piece) (e s : ℤ) (j : Jump) (x y : ℕ) → AreInOrder ps → IsOpen (Once i) ps → StartBy ps s → answer_before (Once i) ps ≡ Once x → s ≤ℤ e
-    → IsMerged (Once i) (ps ++ (piece e (Less x) ∷ [])) (Skipped j) (piece s (Once y) ∷ []) ((ps ++ (piece s (Several x y) ∷ [])) ++ (piece e (Once y) ∷ []))
-fold_merged i ps e s j x y order unended by last h =
-    let b = Once i in
-    let p = piece s (Several x y) in
-    let opened = ps ++ (p ∷ []) in
-    let r = piece e (Less x) in
-    let q = piece e (Once y) in
-    record {
-      ordered = pushed_order opened q (pushed_order ps p order by) (start_by_push ps p e (start_by_later ps s e by h) h);
-      count = length_push opened q ∙ (let m = length_push ps p in let n = length_push ps r in omega arith);
-      answers = λ l. by_lt_z l s
-          (λ before. rw (le_false s l before, at_earlier b opened q l (omega (arith, ints)), at_earlier b ps p l before, at_earlier b ps r l (omega (arith, ints))) (sym (unended l j)))
-          (λ from. by_lt_z l e
-          (λ until. rw (le_true s l from, at_earlier b opened q l until, at_later b ps p l from, at_earlier b ps r l until, at_all b ps l (start_by_later ps s l by from), last) refl)
-          (λ behind. rw (le_true s l from, at_later b opened q l behind, at_later b ps r l behind) refl));
-    }
 
 -- where the later segment ends too, at t
 end_merged : (i : ℕ) (xs : List Piece) (s t : ℤ) (j : Jump) (x y : ℕ) (out : List Piece) → IsMerged (Once i) xs (Skipped j) (piece s (Once y) ∷ []) out → StartBy out t → StartBy xs t → s ≤ℤ t
@@ -163,11 +120,12 @@ IsBegun z place latest = (t : LocalType) → HasType z (index_of z.transitions (
 -- starts they are those of the segments, and as they stand where the last is the table's last
 pub record AreOpen (z : Zone) (place : ℕ) (first : ℕ) (pieces : List Piece) (latest : ℤ) : Type 0 where
   pub ordered : AreInOrder pieces
-  pub started : StartBy pieces latest
+  pub started : (l : ℤ) → (1 < place → latest ≤ℤ l) → StartBy pieces l
   pub unended : IsOpen (Once first) pieces
   pub begun : 1 < place → IsBegun z place latest
+  pub cut : 1 < place → IsCutAt z (place - 1) latest
   pub last : answer_before (Once first) pieces ≡ Once (index_of z.transitions (place - 1))
-  pub closed : place ≤ length z.transitions → (t : LocalType) (end : ℤ) → HasType z (index_of z.transitions (place - 1)) t → IsUtOffset t.offset → IsCutFrom z place t.offset end → latest ≤ℤ end → (1 < place → latest <ℤ end)
+  pub closed : place ≤ length z.transitions → (t : LocalType) (end : ℤ) → HasType z (index_of z.transitions (place - 1)) t → IsUtOffset t.offset → IsCutFrom z place t.offset end → (1 < place → latest <ℤ end)
       → ArePieces z 0 place (Once first) (pieces ++ (piece end (Less (index_of z.transitions (place - 1))) ∷ []))
   pub whole : length z.transitions < place → ArePieces z 0 place (Once first) pieces
 
@@ -182,11 +140,12 @@ table_most z = most_by z.rule (length z.transitions) where
 pub open_first : (z : Zone) (latest : ℤ) → IsValid z → 0 < length z.transitions → AreOpen z 1 (index_of z.transitions 0) [] latest
 open_first z latest valid any = let table = table_most z in record {
   ordered = λ i j d k l. absurd (omega arith);
-  started = λ k d l. absurd (omega arith);
+  started = λ l h k d m. absurd (omega arith);
   unended = λ l j. refl;
   begun = λ h. absurd (omega arith);
+  cut = λ h. absurd (omega arith);
   last = refl;
-  closed = λ _ t end has offset cut _ _. first_pieces z end (index_of z.transitions 0) t valid (omega arith) any refl has offset cut;
+  closed = λ _ t end has offset cut _. first_pieces z end (index_of z.transitions 0) t valid (omega arith) any refl has offset cut;
   whole = λ h. absurd (omega arith);
 }
 
@@ -202,54 +161,57 @@ record IsOpened (first : ℕ) (pieces : List Piece) (end start : ℤ) (jump : Ju
 abbrev jump_at : ℕ → ℕ → Jump
 jump_at place index = record { place = place; before = index }
 
-opened_by_gap : (i : ℕ) (ps : List Piece) (latest e s : ℤ) (k x y : ℕ) (p q : Piece) → AreInOrder ps → IsOpen (Once i) ps → StartBy ps latest → IsGap k e s x y p q → latest ≤ℤ p.start → IsOpened i ps e s (jump_at k x) y ((ps ++ (p ∷ [])) ++ (q ∷ [])) q.start
-opened_by_gap i ps latest e s k x y p q order unended by gap h =
-    let o = gap.order in
-    let f : latest ≤ℤ e = rw gap.none at h in
-    let b = Once i in
-    let first = piece e (Skipped (jump_at k x)) in
-    let next = piece s (Once y) in
-    rw (gap.none, gap.next) (record {
-      end_by = o;
-      start_by = omega (arith, ints);
-      merged = gap_merged i ps e s (jump_at k x) x y order unended (start_by_later ps latest e by f) o;
-      started = pushed_start (ps ++ (first ∷ [])) next e (pushed_start ps first latest by f) o;
-      unended = open_push b (ps ++ (first ∷ [])) next (open_push b ps first unended (λ j. refl)) (λ j. refl);
-      last = before_pushed b (ps ++ (first ∷ [])) next;
-    })
+-- both cuts lie from the first piece's start to the last one's
+cuts_between : (z : Zone) (place : ℕ) (p q : Piece) → (a : ArePiecesAt z place p q) → (p.start ≤ℤ a.end) × (p.start ≤ℤ a.start) × (a.end ≤ℤ q.start) × (a.start ≤ℤ q.start)
+cuts_between z place p q a = ⊎_elim
+    (λ gap. let o = gap.order in rw (gap.none, gap.next) (omega (arith, ints), o, o, omega (arith, ints)))
+    (λ fold. let o = fold.order in rw (fold.both, fold.next) (o, omega (arith, ints), omega (arith, ints), o))
+    a.pieces
 
-opened_by_fold : (i : ℕ) (ps : List Piece) (latest e s : ℤ) (k x y : ℕ) (p q : Piece) → AreInOrder ps → IsOpen (Once i) ps → StartBy ps latest → answer_before (Once i) ps ≡ Once x → IsFold e s x y p q → latest ≤ℤ p.start → IsOpened i ps e s (jump_at k x) y ((ps ++ (p ∷ [])) ++ (q ∷ [])) q.start
-opened_by_fold i ps latest e s k x y p q order unended by last fold h =
-    let o = fold.order in
-    let f : latest ≤ℤ s = rw fold.both at h in
-    let b = Once i in
-    let first = piece s (Several x y) in
-    let next = piece e (Once y) in
-    rw (fold.both, fold.next) (record {
-      end_by = omega (arith, ints);
-      start_by = o;
-      merged = fold_merged i ps e s (jump_at k x) x y order unended (start_by_later ps latest s by f) last o;
-      started = pushed_start (ps ++ (first ∷ [])) next s (pushed_start ps first latest by f) o;
-      unended = open_push b (ps ++ (first ∷ [])) next (open_push b ps first unended (λ j. refl)) (λ j. refl);
-      last = before_pushed b (ps ++ (first ∷ [])) next;
-    })
+-- and each is a cut at that place
+pub cuts_of : (z : Zone) (place : ℕ) (p q : Piece) → ArePiecesAt z place p q → IsCutAt z place p.start × IsCutAt z place q.start
+cuts_of z place p q a =
+    let end : IsCutAt z place a.end = record { type = a.type_before; listed = inl a.listed_before; is_cut = cut_from z place a.type_before.offset a.end a.offset_before a.ends } in
+    let start : IsCutAt z place a.start = record { type = a.type; listed = inr a.listed; is_cut = cut_from z place a.type.offset a.start a.offset a.starts } in
+    ⊎_elim (λ gap. rw (gap.none, gap.next) (end, start)) (λ fold. rw (fold.both, fold.next) (start, end)) a.pieces
 
-opened : (z : Zone) (place i : ℕ) (ps : List Piece) (latest : ℤ) (p q : Piece) → AreOpen z place i ps latest → (a : ArePiecesAt z place p q) → latest ≤ℤ p.start
+opened : (z : Zone) (place i : ℕ) (ps : List Piece) (latest : ℤ) (p q : Piece) → AreOpen z place i ps latest → (a : ArePiecesAt z place p q) → (1 < place → latest <ℤ p.start)
     → IsOpened i ps a.end a.start (jump_at place (index_of z.transitions (place - 1))) (index_of z.transitions place) ((ps ++ (p ∷ [])) ++ (q ∷ [])) q.start
-opened z place i ps latest p q o a h = ⊎_elim
-    (λ gap. opened_by_gap i ps latest a.end a.start place (index_of z.transitions (place - 1)) (index_of z.transitions place) p q o.ordered o.unended o.started gap h)
-    (λ fold. opened_by_fold i ps latest a.end a.start place (index_of z.transitions (place - 1)) (index_of z.transitions place) p q o.ordered o.unended o.started o.last fold h)
-    a.pieces
-
--- the end of the segment before comes behind all that was pushed earlier
-ends_behind : (z : Zone) (place : ℕ) (p q : Piece) → (a : ArePiecesAt z place p q) → p.start ≤ℤ a.end
-ends_behind z place p q a = ⊎_elim
-    (λ gap. rw gap.none (omega (arith, ints)))
-    (λ fold. rw fold.both fold.order)
-    a.pieces
+opened z place i ps latest p q o a h =
+    let b = Once i in
+    let x : ℕ = index_of z.transitions (place - 1) in
+    let y : ℕ = index_of z.transitions place in
+    let j : Jump = jump_at place x in
+    let r = piece a.end (Less x) in
+    let first = ps ++ (p ∷ []) in
+    let (first_end, first_start, last_end, last_start) = cuts_between z place p q a in
+    let order : p.start ≤ℤ q.start = omega (arith, ints) in
+    let by = o.started p.start (λ m. let s = h m in omega (arith, ints)) in
+    let by_first = start_by_push ps p p.start by (omega (arith, ints)) in
+    let next : q.answer ≡ Once y = ⊎_elim (λ gap. rw gap.next refl) (λ fold. rw fold.next refl) a.pieces in
+    let amid : (l : ℤ) → p.start ≤ℤ l → l <ℤ q.start → p.answer ≡ together (answer_at b (ps ++ (r ∷ [])) l) (answer_at (Skipped j) (piece a.start (Once y) ∷ []) l) = λ l from until. ⊎_elim
+    (λ gap. let s = rw gap.none at from in let t = rw gap.next at until in rw (gap.none, le_false a.start l t, at_later b ps r l s) refl)
+    (λ fold. let s = rw fold.both at from in let t = rw fold.next at until in rw (fold.both, le_true a.start l s, at_earlier b ps r l t, at_all b ps l (start_by_later ps p.start l by from), o.last) refl)
+    a.pieces in
+    record {
+      end_by = last_end;
+      start_by = last_start;
+      merged = record {
+        ordered = pushed_order first q (pushed_order ps p o.ordered by) (start_by_later first p.start q.start by_first order);
+        count = length_push first q ∙ (let m = length_push ps p in let n = length_push ps r in omega arith);
+        answers = λ l. by_lt_z l q.start
+            (λ until. at_earlier b first q l until ∙ by_lt_z l p.start
+            (λ before. at_earlier b ps p l before ∙ sym (rw (le_false a.start l (omega (arith, ints)), at_earlier b ps r l (omega (arith, ints))) (o.unended l j)))
+            (λ from. at_later b ps p l from ∙ amid l from until))
+            (λ behind. at_later b first q l behind ∙ next ∙ sym (rw (le_true a.start l (omega (arith, ints)), at_later b ps r l (omega (arith, ints))) refl));
+      };
+      started = start_by_push first q q.start (start_by_later first p.start q.start by_first order) (omega (arith, ints));
+      unended = open_push b first q (open_push b ps p o.unended (λ k. ⊎_elim (λ gap. rw gap.none refl) (λ fold. rw fold.both refl) a.pieces)) (λ k. rw next refl);
+      last = before_pushed b first q ∙ next;
+    }
 
 pub within_table : (z : Zone) (k : ℕ) → k < table_count z → k ≤ length z.transitions
-within_table z k h = ⊎_elim (λ less. omega arith) (λ q. q.1) (own_segment z.rule k (length z.transitions) h)
+within_table z k h = ⊎_elim (λ less. omega arith) (λ q. let e = q.1 in omega arith) (own_segment z.rule k (length z.transitions) h)
 
 -- a segment that ends behind all that was pushed has a second, the last before the next segment
 type_ended : (z : Zone) (k : ℕ) (latest end : ℤ) (t : LocalType) → IsValid z → k < length z.transitions → (0 < k → IsBegun z (suc k) latest) → HasType z (index_of z.transitions k) t → IsCutFrom z (suc k) t.offset end → (0 < k → latest <ℤ end) → IsTypeBefore z (suc k) (index_of z.transitions k)
@@ -261,9 +223,9 @@ type_ended z k latest end t valid n begun has cut behind =
     (c.1.second, c.1.is_start, cuts_rise z k (suc k) t.offset c.0 end c.1 cut (omega (arith, ints))))
 
 -- the pieces of one segment more
-pub open_more : (z : Zone) (place i : ℕ) (ps out : List Piece) (latest : ℤ) (p q : Piece) → IsValid z → 0 < place → place < table_count z → AreOpen z place i ps latest → ArePiecesAt z place p q → latest ≤ℤ p.start → (1 < place → latest <ℤ p.start) → out ≡ (ps ++ (p ∷ [])) ++ (q ∷ []) → AreOpen z (suc place) i out q.start
-open_more z zero i ps out latest p q valid inner_start table o a h strict e = absurd (omega arith)
-open_more z (suc k) i ps out latest p q valid inner_start table o a h strict e =
+pub open_more : (z : Zone) (place i : ℕ) (ps out : List Piece) (latest : ℤ) (p q : Piece) → IsValid z → 0 < place → place < table_count z → AreOpen z place i ps latest → ArePiecesAt z place p q → (1 < place → latest <ℤ p.start) → out ≡ (ps ++ (p ∷ [])) ++ (q ∷ []) → AreOpen z (suc place) i out q.start
+open_more z zero i ps out latest p q valid inner_start table o a strict e = absurd (omega arith)
+open_more z (suc k) i ps out latest p q valid inner_start table o a strict e =
     let place : ℕ = suc k in
     let n = within_table z place table in
     let one : suc place - 1 ≡ place = omega arith in
@@ -271,66 +233,39 @@ open_more z (suc k) i ps out latest p q valid inner_start table o a h strict e =
     let x : ℕ = index_of z.transitions k in
     let y : ℕ = index_of z.transitions place in
     let j : Jump = jump_at place x in
-    let ended = ends_behind z place p q a in
+    let ended = (cuts_between z place p q a).0 in
     let has_before : HasType z x a.type_before = rw back at a.listed_before in
-    let first : ArePieces z 0 place (Once i) (ps ++ (piece a.end (Less x) ∷ [])) = rw back at (o.closed n a.type_before a.end a.listed_before a.offset_before a.ends (omega (arith, ints)) (λ m. let s = strict m in omega (arith, ints))) in
+    let first : ArePieces z 0 place (Once i) (ps ++ (piece a.end (Less x) ∷ [])) = rw back at (o.closed n a.type_before a.end a.listed_before a.offset_before a.ends (λ m. let s = strict m in omega (arith, ints))) in
     let before : IsTypeBefore z place x = type_ended z k latest a.end a.type_before valid (omega arith) (λ m. o.begun (omega arith)) has_before a.ends (λ m. let s = strict (omega arith) in omega (arith, ints)) in
     let closed = ps ++ (piece a.end (Less x) ∷ []) in
     let all = (ps ++ (p ∷ [])) ++ (q ∷ []) in
-    let r : IsOpened i ps a.end a.start j y all q.start = rw back at (opened z place i ps latest p q o a h) in
+    let r : IsOpened i ps a.end a.start j y all q.start = rw back at (opened z place i ps latest p q o a strict) in
     let start_by = r.start_by in let end_by = r.end_by in
     rw e (record {
       ordered = r.merged.ordered;
-      started = r.started;
+      started = λ l h. start_by_later all q.start l r.started (h (omega arith));
       unended = r.unended;
+      cut = λ m. rw one (cuts_of z place p q a).1;
       begun = λ m t has.
           let same : t ≡ a.type = listed_once z y t a.type (rw one at has) a.listed in
           rw (one, same) (a.start, a.starts, start_by);
       last = rw one r.last;
-      closed = λ inner t end has offset cut behind after.
+      closed = λ inner t end has offset cut after.
           let same : t ≡ a.type = listed_once z y t a.type (rw one at has) a.listed in
           let here : IsCutFrom z (suc place) a.type.offset end = rw same at cut in
           let far = after (omega arith) in
           let segment = inner_pieces z place x a.start end y a.type valid table inner_start inner refl a.listed a.offset a.starts here (cuts_rise z place (suc place) a.type.offset a.start end a.starts here (omega (arith, ints))) before in
-          let merged = end_merged i closed a.start end j x y all r.merged (start_by_later all q.start end r.started behind)
-          (start_by_later closed a.end end (pushed_start ps (piece a.end (Less x)) latest o.started (omega (arith, ints))) (omega (arith, ints))) (omega (arith, ints)) (before_pushed (Once i) ps (piece a.end (Less x))) in
+          let merged = end_merged i closed a.start end j x y all r.merged (start_by_later all q.start end r.started (omega (arith, ints)))
+          (start_by_push ps (piece a.end (Less x)) end (o.started end (λ m. let s = strict m in omega (arith, ints))) (omega (arith, ints))) (omega (arith, ints)) (before_pushed (Once i) ps (piece a.end (Less x))) in
           rw one (pieces_joined z 0 place (suc place) (Once i) (Skipped j) closed (piece a.start (Once y) ∷ piece end (Less y) ∷ []) (all ++ (piece end (Less y) ∷ [])) valid inner_start (omega arith) first segment merged);
       whole = λ last.
           let segment = last_pieces z place x a.start y a.type valid table inner_start (omega arith) refl a.listed a.offset a.starts before in
           pieces_joined z 0 place (suc place) (Once i) (Skipped j) closed (piece a.start (Once y) ∷ []) all valid inner_start (omega arith) first segment r.merged;
     })
 
--- ---- cuts that cross
-
-pub first_cut : (z : Zone) (place : ℕ) (p q : Piece) → ArePiecesAt z place p q → IsCutAt z place p.start
-first_cut z place p q a = ⊎_elim
-    (λ gap. rw gap.none (record { type = a.type_before; listed = inl a.listed_before; is_cut = cut_from z place a.type_before.offset a.end a.offset_before a.ends }))
-    (λ fold. rw fold.both (record { type = a.type; listed = inr a.listed; is_cut = cut_from z place a.type.offset a.start a.offset a.starts }))
-    a.pieces
-
-pub last_cut : (z : Zone) (place : ℕ) (p q : Piece) → ArePiecesAt z place p q → IsCutAt z place q.start
-last_cut z place p q a = ⊎_elim
-    (λ gap. rw gap.next (record { type = a.type; listed = inr a.listed; is_cut = cut_from z place a.type.offset a.start a.offset a.starts }))
-    (λ fold. rw fold.next (record { type = a.type_before; listed = inl a.listed_before; is_cut = cut_from z place a.type_before.offset a.end a.offset_before a.ends }))
-    a.pieces
-
--- the last cut before that place, or the least number where there is none
-abbrev pub IsLatest : Zone → ℕ → ℤ → Type 0
-IsLatest z place latest = ((place ≡ 1) × (latest ≡ least_time)) ⊎ ((1 < place) × IsCutAt z (place - 1) latest)
-
-pub latest_more : (z : Zone) (place : ℕ) (cut : ℤ) → 0 < place → IsCutAt z place cut → IsLatest z (suc place) cut
-latest_more z place cut h c = let one : suc place - 1 ≡ place = omega arith in inr (omega arith, rw one c)
-
-pub crossed_by : (z : Zone) (place : ℕ) (latest cut : ℤ) → place ≤ length z.transitions → 1 < place → IsLatest z place latest → IsCutAt z place cut → cut ≤ℤ latest → AreCutsCrossed z
-crossed_by z zero latest cut n more l c less = absurd (omega arith)
-crossed_by z (suc k) latest cut n more l c less = ⊎_elim
-    (λ h. let e = h.0 in absurd (omega arith))
-    (λ h. let one : suc k - 1 ≡ k = omega arith in record { place = k; first = omega arith; within = n; cut = latest; next_cut = cut; is_cut = rw one at h.1; is_next_cut = c; crossed = less })
-    l
-
--- a cut that does not come behind the latest is not before it where it is the first
-pub not_before : (z : Zone) (place : ℕ) (latest cut : ℤ) → IsLatest z place latest → least_time ≤ℤ cut → (1 < place → latest <ℤ cut) → latest ≤ℤ cut
-not_before z place latest cut l least after = ⊎_elim
-    (λ h. rw h.1 least)
-    (λ h. let s = after h.0 in omega (arith, ints))
-    l
+-- where the next cut doesn't come behind the latest, they cross
+pub crossed_by : (z : Zone) (place i : ℕ) (ps : List Piece) (latest cut : ℤ) → place ≤ length z.transitions → 1 < place → AreOpen z place i ps latest → IsCutAt z place cut → cut ≤ℤ latest → AreCutsCrossed z
+crossed_by z zero i ps latest cut n more o c less = absurd (omega arith)
+crossed_by z (suc k) i ps latest cut n more o c less =
+    let one : suc k - 1 ≡ k = omega arith in
+    record { place = k; first = omega arith; within = n; cut = latest; next_cut = cut; is_cut = rw one at (o.cut more); is_next_cut = c; crossed = less }

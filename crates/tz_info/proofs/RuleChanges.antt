@@ -1,163 +1,108 @@
 -- Where a rule's types give way to each other: at its moments and at turns of the year, and every 400 years alike.
-use Rattle.std.proofs.Common.{◌≡◌, ℕ, zero, suc, ◌*◌, Option, ◌<◌, arith, refl, sym, ap, ◌∙◌, Bool, ℤ, pos, neg_ℤ, ◌+ℤ◌, ◌-ℤ◌, ◌≤ℤ◌, ◌<ℤ◌, ◌⊎◌, inl, inr, List, [], ◌∷◌, length, get_or}
+use Rattle.std.proofs.Common.{◌≡◌, ℕ, zero, suc, ◌*ℤ◌, Option, ◌+◌, ◌<◌, arith, refl, sym, ap, ◌∙◌, Bool, true, false, ℤ, pos, ◌+ℤ◌, ◌-ℤ◌, ◌≤ℤ◌, ◌<ℤ◌, ◌⊎◌, inl, inr, List, [], ◌∷◌, length, get_or}
 use Rattle.std.proofs.lemmas.Int.{ints, by_lt_z}
 use Rattle.naive_base.specs.Year.{floor_div, floor_mod, is_leap, year_start}
 use Rattle.naive_base.specs.Weekday.{weekday_of}
-use Rattle.naive_base.proofs.ForCallers.{floors, one_year, starts_rise, floor_mod_parts, weekday_later, weekday_below, lies_in}
+use Rattle.naive_base.proofs.ForCallers.{floors, starts_rise, floor_mod_parts}
 use Rattle.tz_info.specs.LocalTypes.{LocalType}
 use Rattle.tz_info.specs.RuleDays.{IsRuleDay}
 use Rattle.tz_info.specs.Rules.{Alternate, IsAlternateRule}
-use Rattle.tz_info.specs.Moments.{IsYearOf, IsInSomeYear, IsDstAt, IsRuleYear, IsRuleTime, AlternateAt, IsAlternateRefused, moment, start_in, end_in, type_when}
-use Rattle.naive_base.specs.DateOf.{year_of}
-use Rattle.tz_info.specs.Changes.{IsChange, HasNoChange, IsFirstChange, IsLastChange, IsFirst, IsLast}
-use Rattle.tz_info.specs.Steps.Changes.{new_year, moments_near, IsOneOf, IsAfterIn, IsUpToIn, AreFrom, AreUntil, later_of, earlier_of}
+use Rattle.tz_info.specs.Moments.{IsYearOf, IsInSomeYear, IsDstAt, IsRuleYear, IsRuleTime, AlternateAt, moment, start_in, end_in}
+use Rattle.tz_info.specs.Changes.{IsChange, HasNoChange}
+use Rattle.tz_info.specs.Steps.Changes.{AreIn, IsEarlierOf, IsInStretch, IsLaterOf, IsNearest, IsNearestChange, IsNearRuleTime, IsOfYear, IsOneOf, Precedes, moments_near, near_end, new_year, year_at}
 use Rattle.tz_info.specs.declared.change.Change.{Change}
 use Rattle.tz_info.specs.declared.rule.transition_rule.TransitionRule.TheVariants.{Alternate as AlternateRule}
 use Rattle.tz_info.specs.Steps.Kinds.{kind_place, second_in}
 use Rattle.tz_info.specs.declared.rule.day.DayTime.{DayTime}
-use Rattle.tz_info.proofs.ChangeSearch.{first_moved, last_moved, later_below, below_later, later_most, earlier_both, earlier_least}
+use Rattle.tz_info.proofs.ChangeSearch.{nearest_moved}
 use Rattle.tz_info.proofs.KindLaws.{kind_found}
 use Rattle.tz_info.proofs.RuleLaws.{rule_time, rule_once}
-use Rattle.tz_info.proofs.Neighbours.{IsNear, starts_near, ends_near, year_after, two_years_after, place, second_low, second_high, one_answer}
+use Rattle.tz_info.proofs.Neighbours.{year_after, second_low, second_high}
+use Rattle.tz_info.proofs.NextMoments.{outside, steady_until}
 
--- ---- the calendar repeats every 400 years
-leap_again : (y : ℤ) → is_leap (y +ℤ pos 400) ≡ is_leap y
-leap_again y =
-    let small = floor_mod_parts y 4 (omega arith) in let small_then = floor_mod_parts (y +ℤ pos 400) 4 (omega arith) in
-    let large = floor_mod_parts y 100 (omega arith) in let large_then = floor_mod_parts (y +ℤ pos 400) 100 (omega arith) in
-    let whole = floor_mod_parts y 400 (omega arith) in let whole_then = floor_mod_parts (y +ℤ pos 400) 400 (omega arith) in
-    let a : floor_mod (y +ℤ pos 400) 4 ≡ floor_mod y 4 = omega (arith, floors) in
-    let b : floor_mod (y +ℤ pos 400) 100 ≡ floor_mod y 100 = omega (arith, floors) in
-    let c : floor_mod (y +ℤ pos 400) 400 ≡ floor_mod y 400 = omega (arith, floors) in
+-- ---- the calendar repeats every 400 years: k times as many years later, or earlier where k is below 0
+leap_again : (y k : ℤ) → is_leap (y +ℤ pos 400 *ℤ k) ≡ is_leap y
+leap_again y k =
+    let small = floor_mod_parts y 4 (omega arith) in let small_then = floor_mod_parts (y +ℤ pos 400 *ℤ k) 4 (omega arith) in
+    let large = floor_mod_parts y 100 (omega arith) in let large_then = floor_mod_parts (y +ℤ pos 400 *ℤ k) 100 (omega arith) in
+    let whole = floor_mod_parts y 400 (omega arith) in let whole_then = floor_mod_parts (y +ℤ pos 400 *ℤ k) 400 (omega arith) in
+    let a : floor_mod (y +ℤ pos 400 *ℤ k) 4 ≡ floor_mod y 4 = omega (arith, floors) in
+    let b : floor_mod (y +ℤ pos 400 *ℤ k) 100 ≡ floor_mod y 100 = omega (arith, floors) in
+    let c : floor_mod (y +ℤ pos 400 *ℤ k) 400 ≡ floor_mod y 400 = omega (arith, floors) in
     rw (a, b, c) refl
 
-pub start_again : (y : ℤ) → year_start (y +ℤ pos 400) ≡ year_start y +ℤ pos 146_097
+pub start_again : (y k : ℤ) → year_start (y +ℤ pos 400 *ℤ k) ≡ year_start y +ℤ pos 146_097 *ℤ k
 unfolding year_start
-start_again y = omega (arith, floors)
+start_again y k = omega (arith, floors)
 
-weekday_again : (day : ℤ) → weekday_of (day +ℤ pos 146_097) ≡ weekday_of day
-weekday_again day = let below = weekday_below day in weekday_later day 146_097 ∙ omega arith
-
-kind_again : (y : ℤ) → kind_place (y +ℤ pos 400) ≡ kind_place y
-kind_again y =
-    let l = leap_again y in
-    let w : weekday_of (year_start (y +ℤ pos 400)) ≡ weekday_of (year_start y) = ap weekday_of (start_again y) ∙ weekday_again (year_start y) in
-    rw (l, w) refl
-
-pub moment_again : (t : DayTime) (offset year : ℤ) → IsRuleDay t.day → moment t offset (year +ℤ pos 400) ≡ moment t offset year +ℤ pos 12_622_780_800
-moment_again t offset year fits =
-    let here = kind_found t offset year (pos 0) fits in
-    let there = rw (kind_again year) at (kind_found t offset (year +ℤ pos 400) (pos 0) fits) in
-    let start = start_again year in
-    let same : second_in t offset (year +ℤ pos 400) ≡ second_in t offset year = sym there ∙ here in
+weekday_again : (day k : ℤ) → weekday_of (day +ℤ pos 146_097 *ℤ k) ≡ weekday_of day
+weekday_again day k =
+    let here = floor_mod_parts (day +ℤ pos 4) 7 (omega arith) in let there = floor_mod_parts (day +ℤ pos 146_097 *ℤ k +ℤ pos 4) 7 (omega arith) in
     omega (arith, floors)
 
--- ---- where moments come as far later as the years, so do the types
+kind_again : (y k : ℤ) → kind_place (y +ℤ pos 400 *ℤ k) ≡ kind_place y
+kind_again y k =
+    let l = leap_again y k in
+    let w : weekday_of (year_start (y +ℤ pos 400 *ℤ k)) ≡ weekday_of (year_start y) = ap weekday_of (start_again y k) ∙ weekday_again (year_start y) k in
+    rw (l, w) refl
+
 abbrev cycle : ℤ
 cycle = pos 12_622_780_800
 
+pub moment_again : (t : DayTime) (offset year k : ℤ) → IsRuleDay t.day → moment t offset (year +ℤ pos 400 *ℤ k) ≡ moment t offset year +ℤ cycle *ℤ k
+moment_again t offset year k fits =
+    let here = kind_found t offset year (pos 0) fits in
+    let there = rw (kind_again year k) at (kind_found t offset (year +ℤ pos 400 *ℤ k) (pos 0) fits) in
+    let start = start_again year k in
+    let same : second_in t offset (year +ℤ pos 400 *ℤ k) ≡ second_in t offset year = sym there ∙ here in
+    omega (arith, floors)
+
+-- ---- where moments come as far later as the years, so do the types
 abbrev ComesAgain : (ℤ → ℤ) → Type 0
-ComesAgain moments = (year : ℤ) → moments (year +ℤ pos 400) ≡ moments year +ℤ cycle
+ComesAgain moments = (year k : ℤ) → moments (year +ℤ pos 400 *ℤ k) ≡ moments year +ℤ cycle *ℤ k
 
-starts_again : (a : Alternate) → IsAlternateRule a → ComesAgain (start_in a)
-starts_again a rule year = moment_again a.start a.std.offset year rule.start_day
+some_again : (f g : ℤ → ℤ) (u k : ℤ) → ComesAgain f → ComesAgain g → IsInSomeYear f g u → IsInSomeYear f g (u +ℤ cycle *ℤ k)
+some_again f g u k cf cg (y, a, b) =
+    let e = cf y k in let h = cg y k in
+    (y +ℤ pos 400 *ℤ k, omega (arith, ints), omega (arith, ints))
 
-ends_again : (a : Alternate) → IsAlternateRule a → ComesAgain (end_in a)
-ends_again a rule year = moment_again a.end a.dst.offset year rule.end_day
+some_before : (f g : ℤ → ℤ) (u k : ℤ) → ComesAgain f → ComesAgain g → IsInSomeYear f g (u +ℤ cycle *ℤ k) → IsInSomeYear f g u
+some_before f g u k cf cg h =
+    let e : (u +ℤ cycle *ℤ k) +ℤ cycle *ℤ (pos 0 -ℤ k) ≡ u = omega (arith, ints) in
+    rw e at (some_again f g (u +ℤ cycle *ℤ k) (pos 0 -ℤ k) cf cg h)
 
-some_again : (f g : ℤ → ℤ) (u : ℤ) → ComesAgain f → ComesAgain g → IsInSomeYear f g u → IsInSomeYear f g (u +ℤ cycle)
-some_again f g u cf cg (y, a, b) =
-    let e = cf y in let h = cg y in
-    (y +ℤ pos 400, omega (arith, ints), omega (arith, ints))
-
-some_before : (f g : ℤ → ℤ) (u : ℤ) → ComesAgain f → ComesAgain g → IsInSomeYear f g (u +ℤ cycle) → IsInSomeYear f g u
-some_before f g u cf cg (y, a, b) =
-    let z : (y -ℤ pos 400) +ℤ pos 400 ≡ y = omega (arith, ints) in
-    let e = rw z at (cf (y -ℤ pos 400)) in let h = rw z at (cg (y -ℤ pos 400)) in
-    (y -ℤ pos 400, omega (arith, ints), omega (arith, ints))
-
-dst_again : (f g : ℤ → ℤ) (year u : ℤ) (dst : Bool) → ComesAgain f → ComesAgain g → IsDstAt f g year u dst → IsDstAt f g (year +ℤ pos 400) (u +ℤ cycle) dst
-dst_again f g year u dst cf cg h =
-    let e = cf year in let k = cg year in
+dst_again : (f g : ℤ → ℤ) (year u k : ℤ) (dst : Bool) → ComesAgain f → ComesAgain g → IsDstAt f g year u dst → IsDstAt f g (year +ℤ pos 400 *ℤ k) (u +ℤ cycle *ℤ k) dst
+dst_again f g year u k dst cf cg h =
+    let e = cf year k in let m = cg year k in
     record {
-      start_first = λ order. let d = h.start_first (omega (arith, ints)) in ((λ t. some_again f g u cf cg (d.0 t)), (λ s. d.1 (some_before f g u cf cg s)));
-      end_first = λ order. let d = h.end_first (omega (arith, ints)) in ((λ t. some_again g f u cg cf (d.0 t)), (λ s. d.1 (some_before g f u cg cf s)));
+      start_first = λ order. let d = h.start_first (omega (arith, ints)) in ((λ t. some_again f g u k cf cg (d.0 t)), (λ s. d.1 (some_before f g u k cf cg s)));
+      end_first = λ order. let d = h.end_first (omega (arith, ints)) in ((λ t. some_again g f u k cg cf (d.0 t)), (λ s. d.1 (some_before g f u k cg cf s)));
     }
 
-dst_before : (f g : ℤ → ℤ) (year u : ℤ) (dst : Bool) → ComesAgain f → ComesAgain g → IsDstAt f g (year +ℤ pos 400) (u +ℤ cycle) dst → IsDstAt f g year u dst
-dst_before f g year u dst cf cg h =
-    let e = cf year in let k = cg year in
-    record {
-      start_first = λ order. let d = h.start_first (omega (arith, ints)) in ((λ t. some_before f g u cf cg (d.0 t)), (λ s. d.1 (some_again f g u cf cg s)));
-      end_first = λ order. let d = h.end_first (omega (arith, ints)) in ((λ t. some_before g f u cg cf (d.0 t)), (λ s. d.1 (some_again g f u cg cf s)));
-    }
-
-year_again : (u year : ℤ) → IsYearOf u year → IsYearOf (u +ℤ cycle) (year +ℤ pos 400)
-year_again u year h =
+year_again : (u year k : ℤ) → IsYearOf u year → IsYearOf (u +ℤ cycle *ℤ k) (year +ℤ pos 400 *ℤ k)
+year_again u year k h =
     let low = h.0 in let high = h.1 in
-    let a = start_again year in let b = start_again (year +ℤ pos 1) in
-    let e : (year +ℤ pos 1) +ℤ pos 400 ≡ (year +ℤ pos 400) +ℤ pos 1 = omega (arith, ints) in
-    let c = rw e at b in
+    let a = start_again year k in
+    let e : (year +ℤ pos 1) +ℤ pos 400 *ℤ k ≡ (year +ℤ pos 400 *ℤ k) +ℤ pos 1 = omega (arith, ints) in
+    let b = rw e at (start_again (year +ℤ pos 1) k) in
     (omega (arith, floors), omega (arith, floors))
 
-year_before : (u year : ℤ) → IsYearOf (u +ℤ cycle) (year +ℤ pos 400) → IsYearOf u year
-year_before u year h =
-    let low = h.0 in let high = h.1 in
-    let a = start_again year in let b = start_again (year +ℤ pos 1) in
-    let e : (year +ℤ pos 1) +ℤ pos 400 ≡ (year +ℤ pos 400) +ℤ pos 1 = omega (arith, ints) in
-    let c = rw e at b in
-    (omega (arith, floors), omega (arith, floors))
-
--- in a year 400 years later the rule has the same type, if it answers then
-pub type_again : (a : Alternate) (u : ℤ) (t : LocalType) → IsAlternateRule a → (h : AlternateAt a u t) → IsRuleYear (h.year +ℤ pos 400) → AlternateAt a (u +ℤ cycle) t
-type_again a u t rule h inside = record {
-  year = h.year +ℤ pos 400;
-  of_second = year_again u h.year h.of_second;
+-- in those years the rule has the same type, if it answers then
+type_again : (a : Alternate) (u k : ℤ) (t : LocalType) → IsAlternateRule a → (h : AlternateAt a u t) → IsRuleYear (h.year +ℤ pos 400 *ℤ k) → AlternateAt a (u +ℤ cycle *ℤ k) t
+type_again a u k t rule h inside = record {
+  year = h.year +ℤ pos 400 *ℤ k;
+  of_second = year_again u h.year k h.of_second;
   inside = inside;
   dst = h.dst;
-  when = dst_again (start_in a) (end_in a) h.year u h.dst (starts_again a rule) (ends_again a rule) h.when;
+  when = dst_again (start_in a) (end_in a) h.year u k h.dst
+      (λ year k. moment_again a.start a.std.offset year k rule.start_day) (λ year k. moment_again a.end a.dst.offset year k rule.end_day) h.when;
   shown = h.shown;
 }
 
--- and in a year 400 years earlier
-pub type_earlier : (a : Alternate) (u : ℤ) (t : LocalType) → IsAlternateRule a → (h : AlternateAt a u t) → IsRuleYear (h.year -ℤ pos 400) → AlternateAt a (u -ℤ cycle) t
-type_earlier a u t rule h inside =
-    let y : (h.year -ℤ pos 400) +ℤ pos 400 ≡ h.year = omega (arith, ints) in
-    let v : (u -ℤ cycle) +ℤ cycle ≡ u = omega (arith, ints) in
-    record {
-      year = h.year -ℤ pos 400;
-      of_second = year_before (u -ℤ cycle) (h.year -ℤ pos 400) (rw (y, v) h.of_second);
-      inside = inside;
-      dst = h.dst;
-      when = dst_before (start_in a) (end_in a) (h.year -ℤ pos 400) (u -ℤ cycle) h.dst (starts_again a rule) (ends_again a rule) (rw (y, v) h.when);
-      shown = h.shown;
-    }
-
 -- ---- no change but at a moment, or at the turn of a year
-kept_from : (f g : ℤ → ℤ) (u : ℤ) → ((v : ℤ) → g v ≡ u → ⊥) → IsInSomeYear f g (u -ℤ pos 1) → IsInSomeYear f g u
-kept_from f g u not (y, a, b) = (y, omega (arith, ints), by_lt_z u (g y) (λ l. l) (λ m. absurd (not y (omega (arith, ints)))))
-
-kept_back : (f g : ℤ → ℤ) (u : ℤ) → ((v : ℤ) → f v ≡ u → ⊥) → IsInSomeYear f g u → IsInSomeYear f g (u -ℤ pos 1)
-kept_back f g u not (y, a, b) = (y, by_lt_z (u -ℤ pos 1) (f y) (λ l. absurd (not y (omega (arith, ints)))) (λ m. m), omega (arith, ints))
-
--- no moment comes at the second u
-record IsNone (starts ends : ℤ → ℤ) (u : ℤ) : Type 0 where
-  start : (v : ℤ) → starts v ≡ u → ⊥
-  end : (v : ℤ) → ends v ≡ u → ⊥
-
-dst_kept : (f g : ℤ → ℤ) (year u : ℤ) (dst : Bool) → IsNone f g u → IsDstAt f g year (u -ℤ pos 1) dst → IsDstAt f g year u dst
-dst_kept f g year u dst none h = record {
-  start_first = λ order. let d = h.start_first order in ((λ t. kept_from f g u none.end (d.0 t)), (λ s. d.1 (kept_back f g u none.start s)));
-  end_first = λ order. let d = h.end_first order in ((λ t. kept_from g f u none.start (d.0 t)), (λ s. d.1 (kept_back g f u none.end s)));
-}
-
-same_type : (a : Alternate) (year u : ℤ) (s t : LocalType) → IsNone (start_in a) (end_in a) u → IsYearOf (u -ℤ pos 1) year → IsYearOf u year → AlternateAt a (u -ℤ pos 1) s → AlternateAt a u t → s ≡ t
-same_type a year u s t none before here h k =
-    let e = one_year (floor_div (u -ℤ pos 1) 86_400) h.year year h.of_second before in
-    let f = one_year (floor_div u 86_400) k.year year k.of_second here in
-    let d : IsDstAt (start_in a) (end_in a) year u h.dst = dst_kept (start_in a) (end_in a) year u h.dst none (rw e at h.when) in
-    let c : IsDstAt (start_in a) (end_in a) year u k.dst = rw f at k.when in
-    h.shown ∙ ap (type_when a) (one_answer (start_in a) (end_in a) year u h.dst k.dst d c) ∙ sym k.shown
+-- the rule has one type at a second
+pub rule_type_once : (a : Alternate) (u : ℤ) (s t : LocalType) → AlternateAt a u s → AlternateAt a u t → s ≡ t
+rule_type_once a u s t h k = rule_once (AlternateRule a) u s t h k
 
 -- after the year's first second, at the next year's at most
 abbrev IsAmidYear : ℤ → ℤ → Type 0
@@ -171,25 +116,8 @@ amid_year u year h =
 pub of_year : (u year : ℤ) → IsAmidYear year u → IsYearOf (u -ℤ pos 1) year
 of_year u year h = let a = h.0 in let b = h.1 in (omega (arith, floors), omega (arith, floors))
 
--- only moments of the year and of its neighbours come in it
-near_year : (m : ℤ → ℤ) (year v u : ℤ) → IsNear m → IsAmidYear year u → m v ≡ u → ((year -ℤ pos 1) ≤ℤ v) × (v ≤ℤ (year +ℤ pos 1))
-near_year m year v u near amid is =
-    let low = near.low v in let high = near.high v in let a = amid.0 in let b = amid.1 in (
-      by_lt_z v (year -ℤ pos 1)
-          (λ less. let far = two_years_after v year (omega (arith, floors)) in absurd (omega (arith, floors)))
-          (λ h. h),
-      by_lt_z (year +ℤ pos 1) v
-          (λ more. let far = year_after (year +ℤ pos 1) v more in absurd (omega (arith, floors)))
-          (λ h. h),
-    )
-
-not_at : (m : ℤ → ℤ) (year u : ℤ) → IsNear m → IsAmidYear year u → (m (year -ℤ pos 1) ≡ u → ⊥) → (m year ≡ u → ⊥) → (m (year +ℤ pos 1) ≡ u → ⊥) → (v : ℤ) → m v ≡ u → ⊥
-not_at m year u near amid before here after v is =
-    let b = near_year m year v u near amid is in
-    elim (place year v b.0 b.1) [
-      | inl e ↦ before (ap m (sym e) ∙ is)
-      | inr k ↦ elim k [ inl e ↦ here (ap m (sym e) ∙ is) | inr e ↦ after (ap m (sym e) ∙ is) ]
-    ]
+beside : (m u : ℤ) → (m ≡ u → ⊥) → (m ≤ℤ (u -ℤ pos 1)) ⊎ ((u +ℤ pos 1) ≤ℤ m)
+beside m u not = by_lt_z m u (λ l. inl (omega (arith, ints))) (λ h. by_lt_z u m (λ l. inr (omega (arith, ints))) (λ k. absurd (not (omega (arith, ints)))))
 
 same_or_not : (x u : ℤ) → (x ≡ u) ⊎ (x ≡ u → ⊥)
 same_or_not x u = by_lt_z x u (λ l. inr (λ e. omega (arith, ints))) (λ m. by_lt_z u x (λ l. inr (λ e. omega (arith, ints))) (λ n. inl (omega (arith, ints))))
@@ -216,22 +144,15 @@ change_near a year d rule is of_second =
     elim (is_or_none (moments_near a year) d.at) [
       | inl found ↦ found
       | inr none ↦
-          let no_moment : IsNone (start_in a) (end_in a) d.at = record {
-            start = not_at (start_in a) year d.at (starts_near a rule) amid (none 0 (omega arith)) (none 2 (omega arith)) (none 4 (omega arith));
-            end = not_at (end_in a) year d.at (ends_near a rule) amid (none 1 (omega arith)) (none 3 (omega arith)) (none 5 (omega arith));
-          } in
-          let before : d.at <ℤ new_year (year +ℤ pos 1) = by_lt_z d.at (new_year (year +ℤ pos 1)) (λ l. l) (λ m. absurd (none 6 (omega arith) (let b = amid.1 in omega (arith, ints)))) in
-          let here : IsYearOf d.at year = let b = amid.0 in (omega (arith, floors), omega (arith, floors)) in
-          absurd (is.differ (same_type a year d.at d.before d.after no_moment of_second here is.before is.after))
+          let low = amid.0 in let high = amid.1 in
+          let end : (d.at +ℤ pos 1) ≤ℤ new_year (year +ℤ pos 1) = by_lt_z d.at (new_year (year +ℤ pos 1)) (λ l. omega (arith, ints)) (λ m. absurd (none 6 (omega arith) (omega (arith, ints)))) in
+          let steady = steady_until a year (d.at -ℤ pos 1) (d.at +ℤ pos 1) rule of_second (omega (arith, ints)) end
+          (outside (start_in a) year (d.at -ℤ pos 1) (d.at +ℤ pos 1) (beside _ d.at (none 0 (omega arith))) (beside _ d.at (none 2 (omega arith))) (beside _ d.at (none 4 (omega arith))))
+          (outside (end_in a) year (d.at -ℤ pos 1) (d.at +ℤ pos 1) (beside _ d.at (none 1 (omega arith))) (beside _ d.at (none 3 (omega arith))) (beside _ d.at (none 5 (omega arith)))) in
+          absurd (is.differ (rule_type_once a d.at d.before d.after (steady.same d.at (omega (arith, ints)) (omega (arith, ints)) d.before is.before) is.after))
     ]
 
--- ---- the first change after a second, year by year
-abbrev first_rule_time : ℤ
-first_rule_time = neg_ℤ (pos 67_768_100_504_812_800)
-
-year_here : (u : ℤ) → IsYearOf u (year_of (floor_div u 86_400))
-year_here u = lies_in (floor_div u 86_400)
-
+-- ---- years beside seconds
 -- years rise with seconds
 years_rise : (u v x y : ℤ) → IsYearOf u x → IsYearOf v y → u ≤ℤ v → x ≤ℤ y
 years_rise u v x y h k l =
@@ -247,143 +168,6 @@ later_year u v x y h k l = by_lt_z u v (λ m. m) (λ m. let r = years_rise v u y
 pub rule_second : (a : Alternate) (u : ℤ) (t : LocalType) → AlternateAt a u t → IsRuleTime u
 rule_second a u t h = rule_time u h.year h.of_second h.inside
 
-pub from_first : (a : Alternate) (after first second : ℤ) → IsYearOf second first → second ≡ later_of after first_rule_time → AreFrom a after first
-from_first a after first second of_second which d is later y of_year =
-    let t = rule_second a (d.at -ℤ pos 1) d.before is.before in
-    let low = t.0 in
-    let most = later_most after first_rule_time (d.at -ℤ pos 1) (omega (arith, ints)) low in
-    years_rise second (d.at -ℤ pos 1) first y of_second of_year (rw which most)
-
-pub from_next : (a : Alternate) (after year : ℤ) → AreFrom a after year → HasNoChange (AlternateAt a) (IsAfterIn after year) → AreFrom a after (year +ℤ pos 1)
-from_next a after year h none d is later y of_year =
-    let from = h d is later y of_year in
-    by_lt_z year y
-    (λ l. omega (arith, ints))
-    (λ m. let e : y ≡ year = omega (arith, ints) in absurd (none d is (record { later = later; of_year = rw e at of_year })))
-
-pub first_found : (a : Alternate) (after year : ℤ) (c : Change) → AreFrom a after year → IsFirstChange (AlternateAt a) (IsAfterIn after year) c → IsFirstChange (AlternateAt a) (λ u. after <ℤ u) c
-first_found a after year c h k = record {
-  is = k.is;
-  inside = k.inside.later;
-  first = λ d is later.
-      let y = year_of (floor_div (d.at -ℤ pos 1) 86_400) in
-      let here = year_here (d.at -ℤ pos 1) in
-      let from = h d is later y here in
-      by_lt_z year y
-      (λ l. let r = later_year (c.at -ℤ pos 1) (d.at -ℤ pos 1) year y k.inside.of_year here l in omega (arith, ints))
-      (λ m. let e : y ≡ year = omega (arith, ints) in k.first d is (record { later = later; of_year = rw e at here }));
-}
-
--- no change comes where the rule doesn't answer
-pub none_behind : (a : Alternate) (after year : ℤ) → AreFrom a after year → pos 2_147_483_645 <ℤ year → HasNoChange (AlternateAt a) (λ u. after <ℤ u)
-none_behind a after year h out d is later =
-    let b = is.before in
-    let from = h d is later b.year b.of_second in let most = b.inside.1 in
-    omega (arith, ints)
-
-pub none_late : (a : Alternate) (after : ℤ) → pos 67_767_976_170_460_799 <ℤ after → HasNoChange (AlternateAt a) (λ u. after <ℤ u)
-none_late a after late d is later = let t = (rule_second a (d.at -ℤ pos 1) d.before is.before).1 in omega (arith, ints)
-
--- a change 400 years earlier
-change_earlier : (a : Alternate) (d : Change) (year : ℤ) → IsAlternateRule a → IsChange (AlternateAt a) d → IsYearOf (d.at -ℤ pos 1) year → IsRuleYear (year -ℤ pos 400)
-    → IsChange (AlternateAt a) (record d { at = d.at -ℤ cycle })
-change_earlier a d year rule is of_year inside =
-    let b = is.before in let t = is.after in
-    let e : b.year ≡ year = one_year (floor_div (d.at -ℤ pos 1) 86_400) b.year year b.of_second of_year in
-    let low = inside.0 in
-    let later = years_rise (d.at -ℤ pos 1) d.at year t.year of_year t.of_second (omega (arith, ints)) in
-    let most = t.inside.1 in
-    let shift : (d.at -ℤ pos 1) -ℤ cycle ≡ (d.at -ℤ cycle) -ℤ pos 1 = omega (arith, ints) in
-    let before : AlternateAt a ((d.at -ℤ cycle) -ℤ pos 1) d.before = rw shift at (type_earlier a (d.at -ℤ pos 1) d.before rule b (rw e inside)) in
-    let after = type_earlier a d.at d.after rule t (omega (arith, ints), omega (arith, ints)) in
-    let f = rule_second a ((d.at -ℤ cycle) -ℤ pos 1) d.before before in
-    let g = rule_second a (d.at -ℤ cycle) d.after after in
-    let f0 = f.0 in let f1 = f.1 in let g0 = g.0 in let g1 = g.1 in
-    record { fits = omega (arith, ints); fits_before = omega (arith, ints); before = before; after = after; differ = is.differ }
-
--- where 400 years have no change, no later ones have
-none_again : (a : Alternate) (after first : ℤ) (n : ℕ) → IsAlternateRule a → IsRuleYear first → after <ℤ new_year (first +ℤ pos 1) → AreFrom a after (first +ℤ pos 401)
-    → (d : Change) (year : ℤ) → IsChange (AlternateAt a) d → IsYearOf (d.at -ℤ pos 1) year → (first +ℤ pos 1) ≤ℤ year → year ≤ℤ (first +ℤ pos (400 * n)) → ⊥
-none_again a after first zero rule inside early h d year is of_year low high = omega (arith, ints)
-none_again a after first (suc n) rule inside early h d year is of_year low high = by_lt_z (first +ℤ pos 400) year
-    (λ late.
-    let b = is.before in
-    let e : b.year ≡ year = one_year (floor_div (d.at -ℤ pos 1) 86_400) b.year year b.of_second of_year in
-    let most = b.inside.1 in let least = inside.0 in
-    let fits : IsRuleYear (year -ℤ pos 400) = (omega (arith, ints), omega (arith, ints)) in
-    let y : (year -ℤ pos 400) +ℤ pos 400 ≡ year = omega (arith, ints) in
-    let u : ((d.at -ℤ cycle) -ℤ pos 1) +ℤ cycle ≡ d.at -ℤ pos 1 = omega (arith, ints) in
-    let there : IsYearOf ((d.at -ℤ cycle) -ℤ pos 1) (year -ℤ pos 400) = year_before ((d.at -ℤ cycle) -ℤ pos 1) (year -ℤ pos 400) (rw (y, u) of_year) in
-    none_again a after first n rule inside early h (record d { at = d.at -ℤ cycle }) (year -ℤ pos 400) (change_earlier a d year rule is of_year fits) there (omega (arith, ints)) (omega (arith, ints)))
-    (λ soon.
-    let begins = second_low (d.at -ℤ pos 1) year of_year in
-    let rise = starts_rise (first +ℤ pos 1) year low in
-    let from = h d is (omega (arith, floors)) year of_year in
-    omega (arith, ints))
-
-pub none_ever : (a : Alternate) (after first : ℤ) → IsAlternateRule a → IsRuleYear first → after <ℤ new_year (first +ℤ pos 1) → AreFrom a after (first +ℤ pos 401) → HasNoChange (AlternateAt a) (λ u. after <ℤ u)
-none_ever a after first rule inside early h d is later =
-    let b = is.before in
-    let from = h d is later b.year b.of_second in
-    let most = b.inside.1 in let least = inside.0 in
-    none_again a after first 10_737_419 rule inside early h d b.year is b.of_second (omega (arith, ints)) (omega (arith, ints))
-
--- the first change among the seconds near a year is the first one of that year
-pub first_of_year : (a : Alternate) (year after from last : ℤ) (found : Option Change) → IsAlternateRule a → from ≡ later_of after (new_year year) → last ≡ new_year (year +ℤ pos 1)
-    → IsFirst (AlternateAt a) (IsOneOf (moments_near a year) (length (moments_near a year)) from last) found → IsFirst (AlternateAt a) (IsAfterIn after year) found
-first_of_year a year after from last found rule e f h =
-    first_moved (AlternateAt a) (AlternateAt a) (IsOneOf (moments_near a year) (length (moments_near a year)) from last) (IsAfterIn after year) found
-    (λ d is k.
-    let at = change_near a year d rule is k.of_year in
-    let amid = amid_year d.at year k.of_year in
-    let l = k.later in let low = amid.0 in
-    (is, record { place = at.0; below = at.1; is = at.2; inside = (rw e (later_below after (new_year year) d.at l low), rw f amid.1) }))
-    (λ d is one.
-    let i = one.inside in
-    let both = below_later after (new_year year) d.at (rw e at i.0) in
-    (is, record { later = both.0; of_year = of_year d.at year (both.1, rw f at i.1) }))
-    h
-
--- ---- the last change up to a second, year by year
-abbrev last_rule_time : ℤ
-last_rule_time = pos 67_767_976_170_460_799
-
-pub until_last : (a : Alternate) (last first second : ℤ) → IsYearOf second first → second ≡ earlier_of (last -ℤ pos 1) last_rule_time → AreUntil a last first
-until_last a last first second of_second which d is up_to y of_year =
-    let t = rule_second a (d.at -ℤ pos 1) d.before is.before in
-    let high = t.1 in
-    let least = earlier_least (last -ℤ pos 1) last_rule_time (d.at -ℤ pos 1) (omega (arith, ints)) high in
-    years_rise (d.at -ℤ pos 1) second y first of_year of_second (rw which least)
-
-pub until_next : (a : Alternate) (last year : ℤ) → AreUntil a last year → HasNoChange (AlternateAt a) (IsUpToIn last year) → AreUntil a last (year -ℤ pos 1)
-until_next a last year h none d is up_to y of_year =
-    let until = h d is up_to y of_year in
-    by_lt_z y year
-    (λ l. omega (arith, ints))
-    (λ m. let e : y ≡ year = omega (arith, ints) in absurd (none d is (record { up_to = up_to; of_year = rw e at of_year })))
-
-pub last_found : (a : Alternate) (last year : ℤ) (c : Change) → AreUntil a last year → IsLastChange (AlternateAt a) (IsUpToIn last year) c → IsLastChange (AlternateAt a) (λ u. u ≤ℤ last) c
-last_found a last year c h k = record {
-  is = k.is;
-  inside = k.inside.up_to;
-  last = λ d is up_to.
-      let y = year_of (floor_div (d.at -ℤ pos 1) 86_400) in
-      let here = year_here (d.at -ℤ pos 1) in
-      let until = h d is up_to y here in
-      by_lt_z y year
-      (λ l. let r = later_year (d.at -ℤ pos 1) (c.at -ℤ pos 1) y year here k.inside.of_year l in omega (arith, ints))
-      (λ m. let e : y ≡ year = omega (arith, ints) in k.last d is (record { up_to = up_to; of_year = rw e at here }));
-}
-
-pub none_ahead : (a : Alternate) (last year : ℤ) → AreUntil a last year → year <ℤ neg_ℤ (pos 2_147_483_646) → HasNoChange (AlternateAt a) (λ u. u ≤ℤ last)
-none_ahead a last year h out d is up_to =
-    let b = is.before in
-    let until = h d is up_to b.year b.of_second in let least = b.inside.0 in
-    omega (arith, ints)
-
-pub none_early : (a : Alternate) (last : ℤ) → last ≤ℤ first_rule_time → HasNoChange (AlternateAt a) (λ u. u ≤ℤ last)
-none_early a last early d is up_to = let t = (rule_second a (d.at -ℤ pos 1) d.before is.before).0 in omega (arith, ints)
-
 -- the year of a change is the one of the second before it, or the next one
 next_at_most : (u year own : ℤ) → IsYearOf (u -ℤ pos 1) year → IsYearOf u own → own ≤ℤ (year +ℤ pos 1)
 next_at_most u year own before here = by_lt_z (year +ℤ pos 1) own
@@ -393,64 +177,130 @@ next_at_most u year own before here = by_lt_z (year +ℤ pos 1) own
     absurd (omega (arith, floors)))
     (λ m. m)
 
--- a change 400 years later
-change_again : (a : Alternate) (d : Change) (year : ℤ) → IsAlternateRule a → IsChange (AlternateAt a) d → IsYearOf (d.at -ℤ pos 1) year → (year +ℤ pos 401) ≤ℤ pos 2_147_483_645
-    → IsChange (AlternateAt a) (record d { at = d.at +ℤ cycle })
-change_again a d year rule is of_year most =
+abbrev change_then : Change → ℤ → Change
+change_then d k = record d { at = d.at +ℤ cycle *ℤ k }
+
+-- a change comes again, if the rule answers in that year and in the next one
+change_again : (a : Alternate) (d : Change) (k : ℤ) → IsAlternateRule a → (is : IsChange (AlternateAt a) d) → IsRuleYear (is.before.year +ℤ pos 400 *ℤ k) → IsRuleYear ((is.before.year +ℤ pos 400 *ℤ k) +ℤ pos 1)
+    → IsChange (AlternateAt a) (change_then d k) × IsYearOf ((d.at +ℤ cycle *ℤ k) -ℤ pos 1) (is.before.year +ℤ pos 400 *ℤ k)
+change_again a d k rule is here next =
     let b = is.before in let t = is.after in
-    let e : b.year ≡ year = one_year (floor_div (d.at -ℤ pos 1) 86_400) b.year year b.of_second of_year in
-    let low = b.inside.0 in
-    let later = next_at_most d.at year t.year of_year t.of_second in
-    let least = t.inside.0 in
-    let shift : (d.at -ℤ pos 1) +ℤ cycle ≡ (d.at +ℤ cycle) -ℤ pos 1 = omega (arith, ints) in
-    let before : AlternateAt a ((d.at +ℤ cycle) -ℤ pos 1) d.before = rw shift at (type_again a (d.at -ℤ pos 1) d.before rule b (omega (arith, ints), omega (arith, ints))) in
-    let after = type_again a d.at d.after rule t (omega (arith, ints), omega (arith, ints)) in
-    let f = rule_second a ((d.at +ℤ cycle) -ℤ pos 1) d.before before in
-    let g = rule_second a (d.at +ℤ cycle) d.after after in
+    let low = years_rise (d.at -ℤ pos 1) d.at b.year t.year b.of_second t.of_second (omega (arith, ints)) in
+    let high = next_at_most d.at b.year t.year b.of_second t.of_second in
+    let h0 = here.0 in let n1 = next.1 in
+    let shift : (d.at -ℤ pos 1) +ℤ cycle *ℤ k ≡ (d.at +ℤ cycle *ℤ k) -ℤ pos 1 = omega (arith, ints) in
+    let before = rw shift at (type_again a (d.at -ℤ pos 1) k d.before rule b here) in
+    let after = type_again a d.at k d.after rule t (omega (arith, ints), omega (arith, ints)) in
+    let f = rule_second a ((d.at +ℤ cycle *ℤ k) -ℤ pos 1) d.before before in
+    let g = rule_second a (d.at +ℤ cycle *ℤ k) d.after after in
     let f0 = f.0 in let f1 = f.1 in let g0 = g.0 in let g1 = g.1 in
-    record { fits = omega (arith, ints); fits_before = omega (arith, ints); before = before; after = after; differ = is.differ }
+    (record { fits = omega (arith, ints); fits_before = omega (arith, ints); before = before; after = after; differ = is.differ }, rw shift at (year_again (d.at -ℤ pos 1) b.year k b.of_second))
 
-none_back : (a : Alternate) (last first : ℤ) (n : ℕ) → IsAlternateRule a → IsRuleYear first → new_year first <ℤ last → AreUntil a last (first -ℤ pos 401)
-    → (d : Change) (year : ℤ) → IsChange (AlternateAt a) d → IsYearOf (d.at -ℤ pos 1) year → year ≤ℤ (first -ℤ pos 1) → (first -ℤ pos (400 * n)) ≤ℤ year → ⊥
-none_back a last first zero rule inside late h d year is of_year high low = omega (arith, ints)
-none_back a last first (suc n) rule inside late h d year is of_year high low = by_lt_z year (first -ℤ pos 400)
-    (λ early.
-    let most = inside.1 in
-    let there : IsYearOf ((d.at -ℤ pos 1) +ℤ cycle) (year +ℤ pos 400) = year_again (d.at -ℤ pos 1) year of_year in
-    let shift : (d.at -ℤ pos 1) +ℤ cycle ≡ (d.at +ℤ cycle) -ℤ pos 1 = omega (arith, ints) in
-    none_back a last first n rule inside late h (record d { at = d.at +ℤ cycle }) (year +ℤ pos 400) (change_again a d year rule is of_year (omega (arith, ints))) (rw shift at there) (omega (arith, ints)) (omega (arith, ints)))
-    (λ soon.
-    let ends = second_high (d.at -ℤ pos 1) year of_year in
-    let rise = starts_rise (year +ℤ pos 1) first (omega (arith, ints)) in
-    let until = h d is (omega (arith, floors)) year of_year in
-    omega (arith, ints))
+-- ---- the nearest change of a stretch, year by year
+-- the first year is that of the second of the rule's years that is nearest to the stretch
+pub record IsStart (a : Alternate) (w : Bool) (after last first : ℤ) : Type 0 where
+  pub rule : IsAlternateRule a
+  pub inside : IsRuleYear first
+  pub second : ℤ
+  pub of_second : IsYearOf second first
+  pub near : IsNearRuleTime (near_end w after last) second
 
-pub never_back : (a : Alternate) (last first : ℤ) → IsAlternateRule a → IsRuleYear first → new_year first <ℤ last → AreUntil a last (first -ℤ pos 401) → HasNoChange (AlternateAt a) (λ u. u ≤ℤ last)
-never_back a last first rule inside late h d is up_to =
+pub in_first : (a : Alternate) (w : Bool) (after last first : ℤ) → IsStart a w after last first → AreIn a w after last (year_at w first 0)
+in_first a true after last first start d is inside y of_year =
+    let l = inside.0 in
+    let m = start.near.from (d.at -ℤ pos 1) (rule_second a (d.at -ℤ pos 1) d.before is.before) (omega (arith, ints)) in
+    let r = years_rise start.second (d.at -ℤ pos 1) first y start.of_second of_year m in
+    omega (arith, ints)
+in_first a false after last first start d is inside y of_year =
+    let l = inside.1 in
+    let m = start.near.until (d.at -ℤ pos 1) (rule_second a (d.at -ℤ pos 1) d.before is.before) (omega (arith, ints)) in
+    let r = years_rise (d.at -ℤ pos 1) start.second y first of_year start.of_second m in
+    omega (arith, ints)
+
+year_on : (w : Bool) (first y : ℤ) (n : ℕ) → (y ≡ year_at w first n → ⊥) → Precedes w (year_at w first n) y → Precedes w (year_at w first (n + 1)) y
+year_on true first y n not h = by_lt_z (first +ℤ pos n) y (λ l. omega (arith, ints)) (λ m. absurd (not (omega (arith, ints))))
+year_on false first y n not h = by_lt_z y (first -ℤ pos n) (λ l. omega (arith, ints)) (λ m. absurd (not (omega (arith, ints))))
+
+-- where a year has none they come in the next one or behind it
+pub in_next : (a : Alternate) (w : Bool) (after last first : ℤ) (n : ℕ) → AreIn a w after last (year_at w first n) → HasNoChange (AlternateAt a) (IsOfYear after last (year_at w first n)) → AreIn a w after last (year_at w first (n + 1))
+in_next a w after last first n h none d is inside y of_year = elim (same_or_not y (year_at w first n)) [
+  | inl e ↦ absurd (none d is (record { inside = inside; of_year = rw e at of_year }))
+  | inr not ↦ year_on w first y n not (h d is inside y of_year)
+]
+
+seconds_follow : (w : Bool) (u v x y : ℤ) → IsYearOf (u -ℤ pos 1) x → IsYearOf (v -ℤ pos 1) y → (y ≡ x → ⊥) → Precedes w x y → Precedes w u v
+seconds_follow true u v x y h k not p =
+    let r = later_year (u -ℤ pos 1) (v -ℤ pos 1) x y h k (by_lt_z x y (λ l. l) (λ m. absurd (not (omega (arith, ints))))) in
+    omega (arith, ints)
+seconds_follow false u v x y h k not p =
+    let r = later_year (v -ℤ pos 1) (u -ℤ pos 1) y x k h (by_lt_z y x (λ l. l) (λ m. absurd (not (omega (arith, ints))))) in
+    omega (arith, ints)
+
+-- the nearest one of that year is the nearest one of the stretch
+pub found_in : (a : Alternate) (w : Bool) (after last year : ℤ) (c : Change) → AreIn a w after last year → IsNearestChange w (AlternateAt a) (IsOfYear after last year) c → IsNearestChange w (AlternateAt a) (IsInStretch after last) c
+found_in a w after last year c h k = record {
+  is = k.is;
+  inside = k.inside.inside;
+  nearest = λ d is inside. elim (same_or_not is.before.year year) [
+    | inl e ↦ k.nearest d is (record { inside = inside; of_year = rw e at is.before.of_second })
+    | inr not ↦ seconds_follow w c.at d.at year is.before.year k.inside.of_year is.before.of_second not (h d is inside is.before.year is.before.of_second)
+  ];
+}
+
+-- no change comes where the rule doesn't answer
+pub none_out : (a : Alternate) (w : Bool) (after last first : ℤ) (n : ℕ) → IsRuleYear first → AreIn a w after last (year_at w first n) → (IsRuleYear (year_at w first n) → ⊥) → HasNoChange (AlternateAt a) (IsInStretch after last)
+none_out a true after last first n inside h out d is k =
+    let from = h d is k is.before.year is.before.of_second in let least = inside.0 in let most = is.before.inside.1 in
+    out (omega (arith, ints), omega (arith, ints))
+none_out a false after last first n inside h out d is k =
+    let until = h d is k is.before.year is.before.of_second in let most = inside.1 in let least = is.before.inside.0 in
+    out (omega (arith, ints), omega (arith, ints))
+
+-- one of 400 years is a number of cycles away
+cycles_to : (y first : ℤ) → (k : ℤ) × ((first +ℤ pos 1) ≤ℤ (y +ℤ pos 400 *ℤ k)) × ((y +ℤ pos 400 *ℤ k) ≤ℤ (first +ℤ pos 400))
+cycles_to y first = (pos 0 -ℤ floor_div ((y -ℤ first) -ℤ pos 1) 400, omega (arith, floors), omega (arith, floors))
+
+-- where 401 years have no change of the stretch, it has none
+pub never : (a : Alternate) (w : Bool) (after last first : ℤ) → IsStart a w after last first → AreIn a w after last (year_at w first 401) → HasNoChange (AlternateAt a) (IsInStretch after last)
+never a true after last first start h d is inside =
     let b = is.before in
-    let until = h d is up_to b.year b.of_second in
-    let least = b.inside.0 in let most = inside.1 in
-    none_back a last first 10_737_419 rule inside late h d b.year is b.of_second (omega (arith, ints)) (omega (arith, ints))
+    let from = h d is inside b.year b.of_second in
+    let (k, low, high) = cycles_to b.year first in
+    let least = start.inside.0 in let most = b.inside.1 in
+    let (again, of_year) = change_again a d k start.rule is (omega (arith, ints), omega (arith, ints)) (omega (arith, ints), omega (arith, ints)) in
+    let t = rule_second a ((d.at +ℤ cycle *ℤ k) -ℤ pos 1) d.before again.before in
+    let later = later_year start.second ((d.at +ℤ cycle *ℤ k) -ℤ pos 1) first (b.year +ℤ pos 400 *ℤ k) start.of_second of_year (omega (arith, ints)) in
+    let behind : after <ℤ ((d.at +ℤ cycle *ℤ k) -ℤ pos 1) = by_lt_z after ((d.at +ℤ cycle *ℤ k) -ℤ pos 1) (λ l. l) (λ m. let n = start.near.until ((d.at +ℤ cycle *ℤ k) -ℤ pos 1) t m in absurd (omega (arith, ints))) in
+    let i = inside.1 in
+    let r = h (change_then d k) again (omega (arith, ints), omega (arith, ints)) (b.year +ℤ pos 400 *ℤ k) of_year in
+    omega (arith, ints)
+never a false after last first start h d is inside =
+    let b = is.before in
+    let until = h d is inside b.year b.of_second in
+    let (k, low, high) = cycles_to b.year (first -ℤ pos 401) in
+    let most = start.inside.1 in let least = b.inside.0 in
+    let (again, of_year) = change_again a d k start.rule is (omega (arith, ints), omega (arith, ints)) (omega (arith, ints), omega (arith, ints)) in
+    let t = rule_second a ((d.at +ℤ cycle *ℤ k) -ℤ pos 1) d.before again.before in
+    let sooner = later_year ((d.at +ℤ cycle *ℤ k) -ℤ pos 1) start.second (b.year +ℤ pos 400 *ℤ k) first of_year start.of_second (omega (arith, ints)) in
+    let ahead : ((d.at +ℤ cycle *ℤ k) -ℤ pos 1) <ℤ last = by_lt_z ((d.at +ℤ cycle *ℤ k) -ℤ pos 1) last (λ l. l) (λ m. let n = start.near.from ((d.at +ℤ cycle *ℤ k) -ℤ pos 1) t m in absurd (omega (arith, ints))) in
+    let i = inside.0 in
+    let r = h (change_then d k) again (omega (arith, ints), omega (arith, ints)) (b.year +ℤ pos 400 *ℤ k) of_year in
+    omega (arith, ints)
 
--- the last change among the seconds near a year is the last one of that year
-pub last_of_year : (a : Alternate) (year last from until : ℤ) (found : Option Change) → IsAlternateRule a → from ≡ new_year year → until ≡ earlier_of last (new_year (year +ℤ pos 1))
-    → IsLast (AlternateAt a) (IsOneOf (moments_near a year) (length (moments_near a year)) from until) found → IsLast (AlternateAt a) (IsUpToIn last year) found
-last_of_year a year last from until found rule e f h =
-    last_moved (AlternateAt a) (AlternateAt a) (IsOneOf (moments_near a year) (length (moments_near a year)) from until) (IsUpToIn last year) found
+-- the nearest change among the seconds near a year is the nearest one of that year
+pub nearest_of_year : (w : Bool) (a : Alternate) (year after last from until : ℤ) (found : Option Change) → IsAlternateRule a → IsLaterOf after (new_year year) from → IsEarlierOf last (new_year (year +ℤ pos 1)) until
+    → IsNearest w (AlternateAt a) (IsOneOf (moments_near a year) (length (moments_near a year)) from until) found → IsNearest w (AlternateAt a) (IsOfYear after last year) found
+nearest_of_year w a year after last from until found rule later earlier h =
+    nearest_moved w (AlternateAt a) (AlternateAt a) (IsOneOf (moments_near a year) (length (moments_near a year)) from until) (IsOfYear after last year) found
     (λ d is k.
     let at = change_near a year d rule is k.of_year in
     let amid = amid_year d.at year k.of_year in
-    (is, record { place = at.0; below = at.1; is = at.2; inside = (rw e amid.0, rw f (earlier_least last (new_year (year +ℤ pos 1)) d.at k.up_to amid.1)) }))
+    let i0 = k.inside.0 in let a0 = amid.0 in
+    let l = (later (d.at -ℤ pos 1)).1 (omega (arith, ints), omega (arith, ints)) in
+    (is, record { place = at.0; below = at.1; is = at.2; inside = (omega (arith, ints), (earlier d.at).1 (k.inside.1, amid.1)) }))
     (λ d is one.
-    let i = one.inside in
-    let least = earlier_both last (new_year (year +ℤ pos 1)) in
-    let most = rw f at i.1 in let a = least.0 in let b = least.1 in
-    (is, record { up_to = omega (arith, ints); of_year = of_year d.at year (rw e at i.0, omega (arith, ints)) }))
+    let low = one.inside.0 in
+    let l = (later (d.at -ℤ pos 1)).0 (omega (arith, ints)) in let e = (earlier d.at).0 one.inside.1 in
+    let l0 = l.0 in let l1 = l.1 in
+    (is, record { inside = (omega (arith, ints), e.0); of_year = of_year d.at year (omega (arith, ints), e.1) }))
     h
-
--- the rule has one type at a second
-pub rule_type_once : (a : Alternate) (u : ℤ) (s t : LocalType) → AlternateAt a u s → AlternateAt a u t → s ≡ t
-rule_type_once a u s t h k = rule_once (AlternateRule a) u s t h k
-
-pub rule_refused : (a : Alternate) (u : ℤ) (t : LocalType) → IsAlternateRefused u → AlternateAt a u t → ⊥
-rule_refused a u t refused h = refused h.year h.of_second h.inside

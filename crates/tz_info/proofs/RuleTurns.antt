@@ -1,5 +1,5 @@
 -- A rule's types beside its moments: from which second on a type is in force, and which one a second before.
-use Rattle.std.proofs.Common.{◌≡◌, arith, refl, ap, Bool, ⊎_elim, ℤ, pos, ◌+ℤ◌, ◌-ℤ◌, ◌*ℤ◌, ◌≤ℤ◌, ◌<ℤ◌, true, false}
+use Rattle.std.proofs.Common.{◌≡◌, arith, refl, ap, Bool, inl, inr, ℤ, pos, ◌+ℤ◌, ◌-ℤ◌, ◌*ℤ◌, ◌≤ℤ◌, ◌<ℤ◌, true, false}
 use Rattle.std.proofs.lemmas.Int.{ints, by_lt_z}
 use Rattle.naive_base.proofs.ForCallers.{floors}
 use Rattle.tz_info.specs.Moments.{IsYearOf, IsInSomeYear, IsDstAt, type_when, IsRuleYear, AlternateAt, IsBetween, moment, start_in, end_in}
@@ -49,26 +49,24 @@ shown a year u dst inside when of_second = record { year = year; of_second = of_
 not_both : false ≡ true → ⊥
 not_both e = cc
 
-start_after : (f g : ℤ → ℤ) (year u : ℤ) → Rise f → Rise g → u ≡ f year → g (year -ℤ pos 1) <ℤ f year → f year <ℤ g year → IsDstAt f g year u true × IsDstAt f g year (u -ℤ pos 1) false
-start_after f g year u rf rg e before after = (
+-- at a start that comes between ends daylight saving time begins
+begins : (f g : ℤ → ℤ) (year u : ℤ) → Rise f → Rise g → u ≡ f year → IsBetween g f year → IsDstAt f g year u true × IsDstAt f g year (u -ℤ pos 1) false
+begins f g year u rf rg e (inl (before, after)) = (
   by_start f g year u true (omega (arith, ints)) (λ _. (year, omega (arith, ints), omega (arith, ints))) (λ _. refl),
   by_start f g year (u -ℤ pos 1) false (omega (arith, ints)) (λ t. absurd (not_both t)) (λ k. absurd (left_out f g year u rf rg e before k)),
 )
-
-start_between : (f g : ℤ → ℤ) (year u : ℤ) → Rise f → Rise g → u ≡ f year → g year <ℤ f year → f year <ℤ g (year +ℤ pos 1) → IsDstAt f g year u true × IsDstAt f g year (u -ℤ pos 1) false
-start_between f g year u rf rg e before after = (
+begins f g year u rf rg e (inr (before, after)) = (
   by_end f g year u true false before refl (λ t. absurd (not_both t)) (λ k. absurd (right_out f g year u rf rg e after k)),
   by_end f g year (u -ℤ pos 1) false true before refl (λ _. (year, omega (arith, ints), omega (arith, ints))) (λ _. refl),
 )
 
-end_after : (f g : ℤ → ℤ) (year u : ℤ) → Rise f → Rise g → u ≡ g year → f (year -ℤ pos 1) <ℤ g year → g year <ℤ f year → IsDstAt f g year u false × IsDstAt f g year (u -ℤ pos 1) true
-end_after f g year u rf rg e before after = (
+-- and at an end that comes between starts it is over
+is_over : (f g : ℤ → ℤ) (year u : ℤ) → Rise f → Rise g → u ≡ g year → IsBetween f g year → IsDstAt f g year u false × IsDstAt f g year (u -ℤ pos 1) true
+is_over f g year u rf rg e (inl (before, after)) = (
   by_end f g year u false true after refl (λ _. (year, omega (arith, ints), omega (arith, ints))) (λ _. refl),
   by_end f g year (u -ℤ pos 1) true false after refl (λ t. absurd (not_both t)) (λ k. absurd (left_out g f year u rg rf e before k)),
 )
-
-end_between : (f g : ℤ → ℤ) (year u : ℤ) → Rise f → Rise g → u ≡ g year → f year <ℤ g year → g year <ℤ f (year +ℤ pos 1) → IsDstAt f g year u false × IsDstAt f g year (u -ℤ pos 1) true
-end_between f g year u rf rg e before after = (
+is_over f g year u rf rg e (inr (before, after)) = (
   by_start f g year u false (omega (arith, ints)) (λ t. absurd (not_both t)) (λ k. absurd (right_out g f year u rg rf e after k)),
   by_start f g year (u -ℤ pos 1) true (omega (arith, ints)) (λ _. (year, omega (arith, ints), omega (arith, ints))) (λ _. refl),
 )
@@ -78,8 +76,7 @@ starts a year day u rule inside of_year clock between =
     let e : u ≡ start_in a year = moment_is a.start a.std.offset year day u rule.start_day of_year clock in
     let rs : Rise (start_in a) = moments_rise a.start a.std.offset rule.start_day in
     let re : Rise (end_in a) = moments_rise a.end a.dst.offset rule.end_day in
-    let sides : IsDstAt (start_in a) (end_in a) year u true × IsDstAt (start_in a) (end_in a) year (u -ℤ pos 1) false =
-    ⊎_elim (λ k. start_after (start_in a) (end_in a) year u rs re e k.0 k.1) (λ k. start_between (start_in a) (end_in a) year u rs re e k.0 k.1) between in
+    let sides = begins (start_in a) (end_in a) year u rs re e between in
     (shown a year u true inside sides.0, shown a year (u -ℤ pos 1) false inside sides.1)
 
 pub ends : (a : Alternate) (year day u : ℤ) → IsAlternateRule a → IsRuleYear year → IsDayOf a.end.day year day → (u +ℤ a.dst.offset) ≡ (pos 86_400 *ℤ day +ℤ a.end.time) → IsBetween (start_in a) (end_in a) year → (IsYearOf u year → AlternateAt a u a.std) × (IsYearOf (u -ℤ pos 1) year → AlternateAt a (u -ℤ pos 1) a.dst)
@@ -87,6 +84,5 @@ ends a year day u rule inside of_year clock between =
     let e : u ≡ end_in a year = moment_is a.end a.dst.offset year day u rule.end_day of_year clock in
     let rs : Rise (start_in a) = moments_rise a.start a.std.offset rule.start_day in
     let re : Rise (end_in a) = moments_rise a.end a.dst.offset rule.end_day in
-    let sides : IsDstAt (start_in a) (end_in a) year u false × IsDstAt (start_in a) (end_in a) year (u -ℤ pos 1) true =
-    ⊎_elim (λ k. end_after (start_in a) (end_in a) year u rs re e k.0 k.1) (λ k. end_between (start_in a) (end_in a) year u rs re e k.0 k.1) between in
+    let sides = is_over (start_in a) (end_in a) year u rs re e between in
     (shown a year u false inside sides.0, shown a year (u -ℤ pos 1) true inside sides.1)

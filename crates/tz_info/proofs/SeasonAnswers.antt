@@ -1,6 +1,7 @@
 -- The answer of two seconds at which a season's moments decide.
-use Rattle.std.proofs.Common.{int_le, ◌&&◌, ◌≤ℤ◌, ◌≡◌, sym, refl, Bool, true, false, cond, not, ℤ, ◌-ℤ◌, ◌<ℤ◌, FitsSigned}
+use Rattle.std.proofs.Common.{arith, ◌⊎◌, int_le, ◌&&◌, ◌≤ℤ◌, ◌≡◌, refl, Bool, true, false, cond, not, ℤ, ◌-ℤ◌, ◌<ℤ◌, FitsSigned}
 use Rattle.std.specs.Int.{w64}
+use Rattle.std.proofs.lemmas.Int.{ints}
 use Rattle.std.proofs.lemmas.Bool.{and_parts}
 use Rattle.offset_core.specs.WallAnswer.{IsWallAnswer}
 use Rattle.offset_core.specs.declared.local_result.LocalResult.{LocalResult}
@@ -16,9 +17,8 @@ use Rattle.tz_info.specs.Steps.Walk.{IsAskedLast}
 use Rattle.tz_info.specs.WallClocks.{Shows}
 use Rattle.tz_info.specs.declared.rule.alternate.Season.{Season}
 use Rattle.tz_info.specs.declared.rule.transition_rule.TransitionRule.{TransitionRule}
-use Rattle.tz_info.specs.declared.rule.transition_rule.TransitionRule.TheVariants.{Alternate}
 use Rattle.tz_info.proofs.Prefixes.{le_is}
-use Rattle.tz_info.proofs.Candidates.{asked_both, asked_found, asked_other, dst_or_std, std_or_dst}
+use Rattle.tz_info.proofs.Candidates.{asked_both, asked_found, asked_other}
 
 joined_none : (a : LocalResult LocalType) → joined a None ≡ a
 joined_none None = refl
@@ -36,31 +36,21 @@ pub record IsKnown (from l o : ℤ) : Type 0 where
   pub fits : FitsSigned w64 (l -ℤ o)
   pub since : from ≤ℤ (l -ℤ o)
 
-dst_shown : (a : AlternateRule) (u : ℤ) (dst : Bool) → AlternateAt a u (type_when a dst) → AlternateAt a u (cond dst a.dst a.std)
+pub dst_shown : (a : AlternateRule) (u : ℤ) (dst : Bool) → AlternateAt a u (type_when a dst) → AlternateAt a u (cond dst a.dst a.std)
 dst_shown a u true h = h
 dst_shown a u false h = h
 
-std_shown : (a : AlternateRule) (u : ℤ) (dst : Bool) → AlternateAt a u (type_when a dst) → AlternateAt a u (cond (not dst) a.std a.dst)
+pub std_shown : (a : AlternateRule) (u : ℤ) (dst : Bool) → AlternateAt a u (type_when a dst) → AlternateAt a u (cond (not dst) a.std a.dst)
 std_shown a u true h = h
 std_shown a u false h = h
 
--- daylight saving time shows the local time first
-pub dst_first : (a : AlternateRule) (from l : ℤ) (b c : Bool) → a.std.offset <ℤ a.dst.offset → (a.std.offset ≡ a.dst.offset → ⊥) → IsKnown from l a.std.offset → IsKnown from l a.dst.offset
-    → AlternateAt a (l -ℤ a.std.offset) (type_when a b) → AlternateAt a (l -ℤ a.dst.offset) (type_when a c) → IsWallAnswer (Shows (TypeFrom (Alternate a) from) l) (joined (shown_if c a.dst) (shown_if (not b) a.std))
-dst_first a from l b c less differ std dst at_std at_dst =
-    let one = shown_if c a.dst in
-    asked_both (TypeFrom (Alternate a) from) l a.dst.offset a.std.offset one (joined one (shown_if (not b) a.std)) less (dst_or_std a from l)
-    (asked_if (Alternate a) from l c a.dst a.std None dst.fits dst.since differ (dst_shown a (l -ℤ a.dst.offset) c at_dst))
-    (asked_if (Alternate a) from l (not b) a.std a.dst one std.fits std.since (λ e. differ (sym e)) (std_shown a (l -ℤ a.std.offset) b at_std))
-
--- standard time does
-pub std_first : (a : AlternateRule) (from l : ℤ) (b c : Bool) → a.dst.offset <ℤ a.std.offset → (a.std.offset ≡ a.dst.offset → ⊥) → IsKnown from l a.std.offset → IsKnown from l a.dst.offset
-    → AlternateAt a (l -ℤ a.std.offset) (type_when a b) → AlternateAt a (l -ℤ a.dst.offset) (type_when a c) → IsWallAnswer (Shows (TypeFrom (Alternate a) from) l) (joined (shown_if (not b) a.std) (shown_if c a.dst))
-std_first a from l b c less differ std dst at_std at_dst =
-    let one = shown_if (not b) a.std in
-    asked_both (TypeFrom (Alternate a) from) l a.std.offset a.dst.offset one (joined one (shown_if c a.dst)) less (std_or_dst a from l)
-    (asked_if (Alternate a) from l (not b) a.std a.dst None std.fits std.since (λ e. differ (sym e)) (std_shown a (l -ℤ a.std.offset) b at_std))
-    (asked_if (Alternate a) from l c a.dst a.std one dst.fits dst.since differ (dst_shown a (l -ℤ a.dst.offset) c at_dst))
+-- both seconds were asked, where the greater offset has the earlier one
+pub both_asked : (rule : TransitionRule) (from l : ℤ) (x y : LocalType) (b c : Bool) → y.offset <ℤ x.offset → ((u : ℤ) (t : LocalType) → Shows (TypeFrom rule from) l u t → (u ≡ l -ℤ x.offset) ⊎ (u ≡ l -ℤ y.offset)) → IsKnown from l x.offset → IsKnown from l y.offset
+    → RuleAt rule (l -ℤ x.offset) (cond b x y) → RuleAt rule (l -ℤ y.offset) (cond c y x) → IsWallAnswer (Shows (TypeFrom rule from) l) (joined (shown_if b x) (shown_if c y))
+both_asked rule from l x y b c less both first last at_first at_last =
+    asked_both (TypeFrom rule from) l x.offset y.offset (shown_if b x) (joined (shown_if b x) (shown_if c y)) less both
+    (asked_if rule from l b x y None first.fits first.since (λ e. omega (arith, ints)) at_first)
+    (asked_if rule from l c y x (shown_if b x) last.fits last.since (λ e. omega (arith, ints)) at_last)
 
 -- the test of one second
 pub amid_by : (s : Season) (u from : ℤ) (decides : Bool) → (decides ≡ true → IsDecidedIn s u) → (int_le from u && decides) ≡ true → IsAmidFrom s from u

@@ -139,10 +139,6 @@ passed_once z u t a = elim (cases_lt 0 (length z.transitions)) [
 ]
 
 -- how many transitions have come by the leap time of a second
-pub come_at : (z : Zone) (u : ℤ) (t : LocalType) (a : TypeAt z u t) → length (passed z.transitions a.leap_time) ≡ segment_of z u
-unfolding segment_of
-come_at z u t a = ap length (passed_once z u t a)
-
 pub come_at_time : (z : Zone) (u x : ℤ) → IsLeapTime z.leaps u x → length (passed z.transitions x) ≡ segment_of z u
 unfolding segment_of
 come_at_time z u x l = ap (λ y. length (passed z.transitions y)) l.sum

@@ -1,5 +1,5 @@
 -- What neighbouring segments show of a local time, put together.
-use Rattle.std.proofs.Common.{◌≡◌, ℕ, ◌≤◌, arith, refl, ℤ, inl, inr}
+use Rattle.std.proofs.Common.{◌≡◌, ℕ, ◌<◌, ◌≤◌, arith, refl, ℤ, inl, inr}
 use Rattle.std.proofs.lemmas.Bool.{cases_lt}
 use Rattle.tz_info.specs.Segments.{segment_of}
 use Rattle.tz_info.specs.Steps.Answers.{joined}
@@ -32,12 +32,12 @@ less_joined z low middle high l a b u t near from below k = elim (cases_lt (segm
   | inr g ↦ b u t near (omega arith) below k
 ]
 
--- of segments more the jump is the first one
-wider : (z : Zone) (low middle high : ℕ) (l : ℤ) (j : Jump) → middle ≤ high → Jumps z low middle l j → Jumps z low high l j
-wider z low middle high l j h a = record {
+-- of segments more the jump is the first one, where clocks show less before it
+moved : (z : Zone) (low high from below : ℕ) (l : ℤ) (j : Jump) → AreLessAmong z from j.place l → j.place < below → Jumps z low high l j → Jumps z from below l j
+moved z low high from below l j less inside a = record {
   some = a.some;
-  inside = let i = a.inside in omega arith;
-  less = a.less;
+  inside = inside;
+  less = less;
   seen = a.seen;
   near = a.near;
   later = a.later;
@@ -46,26 +46,13 @@ wider z low middle high l j h a = record {
   before = a.before;
 }
 
-behind : (z : Zone) (low middle high : ℕ) (l : ℤ) (j : Jump) → AreLessAmong z low middle l → Jumps z middle high l j → Jumps z low high l j
-behind z low middle high l j less b = record {
-  some = b.some;
-  inside = b.inside;
-  less = less_joined z low middle j.place l less b.less;
-  seen = b.seen;
-  near = b.near;
-  later = b.later;
-  first = b.first;
-  more = b.more;
-  before = b.before;
-}
-
 pub side_together : (z : Zone) (low middle high : ℕ) (l : ℤ) (a b : Shown) → middle ≤ high → IsSideAmong z low middle l a → IsSideAmong z middle high l b → IsSideAmong z low high l (together a b)
 side_together z low middle high l (Less x) (Less y) h a b = (less_joined z low middle high l a.0 b.0, b.1)
-side_together z low middle high l (Less x) (Skipped k) h a b = behind z low middle high l k a.0 b
+side_together z low middle high l (Less x) (Skipped k) h a b = moved z middle high low high l k (less_joined z low middle k.place l a.0 b.less) b.inside b
 side_together z low middle high l (Less x) (Once i) h a b = tt
 side_together z low middle high l (Less x) (Several i m) h a b = tt
-side_together z low middle high l (Skipped j) (Less y) h a b = wider z low middle high l j h a
-side_together z low middle high l (Skipped j) (Skipped k) h a b = wider z low middle high l j h a
+side_together z low middle high l (Skipped j) (Less y) h a b = moved z low middle low high l j a.less (let i = a.inside in omega arith) a
+side_together z low middle high l (Skipped j) (Skipped k) h a b = moved z low middle low high l j a.less (let i = a.inside in omega arith) a
 side_together z low middle high l (Skipped j) (Once i) h a b = tt
 side_together z low middle high l (Skipped j) (Several i m) h a b = tt
 side_together z low middle high l (Once f) (Less y) h a b = tt

@@ -1,5 +1,5 @@
 -- A walk from segment to segment: which seconds it adds, why none lies outside it, and how many transitions it reads.
-use Rattle.std.proofs.Common.{◌≡◌, ℕ, zero, suc, ◌+◌, ◌<◌, ◌≤◌, arith, refl, ap, ◌∙◌, sym, Bool, true, false, cond, ◌&&◌, List, [], ◌∷◌, length, get_or, ℤ, ◌+ℤ◌, ◌-ℤ◌, ◌≤ℤ◌, ◌<ℤ◌, int_le, int_lt, inl, inr, Some, None, slice_get}
+use Rattle.std.proofs.Common.{◌≡◌, ℕ, zero, suc, ◌+◌, ◌<◌, ◌≤◌, arith, refl, ap, ◌∙◌, sym, Bool, true, false, cond, ◌&&◌, List, [], ◌∷◌, length, get_or, ℤ, ◌+ℤ◌, ◌-ℤ◌, ◌≤ℤ◌, ◌<ℤ◌, int_le, int_lt, inl, inr, Some, None}
 use Rattle.std.specs.List.{filter}
 use Rattle.std.proofs.lemmas.Int.{ints}
 use Rattle.std.proofs.lemmas.Bool.{cases_lt}
@@ -8,14 +8,15 @@ use Rattle.naive_base.specs.Range.{IsWide}
 use Rattle.offset_core.specs.WallAnswer.{IsWallAnswer}
 use Rattle.offset_core.specs.declared.local_result.LocalResult.{LocalResult}
 use Rattle.offset_core.specs.declared.local_result.LocalResult.TheVariants.{None as Never}
-use Rattle.tz_info.specs.Counts.{Counts}
+use Rattle.tz_info.specs.Counts.{Counts, RoseWithin}
 use Rattle.tz_info.specs.Digits.{digits}
-use Rattle.tz_info.specs.Leaps.{IsLeapTime, IsNear, least_time}
+use Rattle.tz_info.specs.Leaps.{IsNear, least_time}
 use Rattle.tz_info.specs.LocalTypes.{LocalType}
 use Rattle.tz_info.specs.RuleTypes.{RuleAt}
-use Rattle.tz_info.specs.Segments.{segment_of}
+use Rattle.tz_info.specs.Segments.{segment_of, table_count}
 use Rattle.tz_info.specs.Steps.Segments.{begin_of, index_of}
 use Rattle.tz_info.specs.Steps.RuleSeconds.{AreUtOffsets, TypeFrom}
+use Rattle.tz_info.specs.Steps.Looks.{reads_more}
 use Rattle.tz_info.specs.Steps.Walk.{TypeIn, IsShownIn, IsTried, IsAskedLast}
 use Rattle.tz_info.specs.Transitions.{AreRising}
 use Rattle.tz_info.specs.WallClocks.{Shows}
@@ -26,45 +27,30 @@ use Rattle.tz_info.specs.Zones.{Zone, HasType, IsValid, TypeAt}
 use Rattle.tz_info.specs.declared.rule.transition_rule.TransitionRule.{TransitionRule}
 use Rattle.tz_info.specs.declared.zone.transition.Transition.{Transition}
 use Rattle.tz_info.proofs.AnswerLaws.{Parts, same_answer}
-use Rattle.tz_info.proofs.Candidates.{Gains, gained, offset_of_rule, shown_at}
+use Rattle.tz_info.proofs.Candidates.{Gains, gained, offset_of_rule}
 use Rattle.tz_info.proofs.ExtremeLaws.{at_most_greatest, at_least_least}
+use Rattle.tz_info.proofs.OnePass.{table_most}
 use Rattle.tz_info.proofs.Prefixes.{le_true, lt_true}
-use Rattle.tz_info.proofs.SegmentLaws.{segment_is, segment_at, segment_here, segment_most, segments_rise, later_segment, within_of, between_of, type_before, type_from, type_in_before, type_in_from}
+use Rattle.tz_info.proofs.SegmentLaws.{segment_is, segment_at, segment_here, segment_most, segments_rise, later_segment, within_of, between_of, type_from, type_in_from}
 use Rattle.tz_info.proofs.TableSearch.{Between}
-use Rattle.tz_info.proofs.WallSegments.{leap_time_of, near_of, rule_begun}
-use Rattle.tz_info.proofs.ZoneLaws.{some_once}
+use Rattle.tz_info.proofs.WallSegments.{leap_time_of, near_of, rule_begun, offset_here, type_of_table}
 
 -- ---- segments
-shows_type : (z : Zone) (l u : ℤ) (i : ℕ) (t : LocalType) → Shows (TypeIn z i) l u t → Shows (TypeAt z) l u t
-shows_type z l u i t s = record { fits = s.fits; type = s.type.type; shown = s.shown }
-
-shows_in : (z : Zone) (l u : ℤ) (i : ℕ) (t : LocalType) → Shows (TypeAt z) l u t → segment_of z u ≡ i → Shows (TypeIn z i) l u t
-shows_in z l u i t s e = record { fits = s.fits; type = record { type = s.type; segment = e }; shown = s.shown }
-
--- one segment more, where at most one of its seconds shows the local time
-segment_gains : (z : Zone) (l o : ℤ) (i : ℕ) → IsValid z → ((u : ℤ) (t : LocalType) → Shows (TypeIn z i) l u t → u ≡ l -ℤ o) → Gains (TypeIn z i) (IsShownIn z l i) (IsShownIn z l (i + 1)) l (l -ℤ o)
-segment_gains z l o i valid one = record {
+-- one segment more of the table, of whose seconds at most one shows the local time
+segment_gains : (z : Zone) (l : ℤ) (i : ℕ) (x : LocalType) → IsValid z → i < table_count z → HasType z (index_of z.transitions i) x → Gains (TypeIn z i) (IsShownIn z l i) (IsShownIn z l (i + 1)) l (l -ℤ x.offset)
+segment_gains z l i x valid own has = record {
   old = λ u t k. record { shows = k.shows; before = let b = k.before in omega arith };
-  new = λ t k. record { shows = shows_type z l (l -ℤ o) i t k; before = let e = k.type.segment in omega arith };
+  new = λ t k. record { shows = record { fits = k.fits; type = k.type.type; shown = k.shown }; before = let e = k.type.segment in omega arith };
   only = λ u t k. elim (cases_lt (segment_of z u) i) [
     | inl h ↦ inl (record { shows = k.shows; before = h })
     | inr h ↦
         let e : segment_of z u ≡ i = let b = k.before in omega arith in
-        let s = shows_in z l u i t k.shows e in
-        inr (one u t s, s)
+        let o = offset_here z i u t x valid own has e k.shows.type in
+        let shown = k.shows.shown in
+        inr (omega (arith, ints), record { fits = k.shows.fits; type = record { type = k.shows.type; segment = e }; shown = shown })
   ];
-  behind = λ t k u f h. later_segment z u (l -ℤ o) valid (let b = h.before in let e = k.type.segment in omega arith);
+  behind = λ t k u f h. later_segment z u (l -ℤ x.offset) valid (let b = h.before in let e = k.type.segment in omega arith);
 }
-
--- between neighbouring transitions at most one second shows the local time
-pub one_before : (z : Zone) (l : ℤ) (i : ℕ) (x : LocalType) → AreRising z.transitions → i < length z.transitions → HasType z (index_of z.transitions i) x → (u : ℤ) (t : LocalType) → Shows (TypeIn z i) l u t → u ≡ l -ℤ x.offset
-one_before z l i x r h k u t s = shown_at u l t x s.shown (some_once (slice_get z.types (index_of z.transitions i)) t x (type_before z i u t r s.type h) k)
-
--- and so behind the last one where there is no rule
-pub one_last : (z : Zone) (l : ℤ) (x : LocalType) → AreRising z.transitions → z.rule ≡ None → HasType z (index_of z.transitions (length z.transitions)) x → (u : ℤ) (t : LocalType) → Shows (TypeIn z (length z.transitions)) l u t → u ≡ l -ℤ x.offset
-one_last z l x r none k u t s =
-    let f = rw none at (type_from z u t r s.type) in
-    shown_at u l t x s.shown (some_once (slice_get z.types (index_of z.transitions (length z.transitions))) t x f k)
 
 -- ---- what was tried
 -- the test is whether the leap time lies in the segment
@@ -72,11 +58,15 @@ pub record Tests (z : Zone) (i : ℕ) (within : ℤ → Type 0) : Type 0 where
   pub to : (x : ℤ) → within x → Between z.transitions x i i
   pub from : (x : ℤ) → least_time ≤ℤ x → Between z.transitions x i i → within x
 
-pub tried_asked : (z : Zone) (l : ℤ) (i : ℕ) (within : ℤ → Type 0) (before after : LocalResult LocalType) → AreRising z.transitions → Tests z i within → (k : IsTried z l (index_of z.transitions i) within before after) → ((u x : ℤ) (t : LocalType) → IsLeapTime z.leaps u x → Between z.transitions x i i → HasType z (index_of z.transitions i) t → TypeIn z i u t) → IsAskedLast (TypeIn z i) l k.type.offset before after
-tried_asked z l i within before after rising tests k make = elim k.tried [
-  | inl h ↦ inr (k.type, record { fits = k.candidate.fits; type = make (l -ℤ k.type.offset) k.leap_time k.type k.candidate.of_second (tests.to k.leap_time h.0) k.candidate.listed; shown = omega (arith, ints) }, h.1)
-  | inr h ↦ inl (h.1, λ t s. h.0 (tests.from k.leap_time k.candidate.leap_fits (rw (sym k.candidate.of_second.sum) at (segment_at z (l -ℤ k.type.offset) i rising s.type.segment))))
+tried_asked : (z : Zone) (l : ℤ) (i : ℕ) (within : ℤ → Type 0) (before after : LocalResult LocalType) → IsValid z → i < table_count z → Tests z i within → (k : IsTried z l (index_of z.transitions i) within before after) → IsAskedLast (TypeIn z i) l k.type.offset before after
+tried_asked z l i within before after valid own tests k = elim k.tried [
+  | inl h ↦ inr (k.type, record { fits = k.candidate.fits; type = type_of_table z i (l -ℤ k.type.offset) k.leap_time k.type own k.candidate.of_second (tests.to k.leap_time h.0) k.candidate.listed; shown = omega (arith, ints) }, h.1)
+  | inr h ↦ inl (h.1, λ t s. h.0 (tests.from k.leap_time k.candidate.leap_fits (rw (sym k.candidate.of_second.sum) at (segment_at z (l -ℤ k.type.offset) i valid.transitions.rising s.type.segment))))
 ]
+
+tried_segment : (z : Zone) (l : ℤ) (i : ℕ) (within : ℤ → Type 0) (before after : LocalResult LocalType) → IsValid z → i < table_count z → Tests z i within → IsTried z l (index_of z.transitions i) within before after → IsWallAnswer (IsShownIn z l i) before → IsWallAnswer (IsShownIn z l (i + 1)) after
+tried_segment z l i within before after valid own tests k s =
+    gained (TypeIn z i) (IsShownIn z l i) (IsShownIn z l (i + 1)) l k.type.offset before after (segment_gains z l i k.type valid own k.candidate.listed) s (tried_asked z l i within before after valid own tests k)
 
 pub tested_before : (z : Zone) (i : ℕ) (since until : ℤ) (d : Transition) → AreRising z.transitions → i < length z.transitions → since ≡ begin_of z.transitions i → until ≡ (get_or z.transitions i d).unix_leap_time → Tests z i (λ x. (since ≤ℤ x) × (x <ℤ until))
 tested_before z i since until d r h b e = record {
@@ -97,19 +87,15 @@ tested_last z since r b = record {
 pub tried_before : (z : Zone) (l : ℤ) (i : ℕ) (since until : ℤ) (d : Transition) (before after : LocalResult LocalType) → IsValid z → i < length z.transitions → since ≡ begin_of z.transitions i → until ≡ (get_or z.transitions i d).unix_leap_time
     → IsTried z l (index_of z.transitions i) (λ x. (since ≤ℤ x) × (x <ℤ until)) before after → IsWallAnswer (IsShownIn z l i) before → IsWallAnswer (IsShownIn z l (i + 1)) after
 tried_before z l i since until d before after valid h b e k s =
-    let rising = valid.transitions.rising in
-    gained (TypeIn z i) (IsShownIn z l i) (IsShownIn z l (i + 1)) l k.type.offset before after
-    (segment_gains z l k.type.offset i valid (one_before z l i k.type rising h k.candidate.listed)) s
-    (tried_asked z l i (λ x. (since ≤ℤ x) × (x <ℤ until)) before after rising (tested_before z i since until d rising h b e) k (λ u x t f g m. type_in_before z i u x t f g h m))
+    let table = table_most z in
+    tried_segment z l i (λ x. (since ≤ℤ x) × (x <ℤ until)) before after valid (omega arith) (tested_before z i since until d valid.transitions.rising h b e) k s
 
 -- the last segment was, where there is no rule
 pub tried_last : (z : Zone) (l since : ℤ) (before after : LocalResult LocalType) → IsValid z → z.rule ≡ None → since ≡ begin_of z.transitions (length z.transitions)
     → IsTried z l (index_of z.transitions (length z.transitions)) (λ x. since ≤ℤ x) before after → IsWallAnswer (IsShownIn z l (length z.transitions)) before → IsWallAnswer (IsShownIn z l (length z.transitions + 1)) after
 tried_last z l since before after valid none b k s =
-    let rising = valid.transitions.rising in
-    gained (TypeIn z (length z.transitions)) (IsShownIn z l (length z.transitions)) (IsShownIn z l (length z.transitions + 1)) l k.type.offset before after
-    (segment_gains z l k.type.offset (length z.transitions) valid (one_last z l k.type rising none k.candidate.listed)) s
-    (tried_asked z l (length z.transitions) (λ x. since ≤ℤ x) before after rising (tested_last z since rising b) k (λ u x t f g m. type_in_from z u x t f g (rw none m)))
+    let table : table_count z ≡ suc (length z.transitions) = rw none refl in
+    tried_segment z l (length z.transitions) (λ x. since ≤ℤ x) before after valid (omega arith) (tested_last z since valid.transitions.rising b) k s
 
 -- ---- the rule behind the last transition
 -- from `start` on the zone's types are the rule's, and before it those of the segments before the last one
@@ -184,19 +170,40 @@ walked_most ts low high first place b w inside =
     window_least (λ (t : Transition). int_lt low t.unix_leap_time && int_le t.unix_leap_time high) ts first place w
     (λ k d l m. rw (lt_true low (get_or ts k d).unix_leap_time (b.above k d l (omega arith)), le_true (get_or ts k d).unix_leap_time high (inside k d l m)) refl)
 
-pub rose_by_walk : (z : Zone) (l low high : ℤ) (a b : Counts) (first place : ℕ) → (0 < length z.transitions → a.reads < b.reads) → b.piece_reads ≡ a.piece_reads → IsWindow z l low high → place ≤ first + length (between z.transitions low high) → a.reads ≤ b.reads → b.reads + first ≤ a.reads + digits (length z.transitions) + place + 2 → a.rule_questions ≤ b.rule_questions → b.rule_questions ≤ a.rule_questions + 2 → RoseByWalk z l a b
-rose_by_walk z l low high a b first place least same w walked kept most questions asked = record {
-  window = length (between z.transitions low high);
-  counted = record { low = low; high = high; window = w; count = refl };
-  most = record { reads_kept = kept; reads_most = omega arith; questions_kept = questions; questions_most = asked; pieces_same = same };
-  least = least;
-}
+-- the walk has come to that place: the transitions from the first on lie in the window, and one search and a look at each of them were counted
+pub record Walked (z : Zone) (high : ℤ) (first place : ℕ) (a b : Counts) : Type 0 where
+  pub inside : (k : ℕ) (d : Transition) → first ≤ k → k < place → (get_or z.transitions k d).unix_leap_time ≤ℤ high
+  pub kept : a.reads ≤ b.reads
+  pub most : b.reads + first ≤ a.reads + digits (length z.transitions) + place + 1
+  pub questions : b.rule_questions ≡ a.rule_questions
+  pub pieces : b.piece_reads ≡ a.piece_reads
+  pub looked : 0 < length z.transitions → a.reads < b.reads
 
-pub inside_more : (ts : List Transition) (high : ℤ) (first place : ℕ) (x : Transition) → place < length ts → ((k : ℕ) (d : Transition) → first ≤ k → k < place → (get_or ts k d).unix_leap_time ≤ℤ high) → x ≡ get_or ts place x → x.unix_leap_time ≤ℤ high → (k : ℕ) (d : Transition) → first ≤ k → k < place + 1 → (get_or ts k d).unix_leap_time ≤ℤ high
-inside_more ts high first place x h inside e le k d l m = elim (cases_lt k place) [
-  | inl i ↦ inside k d l i
-  | inr i ↦
-      let same : k ≡ place = omega arith in
-      let g = ap (λ (t : Transition). t.unix_leap_time) (get_or_default ts place d x h ∙ sym e) in
-      rw same (omega (arith, ints))
-]
+pub walked_more : (z : Zone) (high : ℤ) (first place : ℕ) (x : Transition) (a b c : Counts) → place < length z.transitions → Walked z high first place a b → x ≡ get_or z.transitions place x → x.unix_leap_time ≤ℤ high → c ≡ reads_more b 1 → Walked z high first (place + 1) a c
+walked_more z high first place x a b c within w item le cost = rw cost (record {
+  inside = λ k d l m. elim (cases_lt k place) [
+    | inl i ↦ w.inside k d l i
+    | inr i ↦
+        let same : k ≡ place = omega arith in
+        let g = ap (λ (t : Transition). t.unix_leap_time) (get_or_default z.transitions place d x within ∙ sym item) in
+        rw same (omega (arith, ints))
+  ];
+  kept = omega arith;
+  most = omega arith;
+  questions = w.questions;
+  pieces = w.pieces;
+  looked = λ h. let l = w.looked h in omega arith;
+})
+
+pub one_look : (b c : Counts) → c ≡ reads_more b 1 → RoseWithin b c 1 2
+one_look b c cost = rw cost (record { reads_kept = omega arith; reads_most = omega arith; questions_kept = omega arith; questions_most = omega arith; pieces_same = refl })
+
+pub rose_by_walk : (z : Zone) (l low high : ℤ) (first place n : ℕ) (a b c : Counts) → IsWindow z l low high → Between z.transitions low first first → place ≤ length z.transitions → Walked z high first place a b → n ≤ 1 → RoseWithin b c n 2 → RoseByWalk z l a c
+rose_by_walk z l low high first place n a b c window split within w one r =
+    let walked = walked_most z.transitions low high first place split within w.inside in
+    record {
+      window = length (between z.transitions low high);
+      counted = record { low = low; high = high; window = window; count = refl };
+      most = record { reads_kept = omega arith; reads_most = omega arith; questions_kept = omega arith; questions_most = omega arith; pieces_same = r.pieces_same ∙ w.pieces };
+      least = λ h. let k = w.looked h in omega arith;
+    }

@@ -58,8 +58,15 @@ start_by_pushed (q ∷ ps) p l h =
 pub start_by_push : (ps : List Piece) (p : Piece) (l : ℤ) → StartBy ps l → p.start ≤ℤ l → StartBy (ps ++ (p ∷ [])) l
 start_by_push ps p l h s = All-push (λ (q : Piece). q.start ≤ℤ l) ps p h s
 
+-- how the answers of both are joined, and the same where the second comes first
+abbrev Join : Type 0
+Join = Answer → Answer → Answer
+
+abbrev turned : Join → Join
+turned join a b = join b a
+
 -- the first i pieces of xs and the first j of ys are merged
-pub record Merging (bx : Answer) (xs : List Piece) (by : Answer) (ys : List Piece) (out : List Piece) (i j : ℕ) : Type 0 where
+pub record Merging (join : Answer → Answer → Answer) (bx : Answer) (xs : List Piece) (by : Answer) (ys : List Piece) (out : List Piece) (i j : ℕ) : Type 0 where
   pub in_x : i ≤ length xs
   pub in_y : j ≤ length ys
   pub ordered : AreInOrder out
@@ -67,17 +74,30 @@ pub record Merging (bx : Answer) (xs : List Piece) (by : Answer) (ys : List Piec
   pub ahead_x : (d : Piece) → i < length xs → StartBy out (get_or xs i d).start
   pub ahead_y : (d : Piece) → j < length ys → StartBy out (get_or ys j d).start
   pub started : (l : ℤ) → StartBy out l → StartBy (take i xs) l × StartBy (take j ys) l
-  pub answers : (l : ℤ) → answer_at (together bx by) out l ≡ together (answer_at bx (take i xs) l) (answer_at by (take j ys) l)
+  pub answers : (l : ℤ) → answer_at (join bx by) out l ≡ join (answer_at bx (take i xs) l) (answer_at by (take j ys) l)
+
+-- so are those of ys and those of xs
+merging_turned : (join : Join) (bx : Answer) (xs : List Piece) (by : Answer) (ys out : List Piece) (i j : ℕ) → Merging join bx xs by ys out i j → Merging (turned join) by ys bx xs out j i
+merging_turned join bx xs by ys out i j m = record {
+  in_x = m.in_y;
+  in_y = m.in_x;
+  ordered = m.ordered;
+  count = let c = m.count in omega arith;
+  ahead_x = m.ahead_y;
+  ahead_y = m.ahead_x;
+  started = λ l h. let s = m.started l h in (s.1, s.0);
+  answers = m.answers;
+}
 
 -- the next piece is that of xs
-merging_x : (bx : Answer) (xs : List Piece) (by : Answer) (ys out : List Piece) (i j : ℕ) (p : Piece) → AreInOrder xs → Merging bx xs by ys out i j → IsNext xs i ys j
-    → ((d : Piece) → p.start ≡ (get_or xs i d).start) → p.answer ≡ together (answer_before bx (take (i + 1) xs)) (answer_before by (take j ys)) → Merging bx xs by ys (out ++ (p ∷ [])) (i + 1) j
-merging_x bx xs by ys out i j p order m next starts is =
+merging_x : (join : Join) (bx : Answer) (xs : List Piece) (by : Answer) (ys out : List Piece) (i j : ℕ) (p : Piece) → AreInOrder xs → Merging join bx xs by ys out i j → IsNext xs i ys j
+    → ((d : Piece) → p.start ≡ (get_or xs i d).start) → p.answer ≡ join (answer_before bx (take (i + 1) xs)) (answer_before by (take j ys)) → Merging join bx xs by ys (out ++ (p ∷ [])) (i + 1) j
+merging_x join bx xs by ys out i j p order m next starts is =
     let x : Piece = get_or xs i p in
     let inside = next.inside in
     let here = starts p in
     let more : take (i + 1) xs ≡ take i xs ++ (x ∷ []) = take_more xs i p inside in
-    let answer : p.answer ≡ together x.answer (answer_before by (take j ys)) = is ∙ ap (λ a. together a (answer_before by (take j ys))) (ap (answer_before bx) more ∙ before_pushed bx (take i xs) x) in
+    let answer : p.answer ≡ join x.answer (answer_before by (take j ys)) = is ∙ ap (λ a. join a (answer_before by (take j ys))) (ap (answer_before bx) more ∙ before_pushed bx (take i xs) x) in
     record {
       in_x = omega arith;
       in_y = m.in_y;
@@ -87,45 +107,20 @@ merging_x bx xs by ys out i j p order m next starts is =
       ahead_y = λ d l. start_by_push out p (get_or ys j d).start (m.ahead_y d l) (let s = starts d in let o = next.least d l in omega (arith, ints));
       started = λ l h. let s = start_by_pushed out p l h in let t = m.started l s.0 in (rw more (start_by_push (take i xs) x l t.0 (let q = s.1 in omega (arith, ints))), t.1);
       answers = λ l. by_lt_z l p.start
-          (λ before. at_earlier (together bx by) out p l before ∙ m.answers l ∙ ap (λ a. together a (answer_at by (take j ys) l)) (sym (rw more (at_earlier bx (take i xs) x l (omega (arith, ints))))))
+          (λ before. at_earlier (join bx by) out p l before ∙ m.answers l ∙ ap (λ a. join a (answer_at by (take j ys) l)) (sym (rw more (at_earlier bx (take i xs) x l (omega (arith, ints))))))
           (λ from.
           let by_now : StartBy out l = λ k d n. let h = m.ahead_x p inside k d n in omega (arith, ints) in
-          at_later (together bx by) out p l from ∙ answer ∙ rw (more, at_later bx (take i xs) x l (omega (arith, ints)), at_all by (take j ys) l ((m.started l by_now).1)) refl);
-    }
-
--- the next piece is that of ys
-merging_y : (bx : Answer) (xs : List Piece) (by : Answer) (ys out : List Piece) (i j : ℕ) (p : Piece) → AreInOrder ys → Merging bx xs by ys out i j → IsNext ys j xs i
-    → ((d : Piece) → p.start ≡ (get_or ys j d).start) → p.answer ≡ together (answer_before bx (take i xs)) (answer_before by (take (j + 1) ys)) → Merging bx xs by ys (out ++ (p ∷ [])) i (j + 1)
-merging_y bx xs by ys out i j p order m next starts is =
-    let y : Piece = get_or ys j p in
-    let inside = next.inside in
-    let here = starts p in
-    let more : take (j + 1) ys ≡ take j ys ++ (y ∷ []) = take_more ys j p inside in
-    let answer : p.answer ≡ together (answer_before bx (take i xs)) y.answer = is ∙ ap (λ a. together (answer_before bx (take i xs)) a) (ap (answer_before by) more ∙ before_pushed by (take j ys) y) in
-    record {
-      in_x = m.in_x;
-      in_y = omega arith;
-      ordered = all_pairs_push (λ (a b : Piece). a.start ≤ℤ b.start) out p m.ordered (λ k d l. let h = m.ahead_y p inside k d l in omega (arith, ints));
-      count = let c = m.count in length_push out p ∙ omega arith;
-      ahead_x = λ d l. start_by_push out p (get_or xs i d).start (m.ahead_x d l) (let s = starts d in let o = next.least d l in omega (arith, ints));
-      ahead_y = λ d l. start_by_push out p (get_or ys (j + 1) d).start (λ k e n. let h = m.ahead_y d inside k e n in let o = order j (j + 1) d (omega arith) l in omega (arith, ints)) (let s = starts d in let o = order j (j + 1) d (omega arith) l in omega (arith, ints));
-      started = λ l h. let s = start_by_pushed out p l h in let t = m.started l s.0 in (t.0, rw more (start_by_push (take j ys) y l t.1 (let q = s.1 in omega (arith, ints))));
-      answers = λ l. by_lt_z l p.start
-          (λ before. at_earlier (together bx by) out p l before ∙ m.answers l ∙ ap (λ a. together (answer_at bx (take i xs) l) a) (sym (rw more (at_earlier by (take j ys) y l (omega (arith, ints))))))
-          (λ from.
-          let by_now : StartBy out l = λ k d n. let h = m.ahead_y p inside k d n in omega (arith, ints) in
-          at_later (together bx by) out p l from ∙ answer ∙ rw (more, at_later by (take j ys) y l (omega (arith, ints)), at_all bx (take i xs) l ((m.started l by_now).0)) refl);
+          at_later (join bx by) out p l from ∙ answer ∙ rw (more, at_later bx (take i xs) x l (omega (arith, ints)), at_all by (take j ys) l ((m.started l by_now).1)) refl);
     }
 
 -- the piece that comes next is added
-pub merging_more : (bx : Answer) (xs : List Piece) (by : Answer) (ys out after : List Piece) (i j i_after j_after : ℕ) (start : ℤ) (a : Answer) → AreInOrder xs → AreInOrder ys → Merging bx xs by ys out i j → IsStep xs i ys j start i_after j_after
-    → a ≡ together (answer_before bx (take i_after xs)) (answer_before by (take j_after ys)) → after ≡ out ++ (record { start = start; answer = a } ∷ []) → Merging bx xs by ys after i_after j_after
+pub merging_more : (bx : Answer) (xs : List Piece) (by : Answer) (ys out after : List Piece) (i j i_after j_after : ℕ) (start : ℤ) (a : Answer) → AreInOrder xs → AreInOrder ys → Merging together bx xs by ys out i j → IsStep xs i ys j start i_after j_after
+    → a ≡ together (answer_before bx (take i_after xs)) (answer_before by (take j_after ys)) → after ≡ out ++ (record { start = start; answer = a } ∷ []) → Merging together bx xs by ys after i_after j_after
 merging_more bx xs by ys out after i j i_after j_after start a in_x in_y m (inl s) is e =
-    let h = rw (s.passed, s.stays) at is in
-    rw (e, s.passed, s.stays) (merging_x bx xs by ys out i j (record { start = start; answer = a }) in_x m s.next s.starts h)
+    rw (e, s.passed, s.stays) (merging_x together bx xs by ys out i j (record { start = start; answer = a }) in_x m s.next s.starts (rw (s.passed, s.stays) at is))
 merging_more bx xs by ys out after i j i_after j_after start a in_x in_y m (inr s) is e =
-    let h = rw (s.stays, s.passed) at is in
-    rw (e, s.passed, s.stays) (merging_y bx xs by ys out i j (record { start = start; answer = a }) in_y m s.next s.starts h)
+    rw (e, s.passed, s.stays) (merging_turned (turned together) by ys bx xs (out ++ (record { start = start; answer = a } ∷ [])) (j + 1) i
+    (merging_x (turned together) by ys bx xs out j i (record { start = start; answer = a }) in_y (merging_turned together bx xs by ys out i j m) s.next s.starts (rw (s.stays, s.passed) at is)))
 
 pub step_count : (xs ys : List Piece) (i j i_after j_after : ℕ) (start : ℤ) → IsStep xs i ys j start i_after j_after → i_after + j_after ≡ i + j + 1
 step_count xs ys i j i_after j_after start (inl s) = let p = s.passed in let q = s.stays in omega arith

@@ -41,12 +41,6 @@ answer_before p decided start none (suc n) =
       )
     ]
 
-fits_from : (u : ℤ) → FitsSigned w64 u → neg_ℤ (pos 9_223_372_036_854_775_808) ≤ℤ u
-fits_from u f = omega (arith, ints)
-
-fits_to : (u : ℤ) → FitsSigned w64 u → u <ℤ pos 9_223_372_036_854_775_808
-fits_to u f = omega (arith, ints)
-
 same_or_not : (a b : ℤ) → (a ≡ b) ⊎ (a ≡ b → ⊥)
 same_or_not a b = by_lt_z a b (λ l. inr (λ e. absurd (omega (arith, ints, l, e)))) (λ g. by_lt_z b a (λ l. inr (λ e. absurd (omega (arith, ints, l, e)))) (λ l. inl (omega (arith, ints, g, l))))
 
@@ -70,6 +64,6 @@ pub wall_decided : (z : Zone) (local : ℤ) → IsValid z → IsRuleOrNone z.rul
 wall_decided z local valid rule =
     let shows = Shows (TypeAt z) local in
     let start = neg_ℤ (pos 9_223_372_036_854_775_808) in
-    let before = answer_before shows (shown_or_not z local valid rule) start (λ u t h. fits_from u h.fits) 18_446_744_073_709_551_616 in
+    let before = answer_before shows (shown_or_not z local valid rule) start (λ u t h. let f = h.fits in omega (arith, ints)) 18_446_744_073_709_551_616 in
     let end = start +ℤ pos 18_446_744_073_709_551_616 in
-    (before.0, same_answer (Before shows end) shows before.0 (λ u t h. h.0) (λ u t h. let l = fits_to u h.fits in (h, omega (arith, ints, l))) before.1)
+    (before.0, same_answer (Before shows end) shows before.0 (λ u t h. h.0) (λ u t h. let f = h.fits in (h, omega (arith, ints))) before.1)

@@ -1,7 +1,8 @@
 -- Where a zone's types change: at its transitions, and behind them where the rule's types do.
-use Rattle.std.proofs.Common.{◌≡◌, ℕ, zero, suc, ◌+◌, ◌-◌, ◌<◌, ◌≤◌, ◌↔◌, arith, refl, sym, ap, ◌∙◌, List, [], ◌∷◌, length, take, length-take, get_or, cond, int_le, ℤ, pos, ◌-ℤ◌, ◌≤ℤ◌, ◌<ℤ◌, inl, inr, Option, Some, None, MatchOption, w64}
+use Rattle.std.proofs.Common.{◌≡◌, ◌⊎◌, ℕ, zero, suc, ◌+◌, ◌-◌, ◌<◌, ◌≤◌, ◌↔◌, arith, refl, sym, ap, ◌∙◌, List, [], ◌∷◌, length, take, length-take, get_or, cond, int_le, ℤ, pos, ◌-ℤ◌, ◌≤ℤ◌, ◌<ℤ◌, inl, inr, Option, Some, None, MatchOption, w64}
 use Rattle.std.proofs.lemmas.Int.{ints, by_lt_z}
 use Rattle.std.proofs.lemmas.Bool.{cases_lt}
+use Rattle.std.proofs.lemmas.Bool.Decides.{nat_tests}
 use Rattle.std.proofs.lemmas.List.Sums.{sum_by-cons}
 use Rattle.std.specs.List.{count_by}
 use mir.Val.{SFits}
@@ -11,42 +12,34 @@ use Rattle.tz_info.specs.LocalTypes.{LocalType}
 use Rattle.tz_info.specs.Moments.{AlternateAt, IsRuleTime}
 use Rattle.tz_info.specs.Rules.{Alternate as AlternateRule}
 use Rattle.tz_info.specs.Segments.{segment_of}
-use Rattle.tz_info.specs.Steps.Changes.{ComesAt, HasNoneAt, IsBegin, IsByRuleAfter, IsInTableAfter, IsByRuleUpTo, IsInTableUpTo, AreAhead, later_of}
+use Rattle.tz_info.specs.Steps.Changes.{ComesAt, HasNoneAt, IsBegin, IsByRule, IsInTable, AreAhead, AreComeAt, IsLaterOf}
 use Rattle.tz_info.specs.Transitions.{passed}
 use Rattle.tz_info.specs.Steps.Starts.{HaveCome}
-use Rattle.tz_info.specs.Zones.{Zone, IsValid, TypeAt, IsTypeRefused, RuleOrType}
+use Rattle.tz_info.specs.Zones.{Zone, IsValid, TypeAt, RuleOrType}
 use Rattle.tz_info.specs.declared.change.Change.{Change}
 use Rattle.tz_info.specs.declared.rule.transition_rule.TransitionRule.{TransitionRule}
 use Rattle.tz_info.specs.declared.rule.transition_rule.TransitionRule.TheVariants.{Fixed, Alternate}
 use Rattle.tz_info.specs.declared.zone.leap_second.LeapSecond.{LeapSecond}
 use Rattle.tz_info.specs.declared.zone.transition.Transition.{Transition}
-use Rattle.tz_info.proofs.ChangeSearch.{first_moved, last_moved, later_below, below_later}
+use Rattle.tz_info.proofs.ChangeSearch.{first_moved, last_moved}
 use Rattle.tz_info.proofs.GapLaws.{IsSteady, HasOneType, one_type}
 use Rattle.tz_info.proofs.LeapEntries.{follow, threshold_at}
 use Rattle.tz_info.proofs.LeapStarts.{correction_behind, reached_later, times_rise}
 use Rattle.tz_info.proofs.LeapOrder.{bounded}
 use Rattle.tz_info.proofs.PassedTransitions.{no_items}
-use Rattle.tz_info.proofs.Prefixes.{le_true, le_false}
 use Rattle.tz_info.proofs.RuleChanges.{rule_second}
 use Rattle.tz_info.proofs.SegmentLaws.{segments_rise, segment_most, segment_at, later_segment, type_from, type_in_from, come_by_time, come_at_time}
-use Rattle.tz_info.proofs.ZoneLaws.{leap_time_decided, type_not_refused}
+use Rattle.tz_info.proofs.ZoneLaws.{leap_time_decided}
 
 -- ---- which seconds have a leap time
-count_in : (t u : ℤ) (ts : List ℤ) → t ≤ℤ u → count_by (λ t. int_le t u) (t ∷ ts) ≡ suc (count_by (λ t. int_le t u) ts)
-count_in t u ts h = sum_by-cons (λ t. cond (int_le t u) 1 0) t ts ∙ rw (le_true t u h) (omega arith)
-
-count_out : (t u : ℤ) (ts : List ℤ) → u <ℤ t → count_by (λ t. int_le t u) (t ∷ ts) ≡ count_by (λ t. int_le t u) ts
-count_out t u ts h = sum_by-cons (λ t. cond (int_le t u) 1 0) t ts ∙ rw (le_false t u h) (omega arith)
+one_counted : (t u v : ℤ) → u ≤ℤ v → cond (int_le t u) 1 0 ≤ cond (int_le t v) 1 0
+one_counted t u v h = grind (arith, ints, nat_tests)
 
 counted_more : (ts : List ℤ) (u v : ℤ) → u ≤ℤ v → count_by (λ t. int_le t u) ts ≤ count_by (λ t. int_le t v) ts
 counted_more [] u v h = omega arith
 counted_more (t ∷ ts) u v h =
-    let r = counted_more ts u v h in
-    by_lt_z u t
-    (λ below. by_lt_z v t
-    (λ under. rw (count_out t u ts below, count_out t v ts under) r)
-    (λ above. rw (count_out t u ts below, count_in t v ts above) (omega arith)))
-    (λ above. rw (count_in t u ts above, count_in t v ts (omega (arith, ints))) (omega arith))
+    let r = counted_more ts u v h in let one = one_counted t u v h in
+    rw (sum_by-cons (λ t. cond (int_le t u) 1 0) t ts, sum_by-cons (λ t. cond (int_le t v) 1 0) t ts) (omega arith)
 
 -- before a second with a leap time each has one
 pub refused_on : (es : List LeapSecond) (u v y : ℤ) → AreLeapSeconds es → u ≤ℤ v → IsLeapTimeRefused es u → IsLeapTime es v y → ⊥
@@ -73,18 +66,12 @@ rule_leap_time es u valid within = elim (leap_time_decided es u) [
 time_of : (z : Zone) (u : ℤ) (t : LocalType) → 0 < length z.transitions → (h : TypeAt z u t) → IsLeapTime z.leaps u h.leap_time
 time_of z u t some h = h.of_second some
 
-before_now : (u : ℤ) → (u -ℤ pos 1) ≤ℤ u
-before_now u = omega (arith, ints)
-
-rises_to : (z : Zone) (d : Change) → IsValid z → segment_of z (d.at -ℤ pos 1) ≤ segment_of z d.at
-rises_to z d valid = segments_rise z (d.at -ℤ pos 1) d.at valid.transitions.rising valid.leaps (before_now d.at)
-
 -- a change comes from one segment to a later one, where one type is in force in the segment
 changes_segment : (z : Zone) (d : Change) → IsValid z → IsChange (TypeAt z) d → HasOneType z (segment_of z (d.at -ℤ pos 1)) → segment_of z (d.at -ℤ pos 1) < segment_of z d.at
 changes_segment z d valid is one = elim (cases_lt (segment_of z (d.at -ℤ pos 1)) (segment_of z d.at)) [
   | inl l ↦ l
   | inr m ↦
-      let r = rises_to z d valid in
+      let r = segments_rise z (d.at -ℤ pos 1) d.at valid.transitions.rising valid.leaps (omega (arith, ints)) in
       absurd (is.differ (one_type z (segment_of z (d.at -ℤ pos 1)) (d.at -ℤ pos 1) d.at d.before d.after valid one refl (omega arith) is.before is.after))
 ]
 
@@ -102,34 +89,43 @@ comes_with z place start d valid some comes is e =
 pub record AreBehind (z : Zone) (after : ℤ) (place : ℕ) : Type 0 where
   pub behind : (d : Change) → IsChange (TypeAt z) d → after <ℤ d.at → place ≤ segment_of z (d.at -ℤ pos 1)
 
-pub behind_first : (z : Zone) (after : ℤ) (place : ℕ) → IsValid z → place ≡ segment_of z after → AreBehind z after place
-behind_first z after place valid e = record {
-  behind = λ d is later. let r = segments_rise z after (d.at -ℤ pos 1) valid.transitions.rising valid.leaps (omega (arith, ints)) in omega arith;
+pub behind_first : (z : Zone) (after : ℤ) (place : ℕ) → IsValid z → AreComeAt z after place → AreBehind z after place
+behind_first z after place valid count = record {
+  behind = λ d is later. let n = count.is in let r = segments_rise z after (d.at -ℤ pos 1) valid.transitions.rising valid.leaps (omega (arith, ints)) in omega arith;
 }
 
-pub refused_after : (z : Zone) (after : ℤ) → IsValid z → IsLeapTimeRefused z.leaps after → HasNoChange (TypeAt z) (IsInTableAfter z after)
+pub refused_after : (z : Zone) (after : ℤ) → IsValid z → IsLeapTimeRefused z.leaps after → HasNoChange (TypeAt z) (IsInTable z (λ u. after <ℤ u))
 refused_after z after valid r d is inside =
-    let t = inside.table in let l = inside.later in
+    let t = inside.table in let l = inside.inside in
     refused_on z.leaps after (d.at -ℤ pos 1) is.before.leap_time valid.leaps (omega (arith, ints)) r (time_of z (d.at -ℤ pos 1) d.before (omega arith) is.before)
 
--- the change that comes with the transition at that place is the first one in the table
-pub table_found : (z : Zone) (after x : ℤ) (place : ℕ) (c : Change) → IsValid z → place < length z.transitions → IsLeapTime z.leaps after x → segment_of z after ≤ place
-    → AreBehind z after place → IsChange (TypeAt z) c → ComesAt z place c.at → IsFirstChange (TypeAt z) (IsInTableAfter z after) c
-table_found z after x place c valid some l at h is comes =
+-- a change with a later transition comes later, and one with an earlier transition sooner
+place_order : (z : Zone) (place : ℕ) (start : ℤ) (d : Change) → IsValid z → place < length z.transitions → ComesAt z place start → IsChange (TypeAt z) d
+    → (place ≤ segment_of z (d.at -ℤ pos 1) → start ≤ℤ d.at) × (segment_of z (d.at -ℤ pos 1) ≤ place → d.at ≤ℤ start)
+place_order z place start d valid some comes is =
+    let come = comes (d.at -ℤ pos 1) is.before.leap_time (time_of z (d.at -ℤ pos 1) d.before (omega arith) is.before) in (
+      λ low. elim (cases_lt place (segment_of z (d.at -ℤ pos 1))) [
+        | inl k ↦ let f = come.0 k in omega (arith, ints)
+        | inr m ↦ let e = comes_with z place start d valid some comes is (omega arith) in omega (arith, ints)
+      ],
+      λ high. by_lt_z start d.at (λ less. let k = come.1 (omega (arith, ints)) in absurd (omega arith)) (λ m. m),
+    )
+
+-- before the change that comes with a transition, that one has not come
+not_come : (z : Zone) (place : ℕ) (c : Change) → place < length z.transitions → IsChange (TypeAt z) c → ComesAt z place c.at → segment_of z (c.at -ℤ pos 1) < length z.transitions
+not_come z place c some is comes =
     let come = comes (c.at -ℤ pos 1) is.before.leap_time (time_of z (c.at -ℤ pos 1) c.before (omega arith) is.before) in
-    let begun = comes after x l in
+    elim (cases_lt place (segment_of z (c.at -ℤ pos 1))) [ inl k ↦ let b = come.0 k in absurd (omega (arith, ints)) | inr m ↦ omega arith ]
+
+-- the change that comes with the transition at that place is the first one in the table
+pub table_found : (z : Zone) (after : ℤ) (first place : ℕ) (c : Change) → IsValid z → place < length z.transitions → AreComeAt z after first → first ≤ place
+    → AreBehind z after place → IsChange (TypeAt z) c → ComesAt z place c.at → IsFirstChange (TypeAt z) (IsInTable z (λ u. after <ℤ u)) c
+table_found z after first place c valid some count at h is comes =
+    let begun = comes after count.leap_time count.of_second in let n = count.is in
     record {
       is = is;
-      inside = record {
-        later = by_lt_z after c.at (λ k. k) (λ m. let b = begun.1 m in absurd (omega arith));
-        table = elim (cases_lt place (segment_of z (c.at -ℤ pos 1))) [ inl k ↦ let b = come.0 k in absurd (omega (arith, ints)) | inr m ↦ omega arith ];
-      };
-      first = λ d is_d inside.
-          let b = h.behind d is_d inside.later in
-          elim (cases_lt place (segment_of z (d.at -ℤ pos 1))) [
-            | inl k ↦ let f = (comes (d.at -ℤ pos 1) is_d.before.leap_time (time_of z (d.at -ℤ pos 1) d.before (omega arith) is_d.before)).0 k in omega (arith, ints)
-            | inr m ↦ let e = comes_with z place c.at d valid some comes is_d (omega arith) in omega (arith, ints)
-          ];
+      inside = record { inside = by_lt_z after c.at (λ k. k) (λ m. let b = begun.1 m in absurd (omega arith)); table = not_come z place c some is comes };
+      first = λ d is_d inside. (place_order z place c.at d valid some comes is_d).0 (h.behind d is_d inside.inside);
     }
 
 -- the second at which a transition comes is none of 64 bits
@@ -143,15 +139,20 @@ none_there z place start valid some comes none d is e = none d is (comes_with z 
 -- ---- behind the last transition
 last_too : (z : Zone) (u : ℤ) → IsValid z → segment_of z (u -ℤ pos 1) ≡ length z.transitions → segment_of z u ≡ length z.transitions
 last_too z u valid e =
-    let r = segments_rise z (u -ℤ pos 1) u valid.transitions.rising valid.leaps (before_now u) in
+    let r = segments_rise z (u -ℤ pos 1) u valid.transitions.rising valid.leaps (omega (arith, ints)) in
     let m = segment_most z u valid.transitions.rising in
     omega arith
 
+not_alternate : (rule : Option TransitionRule) → ((a : AlternateRule) → rule ≡ Some (Alternate a) → ⊥) → IsSteady rule
+not_alternate None not = tt
+not_alternate (Some (Fixed t)) not = tt
+not_alternate (Some (Alternate a)) not = not a refl
+
 -- without a rule of two types nothing changes there
-pub steady_after : (z : Zone) (after : ℤ) → IsValid z → IsSteady z.rule → HasNoChange (TypeAt z) (IsByRuleAfter z after)
-steady_after z after valid steady d is inside =
-    let e = inside.last in
-    let l = changes_segment z d valid is (inr (steady, e)) in
+pub steady : (z : Zone) (within : ℤ → Type 0) → IsValid z → ((a : AlternateRule) → z.rule ≡ Some (Alternate a) → ⊥) → HasNoChange (TypeAt z) (IsByRule z within)
+steady z within valid not d is inside =
+    let e = inside.by_rule in
+    let l = changes_segment z d valid is (inr (not_alternate z.rule not, e)) in
     let m = segment_most z d.at valid.transitions.rising in
     omega arith
 
@@ -196,80 +197,89 @@ begins z begin u valid h within from =
       | inr none ↦ omega arith
     ]
 
--- a change of the zone there is one of the rule
-pub zone_to_rule : (z : Zone) (a : AlternateRule) (d : Change) → IsValid z → z.rule ≡ Some (Alternate a) → segment_of z (d.at -ℤ pos 1) ≡ length z.transitions → IsChange (TypeAt z) d → IsChange (AlternateAt a) d
-zone_to_rule z a d valid rule e is = record {
-  fits = is.fits;
-  fits_before = is.fits_before;
-  before = to_rule z a (d.at -ℤ pos 1) d.before valid rule e is.before;
-  after = to_rule z a d.at d.after valid rule (last_too z d.at valid e) is.after;
-  differ = is.differ;
-}
+-- the changes of the zone there are those of the rule after `begin`
+by_rule : (z : Zone) (a : AlternateRule) (begin : ℤ) (d : Change) → IsValid z → z.rule ≡ Some (Alternate a) → IsBegin z begin
+    → (IsChange (TypeAt z) d × (segment_of z (d.at -ℤ pos 1) ≡ length z.transitions)) ↔ (IsChange (AlternateAt a) d × (begin <ℤ d.at))
+by_rule z a begin d valid rule h = (
+  λ k.
+      let is = k.0 in let b = begun z begin (d.at -ℤ pos 1) d.before valid h is.fits_before is.before k.1 in (
+        record {
+          fits = is.fits;
+          fits_before = is.fits_before;
+          before = to_rule z a (d.at -ℤ pos 1) d.before valid rule k.1 is.before;
+          after = to_rule z a d.at d.after valid rule (last_too z d.at valid k.1) is.after;
+          differ = is.differ;
+        },
+        omega (arith, ints),
+      ),
+  λ k.
+      let is = k.0 in let l = k.1 in
+      let e = begins z begin (d.at -ℤ pos 1) valid h (rule_second a (d.at -ℤ pos 1) d.before is.before) (omega (arith, ints)) in (
+        record {
+          fits = is.fits;
+          fits_before = is.fits_before;
+          before = from_rule z a (d.at -ℤ pos 1) d.before valid rule e is.before;
+          after = from_rule z a d.at d.after valid rule (last_too z d.at valid e) is.after;
+          differ = is.differ;
+        },
+        e,
+      ),
+)
 
--- and a change of the rule is one of the zone
-rule_to_zone : (z : Zone) (a : AlternateRule) (d : Change) → IsValid z → z.rule ≡ Some (Alternate a) → segment_of z (d.at -ℤ pos 1) ≡ length z.transitions → IsChange (AlternateAt a) d → IsChange (TypeAt z) d
-rule_to_zone z a d valid rule e is = record {
-  fits = is.fits;
-  fits_before = is.fits_before;
-  before = from_rule z a (d.at -ℤ pos 1) d.before valid rule e is.before;
-  after = from_rule z a d.at d.after valid rule (last_too z d.at valid e) is.after;
-  differ = is.differ;
-}
-
-pub rule_found : (z : Zone) (a : AlternateRule) (after begin : ℤ) (found : Option Change) → IsValid z → z.rule ≡ Some (Alternate a) → IsBegin z begin
-    → IsFirst (AlternateAt a) (λ u. later_of after begin <ℤ u) found → IsFirst (TypeAt z) (IsByRuleAfter z after) found
-rule_found z a after begin found valid rule h first =
-    first_moved (AlternateAt a) (TypeAt z) (λ u. later_of after begin <ℤ u) (IsByRuleAfter z after) found
+pub rule_found : (z : Zone) (a : AlternateRule) (after begin from : ℤ) (found : Option Change) → IsValid z → z.rule ≡ Some (Alternate a) → IsBegin z begin → IsLaterOf after begin from
+    → IsFirst (AlternateAt a) (λ u. from <ℤ u) found → IsFirst (TypeAt z) (IsByRule z (λ u. after <ℤ u)) found
+rule_found z a after begin from found valid rule h later =
+    first_moved (AlternateAt a) (TypeAt z) (λ u. from <ℤ u) (IsByRule z (λ u. after <ℤ u)) found
     (λ d is inside.
-    let l = inside.later in
-    let b = begun z begin (d.at -ℤ pos 1) d.before valid h is.fits_before is.before inside.last in
-    (zone_to_rule z a d valid rule inside.last is, later_below after begin d.at l (omega (arith, ints))))
-    (λ d is later.
-    let both = below_later after begin d.at later in
-    let b = both.1 in
-    let e = begins z begin (d.at -ℤ pos 1) valid h (rule_second a (d.at -ℤ pos 1) d.before is.before) (omega (arith, ints)) in
-    (rule_to_zone z a d valid rule e is, record { later = both.0; last = e }))
-    first
+    let l = inside.inside in let k = (by_rule z a begin d valid rule h).0 (is, inside.by_rule) in let b = k.1 in
+    let m = (later (d.at -ℤ pos 1)).1 (omega (arith, ints), omega (arith, ints)) in
+    (k.0, omega (arith, ints)))
+    (λ d is k.
+    let both = (later (d.at -ℤ pos 1)).0 (omega (arith, ints)) in
+    let l = both.0 in let m = both.1 in let k = (by_rule z a begin d valid rule h).1 (is, omega (arith, ints)) in
+    (k.0, record { inside = omega (arith, ints); by_rule = k.1 }))
 
--- the last transition comes after all seconds of 64 bits
-pub none_begun : (z : Zone) (after begin : ℤ) → IsValid z → IsBegin z begin → pos 9_223_372_036_854_775_807 <ℤ begin → HasNoChange (TypeAt z) (IsByRuleAfter z after)
-none_begun z after begin valid h late d is inside =
-    let b = begun z begin (d.at -ℤ pos 1) d.before valid h is.fits_before is.before inside.last in
-    let f = is.fits_before in
-    omega (arith, ints)
+pub rule_until : (z : Zone) (a : AlternateRule) (last begin : ℤ) (found : Option Change) → IsValid z → z.rule ≡ Some (Alternate a) → IsBegin z begin
+    → IsLast (AlternateAt a) (λ u. (begin <ℤ u) × (u ≤ℤ last)) found → IsLast (TypeAt z) (IsByRule z (λ u. u ≤ℤ last)) found
+rule_until z a last begin found valid rule h =
+    last_moved (AlternateAt a) (TypeAt z) (λ u. (begin <ℤ u) × (u ≤ℤ last)) (IsByRule z (λ u. u ≤ℤ last)) found
+    (λ d is inside. let k = (by_rule z a begin d valid rule h).0 (is, inside.by_rule) in (k.0, (k.1, inside.inside)))
+    (λ d is inside. let k = (by_rule z a begin d valid rule h).1 (is, inside.0) in (k.0, record { inside = inside.1; by_rule = k.1 }))
 
--- or not before that second
-pub none_begun_before : (z : Zone) (last begin : ℤ) → IsValid z → IsBegin z begin → last ≤ℤ begin → HasNoChange (TypeAt z) (IsByRuleUpTo z last)
-none_begun_before z last begin valid h late d is inside =
+-- where none of those seconds comes after `begin`, no change comes at one behind the last transition
+pub none_begun : (z : Zone) (within : ℤ → Type 0) (begin : ℤ) → IsValid z → IsBegin z begin → ((u : ℤ) → SFits w64 u → within u → u ≤ℤ begin) → HasNoChange (TypeAt z) (IsByRule z within)
+none_begun z within begin valid h most d is inside =
     let b = begun z begin (d.at -ℤ pos 1) d.before valid h is.fits_before is.before inside.by_rule in
-    let u = inside.up_to in
+    let m = most d.at is.fits inside.inside in
     omega (arith, ints)
 
 -- ---- the table's changes come before the rule's
-pub table_first : (z : Zone) (after : ℤ) (c : Change) → IsValid z → IsFirstChange (TypeAt z) (IsInTableAfter z after) c → IsFirstChange (TypeAt z) (λ u. after <ℤ u) c
-table_first z after c valid h = record {
+in_either : (z : Zone) (within : ℤ → Type 0) (u : ℤ) → IsValid z → within u → IsInTable z within u ⊎ IsByRule z within u
+in_either z within u valid inside =
+    let m = segment_most z (u -ℤ pos 1) valid.transitions.rising in
+    elim (cases_lt (segment_of z (u -ℤ pos 1)) (length z.transitions)) [
+      | inl l ↦ inl (record { inside = inside; table = l })
+      | inr k ↦ inr (record { inside = inside; by_rule = omega arith })
+    ]
+
+table_sooner : (z : Zone) (within : ℤ → Type 0) (u v : ℤ) → IsValid z → IsInTable z within u → IsByRule z within v → u ≤ℤ v
+table_sooner z within u v valid t r =
+    let l = t.table in let m = r.by_rule in
+    let k = later_segment z (u -ℤ pos 1) (v -ℤ pos 1) valid (omega arith) in
+    omega (arith, ints)
+
+pub table_first : (z : Zone) (within : ℤ → Type 0) (c : Change) → IsValid z → IsFirstChange (TypeAt z) (IsInTable z within) c → IsFirstChange (TypeAt z) within c
+table_first z within c valid h = record {
   is = h.is;
-  inside = h.inside.later;
-  first = λ d is later. elim (cases_lt (segment_of z (d.at -ℤ pos 1)) (length z.transitions)) [
-    | inl l ↦ h.first d is (record { later = later; table = l })
-    | inr m ↦
-        let t = h.inside.table in
-        let k = later_segment z (c.at -ℤ pos 1) (d.at -ℤ pos 1) valid (omega arith) in
-        omega (arith, ints)
-  ];
+  inside = h.inside.inside;
+  first = λ d is inside. elim (in_either z within d.at valid inside) [ inl t ↦ h.first d is t | inr r ↦ table_sooner z within c.at d.at valid h.inside r ];
 }
 
-pub rule_first : (z : Zone) (after : ℤ) (found : Option Change) → IsValid z → HasNoChange (TypeAt z) (IsInTableAfter z after) → IsFirst (TypeAt z) (IsByRuleAfter z after) found → IsFirst (TypeAt z) (λ u. after <ℤ u) found
-rule_first z after found valid none h =
-    first_moved (TypeAt z) (TypeAt z) (IsByRuleAfter z after) (λ u. after <ℤ u) found
-    (λ d is later.
-    let m = segment_most z (d.at -ℤ pos 1) valid.transitions.rising in
-    elim (cases_lt (segment_of z (d.at -ℤ pos 1)) (length z.transitions)) [
-      | inl l ↦ absurd (none d is (record { later = later; table = l }))
-      | inr k ↦ (is, record { later = later; last = omega arith })
-    ])
-    (λ d is inside. (is, inside.later))
-    h
+pub rule_first : (z : Zone) (within : ℤ → Type 0) (found : Option Change) → IsValid z → HasNoChange (TypeAt z) (IsInTable z within) → IsFirst (TypeAt z) (IsByRule z within) found → IsFirst (TypeAt z) within found
+rule_first z within found valid none =
+    first_moved (TypeAt z) (TypeAt z) (IsByRule z within) within found
+    (λ d is inside. elim (in_either z within d.at valid inside) [ inl t ↦ absurd (none d is t) | inr r ↦ (is, r) ])
+    (λ d is inside. (is, inside.inside))
 
 -- ---- from which second on a transition has come
 pub comes_at : (z : Zone) (place : ℕ) (t : Transition) (start : ℤ) → IsValid z → place < length z.transitions → t ≡ get_or z.transitions place t
@@ -282,8 +292,9 @@ comes_at z place t start valid h item reached u y l =
     ((λ g. here.0 (rw time (come.0 (omega arith)))), (λ g. let c = come.1 (rw (← time) (here.1 g)) in omega arith))
 
 -- ---- the previous change of the table
-pub ahead_first : (z : Zone) (last x : ℤ) (count : ℕ) → IsValid z → IsLeapTime z.leaps last x → count ≡ segment_of z last → AreAhead z last count
-ahead_first z last x count valid l e =
+pub ahead_first : (z : Zone) (last : ℤ) (count : ℕ) → IsValid z → AreComeAt z last count → AreAhead z last count
+ahead_first z last count valid h =
+    let n = h.is in
     let most = segment_most z last valid.transitions.rising in
     record {
       within = omega arith;
@@ -291,7 +302,7 @@ ahead_first z last x count valid l e =
           let c = changes_segment z d valid is (inl table) in
           let r = segments_rise z d.at last valid.transitions.rising valid.leaps up_to in
           omega arith;
-      come = λ place start y below comes k. (comes last x l).0 (omega arith);
+      come = λ place start y below comes k. (comes last h.leap_time h.of_second).0 (omega arith);
     }
 
 -- where the second's leap time is refused, all transitions with a second come before it
@@ -315,93 +326,32 @@ ahead_less z last place h none =
       come = λ p start y below comes k. h.come p start y (omega arith) comes k;
     }
 
-pub ahead_none : (z : Zone) (last : ℤ) → AreAhead z last 0 → HasNoChange (TypeAt z) (IsInTableUpTo z last)
-ahead_none z last h d is inside = let a = h.ahead d is inside.up_to inside.table in omega arith
+pub ahead_none : (z : Zone) (last : ℤ) → AreAhead z last 0 → HasNoChange (TypeAt z) (IsInTable z (λ u. u ≤ℤ last))
+ahead_none z last h d is inside = let a = h.ahead d is inside.inside inside.table in omega arith
 
-pub table_last : (z : Zone) (last : ℤ) (place : ℕ) (c : Change) → IsValid z → AreAhead z last (place + 1) → IsChange (TypeAt z) c → ComesAt z place c.at → IsLastChange (TypeAt z) (IsInTableUpTo z last) c
+pub table_last : (z : Zone) (last : ℤ) (place : ℕ) (c : Change) → IsValid z → AreAhead z last (place + 1) → IsChange (TypeAt z) c → ComesAt z place c.at → IsLastChange (TypeAt z) (IsInTable z (λ u. u ≤ℤ last)) c
 table_last z last place c valid h is comes =
     let w = h.within in
-    let some : 0 < length z.transitions = omega arith in
-    let before = comes (c.at -ℤ pos 1) is.before.leap_time (time_of z (c.at -ℤ pos 1) c.before some is.before) in
-    let here = comes c.at is.after.leap_time (time_of z c.at c.after some is.after) in
+    let up_to = h.come place c.at is.after.leap_time (omega arith) comes (time_of z c.at c.after (omega arith) is.after) in
     record {
       is = is;
-      inside = record {
-        up_to = h.come place c.at is.after.leap_time (omega arith) comes (time_of z c.at c.after some is.after);
-        table = elim (cases_lt place (segment_of z (c.at -ℤ pos 1))) [ inl k ↦ let b = before.0 k in absurd (omega (arith, ints)) | inr m ↦ omega arith ];
-      };
-      last = λ d is_d inside.
-          let a = h.ahead d is_d inside.up_to inside.table in
-          elim (cases_lt (segment_of z (d.at -ℤ pos 1)) place) [
-            | inl l ↦ by_lt_z c.at d.at
-                (λ less.
-                let r = segments_rise z c.at (d.at -ℤ pos 1) valid.transitions.rising valid.leaps (omega (arith, ints)) in
-                let k = here.1 (omega (arith, ints)) in
-                absurd (omega arith))
-                (λ m. m)
-            | inr m ↦ let e = comes_with z place c.at d valid (omega arith) comes is_d (omega arith) in omega (arith, ints)
-          ];
+      inside = record { inside = up_to; table = not_come z place c (omega arith) is comes };
+      last = λ d is_d inside. let a = h.ahead d is_d inside.inside inside.table in (place_order z place c.at d valid (omega arith) comes is_d).1 (omega arith);
     }
-
--- ---- and of the rule
-pub steady_until : (z : Zone) (last : ℤ) → IsValid z → IsSteady z.rule → HasNoChange (TypeAt z) (IsByRuleUpTo z last)
-steady_until z last valid steady d is inside =
-    let e = inside.by_rule in
-    let l = changes_segment z d valid is (inr (steady, e)) in
-    let m = segment_most z d.at valid.transitions.rising in
-    omega arith
-
--- the rule's last change up to that second is one of the zone if it comes after `begin`
-pub rule_last : (z : Zone) (a : AlternateRule) (last begin : ℤ) (c : Change) → IsValid z → z.rule ≡ Some (Alternate a) → IsBegin z begin
-    → IsLastChange (AlternateAt a) (λ u. u ≤ℤ last) c → begin <ℤ c.at → IsLastChange (TypeAt z) (IsByRuleUpTo z last) c
-rule_last z a last begin c valid rule h k late =
-    let e = begins z begin (c.at -ℤ pos 1) valid h (rule_second a (c.at -ℤ pos 1) c.before k.is.before) (omega (arith, ints)) in
-    record {
-      is = rule_to_zone z a c valid rule e k.is;
-      inside = record { up_to = k.inside; by_rule = e };
-      last = λ d is inside. k.last d (zone_to_rule z a d valid rule inside.by_rule is) inside.up_to;
-    }
-
-pub rule_too_early : (z : Zone) (a : AlternateRule) (last begin : ℤ) (c : Change) → IsValid z → z.rule ≡ Some (Alternate a) → IsBegin z begin
-    → IsLastChange (AlternateAt a) (λ u. u ≤ℤ last) c → c.at ≤ℤ begin → HasNoChange (TypeAt z) (IsByRuleUpTo z last)
-rule_too_early z a last begin c valid rule h k early d is inside =
-    let m = k.last d (zone_to_rule z a d valid rule inside.by_rule is) inside.up_to in
-    let b = begun z begin (d.at -ℤ pos 1) d.before valid h is.fits_before is.before inside.by_rule in
-    omega (arith, ints)
-
-pub rule_none : (z : Zone) (a : AlternateRule) (last : ℤ) → IsValid z → z.rule ≡ Some (Alternate a) → HasNoChange (AlternateAt a) (λ u. u ≤ℤ last) → HasNoChange (TypeAt z) (IsByRuleUpTo z last)
-rule_none z a last valid rule none d is inside = none d (zone_to_rule z a d valid rule inside.by_rule is) inside.up_to
 
 -- ---- the rule's changes come after the table's
-pub rule_is_last : (z : Zone) (last : ℤ) (c : Change) → IsValid z → IsLastChange (TypeAt z) (IsByRuleUpTo z last) c → IsLastChange (TypeAt z) (λ u. u ≤ℤ last) c
-rule_is_last z last c valid h = record {
+pub rule_is_last : (z : Zone) (within : ℤ → Type 0) (c : Change) → IsValid z → IsLastChange (TypeAt z) (IsByRule z within) c → IsLastChange (TypeAt z) within c
+rule_is_last z within c valid h = record {
   is = h.is;
-  inside = h.inside.up_to;
-  last = λ d is up_to.
-      let m = segment_most z (d.at -ℤ pos 1) valid.transitions.rising in
-      elim (cases_lt (segment_of z (d.at -ℤ pos 1)) (length z.transitions)) [
-        | inl l ↦
-            let t = h.inside.by_rule in
-            let k = later_segment z (d.at -ℤ pos 1) (c.at -ℤ pos 1) valid (omega arith) in
-            omega (arith, ints)
-        | inr k ↦ h.last d is (record { up_to = up_to; by_rule = omega arith })
-      ];
+  inside = h.inside.inside;
+  last = λ d is inside. elim (in_either z within d.at valid inside) [ inl t ↦ table_sooner z within d.at c.at valid t h.inside | inr r ↦ h.last d is r ];
 }
 
-pub table_is_last : (z : Zone) (last : ℤ) (found : Option Change) → IsValid z → HasNoChange (TypeAt z) (IsByRuleUpTo z last) → IsLast (TypeAt z) (IsInTableUpTo z last) found → IsLast (TypeAt z) (λ u. u ≤ℤ last) found
-table_is_last z last found valid none h =
-    last_moved (TypeAt z) (TypeAt z) (IsInTableUpTo z last) (λ u. u ≤ℤ last) found
-    (λ d is up_to.
-    let m = segment_most z (d.at -ℤ pos 1) valid.transitions.rising in
-    elim (cases_lt (segment_of z (d.at -ℤ pos 1)) (length z.transitions)) [
-      | inl l ↦ (is, record { up_to = up_to; table = l })
-      | inr k ↦ absurd (none d is (record { up_to = up_to; by_rule = omega arith }))
-    ])
-    (λ d is inside. (is, inside.up_to))
-    h
-
-pub no_type : (z : Zone) (u : ℤ) (t : LocalType) → IsTypeRefused z u → TypeAt z u t → ⊥
-no_type z u t refused h = type_not_refused z u t h refused
+pub table_is_last : (z : Zone) (within : ℤ → Type 0) (found : Option Change) → IsValid z → HasNoChange (TypeAt z) (IsByRule z within) → IsLast (TypeAt z) (IsInTable z within) found → IsLast (TypeAt z) within found
+table_is_last z within found valid none =
+    last_moved (TypeAt z) (TypeAt z) (IsInTable z within) within found
+    (λ d is inside. elim (in_either z within d.at valid inside) [ inl t ↦ (is, t) | inr r ↦ absurd (none d is r) ])
+    (λ d is inside. (is, inside.inside))
 
 pub with_start : (z : Zone) (place : ℕ) (start : ℤ) (r : Option Change) → IsValid z → place < length z.transitions → ComesAt z place start → MatchOption r (HasNoChange (TypeAt z) (λ u. u ≡ start)) (λ c. IsChange (TypeAt z) c × (c.at ≡ start))
     → MatchOption r (HasNoneAt z place) (λ c. IsChange (TypeAt z) c × ComesAt z place c.at)
@@ -409,22 +359,10 @@ with_start z place start None valid some comes h = none_there z place start vali
 with_start z place start (Some c) valid some comes h = (h.0, rw h.1 comes)
 
 -- as many transitions as have come are those of the segments before
-pub counted_segment : (z : Zone) (u x : ℤ) (n : ℕ) → IsLeapTime z.leaps u x → n ≤ length z.transitions → passed z.transitions x ≡ take n z.transitions → n ≡ segment_of z u
+pub counted_segment : (z : Zone) (u x : ℤ) (n : ℕ) → IsLeapTime z.leaps u x → n ≤ length z.transitions → passed z.transitions x ≡ take n z.transitions → AreComeAt z u n
 counted_segment z u x n l within e =
     let m : length (take n z.transitions) ≡ n = simp length-take (omega arith) in
-    sym m ∙ sym (ap length e) ∙ come_at_time z u x l
-
-pub none_steady : (rule : Option TransitionRule) → rule ≡ None → IsSteady rule
-none_steady rule e = rw e tt
-
-pub fixed_steady : (rule : Option TransitionRule) (t : LocalType) → rule ≡ Some (Fixed t) → IsSteady rule
-fixed_steady rule t e = rw e tt
-
--- the rule's last change up to a second, if it comes after `begin`
-pub rule_until : (z : Zone) (a : AlternateRule) (last begin : ℤ) (c : Change) (r : Option Change) → IsValid z → z.rule ≡ Some (Alternate a) → IsBegin z begin
-    → IsLastChange (AlternateAt a) (λ u. u ≤ℤ last) c → MatchOption r (c.at ≤ℤ begin) (λ d. (begin <ℤ c.at) × (d ≡ c)) → IsLast (TypeAt z) (IsByRuleUpTo z last) r
-rule_until z a last begin c None valid rule h k m = rule_too_early z a last begin c valid rule h k m
-rule_until z a last begin c (Some d) valid rule h k m = rw m.1 (rule_last z a last begin c valid rule h k m.0)
+    record { leap_time = x; of_second = l; is = sym m ∙ sym (ap length e) ∙ come_at_time z u x l }
 
 pub begin_last : (z : Zone) (place : ℕ) (start : ℤ) → place + 1 ≡ length z.transitions → ComesAt z place start → IsBegin z start
 begin_last z place start e comes = record {

@@ -18,7 +18,7 @@ pub struct Change {
 }
 
 impl Change {
-    ghost use Rattle.tz_info.specs.Steps.Changes.{first_one, last_one};
+    ghost use Rattle.tz_info.specs.Steps.Changes.{nearer_one};
 
     // The change at that second, if the types differ.
     pub(crate) fn between(at: i64, before: LocalTimeType, after: LocalTimeType) -> Option<Change>
@@ -31,9 +31,13 @@ impl Change {
         Some(Change { at, before, after })
     }
 
-    // The one that comes first.
-    pub(crate) fn sooner(found: Option<Change>, other: Option<Change>) -> Option<Change>
-        ensures { result ≡ first_one found other }
+    // The one that comes first, or the one that comes last.
+    pub(crate) fn nearer(
+        found: Option<Change>,
+        other: Option<Change>,
+        forward: bool,
+    ) -> Option<Change>
+        ensures { result ≡ nearer_one forward found other }
     {
         let Some(one) = found else {
             return other;
@@ -41,28 +45,12 @@ impl Change {
         let Some(second) = other else {
             return Some(one);
         };
-        if second.at < one.at {
-            Some(second)
+        let is_nearer = if forward {
+            second.at < one.at
         } else {
-            Some(one)
-        }
-    }
-
-    // The one that comes last.
-    pub(crate) fn later(found: Option<Change>, other: Option<Change>) -> Option<Change>
-        ensures { result ≡ last_one found other }
-    {
-        let Some(one) = found else {
-            return other;
+            one.at < second.at
         };
-        let Some(second) = other else {
-            return Some(one);
-        };
-        if one.at < second.at {
-            Some(second)
-        } else {
-            Some(one)
-        }
+        if is_nearer { Some(second) } else { Some(one) }
     }
 }
 

@@ -19,8 +19,6 @@ mod opening;
 mod refusal;
 mod resolved;
 mod slot;
-#[cfg(test)]
-mod tests;
 mod texts;
 mod wall_clock;
 

@@ -13,19 +13,19 @@ pub fn command<'a>(alloc: Global) -> Result<Command<'a>, AllocError> {
 
 // The years that are asked for.
 fn with_years<'a>(alloc: Global, command: Command<'a>) -> Result<Command<'a>, AllocError> {
-    let from = Arg::new(alloc, "from")
-        .long("from")
+    let from = year(alloc, "from", "1900", "The first year of UTC");
+    let command = command.arg(from)?;
+    let to = year(alloc, "to", "2037", "The last year of UTC");
+    command.arg(to)
+}
+
+fn year<'a>(alloc: Global, name: &'a str, unless_asked: &'a str, help: &'a str) -> Arg<'a> {
+    Arg::new(alloc, name)
+        .long(name)
         .value_name("YEAR")
         .value_parser(value_parser!(i32))
-        .default_value("1900")
-        .help("The first year of UTC");
-    let to = Arg::new(alloc, "to")
-        .long("to")
-        .value_name("YEAR")
-        .value_parser(value_parser!(i32))
-        .default_value("2037")
-        .help("The last year of UTC");
-    command.arg(from)?.arg(to)
+        .default_value(unless_asked)
+        .help(help)
 }
 
 // What is done with the zones.
@@ -34,15 +34,18 @@ fn with_forms<'a>(alloc: Global, command: Command<'a>) -> Result<Command<'a>, Al
         .long("zdump")
         .action(ArgAction::SetTrue)
         .help("Prints what zdump -v prints");
+    let command = command.arg(zdump)?;
     let json = Arg::new(alloc, "json")
         .long("json")
         .action(ArgAction::SetTrue)
         .help("Prints an object of JSON for each zone, on a line of its own")
         .conflicts_with("zdump")?;
+    let command = command.arg(json)?;
     let write = Arg::new(alloc, "write")
         .long("write")
         .value_name("FILE")
         .help("Writes the zone as a TZif file, and prints nothing");
+    let command = command.arg(write)?;
     let svg = Arg::new(alloc, "svg")
         .long("svg")
         .value_name("FILE")
@@ -50,7 +53,7 @@ fn with_forms<'a>(alloc: Global, command: Command<'a>) -> Result<Command<'a>, Al
         .conflicts_with("zdump")?
         .conflicts_with("json")?
         .conflicts_with("write")?;
-    command.arg(zdump)?.arg(json)?.arg(write)?.arg(svg)
+    command.arg(svg)
 }
 
 // The zones: those of files, or that of a TZ text.
@@ -60,11 +63,12 @@ fn with_zones<'a>(alloc: Global, command: Command<'a>) -> Result<Command<'a>, Al
         .value_name("TZ")
         .help("A TZ text in place of files")
         .conflicts_with("FILE")?;
+    let command = command.arg(text)?;
     let files = Arg::new(alloc, "FILE")
         .action(ArgAction::Append)
         .help("TZif files")
         .required_unless_present("text")?;
-    command.arg(text)?.arg(files)
+    command.arg(files)
 }
 
 /// The years that are asked for, if they are years from 1 to 9999 in order.

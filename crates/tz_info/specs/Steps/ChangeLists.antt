@@ -1,7 +1,5 @@
 -- The changes of a stretch as a list that is made second by second. Which list that is says `AreChanges`.
 use Rattle.std.specs.Prelude.{ℕ, zero, suc, ◌==◌, length, List, [], ◌∷◌, ◌++◌, slice_get, slice_index_or, Bool, true, not, ◌&&◌, if◌then◌else◌, nat_lt, ℤ, pos, neg_ℤ, ◌+ℤ◌, ◌-ℤ◌, int_le, int_lt, unsigned_abs, Option, Some, None}
-use Rattle.std.specs.Cmp.Lexicographic.{pointwise}
-use Rattle.std.specs.Option.{option_eq}
 use Rattle.naive_base.specs.DateOf.{year_of}
 use Rattle.naive_base.specs.Year.{floor_div}
 use Rattle.tz_info.specs.Leaps.{corrections, correction_at, least_time, passed_count}
@@ -11,6 +9,7 @@ use Rattle.tz_info.specs.Rules.{Alternate as AlternateRule}
 use Rattle.tz_info.specs.Steps.Turns.{is_in_three}
 use Rattle.tz_info.specs.Transitions.{passed}
 use Rattle.tz_info.specs.Zones.{Zone, index_at}
+use Rattle.tz_info.specs.contracts.local_time_type.LocalTimeTypePartialEq.TheImpl.{eq-value as type_eq}
 use Rattle.tz_info.specs.declared.change.Change.{Change}
 use Rattle.tz_info.specs.declared.rule.transition_rule.TransitionRule.{TransitionRule}
 use Rattle.tz_info.specs.declared.rule.transition_rule.TransitionRule.TheVariants.{Fixed, Alternate}
@@ -31,7 +30,7 @@ is_rule_year year = int_le (neg_ℤ (pos 2_147_483_646)) year && int_le year (po
 
 -- daylight saving time at the second u of the year, by moments of three years
 abbrev pub is_dst_by_three : (ℤ → ℤ) → (ℤ → ℤ) → ℤ → ℤ → Bool
-is_dst_by_three starts ends year u = if int_lt (ends year) (starts year) then not (is_in_three ends starts year u) else is_in_three starts ends year u
+is_dst_by_three starts ends year u = if int_le (starts year) (ends year) then is_in_three starts ends year u else not (is_in_three ends starts year u)
 
 -- the rule's type at the second u of the year
 abbrev pub alternate_type : AlternateRule → ℤ → ℤ → Option LocalType
@@ -59,16 +58,9 @@ type_or_none z u =
     else (if all_fit (corrections z.leaps) u (passed_count z.leaps u) then type_at_leap_time z u (u +ℤ correction_at z.leaps u) else None)
 
 -- ---- the change at a second, if one is
-abbrev pub is_same_mark : Bool → Bool → Bool
-is_same_mark a b = if a then b else not b
-
--- types are equal: in offset, mark and name
-unfoldable pub is_same_type : LocalType → LocalType → Bool
-is_same_type a b = (int_le a.offset b.offset && int_le b.offset a.offset) && (is_same_mark a.dst b.dst && option_eq (pointwise (λ m n. m == n)) a.name b.name)
-
 -- the change at the second u, where types before it and at it are given
 abbrev pub change_between : ℤ → Option LocalType → Option LocalType → List Change
-change_between u (Some s) (Some t) = if is_same_type s t then [] else (record { at = u; before = s; after = t } ∷ [])
+change_between u (Some s) (Some t) = if type_eq.it s t then [] else (record { at = u; before = s; after = t } ∷ [])
 change_between u (Some s) None = []
 change_between u None t = []
 

@@ -1,10 +1,10 @@
 -- The way to the next and to the previous change.
-use Rattle.std.specs.Prelude.{ℕ, ◌<◌, ◌≤◌, ◌+◌, length, neg_ℤ, List, [], ◌∷◌, slice_index_or, ℤ, pos, ◌+ℤ◌, ◌-ℤ◌, ◌*ℤ◌, ◌≤ℤ◌, ◌<ℤ◌, ◌↔◌, ◌≡◌, Option, Some, None, if◌then◌else◌, int_lt}
+use Rattle.std.specs.Prelude.{ℕ, ◌<◌, ◌≤◌, ◌+◌, length, neg_ℤ, List, [], ◌∷◌, slice_index_or, MatchOption, ℤ, pos, ◌+ℤ◌, ◌-ℤ◌, ◌*ℤ◌, ◌≤ℤ◌, ◌<ℤ◌, ◌↔◌, ◌≡◌, Option, Some, None, Bool, true, false, if◌then◌else◌, int_lt}
 use Rattle.naive_base.specs.Year.{year_start}
 use Rattle.tz_info.specs.Changes.{IsChange, HasNoChange}
 use Rattle.tz_info.specs.Leaps.{IsLeapTime}
 use Rattle.tz_info.specs.LocalTypes.{LocalType}
-use Rattle.tz_info.specs.Moments.{AlternateAt, IsYearOf, start_in, end_in}
+use Rattle.tz_info.specs.Moments.{AlternateAt, IsRuleTime, IsYearOf, start_in, end_in}
 use Rattle.tz_info.specs.Rules.{Alternate}
 use Rattle.tz_info.specs.Segments.{segment_of}
 use Rattle.tz_info.specs.Zones.{Zone, TypeAt}
@@ -46,71 +46,83 @@ pub record IsIdleUntil (in_force : ℤ → LocalType → Type 0) (after last : �
   pub none : HasNoChange in_force (IsInStretch after last)
 
 -- the later one of two seconds
-abbrev pub later_of : ℤ → ℤ → ℤ
-later_of one other = if int_lt other one then one else other
+abbrev pub IsLaterOf : ℤ → ℤ → ℤ → Type 0
+IsLaterOf one other later = (u : ℤ) → (later ≤ℤ u) ↔ ((one ≤ℤ u) × (other ≤ℤ u))
 
 -- the earlier one of two seconds
-abbrev pub earlier_of : ℤ → ℤ → ℤ
-earlier_of one other = if int_lt one other then one else other
+abbrev pub IsEarlierOf : ℤ → ℤ → ℤ → Type 0
+IsEarlierOf one other earlier = (u : ℤ) → (u ≤ℤ earlier) ↔ ((u ≤ℤ one) × (u ≤ℤ other))
 
--- the one that comes first
-abbrev pub first_one : Option Change → Option Change → Option Change
-first_one None other = other
-first_one (Some one) None = Some one
-first_one (Some one) (Some other) = if int_lt other.at one.at then Some other else Some one
+-- in that direction x does not come after y
+abbrev pub Precedes : Bool → ℤ → ℤ → Type 0
+Precedes true x y = x ≤ℤ y
+Precedes false x y = y ≤ℤ x
 
--- the one that comes last
-abbrev pub last_one : Option Change → Option Change → Option Change
-last_one None other = other
-last_one (Some one) None = Some one
-last_one (Some one) (Some other) = if int_lt one.at other.at then Some other else Some one
+-- of the changes at seconds that `within` takes c is the first one in that direction
+pub record IsNearestChange (forward : Bool) (in_force : ℤ → LocalType → Type 0) (within : ℤ → Type 0) (c : Change) : Type 0 where
+  pub is : IsChange in_force c
+  pub inside : within c.at
+  pub nearest : (d : Change) → IsChange in_force d → within d.at → Precedes forward c.at d.at
 
--- the changes after that second come in that year or later, as the second before each lies in it
-abbrev pub AreFrom : Alternate → ℤ → ℤ → Type 0
-AreFrom a after year = (d : Change) → IsChange (AlternateAt a) d → after <ℤ d.at → (y : ℤ) → IsYearOf (d.at -ℤ pos 1) y → year ≤ℤ y
+-- that change, or nothing if there is none
+abbrev pub IsNearest : Bool → (ℤ → LocalType → Type 0) → (ℤ → Type 0) → Option Change → Type 0
+IsNearest forward in_force within found = MatchOption found (HasNoChange in_force within) (IsNearestChange forward in_force within)
 
--- the changes up to that second come in that year or earlier
-abbrev pub AreUntil : Alternate → ℤ → ℤ → Type 0
-AreUntil a last year = (d : Change) → IsChange (AlternateAt a) d → d.at ≤ℤ last → (y : ℤ) → IsYearOf (d.at -ℤ pos 1) y → y ≤ℤ year
+-- of two changes the one that comes first in that direction
+abbrev pub nearer_one : Bool → Option Change → Option Change → Option Change
+nearer_one forward None other = other
+nearer_one forward (Some one) None = Some one
+nearer_one true (Some one) (Some other) = if int_lt other.at one.at then Some other else Some one
+nearer_one false (Some one) (Some other) = if int_lt one.at other.at then Some other else Some one
 
--- the second u comes after `after`, and the second before it lies in the year
-pub record IsAfterIn (after year u : ℤ) : Type 0 where
-  pub later : after <ℤ u
+-- where the stretch begins in that direction
+abbrev pub near_end : Bool → ℤ → ℤ → ℤ
+near_end true after last = after
+near_end false after last = last
+
+-- of the seconds of the rule's years those from `near` on come from `second` on, and those up to `near` come up to `second`
+pub record IsNearRuleTime (near second : ℤ) : Type 0 where
+  pub from : (u : ℤ) → IsRuleTime u → near ≤ℤ u → second ≤ℤ u
+  pub until : (u : ℤ) → IsRuleTime u → u ≤ℤ near → u ≤ℤ second
+
+-- the year so many years on in that direction
+abbrev pub year_at : Bool → ℤ → ℕ → ℤ
+year_at true first step = first +ℤ pos step
+year_at false first step = first -ℤ pos step
+
+-- the second before each change of the stretch lies in that year, or behind it in that direction
+abbrev pub AreIn : Alternate → Bool → ℤ → ℤ → ℤ → Type 0
+AreIn a forward after last year = (d : Change) → IsChange (AlternateAt a) d → IsInStretch after last d.at → (y : ℤ) → IsYearOf (d.at -ℤ pos 1) y → Precedes forward year y
+
+-- the second u lies in the stretch, and the second before it in the year
+pub record IsOfYear (after last year u : ℤ) : Type 0 where
+  pub inside : IsInStretch after last u
   pub of_year : IsYearOf (u -ℤ pos 1) year
 
--- the second u comes at `last` at most, and the second before it lies in the year
-pub record IsUpToIn (last year u : ℤ) : Type 0 where
-  pub up_to : u ≤ℤ last
-  pub of_year : IsYearOf (u -ℤ pos 1) year
+-- n transitions have come at the second u
+pub record AreComeAt (z : Zone) (u : ℤ) (n : ℕ) : Type 0 where
+  pub leap_time : ℤ
+  pub of_second : IsLeapTime z.leaps u leap_time
+  pub is : n ≡ segment_of z u
 
--- the second u comes after that one, and at the second before u some transition has not come
-pub record IsInTableAfter (z : Zone) (after u : ℤ) : Type 0 where
-  pub later : after <ℤ u
+-- u is a second that `within` takes, and at the second before u some transition has not come
+pub record IsInTable (z : Zone) (within : ℤ → Type 0) (u : ℤ) : Type 0 where
+  pub inside : within u
   pub table : segment_of z (u -ℤ pos 1) < length z.transitions
 
 -- no change comes from the segment before the transition at that place
 abbrev pub HasNoneAt : Zone → ℕ → Type 0
 HasNoneAt z place = (d : Change) → IsChange (TypeAt z) d → segment_of z (d.at -ℤ pos 1) ≡ place → ⊥
 
--- the second u comes after that one, and at the second before u all transitions have come
-pub record IsByRuleAfter (z : Zone) (after u : ℤ) : Type 0 where
-  pub later : after <ℤ u
-  pub last : segment_of z (u -ℤ pos 1) ≡ length z.transitions
+-- u is a second that `within` takes, and at the second before u all transitions have come
+pub record IsByRule (z : Zone) (within : ℤ → Type 0) (u : ℤ) : Type 0 where
+  pub inside : within u
+  pub by_rule : segment_of z (u -ℤ pos 1) ≡ length z.transitions
 
 -- all transitions have come from `begin` on, and not before; without transitions, from the first second of 64 bits on
 pub record IsBegin (z : Zone) (begin : ℤ) : Type 0 where
   pub comes : (place : ℕ) → place + 1 ≡ length z.transitions → ComesAt z place begin
   pub alone : length z.transitions ≡ 0 → begin ≡ neg_ℤ (pos 9_223_372_036_854_775_808)
-
--- the second u comes at that one or before it, and at the second before u some transition has not come
-pub record IsInTableUpTo (z : Zone) (last u : ℤ) : Type 0 where
-  pub up_to : u ≤ℤ last
-  pub table : segment_of z (u -ℤ pos 1) < length z.transitions
-
--- the second u comes at that one or before it, and at the second before u all transitions have come
-pub record IsByRuleUpTo (z : Zone) (last u : ℤ) : Type 0 where
-  pub up_to : u ≤ℤ last
-  pub by_rule : segment_of z (u -ℤ pos 1) ≡ length z.transitions
 
 -- the table's changes up to that second come with the first transitions, of which there are so many, and these come at it or
 -- before it

@@ -1,5 +1,5 @@
 -- The way to the first second at which clocks show more than a local time that they never show.
-use Rattle.std.specs.Prelude.{◌≡◌, length, ℤ, pos, ◌+ℤ◌, ◌-ℤ◌, ◌≤ℤ◌, ◌<ℤ◌}
+use Rattle.std.specs.Prelude.{◌≡◌, ◌<◌, length, ℤ, pos, ◌+ℤ◌, ◌-ℤ◌, ◌≤ℤ◌, ◌<ℤ◌}
 use Rattle.tz_info.specs.Leaps.{IsNear}
 use Rattle.tz_info.specs.LocalTypes.{LocalType}
 use Rattle.tz_info.specs.Segments.{segment_of}
@@ -22,3 +22,10 @@ pub record IsReach (z : Zone) (local low high : ℤ) : Type 0 where
   pub least : IsLeast (offsets z.types z.rule) (local -ℤ high)
   pub near_low : IsNear low
   pub near_high : IsNear (high +ℤ pos 1)
+
+-- `m` is `low` or later, behind the last transition, where the table ends at the second before it if `low` comes earlier; all near seconds before it show less
+pub record IsBehindTable (z : Zone) (local low m : ℤ) : Type 0 where
+  pub near : IsNear m
+  pub behind : segment_of z m ≡ length z.transitions
+  pub less : AreLess z local (m -ℤ pos 1)
+  pub first : low <ℤ m → segment_of z (m -ℤ pos 1) < length z.transitions

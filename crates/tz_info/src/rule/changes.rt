@@ -3,12 +3,12 @@
 //! They do so at moments of the rule, and at a turn of the year where the one moment comes first in
 //! the old year, and the other one in the new. Every 400 years they do so alike.
 
-ghost use Rattle.std.specs.Prelude.{◌≡◌, pos, ◌+ℤ◌, length, ◌<ℤ◌, ◌-ℤ◌, ◌≤ℤ◌, IsTrue, ◌↔◌, FitsSigned, MatchOption, MatchResult};
+ghost use Rattle.std.specs.Prelude.{◌≡◌, ◌≤◌, pos, ◌+ℤ◌, length, ◌<ℤ◌, ◌-ℤ◌, ◌≤ℤ◌, IsTrue, ◌↔◌, FitsSigned, MatchOption, MatchResult};
 ghost use Rattle.std.specs.Int.{w64};
 ghost use Rattle.tz_info.specs.Changes.{IsChange, HasNoChange, IsFirst, IsFirstChange, IsLast, IsLastChange};
 ghost use Rattle.tz_info.specs.Moments.{AlternateAt, IsRuleYear, IsRuleTime, IsYearOf, type_when};
 ghost use Rattle.tz_info.specs.Rules.{IsAlternateRule};
-ghost use Rattle.tz_info.specs.Steps.Changes.{AreFrom, AreUntil, IsAfterIn, IsIdle, IsIdleUntil, IsInStretch, IsOneOf, IsUpToIn, earlier_of, later_of, moments_near, new_year};
+ghost use Rattle.tz_info.specs.Steps.Changes.{IsIdle, IsIdleUntil, IsInStretch, IsEarlierOf, IsLaterOf, IsNearRuleTime, IsNearest, IsOfYear, IsOneOf, moments_near, near_end, new_year, year_at};
 ghost use Rattle.tz_info.specs.Steps.Seasons.{IsAmid, IsDecidedIn, IsSeason};
 
 use crate::change::Change;
@@ -36,6 +36,13 @@ impl Stretch {
     {
         self.after < second && second <= self.last
     }
+
+    // Where the stretch begins, in that direction.
+    fn near_end(self, forward: bool) -> i64
+        ensures { result ≡ near_end forward self.after self.last }
+    {
+        if forward { self.after } else { self.last }
+    }
 }
 
 impl AlternateTime {
@@ -55,7 +62,13 @@ impl AlternateTime {
     {
         match self.next_change_near(after) {
             Ok(change) => Some(change),
-            Err(second) => self.next_change_by_years(second),
+            Err(second) => self.change_by_years(
+                Stretch {
+                    after: second,
+                    last: i64::MAX,
+                },
+                true,
+            ),
         }
     }
 
@@ -118,71 +131,6 @@ impl AlternateTime {
         if is_dst { self.dst() } else { self.std() }
     }
 
-    // The first change after that second, year by year.
-    #[inline(never)]
-    fn next_change_by_years(&self, after: i64) -> Option<Change>
-        ensures { IsFirst (AlternateAt self.now) (λ u. after <ℤ u) result }
-    {
-        if after > LAST_RULE_TIME {
-            return None;
-        }
-        let second = later_of(after, FIRST_RULE_TIME);
-        let first = rule_year_of(second);
-        self.next_change_from(first, after)
-    }
-
-    // The first change after that second, where none comes before that year. Every 400 years the
-    // rule does the same, so that 401 years tell.
-    fn next_change_from(&self, first: i64, after: i64) -> Option<Change>
-        requires inside { IsRuleYear first }
-        requires early { after <ℤ new_year (first +ℤ pos 1) }
-        requires from { AreFrom self.now after first }
-        ensures { IsFirst (AlternateAt self.now) (λ u. after <ℤ u) result }
-    {
-        let _rule = self.std();
-        for step in 0..401u32 {
-            let year = first + step as i64;
-            if year > LAST_RULE_YEAR {
-                return None;
-            }
-            match self.next_change_in(year as i32, after) {
-                Some(change) => return Some(change),
-                None => {}
-            }
-        }
-        None
-    }
-
-    // The first change after that second of those for which the second before lies in the year.
-    fn next_change_in(&self, year: i32, after: i64) -> Option<Change>
-        requires { IsRuleYear year }
-        ensures { IsFirst (AlternateAt self.now) (IsAfterIn after year) result }
-    {
-        let begin = first_second(year);
-        let end = first_second(year + 1);
-        let from = later_of(after, begin);
-        let moments = self.moments_near(year);
-        self.first_change(
-            &moments,
-            Stretch {
-                after: from,
-                last: end,
-            },
-        )
-    }
-
-    // The first change of the stretch at one of those seconds.
-    fn first_change(&self, seconds: &[i64], stretch: Stretch) -> Option<Change>
-        ensures { IsFirst (AlternateAt self.now)
-            (IsOneOf seconds.now (length seconds.now) stretch.after stretch.last) result }
-    {
-        let mut found = None;
-        for second in seconds {
-            found = Change::sooner(found, self.change_in(*second, stretch));
-        }
-        found
-    }
-
     // The last change up to that second: mostly the second's year tells it, or else the one before.
     pub(crate) fn previous_change(&self, last: i64) -> Option<Change>
         ensures { IsLast (AlternateAt self.now) (λ u. u ≤ℤ last) result }
@@ -199,7 +147,13 @@ impl AlternateTime {
     {
         match self.previous_change_near(last) {
             Ok(change) => Some(change),
-            Err(second) => self.previous_change_by_years(second),
+            Err(second) => self.change_by_years(
+                Stretch {
+                    after: i64::MIN,
+                    last: second,
+                },
+                false,
+            ),
         }
     }
 
@@ -240,33 +194,22 @@ impl AlternateTime {
         }
     }
 
-    // The last change up to that second, year by year.
+    // The first change of the stretch, or the last one, year by year. Every 400 years the rule does
+    // the same, so that 401 years tell.
     #[inline(never)]
-    fn previous_change_by_years(&self, last: i64) -> Option<Change>
-        ensures { IsLast (AlternateAt self.now) (λ u. u ≤ℤ last) result }
-    {
-        if last <= FIRST_RULE_TIME {
-            return None;
-        }
-        let second = earlier_of(last - 1, LAST_RULE_TIME);
-        let first = rule_year_of(second);
-        self.previous_change_from(first, last)
-    }
-
-    // The last change up to that second, where none comes after that year.
-    fn previous_change_from(&self, first: i64, last: i64) -> Option<Change>
-        requires inside { IsRuleYear first }
-        requires late { new_year first <ℤ last }
-        requires until { AreUntil self.now last first }
-        ensures { IsLast (AlternateAt self.now) (λ u. u ≤ℤ last) result }
+    fn change_by_years(&self, stretch: Stretch, forward: bool) -> Option<Change>
+        ensures { IsNearest forward (AlternateAt self.now) (IsInStretch stretch.after stretch.last)
+            result }
     {
         let _rule = self.std();
+        let second = rule_time_near(stretch.near_end(forward));
+        let first = rule_year_of(second);
         for step in 0..401u32 {
-            let year = first - step as i64;
-            if year < FIRST_RULE_YEAR {
+            let year = year_at(first, step, forward);
+            if !is_rule_year(year) {
                 return None;
             }
-            match self.previous_change_in(year as i32, last) {
+            match self.nearest_in(year as i32, stretch, forward) {
                 Some(change) => return Some(change),
                 None => {}
             }
@@ -274,32 +217,26 @@ impl AlternateTime {
         None
     }
 
-    // The last change up to that second of those for which the second before lies in the year.
-    fn previous_change_in(&self, year: i32, last: i64) -> Option<Change>
+    // The same of those for which the second before lies in the year.
+    fn nearest_in(&self, year: i32, stretch: Stretch, forward: bool) -> Option<Change>
         requires { IsRuleYear year }
-        ensures { IsLast (AlternateAt self.now) (IsUpToIn last year) result }
+        ensures { IsNearest forward (AlternateAt self.now)
+            (IsOfYear stretch.after stretch.last year) result }
     {
-        let begin = first_second(year);
-        let end = first_second(year + 1);
-        let until = earlier_of(last, end);
+        let after = later_of(stretch.after, first_second(year));
+        let last = earlier_of(stretch.last, first_second(year + 1));
         let moments = self.moments_near(year);
-        self.last_change(
-            &moments,
-            Stretch {
-                after: begin,
-                last: until,
-            },
-        )
+        self.nearest_of(&moments, Stretch { after, last }, forward)
     }
 
-    // The last change of the stretch at one of those seconds.
-    fn last_change(&self, seconds: &[i64], stretch: Stretch) -> Option<Change>
-        ensures { IsLast (AlternateAt self.now)
+    // The same of those at one of the seconds.
+    fn nearest_of(&self, seconds: &[i64], stretch: Stretch, forward: bool) -> Option<Change>
+        ensures { IsNearest forward (AlternateAt self.now)
             (IsOneOf seconds.now (length seconds.now) stretch.after stretch.last) result }
     {
         let mut found = None;
         for second in seconds {
-            found = Change::later(found, self.change_in(*second, stretch));
+            found = Change::nearer(found, self.change_in(*second, stretch), forward);
         }
         found
     }
@@ -345,37 +282,16 @@ impl AlternateTime {
             (HasNoChange (AlternateAt self.now) (λ u. u ≡ second))
             (λ c. IsChange (AlternateAt self.now) c × (c.at ≡ second)) }
     {
-        match second.checked_sub(1) {
-            Some(second_before) => self.change_after(second_before, second),
-            None => None,
-        }
-    }
-
-    // The change at that second, where the second before it is given.
-    fn change_after(&self, second_before: i64, second: i64) -> Option<Change>
-        requires { second_before ≡ second -ℤ pos 1 }
-        ensures { MatchOption result
-            (HasNoChange (AlternateAt self.now) (λ u. u ≡ second))
-            (λ c. IsChange (AlternateAt self.now) c × (c.at ≡ second)) }
-    {
-        match self.find_local_time_type(second_before) {
-            Ok(before) => self.change_from(*before, second),
-            Err(_) => None,
-        }
-    }
-
-    // The change at that second, where the type a second before is given.
-    fn change_from(&self, before: LocalTimeType, second: i64) -> Option<Change>
-        requires fits { FitsSigned w64 (second -ℤ pos 1) }
-        requires before { AlternateAt self.now (second -ℤ pos 1) before }
-        ensures { MatchOption result
-            (HasNoChange (AlternateAt self.now) (λ u. u ≡ second))
-            (λ c. IsChange (AlternateAt self.now) c × (c.at ≡ second)) }
-    {
-        match self.find_local_time_type(second) {
-            Ok(after) => Change::between(second, before, *after),
-            Err(_) => None,
-        }
+        let Some(second_before) = second.checked_sub(1) else {
+            return None;
+        };
+        let Ok(before) = self.find_local_time_type(second_before) else {
+            return None;
+        };
+        let Ok(after) = self.find_local_time_type(second) else {
+            return None;
+        };
+        Change::between(second, *before, *after)
     }
 }
 
@@ -396,16 +312,50 @@ fn rule_year_of(second: i64) -> i64
     year_of(day) as i64
 }
 
+// The second of the rule's years that is nearest to that one.
+fn rule_time_near(second: i64) -> i64
+    ensures time { IsRuleTime result }
+    ensures near { IsNearRuleTime second result }
+{
+    if second < FIRST_RULE_TIME {
+        FIRST_RULE_TIME
+    } else if second > LAST_RULE_TIME {
+        LAST_RULE_TIME
+    } else {
+        second
+    }
+}
+
+// The year that comes so many years after the first one, or before it.
+fn year_at(first: i64, step: u32, forward: bool) -> i64
+    requires first { IsRuleYear first }
+    requires step { step ≤ 401 }
+    ensures { result ≡ year_at forward first step }
+{
+    if forward {
+        first + step as i64
+    } else {
+        first - step as i64
+    }
+}
+
+// Whether a rule answers in the year.
+fn is_rule_year(year: i64) -> bool
+    ensures { IsTrue result ↔ IsRuleYear year }
+{
+    FIRST_RULE_YEAR <= year && year <= LAST_RULE_YEAR
+}
+
 // The later one of two seconds.
 pub(crate) fn later_of(one: i64, other: i64) -> i64
-    ensures { result ≡ later_of one other }
+    ensures { IsLaterOf one other result }
 {
     if other < one { one } else { other }
 }
 
 // The earlier one of two seconds.
 fn earlier_of(one: i64, other: i64) -> i64
-    ensures { result ≡ earlier_of one other }
+    ensures { IsEarlierOf one other result }
 {
     if one < other { one } else { other }
 }

@@ -61,16 +61,10 @@ impl TimeZone {
         ensures { IsLast (TypeAt self.now) (IsFromUntil from until) result }
     {
         match until.checked_sub(1) {
-            Some(last) => self.last_change_from(from, last),
-            None => None,
-        }
-    }
-
-    fn last_change_from(&self, from: i64, last: i64) -> Option<Change>
-        ensures { IsLast (TypeAt self.now) (λ u. (from ≤ℤ u) × (u ≤ℤ last)) result }
-    {
-        match self.previous_change(last) {
-            Some(change) => change.if_from(from),
+            Some(last) => match self.previous_change(last) {
+                Some(change) => change.if_from(from),
+                None => None,
+            },
             None => None,
         }
     }

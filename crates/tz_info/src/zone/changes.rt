@@ -4,11 +4,12 @@
 //! transition need not: two of them may come at one second, or name types that are equal. So each
 //! second at which one comes is asked.
 
-ghost use Rattle.std.specs.Prelude.{◌≡◌, ◌<◌, length, ℤ, pos, neg_ℤ, ◌<ℤ◌, ◌-ℤ◌, ◌≤ℤ◌, ◌↔◌, FitsSigned, MatchOption, Some};
+ghost use Rattle.std.specs.Prelude.{◌≡◌, ◌≢◌, ◌<◌, length, ℤ, pos, neg_ℤ, ◌<ℤ◌, ◌-ℤ◌, ◌≤ℤ◌, ◌↔◌, FitsSigned, MatchOption, Some};
 ghost use Rattle.std.specs.Int.{w64};
 ghost use Rattle.tz_info.specs.Changes.{IsChange, HasNoChange, IsFirst, IsLast};
 ghost use Rattle.tz_info.specs.Leaps.{AreLeapSeconds, IsLeapTime, IsLeapTimeRefused};
-ghost use Rattle.tz_info.specs.Steps.Changes.{AreAhead, ComesAt, HasNoneAt, IsBegin, IsByRuleAfter, IsByRuleUpTo, IsInTableAfter, IsInTableUpTo};
+ghost use Rattle.tz_info.specs.Rules.{Alternate as AlternateRule};
+ghost use Rattle.tz_info.specs.Steps.Changes.{AreAhead, AreComeAt, ComesAt, HasNoneAt, IsBegin, IsByRule, IsInTable};
 ghost use Rattle.tz_info.specs.Zones.{HasType, TypeAt};
 ghost use Rattle.tz_info.specs.declared.rule.transition_rule.TransitionRule.TheVariants.{Alternate};
 
@@ -45,16 +46,13 @@ impl TimeZone {
 
     // The first change after that second that comes with a transition.
     fn next_in_table(&self, after: i64) -> Option<Change>
-        ensures { IsFirst (TypeAt self.now) (IsInTableAfter self.now after) result }
+        ensures { IsFirst (TypeAt self.now) (IsInTable self.now (λ u. after <ℤ u)) result }
     {
         let _types = self.local_time_types();
         let count = self.transition_count();
-        let leap_time = match self.unix_time_to_unix_leap_time(after) {
-            Ok(leap_time) => leap_time,
-            Err(_) => return None,
+        let Some(first) = self.come_at(after) else {
+            return None;
         };
-        let mut probes = Probes::new();
-        let first = self.passed_count(leap_time, &mut probes);
         for place in first..count {
             match self.change_with(place) {
                 Some(change) => return Some(change),
@@ -66,31 +64,12 @@ impl TimeZone {
 
     // The first change after that second that comes after all transitions.
     fn next_by_rule(&self, after: i64) -> Option<Change>
-        ensures { IsFirst (TypeAt self.now) (IsByRuleAfter self.now after) result }
+        ensures { IsFirst (TypeAt self.now) (IsByRule self.now (λ u. after <ℤ u)) result }
     {
         let _types = self.local_time_types();
-        match &self.last_rule {
-            None => None,
-            Some(rule) => self.next_by(rule, after),
-        }
-    }
-
-    fn next_by(&self, rule: &TransitionRule, after: i64) -> Option<Change>
-        requires { self.now.rule ≡ Some rule.now }
-        ensures { IsFirst (TypeAt self.now) (IsByRuleAfter self.now after) result }
-    {
-        let _types = self.local_time_types();
-        match rule {
-            TransitionRule::Fixed(_) => None,
-            TransitionRule::Alternate(turns) => self.next_by_turns(turns, after),
-        }
-    }
-
-    fn next_by_turns(&self, turns: &AlternateTime, after: i64) -> Option<Change>
-        requires { self.now.rule ≡ Some (Alternate turns.now) }
-        ensures { IsFirst (TypeAt self.now) (IsByRuleAfter self.now after) result }
-    {
-        let _types = self.local_time_types();
+        let Some(turns) = self.turns() else {
+            return None;
+        };
         let begin = self.rule_begin();
         if begin > i64::MAX as i128 {
             return None;
@@ -119,17 +98,27 @@ impl TimeZone {
 
     // The last change up to that second that comes with a transition.
     fn previous_in_table(&self, last: i64) -> Option<Change>
-        ensures { IsLast (TypeAt self.now) (IsInTableUpTo self.now last) result }
+        ensures { IsLast (TypeAt self.now) (IsInTable self.now (λ u. u ≤ℤ last)) result }
     {
         let _types = self.local_time_types();
-        match self.unix_time_to_unix_leap_time(last) {
+        match self.come_at(last) {
+            Some(count) => self.last_with(count, last),
+            None => self.last_of_all(last),
+        }
+    }
+
+    // How many transitions have come at the second, if its leap time is one of 64 bits.
+    fn come_at(&self, second: i64) -> Option<usize>
+        ensures { MatchOption result (IsLeapTimeRefused self.now.leaps second)
+            (AreComeAt self.now second) }
+    {
+        let _most = self.transition_count();
+        match self.unix_time_to_unix_leap_time(second) {
             Ok(leap_time) => {
-                let _most = self.transition_count();
                 let mut probes = Probes::new();
-                let count = self.passed_count(leap_time, &mut probes);
-                self.last_with(count, last)
+                Some(self.passed_count(leap_time, &mut probes))
             }
-            Err(_) => self.last_of_all(last),
+            Err(_) => None,
         }
     }
 
@@ -137,7 +126,7 @@ impl TimeZone {
     // comes before it.
     fn last_of_all(&self, last: i64) -> Option<Change>
         requires { IsLeapTimeRefused self.now.leaps last }
-        ensures { IsLast (TypeAt self.now) (IsInTableUpTo self.now last) result }
+        ensures { IsLast (TypeAt self.now) (IsInTable self.now (λ u. u ≤ℤ last)) result }
     {
         let _types = self.local_time_types();
         let all = self.transition_count();
@@ -148,7 +137,7 @@ impl TimeZone {
     // there are so many.
     fn last_with(&self, count: usize, last: i64) -> Option<Change>
         requires { AreAhead self.now last count }
-        ensures { IsLast (TypeAt self.now) (IsInTableUpTo self.now last) result }
+        ensures { IsLast (TypeAt self.now) (IsInTable self.now (λ u. u ≤ℤ last)) result }
     {
         let _types = self.local_time_types();
         for back in 0..count {
@@ -162,31 +151,12 @@ impl TimeZone {
 
     // The last change up to that second that comes after all transitions.
     fn previous_by_rule(&self, last: i64) -> Option<Change>
-        ensures { IsLast (TypeAt self.now) (IsByRuleUpTo self.now last) result }
+        ensures { IsLast (TypeAt self.now) (IsByRule self.now (λ u. u ≤ℤ last)) result }
     {
         let _types = self.local_time_types();
-        match &self.last_rule {
-            None => None,
-            Some(rule) => self.previous_by(rule, last),
-        }
-    }
-
-    fn previous_by(&self, rule: &TransitionRule, last: i64) -> Option<Change>
-        requires { self.now.rule ≡ Some rule.now }
-        ensures { IsLast (TypeAt self.now) (IsByRuleUpTo self.now last) result }
-    {
-        let _types = self.local_time_types();
-        match rule {
-            TransitionRule::Fixed(_) => None,
-            TransitionRule::Alternate(turns) => self.previous_by_turns(turns, last),
-        }
-    }
-
-    fn previous_by_turns(&self, turns: &AlternateTime, last: i64) -> Option<Change>
-        requires { self.now.rule ≡ Some (Alternate turns.now) }
-        ensures { IsLast (TypeAt self.now) (IsByRuleUpTo self.now last) result }
-    {
-        let _types = self.local_time_types();
+        let Some(turns) = self.turns() else {
+            return None;
+        };
         let begin = self.rule_begin();
         if begin >= last as i128 {
             return None;
@@ -194,6 +164,17 @@ impl TimeZone {
         match turns.previous_change(last) {
             None => None,
             Some(change) => change.if_after(begin),
+        }
+    }
+
+    // The rule, if it has two types.
+    fn turns(&self) -> Option<&AlternateTime>
+        ensures { MatchOption result ((a : AlternateRule) → self.now.rule ≢ Some (Alternate a))
+            (λ a. self.now.rule ≡ Some (Alternate a.now)) }
+    {
+        match &self.last_rule {
+            Some(TransitionRule::Alternate(turns)) => Some(turns),
+            _ => None,
         }
     }
 
@@ -250,37 +231,16 @@ impl TimeZone {
             (HasNoChange (TypeAt self.now) (λ u. u ≡ second))
             (λ c. IsChange (TypeAt self.now) c × (c.at ≡ second)) }
     {
-        match second.checked_sub(1) {
-            Some(second_before) => self.change_after(second_before, second),
-            None => None,
-        }
-    }
-
-    // The change at that second, where the second before it is given.
-    fn change_after(&self, second_before: i64, second: i64) -> Option<Change>
-        requires { second_before ≡ second -ℤ pos 1 }
-        ensures { MatchOption result
-            (HasNoChange (TypeAt self.now) (λ u. u ≡ second))
-            (λ c. IsChange (TypeAt self.now) c × (c.at ≡ second)) }
-    {
-        match self.find_local_time_type(second_before) {
-            Ok(before) => self.change_from(*before, second),
-            Err(_) => None,
-        }
-    }
-
-    // The change at that second, where the type a second before is given.
-    fn change_from(&self, before: LocalTimeType, second: i64) -> Option<Change>
-        requires fits { FitsSigned w64 (second -ℤ pos 1) }
-        requires before { TypeAt self.now (second -ℤ pos 1) before }
-        ensures { MatchOption result
-            (HasNoChange (TypeAt self.now) (λ u. u ≡ second))
-            (λ c. IsChange (TypeAt self.now) c × (c.at ≡ second)) }
-    {
-        match self.find_local_time_type(second) {
-            Ok(after) => Change::between(second, before, *after),
-            Err(_) => None,
-        }
+        let Some(second_before) = second.checked_sub(1) else {
+            return None;
+        };
+        let Ok(before) = self.find_local_time_type(second_before) else {
+            return None;
+        };
+        let Ok(after) = self.find_local_time_type(second) else {
+            return None;
+        };
+        Change::between(second, *before, *after)
     }
 
     // The first second at which all transitions have come, or the first one of 64 bits if there is

@@ -13,7 +13,7 @@ ghost use Rattle.tz_info.specs.Looks.{RoseAround};
 ghost use Rattle.tz_info.specs.Questions.{IsAskedFor};
 ghost use Rattle.tz_info.specs.RuleTypes.{RuleAt};
 ghost use Rattle.tz_info.specs.Segments.{table_count};
-ghost use Rattle.tz_info.specs.Steps.Gaps.{IsReach, IsPassed};
+ghost use Rattle.tz_info.specs.Steps.Gaps.{IsReach, IsPassed, IsBehindTable};
 ghost use Rattle.tz_info.specs.WallClocks.{Shows};
 ghost use Rattle.tz_info.specs.WallPieces.{AreLessAmong, IsTypeBefore, Jumps, IsShownAmong};
 ghost use Rattle.tz_info.specs.Zones.{TypeAt};
@@ -171,7 +171,7 @@ impl TimeZone {
     {
         let _types = self.local_time_types();
         let reach = self.reach(local);
-        let first = later(reach.low, self.index.rule_from());
+        let first = self.rule_first(local, reach);
         let here = type_near(rule, first);
         if local < shown_at(here, first) {
             return Gap {
@@ -184,6 +184,17 @@ impl TimeZone {
             TransitionRule::Fixed(_) => unreachable!(),
             TransitionRule::Alternate(turns) => self.gap_by_turns(turns, local, reach, first),
         }
+    }
+
+    // The first second of the rule's at which clocks may show more.
+    fn rule_first(&self, local: i64, reach: Reach) -> i64
+        requires never { IsNeverShown (Shows (TypeAt self.now) local) }
+        requires less { AreLessAmong self.now 0 (length self.now.transitions) local }
+        requires reach { IsReach self.now local reach.low reach.high }
+        ensures { IsBehindTable self.now local reach.low result }
+    {
+        let _types = self.local_time_types();
+        later(reach.low, self.index.rule_from())
     }
 
     // Goes from moment to moment of the rule, until clocks show more.

@@ -1,20 +1,21 @@
 //! The wall clock of a zone.
 
-ghost use Rattle.std.specs.Prelude.{◌≡◌, ◌<◌, ◌+◌, length, Some};
+ghost use Rattle.std.specs.Prelude.{◌≡◌, ◌<◌, ◌+◌, ◌*◌, length, Some};
 ghost use Rattle.std.specs.Result.{IsOkAnd};
 ghost use Rattle.naive_base.specs.NaiveDateTime.{reading};
 ghost use Rattle.naive_base.specs.Range.{IsWide};
 ghost use Rattle.offset_core.specs.WallAnswer.{IsWallAnswer};
-ghost use Rattle.tz_info.specs.Counts.{HasRoom, RoseWithin};
+ghost use Rattle.tz_info.specs.Counts.{HasRoom, RoseByPieces, RoseWithin};
+ghost use Rattle.tz_info.specs.Digits.{digits};
 ghost use Rattle.tz_info.specs.Looks.{RoseByWallClock};
 ghost use Rattle.tz_info.specs.Questions.{IsAskedFor};
 ghost use Rattle.tz_info.specs.Segments.{table_count};
 ghost use Rattle.tz_info.specs.WallClocks.{Shows};
-ghost use Rattle.tz_info.specs.WallPieces.{IsShownAmong, wall_of};
+ghost use Rattle.tz_info.specs.WallPieces.{IsShownAmong, ShownAmong, wall_of};
 ghost use Rattle.tz_info.specs.Steps.Looks.{HasRoomFor};
 ghost use Rattle.tz_info.specs.Steps.Pieces.{AreBelow, AreListed};
 ghost use Rattle.tz_info.specs.Steps.Walk.{IsShownIn};
-ghost use Rattle.tz_info.specs.Zones.{TypeAt};
+ghost use Rattle.tz_info.specs.Zones.{IsValid, TypeAt};
 
 use crate::answers::joined;
 use crate::error::Error;
@@ -111,13 +112,33 @@ impl TimeZone {
         ensures counted { IsAskedFor self.now local
             probes.old.rule_questions probes.new.rule_questions }
     {
-        let _transitions = self.transition_count();
-        let shown = self.index.answer(local, probes);
-        let table = types_of(&self.local_types, shown);
+        let (shown, table) = self.table_answer(local, probes);
         match &self.last_rule {
             None => (shown, table),
             Some(rule) => (shown, self.try_rule(rule, local, table, probes)),
         }
+    }
+
+    // What the table shows of the local time, by one search in the pieces, and the types of that.
+    #[inline(always)]
+    fn table_answer(
+        &self,
+        local: i64,
+        probes: &mut Probes,
+    ) -> (Shown, MappedLocalTime<LocalTimeType>)
+        requires local { IsWide local }
+        requires room { HasRoom probes.old }
+        ensures shown { IsShownAmong self.now 0 (table_count self.now) local result.0 }
+        ensures found { IsWallAnswer (ShownAmong self.now 0 (table_count self.now) local) result.1 }
+        ensures cost { RoseByPieces probes.old probes.new
+            (digits (2 * length self.now.transitions + 1)) 0 }
+        ensures looked { 0 < length self.now.transitions
+            → probes.old.piece_reads < probes.new.piece_reads }
+        ensures valid { IsValid self.now }
+    {
+        let _transitions = self.transition_count();
+        let shown = self.index.answer(local, probes);
+        (shown, types_of(&self.local_types, shown))
     }
 
     // The answer with the seconds at which the rule's types show the local time, from the last

@@ -1,4 +1,4 @@
-use Rattle.std.proofs.Common.{◌-◌, pos, ◌-ℤ◌, arith, to_z-of_z, w64, rules, get_or}
+use Rattle.std.proofs.Common.{◌-◌, ℤ, pos, ◌-ℤ◌, ◌≤ℤ◌, ◌↔◌, arith, to_z-of_z, w64, rules, get_or}
 use mir.Val.{SFits}
 use mir.Syntax.{w128}
 use Rattle.std.proofs.lemmas.Int.{ints}
@@ -7,6 +7,7 @@ use Rattle.tz_info.specs.declared.zone.leap_second.LeapSecond.{LeapSecond}
 use Rattle.tz_info.proofs.LeapStarts.{reached_first, both_ways}
 use Rattle.tz_info.proofs.ZoneChanges.{reached_exactly, entry_late}
 use Rattle.tz_info.proofs.zone.changes.first_second.Goals as goal
+use Rattle.tz_info.proofs.zone.changes.first_second.Goals.{After-later}
 
 abbrev none : LeapSecond
 none = record { unix_leap_time = pos 0; correction = pos 0 }
@@ -18,8 +19,10 @@ returns-then-come-eq0-clause-reached c = λ u y l.
     let no_entry : HaveCome c.args.leaps.now c.args.leap_time 0 = rw c.if-come-eq0.true at (simp to_z-of_z at c.entries_come-come.ensures) in
     simp to_z-of_z (reached_first c.args.leaps.now c.args.leap_time u y c.requires no_entry l)
 
-pub returns-clause-reached : goal.returns-clause-reached
-returns-clause-reached c = λ u y l.
+-- the later one of the entry's own second and of the leap time led back
+latest : (c : goal.After-later) → SFits w128 c.later.result × HaveCome c.args.leaps.now c.args.leap_time c.entries_come-come.result
+    × ((u : ℤ) → (c.later.result ≤ℤ u) ↔ ((((get_or c.args.leaps.now (c.entries_come-come.result - 1) none).unix_leap_time -ℤ c.correction_behind.result) ≤ℤ u) × ((c.args.leap_time -ℤ c.correction_behind-2.result) ≤ℤ u)))
+latest c =
     let fx = c.ranges.leap_time in
     let fw : SFits w128 c.args.leap_time = omega (arith, ints) in
     let ft : SFits w64 (get_or c.args.leaps.now (c.entries_come-come.result - 1) none).unix_leap_time = search rules in
@@ -31,24 +34,18 @@ returns-clause-reached c = λ u y l.
     let g3 : SFits w128 ((get_or c.args.leaps.now (c.entries_come-come.result - 1) none).unix_leap_time -ℤ c.correction_behind.result) = omega (arith, ints) in
     let g4 : SFits w128 (c.args.leap_time -ℤ c.correction_behind-2.result) = omega (arith, ints) in
     let fl : SFits w128 c.later.result = search rules in
-    let come = simp to_z-of_z at c.entries_come-come.ensures in
-    simp to_z-of_z (both_ways (reached_exactly c.args.leaps.now c.args.leap_time u y _ _ c.entries_come-come.result none c.requires come (omega arith) c.correction_behind.ensures c.correction_behind-2.ensures l) (simp to_z-of_z at c.later.ensures u))
+    (fl, simp to_z-of_z at c.entries_come-come.ensures, simp to_z-of_z at c.later.ensures)
+
+pub returns-clause-reached : goal.returns-clause-reached
+returns-clause-reached c = λ u y l.
+    let (fl, come, is) = latest (goal.at.returns-clause-reached c).After-later in let fx = c.ranges.leap_time in
+    simp to_z-of_z (both_ways (reached_exactly c.args.leaps.now c.args.leap_time u y _ _ c.entries_come-come.result none c.requires come (omega arith) c.correction_behind.ensures c.correction_behind-2.ensures l) (is u))
 
 pub returns-clause-bound : goal.returns-clause-bound
 returns-clause-bound c =
-    let fx = c.ranges.leap_time in
-    let fw : SFits w128 c.args.leap_time = omega (arith, ints) in
-    let ft : SFits w64 (get_or c.args.leaps.now (c.entries_come-come.result - 1) none).unix_leap_time = search rules in
-    let f1 : SFits w64 c.correction_behind.result = search rules in
-    let f2 : SFits w64 c.correction_behind-2.result = search rules in
-    let gt : SFits w128 (get_or c.args.leaps.now (c.entries_come-come.result - 1) none).unix_leap_time = omega (arith, ints) in
-    let g1 : SFits w128 c.correction_behind.result = omega (arith, ints) in
-    let g2 : SFits w128 c.correction_behind-2.result = omega (arith, ints) in
-    let g3 : SFits w128 ((get_or c.args.leaps.now (c.entries_come-come.result - 1) none).unix_leap_time -ℤ c.correction_behind.result) = omega (arith, ints) in
-    let g4 : SFits w128 (c.args.leap_time -ℤ c.correction_behind-2.result) = omega (arith, ints) in
-    let fl : SFits w128 c.later.result = search rules in
-    let come = simp to_z-of_z at c.entries_come-come.ensures in
+    let (fl, come, is) = latest (goal.at.returns-clause-bound c).After-later in let fx = c.ranges.leap_time in
     let w = come.within in
     let late = entry_late c.args.leaps.now (c.entries_come-come.result - 1) none c.requires (omega arith) in
-    let least = ((simp to_z-of_z at c.later.ensures c.later.result).0 (omega (arith, ints))).0 in
+    let least = ((is c.later.result).0 (omega (arith, ints))).0 in
+    let f1 : SFits w64 c.correction_behind.result = search rules in
     simp to_z-of_z (omega (arith, ints))

@@ -1,10 +1,9 @@
-use Rattle.std.proofs.Common.{suc, ◌-◌, ◌≡◌, ◌++◌, ◌∷◌, [], ◌∙◌, ap, refl, inl, List, arith, add-one, to_z-of_z, w64, rules}
+use Rattle.std.proofs.Common.{suc, ◌-◌, ◌≡◌, ◌++◌, ◌∷◌, [], ◌∙◌, ap, inl, List, arith, add-one, to_z-of_z, w64, rules}
 use mir.Val.{SFits}
-use Rattle.std.proofs.lemmas.Int.{ints}
 use Rattle.tz_info.specs.Segments.{table_count}
 use Rattle.tz_info.specs.Steps.Pieces.{zone_in, IsCutFrom}
 use Rattle.tz_info.specs.declared.zone.pieces.Piece.{Piece}
-use Rattle.tz_info.proofs.OnePass.{open_first, open_more, table_most, within_table, first_cut, last_cut, latest_more, crossed_by, not_before}
+use Rattle.tz_info.proofs.OnePass.{open_first, open_more, table_most, within_table, cuts_of, crossed_by}
 use Rattle.tz_info.proofs.WallSegments.{cut_from}
 use Rattle.tz_info.proofs.zone.one_pass.pieces_by.Goals as goal
 use Rattle.tz_info.proofs.zone.one_pass.pieces_by.Goals.{then-count-lists+else-is_crossed-2, else-count-lists}
@@ -12,7 +11,6 @@ use Rattle.tz_info.proofs.zone.one_pass.pieces_by.Goals.{then-count-lists+else-i
 pub loop-place-init : goal.loop-place-init
 loop-place-init c = record {
   pieces = rw c.in_ok-pieces.ensures.items (open_first (zone_in c.args.lists) _ c.requires.valid c.requires.some);
-  latest = inl (refl, refl);
   before = c.segment_at-before.ensures;
   count = omega (arith, c.in_ok-pieces.ensures.len);
   room = omega (arith, c.in_ok-pieces.ensures.exact);
@@ -23,14 +21,10 @@ loop-place-preserved c =
     let ff : SFits w64 c.pieces_at.result.0.start = search rules in
     let fl : SFits w64 c.pieces_at.result.1.start = search rules in
     let count = c.table_count-count.ensures in
-    let held = rw c.loop-place.latest-is at c.loop-place.invariant.pieces in
-    let latest = rw c.loop-place.latest-is at c.loop-place.invariant.latest in
-    let strict = rw c.loop-place.latest-is at (simp to_z-of_z at (c.is_crossed.ensures.behind c.if-is_crossed.false)) in
+    let strict = simp to_z-of_z at (c.is_crossed.ensures.behind c.if-is_crossed.false) in
     let out = c.push_reserved-in-loop-place.ensures.items ∙ ap (λ (ps : List Piece). ps ++ (c.pieces_at.result.1 ∷ [])) c.push_reserved.ensures.items in
     rw add-one (record {
-      pieces = simp to_z-of_z (open_more (zone_in c.args.lists) c.loop-place.place _ c.loop-place.pieces.items _ c.loop-place.latest c.pieces_at.result.0 c.pieces_at.result.1 c.requires.valid (omega arith) (omega arith) held c.pieces_at.ensures
-          (not_before (zone_in c.args.lists) c.loop-place.place c.loop-place.latest c.pieces_at.result.0.start latest (omega (arith, ints)) strict) strict out);
-      latest = simp to_z-of_z (latest_more (zone_in c.args.lists) c.loop-place.place c.pieces_at.result.1.start (omega arith) (last_cut (zone_in c.args.lists) c.loop-place.place c.pieces_at.result.0 c.pieces_at.result.1 c.pieces_at.ensures));
+      pieces = simp to_z-of_z (open_more (zone_in c.args.lists) c.loop-place.place _ c.loop-place.pieces.items _ _ c.pieces_at.result.0 c.pieces_at.result.1 c.requires.valid (omega arith) (omega arith) c.loop-place.invariant.pieces c.pieces_at.ensures strict out);
       before = let one : suc c.loop-place.place - 1 ≡ c.loop-place.place = omega arith in rw one c.segment_at-behind.ensures;
       count = omega (arith, c.push_reserved.ensures.len, c.push_reserved-in-loop-place.ensures.len);
       room = omega (arith, c.push_reserved.ensures.capacity, c.push_reserved-in-loop-place.ensures.capacity);
@@ -40,10 +34,9 @@ pub returns-then-is_crossed : goal.returns-then-is_crossed
 returns-then-is_crossed c =
     let ff : SFits w64 c.pieces_at.result.0.start = search rules in
     let count = c.table_count-count.ensures in
-    let held = rw c.loop-place.latest-is at c.loop-place.invariant.latest in
-    let crossed = rw c.loop-place.latest-is at (simp to_z-of_z at (c.is_crossed.ensures.crossed c.if-is_crossed.true)) in
-    crossed_by (zone_in c.args.lists) c.loop-place.place c.loop-place.latest c.pieces_at.result.0.start (within_table (zone_in c.args.lists) c.loop-place.place (omega arith)) crossed.0 held
-    (first_cut (zone_in c.args.lists) c.loop-place.place c.pieces_at.result.0 c.pieces_at.result.1 c.pieces_at.ensures) crossed.1
+    let crossed = simp to_z-of_z at (c.is_crossed.ensures.crossed c.if-is_crossed.true) in
+    crossed_by (zone_in c.args.lists) c.loop-place.place _ _ _ c.pieces_at.result.0.start (within_table (zone_in c.args.lists) c.loop-place.place (omega arith)) crossed.0 c.loop-place.invariant.pieces
+    (cuts_of (zone_in c.args.lists) c.loop-place.place c.pieces_at.result.0 c.pieces_at.result.1 c.pieces_at.ensures).0 crossed.1
 
 pub returns-then-is_crossed-2 : goal.returns-then-is_crossed-2
 returns-then-is_crossed-2 c =
@@ -51,11 +44,10 @@ returns-then-is_crossed-2 c =
     let fe : SFits w64 c.cut_at-end.result = search rules in
     let until = c.loop-place.auto.place-end (omega arith) in
     let here : c.table_count-count.result ≡ c.loop-place.place = let far = c.loop-place-test.false in omega arith in
-    let held = rw c.loop-place.latest-is at c.loop-place.invariant.latest in
     let has = rw (c.index_of_segment-index.ensures.index, here) at c.listed-last_type.ensures.listed in
-    let crossed = rw (c.loop-place.latest-is, here) at (simp to_z-of_z at (c.is_crossed-then-count-lists.ensures.crossed c.if-is_crossed-2.true)) in
+    let crossed = rw here at (simp to_z-of_z at (c.is_crossed-then-count-lists.ensures.crossed c.if-is_crossed-2.true)) in
     let cut = cut_from (zone_in c.args.lists) c.loop-place.place c.listed-last_type.result.now.offset c.cut_at-end.result c.listed-last_type.ensures.offset (record { second = c.start_of.result; is_start = rw here at c.start_of.ensures; shown = simp to_z-of_z at c.cut_at-end.ensures.sum }) in
-    crossed_by (zone_in c.args.lists) c.loop-place.place c.loop-place.latest c.cut_at-end.result (omega arith) crossed.0 held (record { type = c.listed-last_type.result.now; listed = inl has; is_cut = cut }) crossed.1
+    crossed_by (zone_in c.args.lists) c.loop-place.place _ _ _ c.cut_at-end.result (omega arith) crossed.0 c.loop-place.invariant.pieces (record { type = c.listed-last_type.result.now; listed = inl has; is_cut = cut }) crossed.1
 
 pub returns : goal.returns
 returns c =
@@ -70,11 +62,8 @@ returns c =
           let fe : SFits w64 w.cut_at-end.result = search rules in
           let here : c.table_count-count.result ≡ c.loop-place.place = omega arith in
           let has = rw (w.index_of_segment-index.ensures.index, here) at w.listed-last_type.ensures.listed in
-          let latest = rw c.loop-place.latest-is at c.loop-place.invariant.latest in
-          let strict = rw (c.loop-place.latest-is, here) at (simp to_z-of_z at (w.is_crossed-then-count-lists.ensures.behind w.if-is_crossed-2.false)) in
-          let held = rw c.loop-place.latest-is at c.loop-place.invariant.pieces in
+          let strict = rw here at (simp to_z-of_z at (w.is_crossed-then-count-lists.ensures.behind w.if-is_crossed-2.false)) in
           let cut : IsCutFrom (zone_in c.args.lists) c.loop-place.place w.listed-last_type.result.now.offset w.cut_at-end.result = record { second = w.start_of.result; is_start = rw here at w.start_of.ensures; shown = simp to_z-of_z at w.cut_at-end.ensures.sum } in
-          rw (w.pieces-is, simp to_z-of_z at w.push_reserved-then-count-lists.ensures.items, w.index_of_segment-index.ensures.index, here, all, c.index_of_segment.ensures.index) (rw all at (held.closed (omega arith) w.listed-last_type.result.now w.cut_at-end.result has w.listed-last_type.ensures.offset cut
-          (not_before (zone_in c.args.lists) c.loop-place.place c.loop-place.latest w.cut_at-end.result latest (omega (arith, ints)) strict) strict))
+          rw (w.pieces-is, simp to_z-of_z at w.push_reserved-then-count-lists.ensures.items, w.index_of_segment-index.ensures.index, here, all, c.index_of_segment.ensures.index) (rw all at (c.loop-place.invariant.pieces.closed (omega arith) w.listed-last_type.result.now w.cut_at-end.result has w.listed-last_type.ensures.offset cut strict))
       | else-count-lists w ↦ rw (w.pieces-is, c.index_of_segment.ensures.index) (rw all at (c.loop-place.invariant.pieces.whole (let rule = w.if-count-lists.false in omega arith)))
     ]

@@ -1,13 +1,12 @@
 use Rattle.std.proofs.Common.{◌≡◌, ◌+◌, ◌-◌, ◌*◌, length, vec_len, vec_capacity}
 use Rattle.tz_info.specs.Steps.Segments.{index_of}
 use Rattle.tz_info.specs.Steps.Pieces.{zone_in, IsSegment}
-use Rattle.tz_info.proofs.OnePass.{AreOpen, IsLatest}
+use Rattle.tz_info.proofs.OnePass.{AreOpen}
 use Rattle.tz_info.proofs.zone.one_pass.pieces_by.Given as goal
 
 abbrev pub invariant-loop-place : goal.invariant-loop-place
 invariant-loop-place l = record {
   pieces : AreOpen (zone_in l.lists) l.place (index_of l.lists.transitions.now 0) l.pieces.items l.latest;
-  latest : IsLatest (zone_in l.lists) l.place l.latest;
   before : IsSegment (zone_in l.lists) (l.place - 1) l.before;
   count : vec_len l.pieces + 2 ≡ 2 * l.place;
   room : vec_capacity l.pieces ≡ length l.lists.transitions.now + l.count - 1;

@@ -1,9 +1,10 @@
 use Rattle.std.proofs.Common.{◌≡◌, ◌+◌}
+use Rattle.tz_info.specs.Steps.Shown.{together}
 use Rattle.tz_info.proofs.WallPieces.{Merging}
 use Rattle.tz_info.proofs.zone.pieces.merged.Given as goal
 
 abbrev pub invariant-loop-step : goal.invariant-loop-step
 invariant-loop-step l = record {
-  merging : Merging l.before_first l.first l.before_last l.last l.pieces.items l.i l.j;
+  merging : Merging together l.before_first l.first l.before_last l.last l.pieces.items l.i l.j;
   step : l.i + l.j ≡ l._step;
 }

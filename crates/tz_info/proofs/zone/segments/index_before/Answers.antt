@@ -1,4 +1,4 @@
-use Rattle.std.proofs.Common.{arith, to_z-of_z, w64, rules}
+use Rattle.std.proofs.Common.{arith, w64, rules}
 use mir.Val.{SFits}
 use Rattle.std.proofs.lemmas.Int.{ints}
 use Rattle.tz_info.specs.Steps.Pieces.{zone_in}

@@ -1,18 +1,20 @@
-use Rattle.std.proofs.Common.{◌≡◌, arith, inl, ap, ◌∙◌, ◌-ℤ◌, ◌<ℤ◌, w32, w64, to_z-of_z}
+use Rattle.std.proofs.Common.{◌≡◌, arith, rules, inl, ap, ◌∙◌, ◌-ℤ◌, ◌<ℤ◌, w32, w64, to_z-of_z}
 use mir.Val.{SFits}
 use Rattle.std.proofs.lemmas.Int.{ints}
 use Rattle.tz_info.specs.Counts.{Counts}
 use Rattle.tz_info.specs.LocalTypes.{LocalType}
 use Rattle.tz_info.specs.Steps.RuleSeconds.{IsAskedFrom}
 use Rattle.tz_info.specs.declared.rule.transition_rule.TransitionRule.TheVariants.{Alternate}
+use Rattle.tz_info.proofs.Candidates.{dst_or_std, std_or_dst}
 use Rattle.tz_info.proofs.QuestionLaws.{asked_std_dst}
-use Rattle.tz_info.proofs.SeasonAnswers.{dst_first, std_first}
+use Rattle.tz_info.proofs.SeasonAnswers.{both_asked, dst_shown, std_shown}
 use Rattle.tz_info.proofs.rule.alternate.AlternateTime.answer_amid.Goals as goal
 use Rattle.tz_info.proofs.rule.alternate.AlternateTime.answer_amid.Goals.{After-second_showing-2}
 
--- what was given fits, and so do the seconds that are asked
+-- what was given fits, and so do the seconds that are asked, which are those of the rule's offsets
 seconds : (c : After-second_showing-2)
     → SFits w64 c.args.local × SFits w64 c.args.from × SFits w32 c.offset-standard.result × SFits w32 c.offset-daylight.result × SFits w64 c.second_showing.result × SFits w64 c.second_showing-2.result
+    × (c.second_showing.result ≡ c.args.local -ℤ c.args.self.now.std.offset) × (c.second_showing-2.result ≡ c.args.local -ℤ c.args.self.now.dst.offset)
 seconds c =
     let low = c.requires.local.0 in let high = c.requires.local.1 in
     let es = c.offset-standard.ensures.value in let bs = c.offset-standard.ensures.bound in
@@ -21,42 +23,7 @@ seconds c =
     let fs : SFits w32 c.offset-standard.result = omega (arith, ints) in
     let fd : SFits w32 c.offset-daylight.result = omega (arith, ints) in
     let vs = simp to_z-of_z at c.second_showing.ensures.value in let vd = simp to_z-of_z at c.second_showing-2.ensures.value in
-    (fl, c.ranges.from, fs, fd, omega (arith, ints), omega (arith, ints))
-
--- they are those of the rule's offsets
-of_rule : (c : After-second_showing-2) → (c.second_showing.result ≡ c.args.local -ℤ c.args.self.now.std.offset) × (c.second_showing-2.result ≡ c.args.local -ℤ c.args.self.now.dst.offset)
-of_rule c =
-    let (fl, ff, fs, fd, gs, gd) = seconds c in
-    let std = c.offset-standard.ensures.value ∙ ap (λ (t : LocalType). t.offset) c.std.ensures.value in
-    let dst = c.offset-daylight.ensures.value ∙ ap (λ (t : LocalType). t.offset) c.dst.ensures.value in
-    (rw (← std) (simp to_z-of_z at c.second_showing.ensures.value), rw (← dst) (simp to_z-of_z at c.second_showing-2.ensures.value))
-
-pub is_dst_amid-is_dst-requires-clause-decides : goal.is_dst_amid-is_dst-requires-clause-decides
-is_dst_amid-is_dst-requires-clause-decides c =
-    let (fl, ff, fs, fd, gs, gd) = seconds c in
-    simp to_z-of_z (rw (of_rule c).1 c.requires.daylight.decided)
-
-pub returns-then-standard-daylight-clause-found : goal.returns-then-standard-daylight-clause-found
-returns-then-standard-daylight-clause-found c =
-    let after = (goal.at.returns-then-standard-daylight-clause-found c).After-second_showing-2 in
-    let (fl, ff, fs, fd, gs, gd) = seconds after in let (vs, vd) = of_rule after in
-    let a = c.args.self.now in
-    let less : a.std.offset <ℤ a.dst.offset = let other = c.requires.other in omega (arith, ints) in
-    let two = rw (c.std-then-standard-daylight.ensures.value, c.dst-then-standard-daylight.ensures.value) at c.answer_of_two.ensures in
-    rw two (dst_first a c.args.from c.args.local c.is_dst_amid-is_std.result c.is_dst_amid-is_dst.result less c.requires.other
-    (record { fits = rw vs at gs; since = c.requires.standard.since }) (record { fits = rw vd at gd; since = c.requires.daylight.since })
-    (rw vs at (simp to_z-of_z at c.is_dst_amid-is_std.ensures)) (rw vd at (simp to_z-of_z at c.is_dst_amid-is_dst.ensures)))
-
-pub returns-else-standard-daylight-clause-found : goal.returns-else-standard-daylight-clause-found
-returns-else-standard-daylight-clause-found c =
-    let after = (goal.at.returns-else-standard-daylight-clause-found c).After-second_showing-2 in
-    let (fl, ff, fs, fd, gs, gd) = seconds after in let (vs, vd) = of_rule after in
-    let a = c.args.self.now in
-    let less : a.dst.offset <ℤ a.std.offset = let other = c.requires.other in omega (arith, ints) in
-    let two = rw (c.std-else-standard-daylight.ensures.value, c.dst-else-standard-daylight.ensures.value) at c.answer_of_two-else-standard-daylight.ensures in
-    rw two (std_first a c.args.from c.args.local c.is_dst_amid-is_std.result c.is_dst_amid-is_dst.result less c.requires.other
-    (record { fits = rw vs at gs; since = c.requires.standard.since }) (record { fits = rw vd at gd; since = c.requires.daylight.since })
-    (rw vs at (simp to_z-of_z at c.is_dst_amid-is_std.ensures)) (rw vd at (simp to_z-of_z at c.is_dst_amid-is_dst.ensures)))
+    (fl, c.ranges.from, fs, fd, omega (arith, ints), omega (arith, ints), rw (es ∙ ap (λ (t : LocalType). t.offset) c.std.ensures.value) at vs, rw (ed ∙ ap (λ (t : LocalType). t.offset) c.dst.ensures.value) at vd)
 
 -- both seconds were asked
 counted : (c : After-second_showing-2) → IsAskedFrom (Alternate c.args.self.now) c.args.from c.args.local c.args.probes.now.rule_questions c.count_question-2.new.self.rule_questions
@@ -64,8 +31,35 @@ counted c = asked_std_dst c.args.self.now c.args.from c.args.local c.args.probes
     (inl (c.requires.standard.since, ap (λ (p : Counts). p.rule_questions) c.count_question.ensures))
     (inl (c.requires.daylight.since, ap (λ (p : Counts). p.rule_questions) c.count_question-2.ensures))
 
-pub returns-then-standard-daylight-clause-counted : goal.returns-then-standard-daylight-clause-counted
-returns-then-standard-daylight-clause-counted c = counted (goal.at.returns-then-standard-daylight-clause-counted c).After-second_showing-2
+pub is_dst_amid-is_dst-requires-clause-decides : goal.is_dst_amid-is_dst-requires-clause-decides
+is_dst_amid-is_dst-requires-clause-decides c = let (fl, ff, fs, fd, gs, gd, vs, vd) = seconds c in simp to_z-of_z (rw vd c.requires.daylight.decided)
 
-pub returns-else-standard-daylight-clause-counted : goal.returns-else-standard-daylight-clause-counted
-returns-else-standard-daylight-clause-counted c = counted (goal.at.returns-else-standard-daylight-clause-counted c).After-second_showing-2
+pub returns-then-standard-daylight : goal.returns-then-standard-daylight
+returns-then-standard-daylight c =
+    let after = (goal.at.returns-then-standard-daylight c).After-second_showing-2 in
+    let (fl, ff, fs, fd, gs, gd, vs, vd) = seconds after in
+    let a = c.args.self.now in
+    let less : a.std.offset <ℤ a.dst.offset = let other = c.requires.other in omega (arith, ints) in
+    let two = rw (c.std-then-standard-daylight.ensures.value, c.dst-then-standard-daylight.ensures.value) at c.answer_of_two.ensures in
+    record {
+      found = rw two (both_asked (Alternate a) c.args.from c.args.local a.dst a.std _ _ less (dst_or_std a c.args.from c.args.local)
+          (record { fits = rw vd at gd; since = c.requires.daylight.since }) (record { fits = rw vs at gs; since = c.requires.standard.since })
+          (dst_shown a _ _ (rw vd at (simp to_z-of_z at c.is_dst_amid-is_dst.ensures))) (std_shown a _ _ (rw vs at (simp to_z-of_z at c.is_dst_amid-is_std.ensures))));
+      cost = search rules;
+      counted = counted after;
+    }
+
+pub returns-else-standard-daylight : goal.returns-else-standard-daylight
+returns-else-standard-daylight c =
+    let after = (goal.at.returns-else-standard-daylight c).After-second_showing-2 in
+    let (fl, ff, fs, fd, gs, gd, vs, vd) = seconds after in
+    let a = c.args.self.now in
+    let less : a.dst.offset <ℤ a.std.offset = let other = c.requires.other in omega (arith, ints) in
+    let two = rw (c.std-else-standard-daylight.ensures.value, c.dst-else-standard-daylight.ensures.value) at c.answer_of_two-else-standard-daylight.ensures in
+    record {
+      found = rw two (both_asked (Alternate a) c.args.from c.args.local a.std a.dst _ _ less (std_or_dst a c.args.from c.args.local)
+          (record { fits = rw vs at gs; since = c.requires.standard.since }) (record { fits = rw vd at gd; since = c.requires.daylight.since })
+          (std_shown a _ _ (rw vs at (simp to_z-of_z at c.is_dst_amid-is_std.ensures))) (dst_shown a _ _ (rw vd at (simp to_z-of_z at c.is_dst_amid-is_dst.ensures))));
+      cost = search rules;
+      counted = counted after;
+    }

@@ -1,18 +1,28 @@
 use Rattle.std.proofs.Common.{w64, to_z-of_z}
 use mir.Val.{SFits}
 use Rattle.tz_info.specs.Moments.{AlternateAt}
-use Rattle.tz_info.proofs.ChangeSearch.{none_first}
+use Rattle.tz_info.proofs.ChangeSearch.{change_made, none_before, none_here}
+use Rattle.tz_info.proofs.RuleChanges.{rule_type_once}
 use Rattle.tz_info.proofs.rule.alternate.AlternateTime.change_at.Goals as goal
 
-pub change_after-requires : goal.change_after-requires
-change_after-requires c =
+pub returns-in_default-find_local_time_type : goal.returns-in_default-find_local_time_type
+returns-in_default-find_local_time_type c =
     let fs = c.ranges.second in
     let s = simp to_z-of_z at c.in-Some.ensures in
     let fb : SFits w64 c.in-Some.second_before = rw s.1 s.0 in
-    simp to_z-of_z s.1
+    let e = rw s.1 at (simp to_z-of_z at c.in_default-find_local_time_type.ensures) in
+    none_before (AlternateAt c.args.self.now) c.args.second (λ t h. e.1 h.year h.of_second h.inside)
 
-pub returns-in-None : goal.returns-in-None
-returns-in-None c = let fs = c.ranges.second in none_first (AlternateAt c.args.self.now) c.args.second (simp to_z-of_z at c.in-None.ensures)
+pub returns-in_default-find_local_time_type-2 : goal.returns-in_default-find_local_time_type-2
+returns-in_default-find_local_time_type-2 c =
+    let fs = c.ranges.second in
+    let e = simp to_z-of_z at c.in_default-find_local_time_type-2.ensures in
+    none_here (AlternateAt c.args.self.now) c.args.second (λ t h. e.1 h.year h.of_second h.inside)
 
-pub returns-in-Some : goal.returns-in-Some
-returns-in-Some c = let fs = c.ranges.second in simp to_z-of_z at c.change_after.ensures
+pub returns : goal.returns
+returns c =
+    let fs = c.ranges.second in
+    let s = simp to_z-of_z at c.in-Some.ensures in
+    let fb : SFits w64 c.in-Some.second_before = rw s.1 s.0 in
+    let before = rw s.1 at (simp to_z-of_z at c.in-Ok.ensures) in
+    change_made (AlternateAt c.args.self.now) c.args.second _ _ c.between.result (rule_type_once c.args.self.now) fs s.0 before (simp to_z-of_z at c.in-Ok-find_local_time_type.ensures) (simp to_z-of_z at c.between.ensures)

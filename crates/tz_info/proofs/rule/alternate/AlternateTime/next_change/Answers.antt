@@ -4,9 +4,6 @@ use Rattle.tz_info.specs.Moments.{AlternateAt}
 use Rattle.tz_info.proofs.SeasonChanges.{first_on}
 use Rattle.tz_info.proofs.rule.alternate.AlternateTime.next_change.Goals as goal
 
-pub returns-in-Ok : goal.returns-in-Ok
-returns-in-Ok c = let fa = c.ranges.after in simp to_z-of_z at c.in-Ok.ensures
-
 pub returns-in-Err : goal.returns-in-Err
 returns-in-Err c =
     let fa = c.ranges.after in

@@ -5,35 +5,32 @@ use Rattle.naive_base.specs.Year.{year_start}
 use Rattle.naive_base.proofs.ForCallers.{floors}
 use Rattle.tz_info.proofs.SeasonLaws.{own_start}
 use Rattle.tz_info.proofs.rule.alternate.AlternateTime.turns.Goals as goal
+use Rattle.tz_info.proofs.rule.alternate.AlternateTime.turns.Goals.{After-year_start-first}
+
+-- the year's first day lies in it
+first_day : (c : goal.After-year_start-first) → SFits w64 c.year_start-first.result × (c.year_start-first.result ≡ year_start c.args.year) × (year_of c.year_start-first.result ≡ c.args.year)
+first_day c =
+    let in_range = c.ranges.year in
+    let begins = simp to_z-of_z at c.year_start-first.ensures.value in
+    (omega (arith, floors, c.year_start-first.ensures.bound), begins, ap year_of begins ∙ own_start c.args.year)
 
 pub turns_from-requires-clause-first : goal.turns_from-requires-clause-first
 turns_from-requires-clause-first c =
-    let in_range = c.ranges.year in
-    let at_first : SFits w64 c.year_start-first.result = omega (arith, floors, c.year_start-first.ensures.bound) in
-    let begins = simp to_z-of_z at c.year_start-first.ensures.value in
-    let own : year_of c.year_start-first.result ≡ c.args.year = ap year_of begins ∙ own_start c.args.year in
+    let (at_first, begins, own) = first_day (goal.at.turns_from-requires-clause-first c).After-year_start-first in
     simp to_z-of_z (begins ∙ ap year_start (sym own))
 
 pub turns_from-requires-clause-kind : goal.turns_from-requires-clause-kind
 turns_from-requires-clause-kind c =
     let in_range = c.ranges.year in
-    let at_first : SFits w64 c.year_start-first.result = omega (arith, floors, c.year_start-first.ensures.bound) in
-    let begins = simp to_z-of_z at c.year_start-first.ensures.value in
-    let own : year_of c.year_start-first.result ≡ c.args.year = ap year_of begins ∙ own_start c.args.year in
+    let (at_first, begins, own) = first_day (goal.at.turns_from-requires-clause-kind c).After-year_start-first in
     simp to_z-of_z (rw own (simp to_z-of_z at c.kind_of.ensures.place))
 
 pub returns-clause-start : goal.returns-clause-start
 returns-clause-start c =
-    let in_range = c.ranges.year in
-    let at_first : SFits w64 c.year_start-first.result = omega (arith, floors, c.year_start-first.ensures.bound) in
-    let begins = simp to_z-of_z at c.year_start-first.ensures.value in
-    let own : year_of c.year_start-first.result ≡ c.args.year = ap year_of begins ∙ own_start c.args.year in
+    let (at_first, begins, own) = first_day (goal.at.returns-clause-start c).After-year_start-first in
     rw own at (simp to_z-of_z at c.turns_from.ensures.start)
 
 pub returns-clause-end : goal.returns-clause-end
 returns-clause-end c =
-    let in_range = c.ranges.year in
-    let at_first : SFits w64 c.year_start-first.result = omega (arith, floors, c.year_start-first.ensures.bound) in
-    let begins = simp to_z-of_z at c.year_start-first.ensures.value in
-    let own : year_of c.year_start-first.result ≡ c.args.year = ap year_of begins ∙ own_start c.args.year in
+    let (at_first, begins, own) = first_day (goal.at.returns-clause-end c).After-year_start-first in
     rw own at (simp to_z-of_z at c.turns_from.ensures.end)

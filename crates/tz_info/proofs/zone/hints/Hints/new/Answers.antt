@@ -6,12 +6,13 @@ use Rattle.tz_info.proofs.HintLaws.{first_least, hints_made, slots, zeros}
 use Rattle.tz_info.proofs.SearchSteps.{time_read}
 use Rattle.tz_info.proofs.zone.hints.Hints.new.Given.{Over}
 use Rattle.tz_info.proofs.zone.hints.Hints.new.Goals as goal
+use Rattle.tz_info.proofs.zone.hints.Hints.new.Goals.{After-deref_mut}
 
 -- the first item's time, and the span
-first_is : (g : Over) (c : goal.After-deref_mut g) → c.second-first.result ≡ time_at (map g.T.Timed.time c.args.items.now) 0
+first_is : (g : Over) (c : After-deref_mut g) → c.second-first.result ≡ time_at (map g.T.Timed.time c.args.items.now) 0
 first_is g c = c.second-first.ensures ∙ time_read g.T.Timed.time c.args.items.now 0 c.index-items-0.result (omega arith) c.index-items-0.is
 
-span_is : (g : Over) (c : goal.After-deref_mut g) → pos c.seconds_between-span.result ≡ time_at (map g.T.Timed.time c.args.items.now) (length (map g.T.Timed.time c.args.items.now) - 1) -ℤ c.second-first.result
+span_is : (g : Over) (c : After-deref_mut g) → pos c.seconds_between-span.result ≡ time_at (map g.T.Timed.time c.args.items.now) (length (map g.T.Timed.time c.args.items.now) - 1) -ℤ c.second-first.result
 span_is g c =
     let fs : SFits w64 c.second.result = search rules in
     let ff : SFits w64 c.second-first.result = search rules in
@@ -20,7 +21,7 @@ span_is g c =
     let between = simp to_z-of_z at c.seconds_between-span.ensures in
     rw (long, ← last) between
 
-zeros_are : (g : Over) (c : goal.After-deref_mut g) → c.deref_mut.result.now ≡ replicate (c.seconds_between-span.result / 2 ^ c.shift_for-shift.result + 2) 0
+zeros_are : (g : Over) (c : After-deref_mut g) → c.deref_mut.result.now ≡ replicate (c.seconds_between-span.result / 2 ^ c.shift_for-shift.result + 2) 0
 zeros_are g c = c.deref_mut.ensures.value ∙ c.in_ok-places.ensures.items_if_clones_equal (λ y e. e)
 
 pub fill-most-requires-clause-first : goal.fill-most-requires-clause-first
@@ -42,18 +43,13 @@ fill-most-requires-clause-none g c = λ b. rw (zeros_are g c) (zeros _ b)
 
 pub returns : goal.returns
 returns g c =
+    let at = (goal.at.returns g c).After-deref_mut in
     let ff : SFits w64 c.second-first.result = search rules in
-    let fs : SFits w64 c.second.result = search rules in
     let long = length-map c.args.items.now g.T.Timed.time in
-    let first = c.second-first.ensures ∙ time_read g.T.Timed.time c.args.items.now 0 c.index-items-0.result (omega arith) c.index-items-0.is in
-    let last = c.second.ensures ∙ time_read g.T.Timed.time c.args.items.now (length c.args.items.now - 1) c.index-items-count.result (omega arith) c.index-items-count.is in
-    let between = simp to_z-of_z at c.seconds_between-span.ensures in
-    let span : pos c.seconds_between-span.result ≡ time_at (map g.T.Timed.time c.args.items.now) (length (map g.T.Timed.time c.args.items.now) - 1) -ℤ c.second-first.result = rw (long, ← last) between in
-    let before = c.deref_mut.ensures.value ∙ c.in_ok-places.ensures.items_if_clones_equal (λ y e. e) in
-    let count = ap length before ∙ length-replicate (c.seconds_between-span.result / 2 ^ c.shift_for-shift.result + 2) 0 in
+    let count = ap length (zeros_are g at) ∙ length-replicate (c.seconds_between-span.result / 2 ^ c.shift_for-shift.result + 2) 0 in
     let filled = simp to_z-of_z at c.fill-most.ensures in
     let raised = filled.are_raised.count in
     let marked = filled.count in
     let size = c.in_ok-places.ensures.len in
     let written = take-append-le c.in_ok-places.places.len c.fill-most.new.places (drop (length c.fill-most.new.places) c.in_ok-places.places.items) (omega arith) ∙ take_all c.in_ok-places.places.len c.fill-most.new.places (omega arith) in
-    hints_made _ _ c.second-first.result c.seconds_between-span.result c.fill-most.result c.deref_mut.result.now c.requires (omega arith) c.shift_for-shift.ensures.shift first span count (rw written filled) (omega arith)
+    hints_made _ _ c.second-first.result c.seconds_between-span.result c.fill-most.result c.deref_mut.result.now c.requires (omega arith) c.shift_for-shift.ensures.shift (first_is g at) (span_is g at) count (rw written filled) (omega arith)

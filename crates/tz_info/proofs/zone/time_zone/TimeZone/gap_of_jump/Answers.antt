@@ -1,4 +1,4 @@
-use Rattle.std.proofs.Common.{◌≡◌, ◌+◌, ◌-◌, ◌<◌, arith, ap, sym, ◌∙◌, subst, length, to_z-of_z, w64, rules}
+use Rattle.std.proofs.Common.{◌≡◌, ◌+◌, ◌-◌, arith, ap, sym, ◌∙◌, subst, to_z-of_z, w64, rules}
 use mir.Val.{SFits}
 use Rattle.tz_info.specs.Steps.Gaps.{IsReach}
 use Rattle.tz_info.specs.Steps.Segments.{index_of}
@@ -11,12 +11,6 @@ use Rattle.tz_info.proofs.OnePass.{within_table}
 use Rattle.tz_info.proofs.SegmentLaws.{index_next}
 use Rattle.tz_info.proofs.WallSegments.{start_found}
 use Rattle.tz_info.proofs.zone.time_zone.TimeZone.gap_of_jump.Goals as goal
-
-pub transition-transition-requires-clause-place : goal.transition-transition-requires-clause-place
-transition-transition-requires-clause-place c =
-    let some = c.requires.jump.some in
-    let within = within_table c.args.self.now c.args.jump.place c.requires.jump.inside in
-    omega arith
 
 pub returns-clause-gap : goal.returns-clause-gap
 returns-clause-gap c =

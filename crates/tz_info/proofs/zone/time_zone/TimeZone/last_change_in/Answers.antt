@@ -1,19 +1,25 @@
-use Rattle.std.proofs.Common.{to_z-of_z, w64}
+use Rattle.std.proofs.Common.{◌≡◌, to_z-of_z, w64, pos, ◌-ℤ◌}
 use mir.Val.{SFits}
 use Rattle.tz_info.specs.Zones.{TypeAt}
-use Rattle.tz_info.proofs.ChangeLists.{last_until, none_before_all}
+use Rattle.tz_info.proofs.ChangeLists.{last_of_stretch, none_up_to, none_before_all}
 use Rattle.tz_info.proofs.zone.time_zone.TimeZone.last_change_in.Goals as goal
+use Rattle.tz_info.proofs.zone.time_zone.TimeZone.last_change_in.Goals.{In-Some}
 
-pub returns-in-Some : goal.returns-in-Some
-returns-in-Some c =
+second_before : (c : goal.In-Some) → SFits w64 c.in-Some.last × (c.in-Some.last ≡ c.args.until -ℤ pos 1)
+second_before c = let fu = c.ranges.until in let s = simp to_z-of_z at c.in-Some.ensures in (rw s.1 s.0, s.1)
+
+pub returns-in-Some-previous_change : goal.returns-in-Some-previous_change
+returns-in-Some-previous_change c =
     let ff = c.ranges.from in
-    let fu = c.ranges.until in
-    let s = simp to_z-of_z at c.in-Some.ensures in
-    let fl : SFits w64 c.in-Some.last = rw s.1 s.0 in
-    (last_until (TypeAt c.args.self.now) c.args.from c.args.until c.in-Some.last c.last_change_from.result s.1 (simp to_z-of_z at c.last_change_from.ensures))
+    let (fl, last) = second_before (goal.at.returns-in-Some-previous_change c).In-Some in
+    last_of_stretch (TypeAt c.args.self.now) c.args.from c.args.until c.in-Some.last c.in-Some-previous_change.change c.if_from.result last (simp to_z-of_z at c.in-Some-previous_change.ensures) (simp to_z-of_z at c.if_from.ensures)
+
+pub returns-in-None-previous_change : goal.returns-in-None-previous_change
+returns-in-None-previous_change c =
+    let (fl, last) = second_before (goal.at.returns-in-None-previous_change c).In-Some in
+    none_up_to (TypeAt c.args.self.now) c.args.from c.args.until c.in-Some.last last (simp to_z-of_z at c.in-None-previous_change.ensures)
 
 pub returns-in-None : goal.returns-in-None
 returns-in-None c =
-    let ff = c.ranges.from in
     let fu = c.ranges.until in
     none_before_all (TypeAt c.args.self.now) c.args.from c.args.until fu (simp to_z-of_z at c.in-None.ensures)

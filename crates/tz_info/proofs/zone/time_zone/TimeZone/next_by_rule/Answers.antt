@@ -1,13 +1,25 @@
-use Rattle.std.proofs.Common.{◌≡◌, ap, sym, ◌∙◌, None, to_z-of_z}
-use Rattle.tz_info.specs.Zones.{Zone}
-use Rattle.tz_info.proofs.ZoneChanges.{steady_after, none_steady}
+use Rattle.std.proofs.Common.{arith, w64, to_z-of_z, rules, ◌<ℤ◌}
+use mir.Val.{SFits}
+use mir.Syntax.{w128}
+use Rattle.std.proofs.lemmas.Int.{ints}
+use Rattle.tz_info.proofs.ZoneChanges.{none_begun, rule_found, steady}
 use Rattle.tz_info.proofs.zone.time_zone.TimeZone.next_by_rule.Goals as goal
 
-pub returns-in-None : goal.returns-in-None
-returns-in-None c =
-    let fa = c.ranges.after in
-    let none : c.args.self.now.rule ≡ None = ap (λ (z : Zone). z.rule) (sym c.self.view_is) ∙ c.in-None.is in
-    steady_after c.args.self.now c.args.after c.local_time_types-types.ensures.valid (none_steady c.args.self.now.rule none)
+pub returns-in_default : goal.returns-in_default
+returns-in_default c = let fa = c.ranges.after in steady c.args.self.now (λ u. c.args.after <ℤ u) c.local_time_types-types.ensures.valid c.in_default.ensures
 
-pub returns-in-Some : goal.returns-in-Some
-returns-in-Some c = let fa = c.ranges.after in simp to_z-of_z at c.next_by.ensures
+pub returns-then-begin : goal.returns-then-begin
+returns-then-begin c =
+    let fa = c.ranges.after in
+    let fw : SFits w128 c.rule_begin-begin.result = search rules in
+    none_begun c.args.self.now (λ u. c.args.after <ℤ u) c.rule_begin-begin.result c.local_time_types-types.ensures.valid c.rule_begin-begin.ensures.begin (λ u fits later. omega (arith, ints))
+
+pub returns : goal.returns
+returns c =
+    let fa = c.ranges.after in
+    let fw : SFits w128 c.rule_begin-begin.result = search rules in
+    let least = c.rule_begin-begin.ensures.bound in
+    let fb : SFits w64 c.rule_begin-begin.result = omega (arith, ints) in
+    let fl : SFits w64 c.later_of-from.result = search rules in
+    rule_found c.args.self.now c.in-Some.turns.now c.args.after c.rule_begin-begin.result c.later_of-from.result c.next_change.result c.local_time_types-types.ensures.valid c.in-Some.ensures c.rule_begin-begin.ensures.begin
+    (simp to_z-of_z at c.later_of-from.ensures) (simp to_z-of_z at c.next_change.ensures)

@@ -1,13 +1,32 @@
-use Rattle.std.proofs.Common.{◌≡◌, ap, sym, ◌∙◌, None, to_z-of_z}
-use Rattle.tz_info.specs.Zones.{Zone}
-use Rattle.tz_info.proofs.ZoneChanges.{steady_until, none_steady}
+use Rattle.std.proofs.Common.{arith, to_z-of_z, rules, ◌≤ℤ◌, None}
+use mir.Val.{SFits}
+use mir.Syntax.{w128}
+use Rattle.std.proofs.lemmas.Int.{ints}
+use Rattle.tz_info.specs.Moments.{AlternateAt}
+use Rattle.tz_info.proofs.ChangeSearch.{last_after}
+use Rattle.tz_info.proofs.ZoneChanges.{none_begun, rule_until, steady}
 use Rattle.tz_info.proofs.zone.time_zone.TimeZone.previous_by_rule.Goals as goal
+
+pub returns-in_default : goal.returns-in_default
+returns-in_default c = let fa = c.ranges.last in steady c.args.self.now (λ u. u ≤ℤ c.args.last) c.local_time_types-types.ensures.valid c.in_default.ensures
+
+pub returns-then-begin-last : goal.returns-then-begin-last
+returns-then-begin-last c =
+    let fa = c.ranges.last in
+    let fw : SFits w128 c.rule_begin-begin.result = search rules in
+    let f : SFits w128 c.args.last = omega (arith, ints) in
+    let late = simp to_z-of_z at c.if-begin-last.true in
+    none_begun c.args.self.now (λ u. u ≤ℤ c.args.last) c.rule_begin-begin.result c.local_time_types-types.ensures.valid c.rule_begin-begin.ensures.begin (λ u fits most. omega (arith, ints))
 
 pub returns-in-None : goal.returns-in-None
 returns-in-None c =
     let fa = c.ranges.last in
-    let none : c.args.self.now.rule ≡ None = ap (λ (z : Zone). z.rule) (sym c.self.view_is) ∙ c.in-None.is in
-    steady_until c.args.self.now c.args.last c.local_time_types-types.ensures.valid (none_steady c.args.self.now.rule none)
+    let none = simp to_z-of_z at c.in-None.ensures in
+    rule_until c.args.self.now c.in-Some.turns.now c.args.last c.rule_begin-begin.result None c.local_time_types-types.ensures.valid c.in-Some.ensures c.rule_begin-begin.ensures.begin (λ d is inside. none d is inside.1)
 
-pub returns-in-Some : goal.returns-in-Some
-returns-in-Some c = let fa = c.ranges.last in simp to_z-of_z at c.previous_by.ensures
+pub returns-in-Some-previous_change : goal.returns-in-Some-previous_change
+returns-in-Some-previous_change c =
+    let fa = c.ranges.last in
+    let fw : SFits w128 c.rule_begin-begin.result = search rules in
+    rule_until c.args.self.now c.in-Some.turns.now c.args.last c.rule_begin-begin.result c.if_after.result c.local_time_types-types.ensures.valid c.in-Some.ensures c.rule_begin-begin.ensures.begin
+    (last_after (AlternateAt c.in-Some.turns.now) c.rule_begin-begin.result c.args.last c.in-Some-previous_change.change c.if_after.result (simp to_z-of_z at c.in-Some-previous_change.ensures) (simp to_z-of_z at c.if_after.ensures))

@@ -10,7 +10,7 @@ use Rattle.tz_info.proofs.DigitLaws.{digits-le}
 use Rattle.tz_info.proofs.QuestionLaws.{asked_for_window}
 use Rattle.tz_info.proofs.SegmentLaws.{between_passed, begin_next, index_next}
 use Rattle.tz_info.proofs.TableSearch.{Between}
-use Rattle.tz_info.proofs.WalkLaws.{none_before, tried_before, none_behind, all_segments, walked_most, rose_by_walk, inside_more}
+use Rattle.tz_info.proofs.WalkLaws.{none_before, tried_before, none_behind, all_segments, walked_more, one_look, rose_by_walk}
 use Rattle.tz_info.proofs.zone.time_zone.TimeZone.walked_answer.Goals as goal
 use Rattle.tz_info.proofs.zone.time_zone.TimeZone.walked_answer.Goals.{After-window-window, After-passed_count-first, After-try_until-answer}
 
@@ -54,16 +54,18 @@ loop-place-init c =
       begin = c.latest-current.ensures.begin;
       index = c.latest-current.ensures.index;
       listed = c.latest-current.ensures.listed;
-      inside = λ k d l m. absurd (omega arith);
-      kept = omega arith;
-      cost = omega arith;
-      questions = omega arith;
-      pieces = q.pieces_same ∙ p.pieces_same;
-      looked = λ h. let l = c.passed_count-first.ensures.looked h in let m = q.reads_kept in omega arith;
+      walked = record {
+        inside = λ k d l m. absurd (omega arith);
+        kept = omega arith;
+        most = omega arith;
+        questions = omega arith;
+        pieces = q.pieces_same ∙ p.pieces_same;
+        looked = λ h. let l = c.passed_count-first.ensures.looked h in let m = q.reads_kept in omega arith;
+      };
     }
 
 pub transition-next-requires-clause-room : goal.transition-next-requires-clause-room
-transition-next-requires-clause-room c = let k = c.loop-place.invariant.cost in let n = c.transition_count-count.ensures in let r = c.requires.room.reads in omega (arith, digits-le (length c.args.self.now.transitions))
+transition-next-requires-clause-room c = let k = c.loop-place.invariant.walked.most in let n = c.transition_count-count.ensures in let r = c.requires.room.reads in omega (arith, digits-le (length c.args.self.now.transitions))
 
 pub returns-then-window-next-clause-found : goal.returns-then-window-next-clause-found
 returns-then-window-next-clause-found c =
@@ -76,11 +78,7 @@ returns-then-window-next-clause-found c =
 pub returns-then-window-next-clause-cost : goal.returns-then-window-next-clause-cost
 returns-then-window-next-clause-cost c =
     let at = goal.at.returns-then-window-next-clause-cost c in
-    let i = c.loop-place.invariant in
-    let counted = ap (λ (p : Counts). p.reads) c.transition-next.ensures.cost in
-    let asked = ap (λ (p : Counts). p.rule_questions) c.transition-next.ensures.cost in
-    let walked = walked_most c.args.self.now.transitions c.window-window.result.low c.window-window.result.high c.passed_count-first.result c.loop-place.place (split at.After-passed_count-first) (omega arith) i.inside in
-    rose_by_walk c.args.self.now c.args.local c.window-window.result.low c.window-window.result.high c.args.probes.now c.transition-next.new.probes c.passed_count-first.result c.loop-place.place (λ h. let l = i.looked h in omega arith) (ap (λ (p : Counts). p.piece_reads) c.transition-next.ensures.cost ∙ i.pieces) (seen at.After-window-window) walked (omega arith) (omega arith) (omega arith) (omega arith)
+    rose_by_walk c.args.self.now c.args.local c.window-window.result.low c.window-window.result.high c.passed_count-first.result c.loop-place.place 1 _ _ _ (seen at.After-window-window) (split at.After-passed_count-first) (omega arith) c.loop-place.invariant.walked (omega arith) (one_look _ _ c.transition-next.ensures.cost)
 
 pub loop-place-preserved : goal.loop-place-preserved
 loop-place-preserved c =
@@ -91,19 +89,12 @@ loop-place-preserved c =
     let i = c.loop-place.invariant in
     let time = ap (λ (t : Transition). t.unix_leap_time) c.transition-next.ensures.item in
     let index = ap (λ (t : Transition). t.type_index) c.transition-next.ensures.item in
-    let counted = ap (λ (p : Counts). p.reads) c.transition-next.ensures.cost in
-    let asked = ap (λ (p : Counts). p.rule_questions) c.transition-next.ensures.cost in
     record {
       found = simp to_z-of_z (tried at.After-try_until-answer);
       begin = time ∙ sym (begin_next c.args.self.now.transitions c.loop-place.place c.transition-next.result (omega arith));
       index = index ∙ sym (index_next c.args.self.now.transitions c.loop-place.place c.transition-next.result (omega arith));
       listed = c.transition-next.ensures.index;
-      inside = inside_more c.args.self.now.transitions c.window-window.result.high c.passed_count-first.result c.loop-place.place c.transition-next.result (omega arith) i.inside c.transition-next.ensures.item (omega (arith, ints));
-      kept = omega arith;
-      cost = omega arith;
-      questions = asked ∙ i.questions;
-      pieces = ap (λ (p : Counts). p.piece_reads) c.transition-next.ensures.cost ∙ i.pieces;
-      looked = λ h. let l = i.looked h in omega arith;
+      walked = walked_more c.args.self.now c.window-window.result.high c.passed_count-first.result c.loop-place.place c.transition-next.result _ _ _ (omega arith) i.walked c.transition-next.ensures.item (omega (arith, ints)) c.transition-next.ensures.cost;
     }
 
 pub try_last-requires-clause-seen : goal.try_last-requires-clause-seen
@@ -119,10 +110,7 @@ returns-clause-found c =
 pub returns-clause-cost : goal.returns-clause-cost
 returns-clause-cost c =
     let at = goal.at.returns-clause-cost c in
-    let i = c.loop-place.invariant in
-    let k = c.try_last.ensures.cost in
-    let walked = walked_most c.args.self.now.transitions c.window-window.result.low c.window-window.result.high c.passed_count-first.result c.loop-place.place (split at.After-passed_count-first) (omega arith) i.inside in
-    rose_by_walk c.args.self.now c.args.local c.window-window.result.low c.window-window.result.high c.args.probes.now c.try_last.new.probes c.passed_count-first.result c.loop-place.place (λ h. let l = i.looked h in let n = k.reads_kept in omega arith) (k.pieces_same ∙ i.pieces) (seen at.After-window-window) walked (omega arith) (omega arith) (omega arith) (omega arith)
+    rose_by_walk c.args.self.now c.args.local c.window-window.result.low c.window-window.result.high c.passed_count-first.result c.loop-place.place 0 _ _ _ (seen at.After-window-window) (split at.After-passed_count-first) (omega arith) c.loop-place.invariant.walked (omega arith) c.try_last.ensures.cost
 
 pub returns-then-window-next-clause-counted : goal.returns-then-window-next-clause-counted
 returns-then-window-next-clause-counted c =
@@ -131,9 +119,9 @@ returns-then-window-next-clause-counted c =
     let fn : SFits w64 c.transition-next.result.unix_leap_time = search rules in
     let time = ap (λ (t : Transition). t.unix_leap_time) c.transition-next.ensures.item in
     asked_for_window c.args.self.now c.args.local c.window-window.result.low c.window-window.result.high c.loop-place.place c.transition-next.result c.args.probes.now.rule_questions c.transition-next.new.probes.rule_questions c.window-window.ensures.valid (seen at.After-window-window) (omega arith) (omega (arith, ints))
-    (ap (λ (p : Counts). p.rule_questions) c.transition-next.ensures.cost ∙ c.loop-place.invariant.questions)
+    (ap (λ (p : Counts). p.rule_questions) c.transition-next.ensures.cost ∙ c.loop-place.invariant.walked.questions)
 
 pub returns-clause-counted : goal.returns-clause-counted
 returns-clause-counted c =
     let fl = c.ranges.local in
-    rw c.loop-place.invariant.questions at (simp to_z-of_z at c.try_last.ensures.counted)
+    rw c.loop-place.invariant.walked.questions at (simp to_z-of_z at c.try_last.ensures.counted)

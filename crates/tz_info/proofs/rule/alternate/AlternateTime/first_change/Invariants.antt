@@ -1,7 +1,0 @@
-use Rattle.tz_info.specs.Changes.{IsFirst}
-use Rattle.tz_info.specs.Moments.{AlternateAt}
-use Rattle.tz_info.specs.Steps.Changes.{IsOneOf}
-use Rattle.tz_info.proofs.rule.alternate.AlternateTime.first_change.Given as goal
-
-abbrev pub invariant-loop-second : goal.invariant-loop-second
-invariant-loop-second l = IsFirst (AlternateAt l.self) (IsOneOf l.seconds l.second-index l.stretch.after l.stretch.last) l.found

@@ -1,0 +1,13 @@
+use Rattle.std.proofs.Common.{get_or, pos, w64, to_z-of_z, rules}
+use mir.Val.{SFits}
+use Rattle.tz_info.proofs.ChangeSearch.{none_of, nearest_more}
+use Rattle.tz_info.specs.Moments.{AlternateAt}
+use Rattle.tz_info.proofs.rule.alternate.AlternateTime.nearest_of.Goals as goal
+
+pub loop-second-init : goal.loop-second-init
+loop-second-init c = none_of (AlternateAt c.args.self.now) c.args.seconds.now c.args.stretch.after c.args.stretch.last
+
+pub loop-second-preserved : goal.loop-second-preserved
+loop-second-preserved c =
+    let fs : SFits w64 (get_or c.args.seconds.now c.loop-second.second-index (pos 0)) = search rules in
+    rw c.nearer-found.ensures (nearest_more c.args.forward (AlternateAt c.args.self.now) c.args.seconds.now c.loop-second.second-index c.args.stretch.after c.args.stretch.last c.loop-second.found c.change_in.result (simp to_z-of_z at c.change_in.ensures) c.loop-second.invariant)

@@ -1,0 +1,6 @@
+use Rattle.tz_info.specs.Moments.{AlternateAt}
+use Rattle.tz_info.specs.Steps.Changes.{IsNearest, IsOneOf}
+use Rattle.tz_info.proofs.rule.alternate.AlternateTime.nearest_of.Given as goal
+
+abbrev pub invariant-loop-second : goal.invariant-loop-second
+invariant-loop-second l = IsNearest l.forward (AlternateAt l.self) (IsOneOf l.seconds l.second-index l.stretch.after l.stretch.last) l.found
