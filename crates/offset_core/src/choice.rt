@@ -32,6 +32,3 @@ pub struct Choice {
     pub gap: GapChoice,
     pub fold: FoldChoice,
 }
-
-#[cfg(test)]
-mod tests;

@@ -127,6 +127,3 @@ fn push_clock(seconds: u32, text: &mut ShortText)
     text.push(b':');
     text.push_two_digits(second);
 }
-
-#[cfg(test)]
-mod tests;

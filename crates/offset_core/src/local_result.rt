@@ -125,6 +125,3 @@ impl<T: Drop> LocalResult<Option<T>> {
         }
     }
 }
-
-#[cfg(test)]
-mod tests;

@@ -92,6 +92,3 @@ impl ShortText {
         }
     }
 }
-
-#[cfg(test)]
-mod tests;

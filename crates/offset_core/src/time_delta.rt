@@ -184,6 +184,3 @@ impl TimeDelta {
         TimeDelta::of_nanos(duration.as_nanos() as i128)
     }
 }
-
-#[cfg(test)]
-mod tests;
