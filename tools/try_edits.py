@@ -1,29 +1,28 @@
 #!/usr/bin/env python3
-"""Tries the must-fail edits that `rt ci` doesn't try: those of must-fail-in-part/, which the gate calls this for, or those of
-must-fail-by-hand/.
+"""Tries must-fail edits: wrong bodies that the prover must refuse.
 
-usage: tools/try_edits.py --in-part [--lanes N] [--beside FILE] [NAME | NAME/EDIT ..]
-       tools/try_edits.py [NAME | NAME/EDIT ..]
+usage: tools/try_edits.py [--lanes N] [--beside LOGS] [NAME | NAME/EDIT ..]
 
-**In part**: of the edited crate only the module that the edit changes is checked, and what that calls; the prover must refuse
-it. A line `only: PATH` of an edit names another module or function, where it is that one's contract which refuses the edit. It
-takes the libraries below as `rt ci` or `rt check` has built them, and proves none. `rt ci` would prove the whole crate once
-more for a crate's first edit. A crate's edits are tried in turn, each over what those before it proved, and at last the same
-modules as they stand, which must be proved. A refusal counts only where an open goal is told: not where a text can't be read,
-nor where nothing but a proof misses a name. What `rt check` keeps of the crate is taken, where it is there: then an edit takes
-some twenty seconds. Named edits are also looked for in must-fail-by-hand/. N crates are tried at a time (4). Beside an `rt ci`
-that still runs, and whose words go to FILE, a crate's edits wait until the libraries below are proved.
+With no names it tries those of must-fail-in-part/, as the gate does. Of a named crate it tries those of must-fail-by-hand/ too.
 
-**By hand**: `rt must-fail` applies the edits to a copy of the crate and of the libraries below it. The crate is proved once, for
-all of its edits, which takes the time of a first check; then each takes 10 to 40 seconds.
+A wrong body is refused by the contract of the function that has it, whatever stands above and below that function. So only the
+functions that edits change are checked, in a copy of their crate, and all edits of a crate that change different functions are
+tried by one check: what it tells of each function tells of that one's edit. A line `only: PATH` of an edit names the function or
+module whose contract refuses it, where that is another one, or where two functions have one name. An edit that changes something
+outside of functions is tried alone.
 
-Ends with status 1 unless each is refused.
+An edit is refused if its function isn't proved, and an open goal of that function is told. It doesn't count where a text can't be
+read, nor where nothing but a proof misses a name.
 
-Takes the command rt from the variable RT, if that is set.
+The libraries below are taken as `rt ci` or `rt check` has built them. Beside an `rt ci` that still runs, and whose words go to
+the folder LOGS, a crate's edits wait until the crate is proved. Then each function that is told there as proved, and that no edit
+changes, is taken by its contract, with a hole for its proof: to prove it once more would tell nothing new. With no LOGS the
+functions that the edited ones call are proved as well, over what `rt check` keeps of the crate, where it is there.
+
+N crates are tried at a time (2). Ends with status 1 unless each edit is refused.
 """
 
 import argparse
-import os
 import re
 import shutil
 import subprocess
@@ -31,104 +30,159 @@ import sys
 import tempfile
 import threading
 from concurrent.futures import ThreadPoolExecutor
+from dataclasses import dataclass, field
 from pathlib import Path
 
-from kit import wait_for, words
-from sources import TOP, crates, libraries_below
+from kit import told as told_by, wait_for, words
+from sources import TOP, crates
 
-RT = os.environ.get("RT", "rt")
 IN_PART, BY_HAND = "must-fail-in-part", "must-fail-by-hand"
-# What is said where an edited text can't be read, so that no contract was tried.
-UNREAD = r"is not in scope|has no field|is no name|operand is missing|expected the end|cannot continue|was not admitted"
+FUNCTION = re.compile(r'(?m)^( *)(?:pub(?:\([a-z]+\))? )?(?:(?:final|const|unsafe|extern "C") )*fn (\w+)')
+# What is said where a text can't be read, so that no contract was tried.
+UNREAD = r"is not in scope|has no field|has no `|is no name|operand is missing|expected the end|cannot continue|was not admitted"
+# A fault or an open goal, and where it stands.
+TOLD = r"(?:note: )?(?:\./)?(\S+?):\d+:\d+: (?:error: )?((?:`|it is not proved|error).*)"
+HOLE = """use {module}.Statement.{{statement}}
+
+pub {name}_spec : {{M : Type 1}} → statement M
+{name}_spec = ?
+"""
 
 
-def edits_of(name, *folders):
-    return [edit for folder in folders for edit in sorted((TOP / "crates" / name / folder).glob("*.edit"))]
+@dataclass
+class Edit:
+    """A wrong body: the texts that it exchanges in files, and the functions or modules whose contracts refuse it."""
+
+    crate: str
+    name: str
+    pairs: list = field(default_factory=list)
+    parts: list = field(default_factory=list)
+    is_alone: bool = False
+
+    def __str__(self):
+        return f"{self.crate}/{self.name}"
 
 
-def wanted(names, in_part):
-    """The edits to be tried, by their crates."""
-    if not names:
-        folder = IN_PART if in_part else BY_HAND
-        return {name: edits_of(name, folder) for name in crates() if edits_of(name, folder)}
-    found = {}
-    for word in names:
-        name, _, stem = word.partition("/")
-        folders = [IN_PART, BY_HAND] if in_part else [BY_HAND]
-        edits = [edit for edit in edits_of(name, *folders) if stem in ("", edit.stem)]
-        if not edits:
-            sys.exit(f"no edit of {' or '.join(folders)}: {word}")
-        found.setdefault(name, []).extend(edits)
-    return found
-
-
-def applied(edit, crate):
-    """The files that the edit changes, by their paths in the crate, and the modules to be checked."""
-    path, old, texts, parts = "", "", {}, []
-    for line in edit.read_text().splitlines():
+def read(crate, path):
+    """An edit, and of each text that it changes the function that has it."""
+    edit, file, old, texts, changed = Edit(crate, path.stem), "", "", {}, set()
+    for line in path.read_text().splitlines():
         key, _, text = line.partition(": ")
         if key == "file":
-            path = text
+            file = text
         elif key == "only":
-            parts.append(text)
+            edit.parts.append(text)
         elif key == "old":
             old = text
         elif key.rstrip(":") == "new":
-            was = texts.get(path) or (crate / path).read_text()
-            if was.count(old) != 1:
-                sys.exit(f"{edit}: the old text stands {was.count(old)} times in {path}")
-            texts[path] = was.replace(old, text)
-    return texts, parts or [part_of(path) for path in texts]
+            texts[file] = texts.get(file) or (TOP / "crates" / crate / file).read_text()
+            if texts[file].count(old) != 1:
+                sys.exit(f"{edit}: the old text stands {texts[file].count(old)} times in {file}: {old}")
+            changed.add(function_at(texts[file], old))
+            texts[file] = texts[file].replace(old, text)
+            edit.pairs.append((file, old, text))
+    edit.is_alone = None in changed
+    edit.parts = edit.parts or sorted(changed - {None})
+    if not edit.parts:
+        sys.exit(f"{edit}: it changes no function, so it needs a line `only: PATH`")
+    return edit
 
 
-def part_of(path):
-    """The module that a file of src/ is."""
-    return "::".join(Path(path).relative_to("src").with_suffix("").parts)
+def function_at(text, part):
+    """The name of the function that has that part of the text, for one of a trait behind its type and the trait."""
+    place, name = text.find(part), None
+    for begin in FUNCTION.finditer(text, 0, place + len(part)):
+        end = text.find(f"\n{begin[1]}}}", begin.end())
+        if end >= place:
+            name = begin[2]
+    if name is None:
+        return None
+    before = text[:place]
+    owner = before[before.rfind("\n}") + 1 :]
+    of_trait = re.search(r"(?m)^(?:unsafe )?impl\b.*?\b(\w+)(?:<(\w+)>)? for (\w+)", owner)
+    return "::".join([*([of_trait[3] + of_trait[1] + (of_trait[2] or "")] if of_trait else []), name])
 
 
-def checked(name, texts, parts, kept):
-    """Checks those parts of a copy of the crate, with these texts in the place of its own."""
-    crate = TOP / "crates" / name
-    with tempfile.TemporaryDirectory() as folder:
+def wanted(names):
+    """The edits to be tried, by their crates."""
+    found = {}
+    for word in names or crates():
+        crate, _, stem = word.partition("/")
+        folders = [IN_PART, BY_HAND] if names else [IN_PART]
+        paths = [path for folder in folders for path in sorted((TOP / "crates" / crate / folder).glob("*.edit"))]
+        edits = [read(crate, path) for path in paths if stem in ("", path.stem)]
+        if names and not edits:
+            sys.exit(f"no edit of {' or '.join(folders)}: {word}")
+        found.setdefault(crate, []).extend(edits)
+    return {crate: edits for crate, edits in found.items() if edits}
+
+
+def apart(edits):
+    """The edits in rounds. Those of a round change different functions, and each finds its texts where the others are made."""
+    rounds = []
+    for edit in edits:
+        for others in [] if edit.is_alone else rounds:
+            is_free = not any(other.is_alone or set(other.parts) & set(edit.parts) for other in others)
+            if is_free and made([*others, edit]) is not None:
+                others.append(edit)
+                break
+        else:
+            rounds.append([edit])
+    return rounds
+
+
+def made(edits):
+    """The files of the crate that the edits change, by their paths, or None where a text doesn't stand there once."""
+    texts = {}
+    for edit in edits:
+        for file, old, new in edit.pairs:
+            text = texts.get(file) or (TOP / "crates" / edit.crate / file).read_text()
+            if text.count(old) != 1:
+                return None
+            texts[file] = text.replace(old, new)
+    return texts
+
+
+def leave_out(folder, crate, functions, edits):
+    """Puts a hole in the place of the proof of each of these functions that no edit changes."""
+    for path in functions:
+        parts = path.split("::")
+        calls_itself = folder.joinpath("proofs", *parts[:-1], f"+{parts[-1]}").is_dir()
+        is_closure = "fn" in parts[:-1]
+        if calls_itself or is_closure or any(is_of(path, part) for edit in edits for part in edit.parts):
+            continue
+        proof = folder.joinpath("proofs", *parts)
+        shutil.rmtree(proof, ignore_errors=True)
+        proof.mkdir(parents=True)
+        hole = HOLE.format(module=".".join(["Rattle", crate, "proofs", *parts]), name=parts[-1])
+        (proof / "Proof.antt").write_text(hole)
+
+
+def is_of(path, part):
+    """Whether the function of that path is the one that the part names, or stands in the module that it names."""
+    return f"::{path}::".find(f"::{part}::") >= 0
+
+
+def checked(crate, edits, proved):
+    """Checks what the edits change in a copy of their crate, and returns what is said."""
+    with tempfile.TemporaryDirectory() as room:
+        folder = Path(room)
         for part in ("src", "specs", "proofs"):
-            if (crate / part).is_dir():
-                shutil.copytree(crate / part, f"{folder}/{part}")
-        for path, text in texts.items():
-            (Path(folder) / path).write_text(text)
-        only = [word for part in parts for word in ("--only", part)]
-        command = [*words("check", name), "--jobs", "1", *only, "--incremental", kept]
+            if (TOP / "crates" / crate / part).is_dir():
+                shutil.copytree(TOP / "crates" / crate / part, folder / part)
+        for file, text in made(edits).items():
+            (folder / file).write_text(text)
+        leave_out(folder, crate, proved, edits)
+        only = [word for part in sorted({part for edit in edits for part in edit.parts}) for word in ("--only", part)]
+        holes = ["--allow-holes"] if proved else ["--incremental", kept_of(crate, folder / "kept")]
+        command = [*words("check", crate), "--jobs", "1", *only, *holes]
         ran = subprocess.run(command, cwd=folder, stdin=subprocess.DEVNULL, capture_output=True, text=True)
-    return ran.returncode, ran.stdout + ran.stderr
+    return ran.stdout + ran.stderr
 
 
-def told(name, edit, kept):
-    """Whether the prover refuses the edit, what is said of it, and the parts that were checked."""
-    texts, parts = applied(edit, TOP / "crates" / name)
-    status, said = checked(name, texts, parts, kept)
-    lines = re.findall(r"(?m)^(?:note: )?(?:\./)?(\S+?:\d+:\d+): (?:error: )?((?:`|it is not proved|error).*)$", said)
-    goals = [(place, words) for place, words in lines if not re.search(UNREAD, words)]
-    unread = [(place, words) for place, words in lines if not place.startswith("proofs/") and (place, words) not in goals]
-    if status == 1 and goals and not unread:
-        return True, f"{name}/{edit.stem}: refused, as it must be: {goals[0][0]}: {goals[0][1][:120]}", parts
-    why = "NOT REFUSED" if status == 0 else f"status {status}, and no open goal is told: {said[-900:]}"
-    return False, f"{name}/{edit.stem}: {why}", parts
-
-
-def tried_in_part(name, edits):
-    """Tries a crate's edits. Gives what is said, and how many are refused."""
-    with tempfile.TemporaryDirectory() as folder:
-        kept = kept_of(name, Path(folder) / "kept")
-        found = [told(name, edit, kept) for edit in edits]
-        status, said = checked(name, {}, [part for _, _, parts in found for part in parts], kept)
-    rows = [row for _, row, _ in found]
-    if status:
-        rows.append(f"{name}: as it stands it isn't proved, so its edits say nothing: {said[-900:]}")
-    return rows, sum(is_refused for is_refused, _, _ in found) if status == 0 else 0
-
-
-def kept_of(name, folder):
-    """A folder for what is proved on the way, which begins with what `rt check` has kept of the crate, if it has."""
-    kept = TOP / "crates" / name / "out/incremental"
+def kept_of(crate, folder):
+    """A folder that begins with what `rt check` has kept of the crate, if it has."""
+    kept = TOP / "crates" / crate / "out/incremental"
     if kept.is_dir():
         shutil.copytree(kept, folder)
     else:
@@ -136,60 +190,72 @@ def kept_of(name, folder):
     return folder
 
 
-def in_turn(lanes, log):
-    """Tries a crate's edits in part once its libraries are proved, and no more crates at a time than there are lanes."""
-    free = threading.Semaphore(lanes)
-
-    def try_them(name, edits):
-        if not wait_for(libraries_below(name), log):
-            return [f"{name}: a library below it isn't proved, so its edits weren't tried"], 0
-        with free:
-            return tried_in_part(name, edits)
-
-    return try_them
-
-
-def copy_of(top, name, edits):
-    """A copy of the crate and of the libraries below it, which has those edits alone. The libraries keep what `rt` built."""
-    for file in ("HANDLES", "crates.txt"):
-        shutil.copy(TOP / file, top / file)
-    below = [name, *libraries_below(name)]
-    rows = [row for row in (TOP / "crates.txt").read_text().splitlines() if re.split(r"[ :]", row)[0] in below]
-    (top / "crates.txt").write_text("\n".join(rows) + "\n")
-    left = shutil.ignore_patterns("must-fail*", "incremental", "tried")
-    for library in below:
-        shutil.copytree(TOP / "crates" / library, top / "crates" / library, ignore=left)
-    folder = top / "crates" / name / "must-fail"
-    folder.mkdir()
-    for edit in edits:
-        shutil.copy(edit, folder / edit.name)
+def told(edit, said):
+    """What is said of an edit, and whether the prover refuses it."""
+    goals, faults, verdicts, notes = [], [], [], []
+    for line in said.splitlines():
+        place = re.fullmatch(TOLD, line)
+        verdict = re.fullmatch(r"fn \w+?::(\S+): (.*)", line)
+        if verdict:
+            if any(is_of(verdict[1], part) for part in edit.parts):
+                verdicts.append(verdict[2])
+                goals += notes if verdict[2].startswith(("no proof", "not proved")) else []
+            notes = []
+        elif place and place[1].startswith("proofs/"):
+            path = "::".join(Path(place[1]).parent.parts[1:])
+            if any(is_of(path, part) for part in edit.parts) and not re.search(UNREAD, place[2]):
+                goals.append(f"{place[1]}: {place[2]}")
+        elif place and re.search(UNREAD, place[2]):
+            faults.append(f"{place[1]}: {place[2]}")
+        elif place:
+            notes.append(f"{place[1]}: {place[2]}")
+    is_refused = bool(goals) and not faults and any(it.startswith(("no proof", "not proved")) for it in verdicts)
+    if is_refused:
+        return f"{edit}: refused, as it must be: {goals[0][:120]}", True
+    if verdicts and not faults:
+        return f"{edit}: NOT REFUSED: {'; '.join(verdicts)}", False
+    return f"{edit}: not tried: {(faults or [said[-900:]])[0]}", False
 
 
-def tried_by_hand(name, edits):
-    with tempfile.TemporaryDirectory() as folder:
-        copy_of(Path(folder), name, edits)
-        ran = subprocess.run([RT, "must-fail", name], cwd=folder, capture_output=True, text=True)
-    rows = re.findall(r"(?m)^rt: must-fail \S+\.edit: .*$", ran.stdout + ran.stderr)
-    return rows or [ran.stdout + ran.stderr], sum("refused, as it must be" in row for row in rows)
+def tried_together(crate, edits, proved):
+    """Tries edits by one check, or each alone where the check says nothing of one of them."""
+    said = checked(crate, edits, proved)
+    rows = [told(edit, said) for edit in edits]
+    if len(edits) > 1 and any(": not tried: " in row for row, _ in rows):
+        return [row for edit in edits for row in tried_together(crate, [edit], proved)]
+    return rows
+
+
+def tried(crate, edits, free, logs):
+    """Tries a crate's edits, once the crate is proved and a lane is free."""
+    if not wait_for([crate], logs):
+        return [(f"{crate}: it isn't proved, so its edits weren't tried", False)]
+    with free:
+        proved = proved_of(crate, logs)
+        return [row for edits in apart(edits) for row in tried_together(crate, edits, proved)]
+
+
+def proved_of(crate, logs):
+    """The functions of the crate that are proved, by the words of `rt ci`."""
+    return re.findall(rf"(?m)^fn {crate}::(\S+): proved$", told_by(logs)) if logs else []
 
 
 def main():
     given = argparse.ArgumentParser(usage=__doc__.partition("usage: ")[2].partition("\n\n")[0])
-    given.add_argument("--in-part", action="store_true")
-    given.add_argument("--lanes", type=int, default=4)
+    given.add_argument("--lanes", type=int, default=2)
     given.add_argument("--beside", type=Path)
     given.add_argument("names", nargs="*")
     given = given.parse_args()
-    edits = wanted(given.names, given.in_part)
-    try_them = in_turn(given.lanes, given.beside) if given.in_part else tried_by_hand
+    edits, free = wanted(given.names), threading.Semaphore(given.lanes)
     refused = 0
-    with ThreadPoolExecutor(len(edits) if given.in_part else 1) as pool:
-        for rows, count in pool.map(try_them, edits, edits.values()):
-            print("\n".join(rows), flush=True)
-            refused += count
-    tried = sum(map(len, edits.values()))
-    print(f"{tried} tried, {tried - refused} not refused")
-    return 0 if tried == refused > 0 else 1
+    with ThreadPoolExecutor(len(edits)) as pool:
+        for rows in pool.map(lambda crate: tried(crate, edits[crate], free, given.beside), edits):
+            for row, is_refused in rows:
+                print(row, flush=True)
+                refused += is_refused
+    count = sum(map(len, edits.values()))
+    print(f"{count} tried, {count - refused} not refused")
+    return 0 if count == refused > 0 else 1
 
 
 if __name__ == "__main__":

@@ -4,10 +4,10 @@
 usage: tools/try_tests.py [--fmt] [NAME ..]
 
 `rt ci` proves each test of a crate's src/, which takes seconds to minutes for a test. What a test tells of values from outside
-it tells when it runs. So most tests stand beside their crate: each text of crates/NAME/tried is a module that uses the crate
-by its name, as a client does. All of them, or those of the named crates, are laid into one crate beside a copy of this
-repository's libraries, and `rt try --test` runs them: it stops at what Rust would panic at, and proves nothing. No crate can
-stand on a static library: its texts are laid into the copy of that crate itself.
+it tells when it runs. So tests stand beside their crate: each text of crates/NAME/tried is a module that uses the crate by its
+name, and others that it needs, as a client does. All of them, or those of the named crates, are laid into one crate beside a
+copy of this repository's libraries, and `rt try --test` runs them: it stops at what Rust would panic at, and proves nothing. No
+crate can stand on a static library: its texts are laid into the copy of that crate itself.
 
 With --fmt the texts are laid out as `rt fmt` lays out code, and none is run.
 
@@ -36,10 +36,15 @@ def texts_of(name):
     return sorted((TOP / "crates" / name / LAID).glob("*.txt"))
 
 
+def named_in(texts):
+    """The crates of this repository that the texts name."""
+    return {word for text in texts for word in re.findall(r"(?m)^use (\w+)::", text.read_text()) if word in uses()}
+
+
 def repository(top, names):
     """A copy of this repository with one crate more. Returns each crate that has tests laid in, with the names whose they are."""
     apart = [name for name in names if not is_static(name)]
-    below = {library for name in apart for library in [name, *uses()[name]]}
+    below = {library for name in apart for library in [name, *uses()[name], *named_in(texts_of(name))]}
     for file in ("HANDLES", "crates.txt"):
         shutil.copy(TOP / file, top / file)
     left = shutil.ignore_patterns("out", "must-fail*", LAID)

@@ -1,10 +1,10 @@
 //! What is written every day over instants, compiled, proved and tested: comparisons, sorting, maps,
-//! print, iteration, lookups. No function here has a contract, a lemma or a proof file, and the one
-//! library named is `zoned`.
+//! print, iteration, lookups. No function has a contract, a lemma or a proof file, and the one
+//! library of zoned time named is `zoned`.
 //!
-//! The same functions stand in three modules: [`utc`], [`borrowed`] (over a
-//! [`TimeZoneRef`](zoned::TimeZoneRef)) and [`kept`] (over a [`KeptZone`](zoned::KeptZone)). None is
-//! generic over the zone. [`agenda`] is a client of two structs that hold a zone and instants.
+//! The same functions stand in three crates: `idioms_utc`, `idioms_borrowed` (over a
+//! [`TimeZoneRef`](zoned::TimeZoneRef)) and `idioms_kept` (over a [`KeptZone`](zoned::KeptZone)). None
+//! is generic over the zone. Here is what they share, and each one's tests.
 //!
 //! # What isn't covered
 //!
@@ -26,11 +26,7 @@
 //! 3. a pointer to an element of a type of no size
 #![tactic(auto)]
 
-pub mod agenda;
-pub mod borrowed;
 mod error;
-pub mod kept;
-pub mod utc;
 
 pub use error::IdiomError;
 

@@ -1,9 +1,9 @@
 //! Facts about instants, stated in the words that the library passes on. None has a proof file.
-ghost use Rattle.std.specs.Prelude.{◌≡◌, ℤ, pos, ◌+ℤ◌, ◌≤ℤ◌, ◌<ℤ◌, IfErr, IfOk, IfSome, option_map, FitsSigned};
+ghost use Rattle.std.specs.Prelude.{◌≡◌, ℤ, pos, ◌+ℤ◌, ◌≤ℤ◌, ◌<ℤ◌, ◌++◌, ◌∷◌, IfErr, IfOk, IfSome, option_map, string_bytes, FitsSigned};
 ghost use Rattle.std.specs.Int.{w64};
 ghost use Rattle.zoned.specs.Choice.{IsUnresolved};
 ghost use Rattle.zoned.specs.DateTime.{zoned, wall_of, IsIn};
-ghost use Rattle.zoned.specs.FixedOffset.{seconds_of};
+ghost use Rattle.zoned.specs.FixedOffset.{seconds_of, printed_offset};
 ghost use Rattle.zoned.specs.InstantFields.{IsOnly};
 ghost use Rattle.zoned.specs.KeptOffset.{law_of};
 ghost use Rattle.zoned.specs.KeptZone.{zone_of, off_of};
@@ -16,11 +16,12 @@ ghost use Rattle.zoned.specs.Reading.{reading_at, total};
 ghost use Rattle.zoned.specs.Zoned.{in_seconds};
 ghost use Rattle.zoned.specs.Zones.{TypeAt};
 
+use std::alloc::{AllocError, Global};
 use zoned::tz_info::TimeZoneName;
 use zoned::{
-    Choice, DailySeries, DateTime, DurationRound, FixedOffset, KeptZone, Months, NaiveDate,
-    NaiveDateTime, NaiveTime, Offset, ResolveError, RoundingError, TimeDelta, TimeZone, Timelike,
-    Utc, client_laws,
+    Choice, DailySeries, DateTime, DurationRound, FixedOffset, KeptZone, LocalResult, Months,
+    NaiveDate, NaiveDateTime, NaiveTime, Offset, ResolveError, RoundingError, TimeDelta, TimeZone,
+    Timelike, Utc, client_laws,
 };
 
 /// The seconds from 1970-01-01 00:00:00 UTC to an instant.
@@ -173,4 +174,27 @@ pub fn bucket(instant: DateTime<Utc>) -> Result<DateTime<Utc>, RoundingError>
     let start = instant.duration_trunc(length)?;
     client_laws::truncated(&instant, length, &start);
     Ok(start)
+}
+
+/// The place of each value of a lookup's answer, told by a closure that counts its calls: it is
+/// called once for each, in order.
+pub fn places(values: LocalResult<u32>) -> LocalResult<u32>
+    ensures single { values ≡ LocalResult.Single 5 → result ≡ LocalResult.Single 0 }
+    ensures both { values ≡ LocalResult.Ambiguous 7 9 → result ≡ LocalResult.Ambiguous 0 1 }
+{
+    let mut calls = 0u32;
+    values.map(|_value| {
+        let place = calls;
+        calls = calls.wrapping_add(1);
+        place
+    })
+}
+
+/// An offset, printed for users and for programmers: what `format!` gives is what the definition
+/// says.
+pub fn printed_both_ways(alloc: Global, offset: FixedOffset) -> Result<String, AllocError>
+    ensures { IfOk result (λ text. string_bytes text
+        ≡ printed_offset offset ++ (32 ∷ printed_offset offset)) }
+{
+    format!(in alloc; "{offset} {offset:?}")
 }

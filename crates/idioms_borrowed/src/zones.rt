@@ -1,6 +1,6 @@
 //! Instants of a borrowed zone, and what is made of them.
 
-use crate::IdiomError;
+use idioms::IdiomError;
 use zoned::{
     Choice, DateTime, Datelike, Days, DurationRound, NaiveDate, NaiveDateTime, Offset, TimeDelta,
     TimeZone, TimeZoneRef, Timelike, Utc,

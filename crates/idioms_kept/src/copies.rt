@@ -1,6 +1,6 @@
 //! Instants of a kept zone copied.
 
-use crate::copy_of;
+use idioms::copy_of;
 use std::alloc::{AllocError, Global};
 use std::collections::BTreeMap;
 use zoned::{DateTime, Days, KeptZone};

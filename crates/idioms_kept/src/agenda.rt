@@ -1,6 +1,6 @@
 //! Jobs of several zones in the order in which they come: a client without a lifetime.
 
-use crate::{IdiomError, copy_of};
+use idioms::{IdiomError, copy_of};
 use std::alloc::{AllocError, Global};
 use zoned::{Choice, DateTime, Days, KeptZone, NaiveDateTime, TimeZone};
 

@@ -1,4 +1,5 @@
-//! Idioms over instants of a kept zone.
+//! Idioms over instants of UTC: what [`idioms`] says of them holds here.
+#![tactic(auto)]
 
 pub mod closures;
 pub mod compare;

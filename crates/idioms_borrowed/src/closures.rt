@@ -1,7 +1,7 @@
 //! What is asked of each instant of a borrowed zone by way of another instant, or of the zone: by
 //! loops, since closures that capture an instant or ask the zone aren't covered.
 
-use crate::borrowed::zones::hour;
+use crate::zones::hour;
 use std::alloc::{AllocError, Global};
 use zoned::{DateTime, TimeZoneRef};
 

@@ -1,7 +1,7 @@
 //! Instants of a borrowed zone copied.
 
-use crate::borrowed::zones::next_day;
-use crate::copy_of;
+use crate::zones::next_day;
+use idioms::copy_of;
 use std::alloc::{AllocError, Global};
 use std::collections::BTreeMap;
 use zoned::{DateTime, TimeZoneRef};

@@ -1,4 +1,5 @@
-//! Idioms over instants of UTC.
+//! Idioms over instants of a borrowed zone: what [`idioms`] says of them holds here.
+#![tactic(auto)]
 
 pub mod closures;
 pub mod compare;
