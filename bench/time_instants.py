@@ -1,10 +1,10 @@
 #!/usr/bin/env python3
-"""Times instants of a kept zone beside those of a borrowed one: `instant_work` over New York's file.
+"""Times instants of a kept zone beside those of a borrowed one: `instants_timed` over New York's file.
 
 usage: bench/time_instants.py [ZONE_FILE]
 
 It prints a row for each kind of zone and question: the processor's time for a question, the least of five runs, with the time
-of a run without a question taken off. `rt run` in crates/instant_work builds the program.
+of a run without a question taken off. `rt run` in crates/instants_timed builds the program.
 """
 
 import resource
@@ -12,26 +12,25 @@ import subprocess
 import sys
 from pathlib import Path
 
-PROGRAM = Path(__file__).resolve().parent.parent / "crates/instant_work/out/instant_work"
+PROGRAM = Path(__file__).resolve().parent.parent / "crates/instants_timed/out/instants_timed"
 FILE = "/usr/share/zoneinfo/America/New_York"
 QUESTIONS = 5_000_000
 RUNS = 5
 
 
-def processor_time(path, words):
+def processor_time(words):
     """The least time of some runs, and what the program printed."""
     least, printed = float("inf"), None
     for _ in range(RUNS):
-        with path.open("rb") as zone:
-            before = resource.getrusage(resource.RUSAGE_CHILDREN)
-            printed = subprocess.run([PROGRAM, *words], stdin=zone, capture_output=True, check=True).stdout
-            after = resource.getrusage(resource.RUSAGE_CHILDREN)
+        before = resource.getrusage(resource.RUSAGE_CHILDREN)
+        printed = subprocess.run([PROGRAM, *words], capture_output=True, check=True).stdout
+        after = resource.getrusage(resource.RUSAGE_CHILDREN)
         least = min(least, after.ru_utime - before.ru_utime + after.ru_stime - before.ru_stime)
     return least, printed
 
 
 def main():
-    path = Path(sys.argv[1] if len(sys.argv) > 1 else FILE)
+    path = sys.argv[1] if len(sys.argv) > 1 else FILE
     print("| question | borrowed | kept |\n|---|--:|--:|")
     questions = (
         ("instant", "an instant, and its offset"),
@@ -41,8 +40,8 @@ def main():
     for question, name in questions:
         times, sums = [], set()
         for zone in ("borrowed", "kept"):
-            idle, _ = processor_time(path, [zone, question, "0"])
-            busy, printed = processor_time(path, [zone, question, str(QUESTIONS)])
+            idle, _ = processor_time([zone, path, question, "0"])
+            busy, printed = processor_time([zone, path, question, str(QUESTIONS)])
             times.append((busy - idle) * 1e9 / QUESTIONS)
             sums.add(printed)
         if len(sums) != 1:

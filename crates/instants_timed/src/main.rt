@@ -1,19 +1,24 @@
 //! Times what programs do with instants, and prints the answers. `bench/run.sh` compares both with
 //! those of other libraries.
 //!
-//! Usage: `instants_timed times ZONE OTHER`, or `instants_timed answers ZONE OTHER COUNT`. The
-//! zones are names of files, each a TZif file or a TZ text. `times` prints a line for each question,
-//! its words parted by tabs: its name, the nanoseconds for all answers, how many there are, and
-//! their sum. `answers` prints the name and the answer of each question about each of the first
-//! values, so many as COUNT says. With other words, or other files, it ends with status 1.
+//! Usage: `instants_timed times ZONE OTHER`, `instants_timed answers ZONE OTHER COUNT`, or
+//! `instants_timed kept ZONE LOOKUP COUNT`, with `borrowed` for `kept`. The zones are names of files,
+//! each a TZif file or a TZ text. `times` prints a line for each question, its words parted by tabs:
+//! its name, the nanoseconds for all answers, how many there are, and their sum. `answers` prints the
+//! name and the answer of each question about each of the first values, so many as COUNT says. `kept`
+//! and `borrowed` ask such a zone for an `instant`, for a `wall` clock or in a `gap`, so often as COUNT
+//! says, and print what the answers sum up to: `bench/time_instants.py` times them. With other words,
+//! or other files, it ends with status 1.
 #![tactic(auto)]
 
 mod answers;
+mod lookups;
 mod question;
 mod timing;
 mod values;
 mod work_error;
 
+use lookups::Lookup;
 use question::Question;
 use std::alloc::Global;
 use std::io::{BufWriter, Write};
@@ -21,7 +26,7 @@ use std::process::ExitCode;
 use std::{env, fs, str};
 use values::{COUNT, MANY, Values, copy_of};
 use work_error::WorkError;
-use zoned::{DateTime, KeptZone, tz_info};
+use zoned::{DateTime, KeptZone, TimeZoneRef, tz_info};
 
 fn main(rt: HostRuntime) -> ExitCode {
     match work(&rt) {
@@ -34,19 +39,51 @@ fn work(rt: &HostRuntime) -> Result<(), WorkError> {
     let mut words = env::args(rt)?;
     let _program = words.next();
     let what = words.next().ok_or(WorkError::Usage)?;
-    let zone = kept(rt, words.next().ok_or(WorkError::Usage)?.as_str())?;
-    let other = kept(rt, words.next().ok_or(WorkError::Usage)?.as_str())?;
+    let zone = words.next().ok_or(WorkError::Usage)?;
+    let other = words.next().ok_or(WorkError::Usage)?;
+    let (zone, other) = (zone.as_str(), other.as_str());
     match what.as_str() {
-        "times" => print_times(rt, &Values::new(rt.alloc(), zone, other, COUNT)?),
+        "times" => {
+            let (zone, other) = (kept(rt, zone)?, kept(rt, other)?);
+            print_times(rt, &Values::new(rt.alloc(), zone, other, COUNT)?)
+        }
         "answers" => {
             let count = words.next().ok_or(WorkError::Usage)?;
             let Ok(count) = count.parse::<usize>() else {
                 return Err(WorkError::Usage);
             };
+            let (zone, other) = (kept(rt, zone)?, kept(rt, other)?);
             print_answers(rt, &Values::new(rt.alloc(), zone, other, count)?)
         }
-        _ => Err(WorkError::Usage),
+        kind => {
+            let count = words.next().ok_or(WorkError::Usage)?;
+            print_sum(rt, kind, zone, Lookup::of_word(other)?, count.as_str())
+        }
     }
+}
+
+// What the answers of a zone of that kind sum up to.
+fn print_sum(
+    rt: &HostRuntime,
+    kind: &str,
+    zone: &str,
+    lookup: Lookup,
+    count: &str,
+) -> Result<(), WorkError> {
+    let Ok(count) = count.parse::<u32>() else {
+        return Err(WorkError::Usage);
+    };
+    let sum = match kind {
+        "kept" => lookups::sum_of(&kept(rt, zone)?, lookup, count),
+        "borrowed" => {
+            let parsed = parsed(rt.alloc(), &fs::read(rt, zone)?)?;
+            let borrowed = TimeZoneRef::new(&parsed).ok_or(WorkError::Zone)?;
+            lookups::sum_of(&borrowed, lookup, count)
+        }
+        _ => return Err(WorkError::Usage),
+    };
+    println!(rt; "{sum}")?;
+    Ok(())
 }
 
 fn print_times(rt: &HostRuntime, values: &Values) -> Result<(), WorkError> {

@@ -1,4 +1,4 @@
-//! The questions, and what their answers sum up to.
+//! A zone is asked for instants or for wall clocks, many times over, and what the answers sum up to.
 
 use crate::work_error::WorkError;
 use zoned::{
@@ -7,7 +7,7 @@ use zoned::{
 
 /// What a zone is asked.
 #[derive(Clone, Copy, PartialEq, Eq)]
-pub enum Question {
+pub enum Lookup {
     /// What its clocks show at an instant.
     Instant,
     /// At which instants its clocks show a reading.
@@ -16,12 +16,12 @@ pub enum Question {
     Gap,
 }
 
-impl Question {
-    pub fn of_word(word: &str) -> Result<Question, WorkError> {
+impl Lookup {
+    pub fn of_word(word: &str) -> Result<Lookup, WorkError> {
         match word {
-            "instant" => Ok(Question::Instant),
-            "wall" => Ok(Question::Wall),
-            "gap" => Ok(Question::Gap),
+            "instant" => Ok(Lookup::Instant),
+            "wall" => Ok(Lookup::Wall),
+            "gap" => Ok(Lookup::Gap),
             _ => Err(WorkError::Usage),
         }
     }
@@ -54,7 +54,7 @@ const GAPS: [i64; 16] = [
 
 /// The sum over so many questions, whose seconds are drawn from the years 1900 to 2099 by a fixed
 /// rule.
-pub fn sum_of<Tz: TimeZone>(zone: &Tz, question: Question, count: u32) -> i64 {
+pub fn sum_of<Tz: TimeZone>(zone: &Tz, lookup: Lookup, count: u32) -> i64 {
     let mut drawn = 1u64;
     let mut sum = 0i64;
     for _ in 0..count {
@@ -62,10 +62,10 @@ pub fn sum_of<Tz: TimeZone>(zone: &Tz, question: Question, count: u32) -> i64 {
             .wrapping_mul(6_364_136_223_846_793_005)
             .wrapping_add(1_442_695_040_888_963_407);
         let second = FIRST + ((drawn >> 11) % SECONDS) as i64;
-        sum = sum.wrapping_add(match question {
-            Question::Instant => at_instant(zone, second),
-            Question::Wall => at_wall_clock(zone, second),
-            Question::Gap => in_gap(zone, GAPS[(drawn >> 11) as usize % 16]),
+        sum = sum.wrapping_add(match lookup {
+            Lookup::Instant => at_instant(zone, second),
+            Lookup::Wall => at_wall_clock(zone, second),
+            Lookup::Gap => in_gap(zone, GAPS[(drawn >> 11) as usize % 16]),
         });
     }
     sum
