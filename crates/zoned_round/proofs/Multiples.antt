@@ -1,5 +1,5 @@
 -- How far the multiples of a span are from a number.
-use Rattle.std.proofs.Common.{◌≡◌, ◌⊎◌, inl, inr, ℕ, ◌<◌, arith, ℤ, pos, neg_ℤ, negsuc, ◌+ℤ◌, ◌-ℤ◌, ◌≤ℤ◌, ◌<ℤ◌, refl, unsigned_abs}
+use Rattle.std.proofs.Common.{◌≡◌, ◌∙◌, ◌⊎◌, inl, inr, ℕ, ◌<◌, arith, ℤ, pos, neg_ℤ, negsuc, ◌+ℤ◌, ◌-ℤ◌, ◌≤ℤ◌, ◌<ℤ◌, refl, unsigned_abs}
 use Rattle.std.proofs.lemmas.Int.{ints, by_lt_z}
 use Rattle.naive_base.proofs.ForCallers.{floors, floor_mod_parts}
 use Rattle.zoned_round.specs.Multiples.{multiple_below, multiple_above, nearest_multiple}
@@ -9,10 +9,10 @@ pub below-near : (n : ℤ) (span : ℕ) → 0 < span
     → (multiple_below n span ≤ℤ n) × (n <ℤ (multiple_below n span +ℤ pos span))
 below-near n span some = let parts = floor_mod_parts n span some in (omega (arith, floors), omega (arith, floors))
 
-above-next : (n : ℤ) (span : ℕ) → multiple_below n span <ℤ n → multiple_above n span ≡ multiple_below n span +ℤ pos span
+pub above-next : (n : ℤ) (span : ℕ) → multiple_below n span <ℤ n → multiple_above n span ≡ multiple_below n span +ℤ pos span
 above-next n span less = grind (arith, ints)
 
-above-same : (n : ℤ) (span : ℕ) → n ≤ℤ multiple_below n span → multiple_above n span ≡ multiple_below n span
+pub above-same : (n : ℤ) (span : ℕ) → n ≤ℤ multiple_below n span → multiple_above n span ≡ multiple_below n span
 above-same n span same = grind (arith, ints)
 
 nearest-below : (n : ℤ) (span : ℕ) → (n -ℤ multiple_below n span) <ℤ (multiple_above n span -ℤ n) → nearest_multiple n span ≡ multiple_below n span
@@ -51,8 +51,25 @@ nearest-is n span some =
     (λ less. inl (nearest-below n span less, less))
     (λ same. inr (nearest-above n span same, same))
 
+-- which one, by the way to it: down or up
+pub nearest-down : (n : ℤ) (span : ℕ) → 0 < span
+    → (n -ℤ multiple_below n span) <ℤ (multiple_below n span +ℤ pos span -ℤ n)
+    → nearest_multiple n span ≡ multiple_below n span
+nearest-down n span some less = elim (above-is n span some) [
+  | inl same ↦ nearest-above n span (omega (arith, floors)) ∙ same.0
+  | inr next ↦ nearest-below n span (omega (arith, floors))
+]
+
+pub nearest-up : (n : ℤ) (span : ℕ) → 0 < span
+    → (multiple_below n span +ℤ pos span -ℤ n) ≤ℤ (n -ℤ multiple_below n span)
+    → nearest_multiple n span ≡ multiple_below n span +ℤ pos span
+nearest-up n span some up = elim (above-is n span some) [
+  | inl same ↦ absurd (omega (arith, floors))
+  | inr next ↦ nearest-above n span (omega (arith, floors)) ∙ next.0
+]
+
 -- a span that is positive as a number
-span-is : (span : ℤ) → pos 0 <ℤ span → (0 < unsigned_abs span) × (pos (unsigned_abs span) ≡ span)
+pub span-is : (span : ℤ) → pos 0 <ℤ span → (0 < unsigned_abs span) × (pos (unsigned_abs span) ≡ span)
 span-is (pos n) some = (omega (arith, floors), refl)
 span-is (negsuc n) some = absurd (omega (arith, floors))
 

@@ -1,5 +1,5 @@
 -- An instant that is made of one of a zone is one of that zone.
-use Rattle.std.proofs.Common.{◌≡◌, sym, subst, ℤ, Option, Some, None}
+use Rattle.std.proofs.Common.{◌≡◌, subst, ℤ, Option, Some, None}
 use Rattle.offset_core.specs.declared.local_result.LocalResult.{LocalResult}
 use Rattle.offset_core.specs.declared.local_result.LocalResult.TheVariants.{Single, Ambiguous, None as none}
 use Rattle.offset_core.specs.LocalResult.{single_of}

@@ -1,0 +1,18 @@
+use Rattle.std.proofs.Common.{arith, unsigned_abs}
+use Rattle.std.proofs.lemmas.Int.{ints}
+use Rattle.zoned_round.proofs.Multiples.{span-is, below-near, above-next, above-same}
+use Rattle.zoned_round.proofs.stamp.Stamp.way_above.Goals as goal
+
+pub returns-in-0-clause-is : goal.returns-in-0-clause-is
+returns-in-0-clause-is c =
+    let here = c.args.self.now in
+    let is = above-same here.nanos (unsigned_abs here.span) (omega (arith, ints)) in
+    omega (arith, ints)
+
+pub returns-in_default-clause-is : goal.returns-in_default-clause-is
+returns-in_default-clause-is c =
+    let here = c.args.self.now in
+    let span = span-is here.span here.positive in
+    let near = below-near here.nanos _ span.0 in
+    let is = above-next here.nanos (unsigned_abs here.span) (omega (arith, ints)) in
+    omega (arith, ints)

@@ -1,0 +1,20 @@
+use Rattle.std.proofs.Common.{arith}
+use Rattle.std.proofs.lemmas.Int.{ints}
+use Rattle.zoned_round.proofs.Multiples.{span-is, below-near, nearest-down, nearest-up}
+use Rattle.zoned_round.proofs.stamp.Stamp.way_to_nearest.Goals as goal
+
+pub returns-then-past-self-clause-is : goal.returns-then-past-self-clause-is
+returns-then-past-self-clause-is c =
+    let here = c.args.self.now in
+    let span = span-is here.span here.positive in
+    let near = below-near here.nanos _ span.0 in
+    let is = nearest-down here.nanos _ span.0 (omega (arith, ints)) in
+    omega (arith, ints)
+
+pub returns-else-past-self-clause-is : goal.returns-else-past-self-clause-is
+returns-else-past-self-clause-is c =
+    let here = c.args.self.now in
+    let span = span-is here.span here.positive in
+    let near = below-near here.nanos _ span.0 in
+    let is = nearest-up here.nanos _ span.0 (omega (arith, ints)) in
+    omega (arith, ints)
