@@ -71,5 +71,8 @@ le_is_not a b h l = let t = le_true a b l in cc
 pub lt_true : (a b : ℤ) → a <ℤ b → int_lt a b ≡ true
 lt_true a b h = grind (arith, ints)
 
+pub lt_is : (a b : ℤ) → int_lt a b ≡ true → a <ℤ b
+lt_is a b h = grind (arith, ints)
+
 pub lt_false : (a b : ℤ) → b ≤ℤ a → int_lt a b ≡ false
 lt_false a b h = grind (arith, ints)

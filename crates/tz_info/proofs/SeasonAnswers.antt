@@ -1,5 +1,5 @@
 -- The answer of two seconds at which a season's moments decide.
-use Rattle.std.proofs.Common.{arith, ◌⊎◌, int_le, ◌&&◌, ◌≤ℤ◌, ◌≡◌, refl, Bool, true, false, cond, not, ℤ, ◌-ℤ◌, ◌<ℤ◌, FitsSigned}
+use Rattle.std.proofs.Common.{arith, ◌⊎◌, int_le, int_lt, ◌&&◌, IsTrue, ◌↔◌, ◌≤ℤ◌, ◌≡◌, refl, Bool, true, false, cond, not, ℤ, ◌-ℤ◌, ◌<ℤ◌, FitsSigned}
 use Rattle.std.specs.Int.{w64}
 use Rattle.std.proofs.lemmas.Int.{ints}
 use Rattle.std.proofs.lemmas.Bool.{and_parts}
@@ -17,7 +17,8 @@ use Rattle.tz_info.specs.Steps.Walk.{IsAskedLast}
 use Rattle.tz_info.specs.WallClocks.{Shows}
 use Rattle.tz_info.specs.declared.rule.alternate.Season.{Season}
 use Rattle.tz_info.specs.declared.rule.transition_rule.TransitionRule.{TransitionRule}
-use Rattle.tz_info.proofs.Prefixes.{le_is}
+use Rattle.tz_info.proofs.Equalities.{and_both}
+use Rattle.tz_info.proofs.Prefixes.{le_is, le_true, lt_is, lt_true}
 use Rattle.tz_info.proofs.Candidates.{asked_both, asked_found, asked_other}
 
 joined_none : (a : LocalResult LocalType) → joined a None ≡ a
@@ -51,6 +52,13 @@ both_asked rule from l x y b c less both first last at_first at_last =
     asked_both (TypeFrom rule from) l x.offset y.offset (shown_if b x) (joined (shown_if b x) (shown_if c y)) less both
     (asked_if rule from l b x y None first.fits first.since (λ e. omega (arith, ints)) at_first)
     (asked_if rule from l c y x (shown_if b x) last.fits last.since (λ e. omega (arith, ints)) at_last)
+
+-- the tests of a season's ends
+pub decided_by : (s : Season) (u : ℤ) → IsTrue (int_le s.from u && int_lt u s.until) ↔ IsDecidedIn s u
+decided_by s u = (
+  λ t. let both = and_parts (int_le s.from u) (int_lt u s.until) t in (le_is s.from u both.0, lt_is u s.until both.1),
+  λ h. and_both (int_le s.from u) (int_lt u s.until) (le_true s.from u h.0) (lt_true u s.until h.1),
+)
 
 -- the test of one second
 pub amid_by : (s : Season) (u from : ℤ) (decides : Bool) → (decides ≡ true → IsDecidedIn s u) → (int_le from u && decides) ≡ true → IsAmidFrom s from u

@@ -1,4 +1,4 @@
-use Rattle.std.proofs.Common.{◌+◌, ◌∙◌, ap, ℕ, refl, to_z-of_z, w64, rules}
+use Rattle.std.proofs.Common.{arith, ◌+◌, ◌∙◌, ap, ℕ, refl, to_z-of_z, w64, rules}
 use mir.Val.{SFits}
 use Rattle.tz_info.proofs.WallPieces.{merging_more, step_count}
 use Rattle.tz_info.proofs.zone.pieces.merged.Goals as goal
@@ -11,3 +11,6 @@ loop-step-preserved c =
           (c.together-answer.ensures ∙ rw (c.answer_before.ensures, c.answer_before-in-loop-step.ensures) refl) (simp to_z-of_z at c.in_ok-push.ensures.items);
       step = step_count _ _ c.loop-step.i c.loop-step.j _ _ c.next_start-start.result.0 c.next_start-start.ensures ∙ ap (λ (n : ℕ). n + 1) c.loop-step.invariant.step;
     }
+
+pub next_start-start-requires-clause-some : goal.next_start-start-requires-clause-some
+next_start-start-requires-clause-some c = let s = c.loop-step.invariant.step in omega arith

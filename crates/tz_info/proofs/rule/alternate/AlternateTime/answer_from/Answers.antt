@@ -88,3 +88,20 @@ returns c =
       counted = asked_std_dst a c.args.from c.args.local _ _ _ other (rw vs at (simp to_z-of_z at c.ask-one-2.ensures.counted)) (rw vd at (simp to_z-of_z at c.ask-2.ensures.counted));
       rule = search rules;
     }
+
+pub season-season-requires : goal.season-season-requires
+season-season-requires c =
+    let low = c.requires.local.0 in let high = c.requires.local.1 in
+    let fl = c.ranges.local in
+    (omega (arith, ints), omega (arith, ints))
+
+pub ask-requires-then-standard-daylight-2-clause-room : goal.ask-requires-then-standard-daylight-2-clause-room
+ask-requires-then-standard-daylight-2-clause-room c = omega (arith, c.requires.room, c.ask-one.ensures.cost.questions_most)
+
+pub ask-requires-2-clause-room : goal.ask-requires-2-clause-room
+ask-requires-2-clause-room c = omega (arith, c.requires.room, c.ask-one-2.ensures.cost.questions_most)
+
+pub answer_amid-requires-clause-other : goal.answer_amid-requires-clause-other
+answer_amid-requires-clause-other c =
+    let (fl, ff, fs, fd, gs, gd, vs, vd, ss, sd) = offsets (goal.at.answer_amid-requires-clause-other c).After-second_showing-by_dst in
+    λ e. omega (arith, ints)

@@ -53,3 +53,12 @@ returns g c =
     let size = c.in_ok-places.ensures.len in
     let written = take-append-le c.in_ok-places.places.len c.fill-most.new.places (drop (length c.fill-most.new.places) c.in_ok-places.places.items) (omega arith) ∙ take_all c.in_ok-places.places.len c.fill-most.new.places (omega arith) in
     hints_made _ _ c.second-first.result c.seconds_between-span.result c.fill-most.result c.deref_mut.result.now c.requires (omega arith) c.shift_for-shift.ensures.shift (first_is g at) (span_is g at) count (rw written filled) (omega arith)
+
+pub seconds_between-span-requires : goal.seconds_between-span-requires
+seconds_between-span-requires g c =
+    let ff : SFits w64 c.second-first.result = search rules in
+    let fs : SFits w64 c.second.result = search rules in
+    let long = length-map c.args.items.now g.T.Timed.time in
+    let first = c.second-first.ensures ∙ time_read g.T.Timed.time c.args.items.now 0 c.index-items-0.result (omega arith) c.index-items-0.is in
+    let last = c.second.ensures ∙ time_read g.T.Timed.time c.args.items.now (length c.args.items.now - 1) c.index-items-count.result (omega arith) c.index-items-count.is in
+    simp to_z-of_z (rw last (first_least _ c.second-first.result (length c.args.items.now - 1) c.requires first (omega arith)))

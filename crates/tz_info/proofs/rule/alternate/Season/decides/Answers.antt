@@ -1,0 +1,11 @@
+use Rattle.std.proofs.Common.{to_z-of_z, w64, rules}
+use mir.Val.{SFits}
+use Rattle.tz_info.proofs.SeasonAnswers.{decided_by}
+use Rattle.tz_info.proofs.rule.alternate.Season.decides.Goals as goal
+
+pub returns : goal.returns
+returns c =
+    let fu = c.ranges.unix_time in
+    let ff : SFits w64 c.args.self.from = search rules in
+    let fn : SFits w64 c.args.self.until = search rules in
+    simp to_z-of_z (decided_by c.args.self c.args.unix_time)

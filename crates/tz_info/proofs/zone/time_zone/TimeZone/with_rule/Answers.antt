@@ -1,0 +1,14 @@
+use Rattle.tz_info.proofs.ZoneLaws.{zone_of_rule_valid}
+use Rattle.tz_info.proofs.zone.time_zone.TimeZone.with_rule.Goals as goal
+
+pub without_pieces-index-requires-clause-valid : goal.without_pieces-index-requires-clause-valid
+without_pieces-index-requires-clause-valid c =
+    rw (c.deref.ensures.value, c.new-transitions.ensures.items, c.deref-2.ensures.value, c.deref-3.ensures.value, c.new-leaps.ensures.items) (zone_of_rule_valid c.args.types.items c.args.rule c.requires)
+
+pub invariant_of-result : goal.invariant_of-result
+invariant_of-result c =
+    rw (c.none.ensures, c.new-leaps.ensures.items) (record {
+      valid = zone_of_rule_valid c.args.types.items c.args.rule c.requires;
+      extremes = rw c.deref-4.ensures.value at c.extremes_of-extremes.ensures;
+      index = rw (c.deref.ensures.value, c.new-transitions.ensures.items, c.deref-2.ensures.value, c.deref-3.ensures.value, c.new-leaps.ensures.items) at c.without_pieces-index.ensures;
+    })
