@@ -74,16 +74,23 @@ fn print_sum(
         return Err(WorkError::Usage);
     };
     let sum = match kind {
-        "kept" => lookups::sum_of(&kept(rt, zone)?, lookup, count),
-        "borrowed" => {
-            let parsed = parsed(rt.alloc(), &fs::read(rt, zone)?)?;
-            let borrowed = TimeZoneRef::new(&parsed).ok_or(WorkError::Zone)?;
-            lookups::sum_of(&borrowed, lookup, count)
-        }
+        "kept" => sum_of_kept(&kept(rt, zone)?, lookup, count),
+        "borrowed" => sum_of_borrowed(&read(rt, zone)?, lookup, count)?,
         _ => return Err(WorkError::Usage),
     };
     println!(rt; "{sum}")?;
     Ok(())
+}
+
+fn sum_of_kept(zone: &KeptZone, lookup: Lookup, count: u32) -> i64 {
+    lookups::sum_of(zone, lookup, count)
+}
+
+fn sum_of_borrowed(zone: &tz_info::TimeZone, lookup: Lookup, count: u32) -> Result<i64, WorkError> {
+    match TimeZoneRef::new(zone) {
+        Some(zone) => Ok(lookups::sum_of(&zone, lookup, count)),
+        None => Err(WorkError::Zone),
+    }
 }
 
 fn print_times(rt: &HostRuntime, values: &Values) -> Result<(), WorkError> {
@@ -140,13 +147,18 @@ fn print_texts<W: Write>(output: &mut W, instants: &[DateTime<KeptZone>]) -> Res
     Ok(())
 }
 
-// The zone of a file.
+// The zone of a file, kept.
 fn kept(rt: &HostRuntime, path: &str) -> Result<KeptZone, WorkError> {
-    let bytes = fs::read(rt, path)?;
-    match KeptZone::keep(rt.alloc(), parsed(rt.alloc(), &bytes)?) {
+    match KeptZone::keep(rt.alloc(), read(rt, path)?) {
         Ok(zone) => Ok(zone),
         Err(_) => Err(WorkError::Zone),
     }
+}
+
+// The zone of a file.
+fn read(rt: &HostRuntime, path: &str) -> Result<tz_info::TimeZone, WorkError> {
+    let bytes = fs::read(rt, path)?;
+    parsed(rt.alloc(), &bytes)
 }
 
 fn parsed(alloc: Global, bytes: &[u8]) -> Result<tz_info::TimeZone, WorkError> {
