@@ -4,7 +4,6 @@ use Rattle.std.proofs.Math.Seq.{drop-cons}
 use Rattle.naive_base.proofs.ForCallers.{days_at_least, floors, starts_rise, year_step}
 use Rattle.tz_info.specs.declared.change.Change.{Change}
 use Rattle.zone_dump.specs.Spans.{AreYears, year_second, year_until}
-use Rattle.zone_dump.specs.PictureChart.{Axes, least, lesser, years_text, year_tick_at}
 
 -- a piece is appended, and then the others
 pub onto : {A : Type 0} (start one end piece rest : List A) → one ≡ start ++ piece → end ≡ one ++ rest → end ≡ start ++ (piece ++ rest)
@@ -14,20 +13,22 @@ onto start one end piece rest first others = others ∙ ap (λ t. t ++ rest) fir
 left : {A : Type 0} (xs : List A) (i : ℕ) (d : A) → i < length xs → drop i xs ≡ get_or xs i d ∷ drop (i + 1) xs
 left xs i d below = rw add-one (drop-cons xs i d below)
 
--- the least offset of what is left, one change later
-pub least_next : (fewest offset next all : ℤ) (xs : List Change) (i : ℕ) (d : Change) → i < length xs → least fewest (drop i xs) ≡ all
-    → d ≡ get_or xs i d → offset ≡ d.after.offset → next ≡ lesser fewest offset → least next (drop (i + 1) xs) ≡ all
-least_next fewest offset next all xs i d below was item is now =
+-- the least or the greatest offset of what is left, one change later
+pub offset_next : (offset_of : ℤ → List Change → ℤ) (chosen : ℤ → ℤ → ℤ)
+    → ((so_far : ℤ) (c : Change) (cs : List Change) → offset_of so_far (c ∷ cs) ≡ offset_of (chosen so_far c.after.offset) cs)
+    → (so_far offset next all : ℤ) (xs : List Change) (i : ℕ) (d : Change) → i < length xs → offset_of so_far (drop i xs) ≡ all
+    → d ≡ get_or xs i d → offset ≡ d.after.offset → next ≡ chosen so_far offset → offset_of next (drop (i + 1) xs) ≡ all
+offset_next offset_of chosen step so_far offset next all xs i d below was item is now =
     let here : offset ≡ (get_or xs i d).after.offset = is ∙ ap (λ (x : Change). x.after.offset) item in
-    ap (λ k. least k (drop (i + 1) xs)) (now ∙ ap (lesser fewest) here) ∙ sym (ap (least fewest) (left xs i d below)) ∙ was
+    ap (λ k. offset_of k (drop (i + 1) xs)) (now ∙ ap (chosen so_far) here)
+    ∙ sym (ap (offset_of so_far) (left xs i d below) ∙ step so_far (get_or xs i d) (drop (i + 1) xs)) ∙ was
 
-pub years_next : (first last : ℤ) (s : Axes) (n : ℕ) (start out new : List ℕ) → out ≡ start ++ years_text first last s n
-    → new ≡ out ++ year_tick_at first last s n → new ≡ start ++ years_text first last s (n + 1)
-years_next first last s n start out new was now =
+-- one more piece of a row, of which `row n` has the first n
+pub row_next : (row piece : ℕ → List ℕ) → ((n : ℕ) → row (suc n) ≡ row n ++ piece n) → (n : ℕ) (start out new : List ℕ)
+    → out ≡ start ++ row n → new ≡ out ++ piece n → new ≡ start ++ row (n + 1)
+row_next row piece step n start out new was now =
     let e : n + 1 ≡ suc n = omega arith in
-    now ∙ ap (λ t. t ++ year_tick_at first last s n) was
-    ∙ append_assoc start (years_text first last s n) (year_tick_at first last s n)
-    ∙ sym (ap (λ k. start ++ years_text first last s k) e)
+    now ∙ ap (λ t. t ++ piece n) was ∙ append_assoc start (row n) (piece n) ∙ sym (ap (λ t. start ++ t) (ap row e ∙ step n))
 
 -- years end after they begin
 pub years_rise : (first last : ℤ) → AreYears first last → year_second first <ℤ year_until last

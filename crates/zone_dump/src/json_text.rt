@@ -257,12 +257,19 @@ fn put_change(writer: &mut Writer, alloc: Global, change: &Change) -> Result<(),
     ensures { Puts result writer.old writer.new (json_tokens (change_value change.now)) }
 {
     writer.begin_object()?;
-    put_number(writer, "at", change.at)?;
+    put_change_time(writer, change)?;
     put_clock(writer, alloc, change)?;
     put_type(writer, "before", &change.before)?;
     put_type(writer, "after", &change.after)?;
     put_step(writer, change)?;
     writer.end_object()
+}
+
+fn put_change_time(writer: &mut Writer, change: &Change) -> Result<(), AllocError>
+    ensures { Puts result writer.old writer.new
+        (key (codes "at") ∷ number (signed_decimal change.now.at) ∷ []) }
+{
+    put_number(writer, "at", change.at)
 }
 
 // What UTC shows at the second.
