@@ -1,11 +1,11 @@
 #!/usr/bin/env python3
 """Builds the static library behind `rt ci`: crates/zoned_ffi/out/libzoned_ffi.a.
 
-usage: tools/build_archive.py [LOGS]
+usage: tools/build_archive.py [FILE]
 
 `rt lib` in that crate builds it too, and is what README shows. But it proves the libraries below anew, where they were built by
-`rt ci`; this takes them as they stand, and checks the crate alone. Beside an `rt ci` that still runs, and whose words go to the
-folder LOGS, it waits until they are proved. The gate calls it. Ends with the checker's status.
+`rt ci`; this takes them as they stand, and checks the crate alone. Beside an `rt ci` that still runs, and whose words go to FILE,
+it waits until they are proved. The gate calls it. Ends with the checker's status.
 """
 
 import subprocess
@@ -19,8 +19,8 @@ NAME = "zoned_ffi"
 
 
 def main():
-    logs = Path(sys.argv[1]) if len(sys.argv) > 1 else None
-    if not wait_for(libraries_below(NAME), logs):
+    log = Path(sys.argv[1]) if len(sys.argv) > 1 else None
+    if not wait_for(libraries_below(NAME), log):
         sys.exit(f"a library below {NAME} isn't proved")
     folder = TOP / "crates" / NAME
     compiled = ["--toolchain", kit() / "toolchain", "--backend", "llvm", "--jobs", "2", "-o", f"out/lib{NAME}.a"]

@@ -1,7 +1,7 @@
 #!/usr/bin/env python3
 """Tries must-fail edits: wrong bodies that the prover must refuse.
 
-usage: tools/try_edits.py [--lanes N] [--beside LOGS] [NAME | NAME/EDIT ..]
+usage: tools/try_edits.py [--lanes N] [--beside FILE] [NAME | NAME/EDIT ..]
 
 With no names it tries those of must-fail-in-part/, as the gate does. Of a named crate it tries those of must-fail-by-hand/ too.
 
@@ -15,9 +15,9 @@ An edit is refused if its function isn't proved, and an open goal of that functi
 read, nor where nothing but a proof misses a name.
 
 The libraries below are taken as `rt ci` or `rt check` has built them. Beside an `rt ci` that still runs, and whose words go to
-the folder LOGS, a crate's edits wait until the crate is proved. Then each function that is told there as proved, and that no edit
-changes, is taken by its contract, with a hole for its proof: to prove it once more would tell nothing new. With no LOGS the
-functions that the edited ones call are proved as well, over what `rt check` keeps of the crate, where it is there.
+FILE, a crate's edits wait until the crate is proved. Then each function that FILE tells as proved, and that no edit changes, is
+taken by its contract, with a hole for its proof: to prove it once more would tell nothing new. With no FILE the functions that
+the edited ones call are proved as well, over what `rt check` keeps of the crate, where it is there.
 
 N crates are tried at a time (2). Ends with status 1 unless each edit is refused.
 """
@@ -33,7 +33,7 @@ from concurrent.futures import ThreadPoolExecutor
 from dataclasses import dataclass, field
 from pathlib import Path
 
-from kit import told as told_by, wait_for, words
+from kit import wait_for, words
 from sources import TOP, crates
 
 IN_PART, BY_HAND = "must-fail-in-part", "must-fail-by-hand"
@@ -226,18 +226,18 @@ def tried_together(crate, edits, proved):
     return rows
 
 
-def tried(crate, edits, free, logs):
+def tried(crate, edits, free, log):
     """Tries a crate's edits, once the crate is proved and a lane is free."""
-    if not wait_for([crate], logs):
+    if not wait_for([crate], log):
         return [(f"{crate}: it isn't proved, so its edits weren't tried", False)]
     with free:
-        proved = proved_of(crate, logs)
+        proved = proved_of(crate, log)
         return [row for edits in apart(edits) for row in tried_together(crate, edits, proved)]
 
 
-def proved_of(crate, logs):
+def proved_of(crate, log):
     """The functions of the crate that are proved, by the words of `rt ci`."""
-    return re.findall(rf"(?m)^fn {crate}::(\S+): proved$", told_by(logs)) if logs else []
+    return re.findall(rf"(?m)^fn {crate}::(\S+): proved$", log.read_text(errors="replace")) if log else []
 
 
 def main():
