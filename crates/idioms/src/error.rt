@@ -1,7 +1,8 @@
 //! What can go wrong.
 
 use thiserror::Error;
-use zoned::{ResolveError, RoundingError};
+use zoned_round::RoundingError;
+use zoned_time::ResolveError;
 
 /// Why there is no such instant.
 #[derive(Clone, Copy, Debug, PartialEq, Eq, Error)]

@@ -1,10 +1,10 @@
 //! What is written every day over instants, compiled, proved and tested: comparisons, sorting, maps,
-//! print, iteration, lookups. No function has a contract, a lemma or a proof file, and the one
-//! library of zoned time named is `zoned`.
+//! print, iteration, lookups. No function has a contract, a lemma or a proof file.
 //!
-//! The same functions stand in three crates: `idioms_utc`, `idioms_borrowed` (over a
-//! [`TimeZoneRef`](zoned::TimeZoneRef)) and `idioms_kept` (over a [`KeptZone`](zoned::KeptZone)). None
-//! is generic over the zone. Here is what they share, and each one's tests.
+//! The same functions stand in `idioms_utc`, in `idioms_borrowed` with `idioms_borrowed_lists` (over
+//! a `TimeZoneRef`), and in `idioms_kept` (over a `KeptZone`). None is generic over the zone, and of
+//! the libraries of zoned time they name `zoned` alone. Here is what they share, with the crates
+//! whose errors it joins, and each one's tests.
 //!
 //! # What isn't covered
 //!
