@@ -16,10 +16,11 @@ read, nor where nothing but a proof misses a name.
 
 The libraries below are taken as `rt ci` or `rt check` has built them. Beside an `rt ci` that still runs, and whose words go to
 FILE, a crate's edits wait until the crate is proved. Then each function that FILE tells as proved, and that no edit changes, is
-taken by its contract, with a hole for its proof: to prove it once more would tell nothing new. With no FILE the functions that
-the edited ones call are proved as well, over what `rt check` keeps of the crate, where it is there.
+taken by its contract, with a hole for its proof: to prove it once more would tell nothing new. The edits of tz_info don't wait
+for its long proof, beside which processors are free: there the functions with a plain name are taken so, by the sources. With no
+FILE the functions that the edited ones call are proved as well, over what `rt check` keeps of the crate, where it is there.
 
-N crates are tried at a time (2). Ends with status 1 unless each edit is refused.
+N crates are tried at a time (4). Ends with status 1 unless each edit is refused.
 """
 
 import argparse
@@ -29,14 +30,17 @@ import subprocess
 import sys
 import tempfile
 import threading
+from collections import defaultdict
 from concurrent.futures import ThreadPoolExecutor
 from dataclasses import dataclass, field
 from pathlib import Path
 
 from kit import wait_for, words
-from sources import TOP, crates
+from sources import TOP, crates, files, libraries_below
 
 IN_PART, BY_HAND = "must-fail-in-part", "must-fail-by-hand"
+# Its proof takes as long as those of all crates that can be proved beside it.
+EARLY = "tz_info"
 FUNCTION = re.compile(r'(?m)^( *)(?:pub(?:\([a-z]+\))? )?(?:(?:final|const|unsafe|extern "C") )*fn (\w+)')
 # What is said where a text can't be read, so that no contract was tried.
 UNREAD = r"is not in scope|has no field|has no `|is no name|operand is missing|expected the end|cannot continue|was not admitted"
@@ -227,22 +231,48 @@ def tried_together(crate, edits, proved):
 
 
 def tried(crate, edits, free, log):
-    """Tries a crate's edits, once the crate is proved and a lane is free."""
-    if not wait_for([crate], log):
-        return [(f"{crate}: it isn't proved, so its edits weren't tried", False)]
+    """Tries a crate's edits, once what they wait for is proved and a lane is free."""
+    needed = libraries_below(crate) if crate == EARLY else [crate]
+    if not wait_for(needed, log):
+        return [(f"{crate}: {', '.join(needed)} isn't proved, so its edits weren't tried", False)]
     with free:
-        proved = proved_of(crate, log)
+        proved = (plain_functions(crate) if crate == EARLY else proved_of(crate, log)) if log else []
         return [row for edits in apart(edits) for row in tried_together(crate, edits, proved)]
 
 
 def proved_of(crate, log):
     """The functions of the crate that are proved, by the words of `rt ci`."""
-    return re.findall(rf"(?m)^fn {crate}::(\S+): proved$", log.read_text(errors="replace")) if log else []
+    return re.findall(rf"(?m)^fn {crate}::(\S+): proved$", log.read_text(errors="replace"))
+
+
+def plain_functions(crate):
+    """The functions that stand in no impl, and the methods of types without parameters."""
+    texts = {path: path.read_text() for path in files("src", ".rt", [crate])}
+    declared = r"(?m)^(?:pub(?:\([a-z]+\))? )?(?:struct|enum) (\w+)"
+    homes, found = defaultdict(list), set()
+    for path, text in texts.items():
+        for name in re.findall(declared, text):
+            homes[name].append(path)
+    for path, text in texts.items():
+        for begin in FUNCTION.finditer(text):
+            owner = text[text.rfind("\n}", 0, begin.start()) + 1 : begin.start()]
+            method_of = re.search(r"(?m)^impl (\w+) \{$", owner)
+            if not begin[1]:
+                found.add("::".join([*module_of(crate, path), begin[2]]))
+            elif method_of and len(homes[method_of[1]]) == 1:
+                found.add("::".join([*module_of(crate, homes[method_of[1]][0]), method_of[1], begin[2]]))
+    return sorted(found)
+
+
+def module_of(crate, path):
+    """The module that a file of src/ is: its names below the crate."""
+    names = path.relative_to(TOP / "crates" / crate / "src").with_suffix("").parts
+    return [] if names == ("lib",) else names
 
 
 def main():
     given = argparse.ArgumentParser(usage=__doc__.partition("usage: ")[2].partition("\n\n")[0])
-    given.add_argument("--lanes", type=int, default=2)
+    given.add_argument("--lanes", type=int, default=4)
     given.add_argument("--beside", type=Path)
     given.add_argument("names", nargs="*")
     given = given.parse_args()
