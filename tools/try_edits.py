@@ -16,9 +16,10 @@ read, nor where nothing but a proof misses a name.
 
 The libraries below are taken as `rt ci` or `rt check` has built them. Beside an `rt ci` that still runs, and whose words go to
 FILE, a crate's edits wait until the crate is proved. Then each function that FILE tells as proved, and that no edit changes, is
-taken by its contract, with a hole for its proof: to prove it once more would tell nothing new. The edits of tz_info don't wait
-for its long proof, beside which processors are free: there the functions with a plain name are taken so, by the sources. With no
-FILE the functions that the edited ones call are proved as well, over what `rt check` keeps of the crate, where it is there.
+taken by its contract, with a hole for its proof: to prove it once more would tell nothing new. Where FILE tells none, as of a
+crate that an earlier run proved, the functions with a plain name are taken so, by the sources. The edits of tz_info don't wait
+for its long proof, beside which processors are free. With no FILE the functions that the edited ones call are proved as well, over
+what `rt check` keeps of the crate, where it is there.
 
 N crates are tried at a time (4). Ends with status 1 unless each edit is refused.
 """
@@ -236,7 +237,7 @@ def tried(crate, edits, free, log):
     if not wait_for(needed, log):
         return [(f"{crate}: {', '.join(needed)} isn't proved, so its edits weren't tried", False)]
     with free:
-        proved = (plain_functions(crate) if crate == EARLY else proved_of(crate, log)) if log else []
+        proved = (proved_of(crate, log) or plain_functions(crate)) if log else []
         return [row for edits in apart(edits) for row in tried_together(crate, edits, proved)]
 
 
