@@ -8,8 +8,8 @@ With no names it tries those of must-fail-in-part/, as the gate does. Of a named
 A wrong body is refused by the contract of the function that has it, whatever stands above and below that function. So only the
 functions that edits change are checked, in a copy of their crate, and all edits of a crate that change different functions are
 tried by one check: what it tells of each function tells of that one's edit. A line `only: PATH` of an edit names the function or
-module whose contract refuses it, where that is another one, or where two functions, or a function and a module, have one name. An edit that changes something
-outside of functions is tried alone.
+module whose contract refuses it, where that is another one, or where two functions, or a function and a module, have one name.
+An edit that changes something outside of functions is tried alone.
 
 An edit is refused if its function isn't proved, and an open goal of that function is told. It doesn't count where a text can't be
 read, nor where nothing but a proof misses a name.
