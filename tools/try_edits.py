@@ -21,7 +21,7 @@ crate that an earlier run proved, the functions with a plain name are taken so, 
 for its long proof, beside which processors are free. With no FILE the functions that the edited ones call are proved as well, over
 what `rt check` keeps of the crate, where it is there.
 
-N crates are tried at a time (4). Ends with status 1 unless each edit is refused.
+N crates are tried at a time (3). Ends with status 1 unless each edit is refused.
 """
 
 import argparse
@@ -273,7 +273,7 @@ def module_of(crate, path):
 
 def main():
     given = argparse.ArgumentParser(usage=__doc__.partition("usage: ")[2].partition("\n\n")[0])
-    given.add_argument("--lanes", type=int, default=4)
+    given.add_argument("--lanes", type=int, default=3)
     given.add_argument("--beside", type=Path)
     given.add_argument("names", nargs="*")
     given = given.parse_args()
