@@ -19,12 +19,13 @@ import sys
 import tempfile
 from pathlib import Path
 
-TOP = Path(__file__).resolve().parent.parent
+from sources import TOP, libraries_below
+
 TEXTS = TOP / "tools/refused"
 RT = os.environ.get("RT", "rt")
 # The status of `rt try` for what it refuses to compile.
 REFUSED = 1
-LIBRARIES = ["offset_core", "naive_base", "tz_info", "zoned_time", "zoned_ref"]
+LIBRARIES = sorted({*libraries_below("zoned_ref"), "zoned_ref"})
 
 
 def without(text, mark):

@@ -1,10 +1,11 @@
 //! What is written every day over instants, compiled, proved and tested: comparisons, sorting, maps,
 //! print, iteration, lookups. No function has a contract, a lemma or a proof file.
 //!
-//! The same functions stand in `idioms_utc`, in `idioms_borrowed` with `idioms_borrowed_lists` (over
-//! a `TimeZoneRef`), and in `idioms_kept` (over a `KeptZone`). None is generic over the zone, and of
-//! the libraries of zoned time they name `zoned` alone. Here is what they share, with the crates
-//! whose errors it joins, and each one's tests.
+//! The same functions stand in `idioms_utc`, in `idioms_borrowed` (over a `TimeZoneRef`) and in
+//! `idioms_kept` (over a `KeptZone`). None is generic over the zone. The last two name of the
+//! libraries of zoned time `zoned` alone, and `idioms_utc` the libraries that know no file, so that
+//! it is proved before those that do. Here is what they share, with the crates whose errors it
+//! joins, and each one's tests.
 //!
 //! # What isn't covered
 //!

@@ -1,9 +1,11 @@
-//! Idioms over instants of a borrowed zone: what [`idioms`] says of them holds here. Those over
-//! lists, series and maps stand in `idioms_borrowed_lists`.
+//! Idioms over instants of a borrowed zone: what [`idioms`] says of them holds here.
 #![tactic(auto)]
 
 pub mod closures;
 pub mod compare;
 pub mod copies;
+pub mod iterate;
+pub mod maps;
 pub mod print;
+pub mod sort;
 pub mod zones;

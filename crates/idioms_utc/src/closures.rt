@@ -1,7 +1,8 @@
 //! What is asked of each instant of UTC by way of another instant, or of the zone.
 
+use naive_base::Timelike;
 use std::alloc::{AllocError, Global};
-use zoned::{DateTime, Timelike, Utc};
+use zoned_time::{DateTime, Utc};
 
 pub fn any_after(instants: &[DateTime<Utc>], than: &DateTime<Utc>) -> bool {
     instants.iter().any(|instant| instant > than)

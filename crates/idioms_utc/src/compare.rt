@@ -1,7 +1,7 @@
 //! Instants of UTC compared.
 
 use std::cmp::Ordering;
-use zoned::{DateTime, Utc};
+use zoned_time::{DateTime, Utc};
 
 pub fn is_before(one: DateTime<Utc>, other: DateTime<Utc>) -> bool {
     one < other

@@ -1,8 +1,9 @@
 //! Instants of UTC copied.
 
+use naive_base::Days;
 use std::alloc::{AllocError, Global};
 use std::collections::BTreeMap;
-use zoned::{DateTime, Days, Utc};
+use zoned_time::{DateTime, Utc};
 
 pub fn twice(instant: &DateTime<Utc>) -> (DateTime<Utc>, DateTime<Utc>) {
     (*instant, *instant)

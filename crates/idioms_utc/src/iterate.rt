@@ -1,9 +1,10 @@
 //! Instants of UTC, one after another.
 
+use naive_base::{NaiveDate, NaiveDateTime};
+use offset_core::LocalResult;
 use std::alloc::{AllocError, Global};
-use zoned::{
-    DailySeries, DateTime, LocalResult, NaiveDate, NaiveDateTime, SeriesError, TimeZone, Utc,
-};
+use zoned_series::{DailySeries, SeriesError};
+use zoned_time::{DateTime, TimeZone, Utc};
 
 /// A series in a `for`.
 pub fn seconds_of_days(

@@ -1,8 +1,9 @@
 //! Maps and sets of instants of UTC.
 
+use naive_base::NaiveDate;
 use std::alloc::{AllocError, Global};
 use std::collections::{BTreeMap, BTreeSet, HashMap};
-use zoned::{DateTime, NaiveDate, Utc};
+use zoned_time::{DateTime, Utc};
 
 pub fn numbered(
     alloc: Global,

@@ -2,7 +2,7 @@
 
 use std::alloc::{AllocError, Global};
 use std::fmt;
-use zoned::{DateTime, Utc};
+use zoned_time::{DateTime, Utc};
 
 pub fn text(alloc: Global, instant: &DateTime<Utc>) -> Result<String, AllocError> {
     format!(in alloc; "{instant}")

@@ -1,7 +1,7 @@
 //! Instants of UTC sorted, and found in lists.
 
 use std::alloc::AllocError;
-use zoned::{DateTime, Utc};
+use zoned_time::{DateTime, Utc};
 
 pub fn sorted(mut instants: Vec<DateTime<Utc>>) -> Result<Vec<DateTime<Utc>>, AllocError> {
     instants.sort()?;

@@ -1,10 +1,10 @@
 //! Instants of UTC, and what is made of them.
 
 use idioms::IdiomError;
-use zoned::{
-    Choice, DateTime, Datelike, Days, DurationRound, NaiveDate, NaiveDateTime, Offset, TimeDelta,
-    TimeZone, Timelike, Utc,
-};
+use naive_base::{Datelike, Days, NaiveDate, NaiveDateTime, Timelike};
+use offset_core::{Choice, TimeDelta};
+use zoned_round::DurationRound;
+use zoned_time::{DateTime, Offset, TimeZone, Utc};
 
 pub fn at_second(zone: &Utc, second: i64) -> Option<DateTime<Utc>> {
     zone.timestamp_opt(second, 0).single()

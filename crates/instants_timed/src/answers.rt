@@ -2,12 +2,13 @@
 
 use crate::question::Question;
 use crate::values::{Pair, Typed, Values, copy_of};
+use naive_base::{Datelike, Days, Months, NaiveDate, NaiveDateTime, NaiveTime, Timelike};
+use offset_core::{Choice, FoldChoice, GapChoice, LocalResult, TimeDelta};
 use std::alloc::Global;
-use zoned::{
-    Choice, DailySeries, DateTime, Datelike, Days, DurationRound, FoldChoice, GapChoice, KeptZone,
-    LocalResult, Months, NaiveDate, NaiveDateTime, NaiveTime, Offset, TimeDelta, TimeZone,
-    Timelike,
-};
+use zoned_kept::KeptZone;
+use zoned_round::DurationRound;
+use zoned_series::DailySeries;
+use zoned_time::{DateTime, Offset, TimeZone};
 
 /// The answer where there is none, as of a month later at a reading in a gap.
 pub const NONE: i64 = i64::MIN;

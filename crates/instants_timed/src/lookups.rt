@@ -1,9 +1,9 @@
 //! A zone is asked for instants or for wall clocks, many times over, and what the answers sum up to.
 
 use crate::work_error::WorkError;
-use zoned::{
-    Choice, DateTime, FoldChoice, GapChoice, LocalResult, NaiveDateTime, Offset, TimeZone,
-};
+use naive_base::NaiveDateTime;
+use offset_core::{Choice, FoldChoice, GapChoice, LocalResult};
+use zoned_time::{DateTime, Offset, TimeZone};
 
 /// What a zone is asked.
 #[derive(Clone, Copy, PartialEq, Eq)]

@@ -26,7 +26,9 @@ use std::process::ExitCode;
 use std::{env, fs, str};
 use values::{COUNT, MANY, Values, copy_of};
 use work_error::WorkError;
-use zoned::{DateTime, KeptZone, TimeZoneRef, tz_info};
+use zoned_kept::KeptZone;
+use zoned_ref::TimeZoneRef;
+use zoned_time::DateTime;
 
 fn main(rt: HostRuntime) -> ExitCode {
     match work(&rt) {

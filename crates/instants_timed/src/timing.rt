@@ -6,7 +6,8 @@ use crate::values::{COUNT, Values};
 use crate::work_error::WorkError;
 use std::alloc::{AllocError, Global};
 use std::time::{Clock, Instant};
-use zoned::{DateTime, KeptZone};
+use zoned_kept::KeptZone;
+use zoned_time::DateTime;
 
 // How many values are asked about between two looks at the clock, and how many times over.
 const SLICE: usize = 1_000;

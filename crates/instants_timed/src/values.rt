@@ -1,7 +1,9 @@
 //! What is asked about: the values that `bench/make_inputs.py` draws for the years 2020 to 2029.
 
+use naive_base::{Datelike, NaiveDateTime, Timelike};
 use std::alloc::{AllocError, Global};
-use zoned::{DateTime, Datelike, KeptZone, NaiveDateTime, TimeZone, Timelike};
+use zoned_kept::KeptZone;
+use zoned_time::{DateTime, TimeZone};
 
 /// How many values are timed.
 pub const COUNT: usize = 100_000;

@@ -5,12 +5,12 @@ use Rattle.std.proofs.lemmas.Str.{IsUtf8-from_ascii}
 use Rattle.std.proofs.lemmas.Str.Ascii.{IsAscii-cons, IsAscii-nil}
 use Rattle.std.specs.Prelude.{None}
 use Rattle.std.specs.Int.{w32}
+use Rattle.tz_base.specs.Names.{is_name_byte}
 use Rattle.tz_info.specs.FileBlocks.{IsBlock}
 use Rattle.tz_info.specs.FileContents.{signed, least_offset, SpellsType, IsMark, SpellTransitions, SpellTypes, IndicatorsAgree}
 use Rattle.tz_info.specs.FileHeaders.{IsHeader, AreCounts, CountsAgree, StandsFor, MayStand, VersionFault}
 use Rattle.tz_info.specs.FilePieces.{HasPieces, PieceFault, first_pieces}
 use Rattle.tz_info.specs.Footers.{IsFooter}
-use Rattle.tz_info.specs.Names.{is_name_byte}
 use Rattle.tz_info.specs.Pieces.{clock_max}
 use Rattle.tz_info.specs.TzFiles.{IsTzFile}
 use Rattle.tz_info.specs.Zones.{Zone}

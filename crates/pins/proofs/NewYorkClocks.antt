@@ -5,8 +5,8 @@ use Rattle.std.proofs.lemmas.Int.{by_lt_z, ints, fits_signed_from_abs}
 use Rattle.std.specs.Prelude.{FitsSigned}
 use Rattle.std.specs.Int.{w64}
 use Rattle.offset_core.specs.WallAnswer.{IsNeverShown, IsShownOnce, IsShownBetween}
+use Rattle.tz_base.specs.LocalTypes.{LocalType}
 use Rattle.tz_info.specs.Gaps.{IsBeforeGap, ShowsMore}
-use Rattle.tz_info.specs.LocalTypes.{LocalType}
 use Rattle.tz_info.specs.Moments.{type_when}
 use Rattle.tz_info.specs.RuleTypes.{RuleAt}
 use Rattle.tz_info.specs.WallClocks.{Shows}

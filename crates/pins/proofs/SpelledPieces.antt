@@ -1,9 +1,9 @@
 -- Pieces of texts, put together from bytes.
 use Rattle.std.proofs.Common.{◌≡◌, ap, refl, arith, inl, inr, ℕ, zero, suc, ◌<◌, ◌≤◌, Bool, true, false, List, [], ◌∷◌, slice_index, pos}
 use Rattle.std.proofs.lemmas.Bool.{false≢true}
-use Rattle.tz_info.specs.Fronts.{is_digit, value_from}
-use Rattle.tz_info.specs.Names.{IsName, is_name_byte}
-use Rattle.tz_info.specs.Pieces.{NoneFirst, Without, Number, clock_max, date_max, colon, plus, minus, slash, less, Sign, Duration, Name, is_letter, Date, Day, seconds_of}
+use Rattle.tz_base.specs.Fronts.{is_digit, value_from, NoneFirst}
+use Rattle.tz_base.specs.Names.{IsName, is_name_byte}
+use Rattle.tz_info.specs.Pieces.{Without, Number, clock_max, date_max, colon, plus, minus, slash, less, Sign, Duration, Name, is_letter, Date, Day, seconds_of}
 use Rattle.tz_info.specs.RuleDays.{IsRuleDay}
 use Rattle.tz_info.specs.declared.rule.day.DayForm.{DayForm}
 use Rattle.tz_info.specs.declared.rule.day.DayForm.TheVariants.{MonthWeekday}

@@ -1,6 +1,7 @@
 //! Parts of TZif files, as Honolulu's file has them (RFC 8536 appendix B.2).
 
 ghost use Rattle.std.specs.Prelude.{◌≡◌, ℕ, Bool, true, false, [], ◌∷◌, ◌++◌, List, None, pos, neg_ℤ};
+ghost use Rattle.tz_base.specs.LocalTypes.{LocalType};
 ghost use Rattle.tz_info.specs.FileContents.{IsMark, SpellsType, TypeFault, SpellsLeapSecond, IndicatorsAgree, time_of};
 ghost use Rattle.tz_info.specs.FileHeaders.{AreCounts, CountsAgree, IsNumber, StandsFor};
 ghost use Rattle.tz_info.specs.FilePieces.{FilePieces, IsAfterFirstBlock, is_extended};
@@ -9,7 +10,6 @@ ghost use Rattle.tz_info.specs.declared.file.header.Counts.{Counts};
 ghost use Rattle.tz_info.specs.declared.file.header.Version.{Version};
 ghost use Rattle.tz_info.specs.declared.file.header.Version.TheVariants.{One, Two, Three};
 ghost use Rattle.tz_info.specs.Footers.{IsFooter, FooterFault};
-ghost use Rattle.tz_info.specs.LocalTypes.{LocalType};
 ghost use Rattle.pins.specs.Honolulu.{designations, hst_record, hst_footer, first_time, least_time};
 ghost use Rattle.pins.specs.Files.{one_to_six, of_types, short_record, long_record, one_leap_second, with_leap_second};
 ghost use Rattle.pins.specs.LeapSeconds.{entry};

@@ -1,7 +1,7 @@
 //! TZ texts and the rules that they spell (POSIX.1 section 8.3, RFC 8536 section 3.3.1).
 
 ghost use Rattle.std.specs.Prelude.{◌≡◌, ℕ, [], ◌∷◌, ◌++◌, List, Bool, true, false, pos, neg_ℤ};
-ghost use Rattle.tz_info.specs.Names.{IsName};
+ghost use Rattle.tz_base.specs.Names.{IsName};
 ghost use Rattle.tz_info.specs.Pieces.{time_limit, seconds_of};
 ghost use Rattle.tz_info.specs.TzTexts.{IsTzText};
 ghost use Rattle.tz_info.specs.TzFaults.{IsTextFault};

@@ -3,12 +3,12 @@ use Rattle.std.proofs.Common.{◌≡◌, ◌≢◌, ℕ, ◌+◌, arith, refl, s
 use Rattle.std.proofs.lemmas.Int.{ints, by_lt_z}
 use Rattle.std.proofs.lemmas.Bool.{cases_lt}
 use mir.Val.{SFits}
+use Rattle.tz_base.specs.LocalTypes.{LocalType}
+use Rattle.timeline.proofs.ForCallers.{lt_true, lt_false}
 use Rattle.tz_info.specs.Changes.{IsChange, HasNoChange, IsFirst, IsLast, IsLastChange}
 use Rattle.tz_info.specs.Leaps.{least_time}
-use Rattle.tz_info.specs.LocalTypes.{LocalType}
 use Rattle.tz_info.specs.Steps.Changes.{IsInStretch, IsNearest, IsOneOf, IsIdle, Precedes, nearer_one}
 use Rattle.tz_info.specs.declared.change.Change.{Change}
-use Rattle.tz_info.proofs.Prefixes.{lt_true, lt_false}
 
 abbrev pub InForce : Type 1
 InForce = ℤ → LocalType → Type 0

@@ -1,5 +1,6 @@
 -- The law of the offset of daylight saving time.
 use Rattle.std.proofs.Common.{◌≡◌, ℕ, ℤ, pos, Result, ◌+ℤ◌, ◌≤ℤ◌, ◌<ℤ◌, int_le, arith, refl, sym, subst, List, [], ◌∷◌, true, false, Err, inl, inr, ◌⊎◌, ◌≢◌}
+use Rattle.tz_base.specs.Fronts.{int_at, optional_tag_at, ◌>>=◌}
 use Rattle.tz_info.specs.Pieces.{comma, Offset, NextHour, DstOffset}
 use Rattle.tz_info.specs.TzFaults.{NextHourFault, EndsFault, GivenOffsetFault, DstOffsetFault}
 use Rattle.tz_info.specs.Steps.Readings.{checked_at, sign_at, hours_minutes_seconds_at, duration_at, offset_at, next_hour_of, more_at, given_offset_at, dst_offset_at}
@@ -7,7 +8,6 @@ use Rattle.std.specs.Bool.{Decides}
 use Rattle.tz_info.proofs.Decided.{Decided, like, guard, refused}
 use Rattle.tz_info.proofs.PieceLaws.{Law, then_law, like_law, said_law, marked_law, byte_law, made_law, checked}
 use Rattle.std.proofs.lemmas.Int.{ints}
-use Rattle.tz_info.specs.Fronts.{int_at, optional_tag_at, ◌>>=◌}
 use Rattle.tz_info.proofs.ClockLaws.{offset_law}
 
 at_most : (z limit : ℤ) → Decides (int_le z limit) (z ≤ℤ limit)

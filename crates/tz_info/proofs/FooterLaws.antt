@@ -7,7 +7,8 @@ use Rattle.std.proofs.lemmas.Str.{is_utf8-from_IsUtf8, IsUtf8-from_is_utf8}
 use Rattle.std.specs.Bool.{nat_eq, Decides}
 use Rattle.std.specs.List.{list_any, starts_with, ends_with}
 use Rattle.std.specs.Str.{IsUtf8}
-use Rattle.tz_info.specs.Fronts.{Gives}
+use Rattle.tz_base.specs.Fronts.{Gives}
+use Rattle.tz_base.specs.declared.error.Error.{Error}
 use Rattle.tz_info.specs.FileContents.{HasNoZero}
 use Rattle.tz_info.specs.Steps.ContentReading.{is_zero}
 use Rattle.tz_info.specs.TzTexts.{IsTzText}
@@ -15,7 +16,6 @@ use Rattle.tz_info.specs.TzFaults.{IsTextFault}
 use Rattle.tz_info.specs.Steps.Readings.{text_at}
 use Rattle.tz_info.specs.Footers.{IsBetweenNewlines, SaysRule, HasText, IsFooter, FooterFault, Not_utf8, No_newlines, Colon, Zero, In_text}
 use Rattle.tz_info.specs.Steps.FooterReading.{trimmed, is_between_newlines, is_no_text, rule_in, rule_or_none, footer_at}
-use Rattle.tz_info.specs.declared.error.Error.{Error}
 use Rattle.tz_info.specs.declared.rule.transition_rule.TransitionRule.{TransitionRule}
 use Rattle.tz_info.proofs.Decided.{Decided, like, said, made, choice, done, refused}
 use Rattle.tz_info.proofs.PieceLaws.{same_byte}

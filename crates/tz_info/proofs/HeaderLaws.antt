@@ -4,7 +4,7 @@ use Rattle.std.proofs.lemmas.Bool.Decides.{nat_tests, Decides-and, Decides-or, D
 use Rattle.std.proofs.lemmas.List.{length-take, take-append-drop}
 use Rattle.std.proofs.lemmas.Slice.Eq.{slice_eq-Decides}
 use Rattle.std.specs.Bool.{Decides}
-use Rattle.tz_info.specs.Fronts.{exact_at}
+use Rattle.tz_base.specs.Fronts.{exact_at}
 use Rattle.tz_info.specs.FileHeaders.{magic, HasOtherMagic, StandsFor, MayStand, AreCounts, CountsAgree, IsHeader, MagicFault, IsVersion, VersionFault, HeaderFault}
 use Rattle.tz_info.specs.Steps.FileReading.{is_magic, magic_at, first_version_at, version_of, version_at, counts_at, is_none_or_all, counts_agree, header_at}
 use Rattle.tz_info.specs.declared.file.header.Place.{Place}

@@ -7,6 +7,7 @@ use Rattle.naive_base.specs.Month.{days_in_month, days_of_months}
 use Rattle.naive_base.specs.Date.{day_number}
 use Rattle.naive_base.specs.Weekday.{weekday_of}
 use Rattle.naive_base.proofs.ForCallers.{floors, weekday_later, weekday_below}
+use Rattle.timeline.proofs.ForCallers.{le_true, le_false}
 use Rattle.tz_info.specs.RuleDays.{IsRuleDay}
 use Rattle.tz_info.specs.RuleDayOf.{rule_day}
 use Rattle.tz_info.specs.Rules.{Alternate, IsAlternateRule}
@@ -19,7 +20,6 @@ use Rattle.tz_info.specs.declared.rule.day.DayForm.{DayForm}
 use Rattle.tz_info.specs.declared.rule.day.DayForm.TheVariants.{Julian1, Julian0, MonthWeekday}
 use Rattle.tz_info.proofs.RuleDays.{rule_day_closed}
 use Rattle.tz_info.proofs.ListLaws.{one_true}
-use Rattle.tz_info.proofs.Prefixes.{le_true, le_false}
 use Rattle.tz_info.proofs.Neighbours.{IsNear, KeepsMargin, starts_near, ends_near, near_margin}
 
 first_of_month : (year : ℤ) (month : ℕ) → day_number year month 1 ≡ year_start year +ℤ pos (days_of_months (is_leap year) (month - 1))

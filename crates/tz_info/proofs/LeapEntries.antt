@@ -4,10 +4,11 @@ use Rattle.std.proofs.lemmas.Int.{ints}
 use Rattle.std.proofs.lemmas.List.{get_or_default}
 use borrow.Author.Count.{below_more}
 use mir.Val.{SFits}
+use Rattle.timeline.proofs.ForCallers.{filter_first, count_first, count_least, mapped_at, rises, le_true, le_false, lt_true, lt_false}
 use Rattle.tz_info.specs.Lists.{last_else}
 use Rattle.tz_info.specs.Leaps.{IsOneStep, IsNextLeap, AreLeapSeconds, corrections, thresholds, passed_count, correction_before, IsLeapTime, IsLeapTimeRefused}
 use Rattle.tz_info.specs.declared.zone.leap_second.LeapSecond.{LeapSecond}
-use Rattle.tz_info.proofs.Prefixes.{filter_first, count_first, count_least, last_taken, mapped_at, rises, le_true, le_false, lt_true, lt_false}
+use Rattle.tz_info.proofs.Prefixes.{last_taken}
 
 -- the entries may follow an entry of correction p
 pub record Follow (p : ℤ) (es : List LeapSecond) : Type 0 where

@@ -5,11 +5,12 @@ use Rattle.std.specs.List.Sorted.{IsPartitionedBy}
 use Rattle.std.proofs.lemmas.Int.{ints, by_lt_z}
 use Rattle.std.proofs.lemmas.Bool.{cases_lt}
 use Rattle.std.proofs.lemmas.List.Sums.{count_by-le-length}
+use Rattle.timeline.proofs.ForCallers.{rises}
 use Rattle.tz_info.specs.Lists.{last_else}
 use Rattle.tz_info.specs.Leaps.{IsOneStep, AreLeapSeconds, corrections, thresholds, passed_count, IsLeapTime, IsNear}
 use Rattle.tz_info.specs.Steps.Starts.{HaveCome}
 use Rattle.tz_info.specs.declared.zone.leap_second.LeapSecond.{LeapSecond}
-use Rattle.tz_info.proofs.Prefixes.{last_taken, rises}
+use Rattle.tz_info.proofs.Prefixes.{last_taken}
 use Rattle.tz_info.proofs.LeapEntries.{follow, threshold, threshold_at, threshold_count}
 use Rattle.tz_info.proofs.LeapOrder.{split}
 

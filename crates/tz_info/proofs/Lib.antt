@@ -1,4 +1,3 @@
-pub mod NameLaws
 pub mod RuleDays
 pub mod Neighbours
 pub mod RuleLaws
@@ -12,14 +11,10 @@ pub mod SeasonChanges
 pub mod Prefixes
 pub mod LeapEntries
 pub mod LeapOrder
-pub mod DigitLaws
 pub mod TableSearch
-pub mod SearchSteps
-pub mod HintLaws
 pub mod PassedTransitions
 pub mod Validity
 pub mod ZoneLaws
-pub mod RunLaws
 pub mod PieceLaws
 pub mod ReadLaws
 pub mod Decided
@@ -66,7 +61,6 @@ pub mod ZoneFileLaws
 pub mod FileZoneLaws
 pub mod WallTimes
 pub mod Equalities
-pub mod ErrorEquality
 pub mod SecondTypes
 pub mod ChangeLists
 pub mod ForCallers

@@ -2,12 +2,12 @@
 use Rattle.std.proofs.Common.{◌≡◌, ℕ, ℤ, ◌<◌, arith, refl, zero, suc, List, [], ◌∷◌, length, get_or, Bool, true, false, Ok, Err, Result, nat_le, MatchResult, Some}
 use Rattle.std.specs.List.{list_all}
 use Rattle.std.proofs.lemmas.Bool.Decides.{nat_tests}
-use Rattle.tz_info.specs.Names.{is_name_byte, IsName, IsNameOrNone}
-use Rattle.tz_info.specs.LocalTypes.{LocalType, IsUtOffset}
-use Rattle.tz_info.specs.Errors.{number_of}
-use Rattle.tz_info.specs.Fronts.{Gives}
+use Rattle.tz_base.specs.Names.{is_name_byte, IsName, IsNameOrNone}
+use Rattle.tz_base.specs.LocalTypes.{LocalType, IsUtOffset}
+use Rattle.tz_base.specs.Errors.{number_of}
+use Rattle.tz_base.specs.Fronts.{Gives}
+use Rattle.tz_base.specs.declared.error.Error.{Error}
 use Rattle.tz_info.specs.Steps.Readings.{is_name, named_type_of}
-use Rattle.tz_info.specs.declared.error.Error.{Error}
 
 all_are : (p : ℕ → Bool) (xs : List ℕ) → list_all p xs ≡ true → (i : ℕ) → i < length xs → p (get_or xs i 0) ≡ true
 all_are p [] h i l = absurd (omega arith)

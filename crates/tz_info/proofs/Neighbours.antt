@@ -4,13 +4,13 @@ use Rattle.std.proofs.lemmas.Bool.{not-false, or_cases, or_left, or_right}
 use Rattle.std.proofs.lemmas.Int.{by_lt_z, ints}
 use Rattle.naive_base.specs.Year.{year_start}
 use Rattle.naive_base.proofs.ForCallers.{floors, year_step, days_at_least, starts_rise}
+use Rattle.timeline.proofs.ForCallers.{le_false, le_is}
 use Rattle.tz_info.specs.RuleDays.{IsRuleDay}
 use Rattle.offset_core.specs.Offset.{IsWithinDay}
 use Rattle.tz_info.specs.Rules.{Alternate, IsAlternateRule, IsWithinWeek}
 use Rattle.tz_info.specs.Moments.{moment, IsYearOf, IsInSomeYear, IsDstAt, start_in, end_in}
 use Rattle.tz_info.specs.Steps.Turns.{is_between, is_dst_by_one, is_in_three}
 use Rattle.tz_info.specs.declared.rule.day.DayTime.{DayTime}
-use Rattle.tz_info.proofs.Prefixes.{le_false, le_is}
 use Rattle.tz_info.proofs.RuleDays.{day_within}
 
 -- the moments of each year lie less than eight days outside of it

@@ -5,8 +5,9 @@ use Rattle.std.proofs.lemmas.Bool.{cases_lt}
 use Rattle.std.proofs.lemmas.Int.{ints, by_lt_z}
 use Rattle.std.proofs.lemmas.List.{length_push, get_or_default}
 use Rattle.std.proofs.lemmas.List.Quantifiers.{all_pairs_push}
+use Rattle.tz_base.specs.LocalTypes.{LocalType, IsUtOffset}
+use Rattle.timeline.proofs.ForCallers.{le_true, le_false}
 use Rattle.tz_info.specs.Leaps.{AreLeapSeconds}
-use Rattle.tz_info.specs.LocalTypes.{LocalType, IsUtOffset}
 use Rattle.tz_info.specs.Segments.{table_count, table_count_by}
 use Rattle.tz_info.specs.Steps.Segments.{index_of}
 use Rattle.tz_info.specs.Steps.Shown.{together}
@@ -24,7 +25,6 @@ use Rattle.tz_info.specs.declared.zone.shown.Jump.{Jump}
 use Rattle.tz_info.specs.declared.zone.shown.Shown.TheVariants.{Less, Skipped, Once}
 use Rattle.tz_info.specs.declared.zone.transition.Transition.{Transition}
 use Rattle.tz_info.proofs.LeapStarts.{reached_first}
-use Rattle.tz_info.proofs.Prefixes.{le_true, le_false}
 use Rattle.tz_info.proofs.WallPieces.{Answer, StartBy, before_pushed, at_later, at_earlier, at_all, start_by_push}
 use Rattle.tz_info.proofs.WallSegments.{start_found, cut_from, cuts_rise, piece, own_segment, listed_once, pieces_joined, first_pieces, inner_pieces, last_pieces, type_own}
 

@@ -2,8 +2,8 @@
 use Rattle.std.proofs.Common.{◌≡◌, ℕ, ◌<◌, ◌≤◌, arith, refl, ap, sym, subst, List, [], ◌∷◌, ◌++◌, length, Bool, true, false, cond, nat_lt, nat_le, Ok, Result, inl, inr, ◌⊎◌, ◌≢◌, ◌==◌, ◌&&◌}
 use Rattle.std.proofs.lemmas.Bool.Decides.{nat_tests}
 use Rattle.std.specs.Bool.{Decides}
-use Rattle.tz_info.specs.Fronts.{is_digit, run_of, after_run, value_from, number_within, int_at, tag_at, optional_tag_at, ◌>>=◌}
-use Rattle.tz_info.specs.Pieces.{AllOf, NoneFirst, Without, Nothing, Marked, Number}
+use Rattle.tz_base.specs.Fronts.{is_digit, run_of, after_run, value_from, number_within, int_at, tag_at, optional_tag_at, ◌>>=◌, AllOf, NoneFirst}
+use Rattle.tz_info.specs.Pieces.{Without, Nothing, Marked, Number}
 use Rattle.tz_info.specs.TzFaults.{NoFault, ThenFault, MarkedFault, Byte, ByteFault, NumberFault}
 use Rattle.tz_info.specs.Steps.Readings.{nothing_at, marked_at, checked_at}
 use Rattle.tz_info.proofs.Decided.{Decided, like, said, made, choice, guard, done, refused, and_then}

@@ -2,14 +2,14 @@
 use Rattle.std.proofs.Common.{◌≡◌, ◌≤◌, arith, refl, true, ℕ, pos, ◌∙◌, sym, List, [], length, Bool, false, ◌∷◌, ◌==◌, Ok, Err, Result, inl, inr, ◌≢◌, IfOk, IfErr, MatchResult}
 use Rattle.std.proofs.lemmas.Bool.Decides.{nat_tests}
 use Rattle.std.specs.Str.{IsTrimAscii}
-use Rattle.tz_info.specs.Errors.{number_of}
-use Rattle.tz_info.specs.Fronts.{◌>>=◌}
+use Rattle.tz_base.specs.Errors.{number_of}
+use Rattle.tz_base.specs.Fronts.{◌>>=◌}
+use Rattle.tz_base.specs.declared.error.Error.{Error}
 use Rattle.tz_info.specs.Zones.{Zone, plain_zone}
 use Rattle.tz_info.specs.TzFaults.{IsTextFault}
 use Rattle.tz_info.specs.TzTexts.{IsTzText}
 use Rattle.tz_info.specs.PosixZones.{IsPosixZone, IsPosixFault, posix_zone}
 use Rattle.tz_info.specs.Steps.FooterReading.{trimmed, rule_in}
-use Rattle.tz_info.specs.declared.error.Error.{Error}
 use Rattle.tz_info.specs.declared.rule.transition_rule.TransitionRule.{TransitionRule}
 use Rattle.tz_info.proofs.Decided.{Decided, like, made, done, value_once, fault_once, fault_low, apart}
 use Rattle.tz_info.proofs.FooterLaws.{spelled_law}

@@ -5,13 +5,13 @@ use Rattle.std.proofs.lemmas.Bool.{cases_lt}
 use Rattle.std.proofs.lemmas.Option.{none-some}
 use Rattle.std.proofs.lemmas.List.Elements.{All-contains, Contains-append_right}
 use Rattle.naive_base.specs.Range.{IsWide}
+use Rattle.tz_base.specs.LocalTypes.{LocalType}
 use Rattle.tz_info.specs.Leaps.{IsLeapTime, IsNear}
-use Rattle.tz_info.specs.LocalTypes.{LocalType}
 use Rattle.tz_info.specs.Questions.{IsByRule, IsAskedAt, IsByRuleFor, IsAskedAtEach, IsAskedFor}
 use Rattle.tz_info.specs.Rules.{Alternate as AlternateRule}
 use Rattle.tz_info.specs.Segments.{segment_of}
 use Rattle.tz_info.specs.Steps.Extremes.{offsets_of}
-use Rattle.tz_info.specs.Steps.Looks.{IsAskedAtLeapTime}
+use Rattle.tz_info.specs.Steps.Asked.{IsAskedAtLeapTime}
 use Rattle.tz_info.specs.Steps.RuleSeconds.{AreUtOffsets, IsAskedFrom, IsAskedSince, IsSecondFrom}
 use Rattle.tz_info.specs.WallPieces.{IsStart}
 use Rattle.tz_info.specs.Windows.{rule_offsets, offsets, IsWindow}

@@ -2,7 +2,8 @@
 use Rattle.std.proofs.Common.{◌≡◌, ℕ, arith, refl, sym, ap, ◌∙◌, subst, List, [], ◌∷◌, ◌++◌, false, inl, inr}
 use Rattle.std.proofs.lemmas.Bool.Decides.{nat_tests}
 use Rattle.std.proofs.lemmas.List.{append-nil}
-use Rattle.tz_info.specs.Pieces.{less, greater, is_letter, is_not_greater, AllOf, NoneFirst, Quoted, Letters, Name}
+use Rattle.tz_base.specs.Fronts.{AllOf, NoneFirst}
+use Rattle.tz_info.specs.Pieces.{less, greater, is_letter, is_not_greater, Quoted, Letters, Name}
 use Rattle.tz_info.specs.TzFaults.{NoFault, ByteFault, NameFault}
 use Rattle.tz_info.specs.Steps.Readings.{quoted_at, letters_at, name_at}
 use Rattle.tz_info.proofs.PieceLaws.{Law, then_law, made_law, like_law, said_law, marked_law, byte_law, run_law}

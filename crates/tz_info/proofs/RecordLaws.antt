@@ -1,7 +1,7 @@
 -- Values read at places, and the records that spell them.
 use Rattle.std.proofs.Common.{◌≡◌, ℕ, zero, suc, ◌+◌, ◌*◌, ◌<◌, List, [], ◌∷◌, ◌++◌, append_assoc, length, take, drop, Result, Ok, Err, refl, sym, ap, ◌∙◌, subst, arith, inl, inr, ◌⊎◌}
 use Rattle.std.proofs.lemmas.List.{length-append, nil_from_length, length-take, length-drop, drop-drop, take-append-drop}
-use Rattle.tz_info.specs.Fronts.{◌>>=◌}
+use Rattle.tz_base.specs.Fronts.{◌>>=◌}
 use Rattle.tz_info.specs.FileContents.{AreRecords, HasRecordFault}
 use Rattle.tz_info.specs.Steps.ContentReading.{record_at, values_below}
 use Rattle.tz_info.proofs.Decided.{Decided, like, bind, made, done}

@@ -4,7 +4,7 @@ use Rattle.std.proofs.lemmas.Int.{ints, by_lt_z}
 use Rattle.naive_base.specs.Year.{floor_div, floor_mod, is_leap, year_start}
 use Rattle.naive_base.specs.Weekday.{weekday_of}
 use Rattle.naive_base.proofs.ForCallers.{floors, starts_rise, floor_mod_parts}
-use Rattle.tz_info.specs.LocalTypes.{LocalType}
+use Rattle.tz_base.specs.LocalTypes.{LocalType}
 use Rattle.tz_info.specs.RuleDays.{IsRuleDay}
 use Rattle.tz_info.specs.Rules.{Alternate, IsAlternateRule}
 use Rattle.tz_info.specs.Moments.{IsYearOf, IsInSomeYear, IsDstAt, IsRuleYear, IsRuleTime, AlternateAt, moment, start_in, end_in}

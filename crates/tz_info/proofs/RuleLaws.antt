@@ -4,7 +4,7 @@ use Rattle.std.proofs.lemmas.Int.{by_lt_z}
 use Rattle.naive_base.specs.Year.{floor_div, year_start, LiesIn}
 use Rattle.naive_base.specs.DateOf.{year_of}
 use Rattle.naive_base.proofs.ForCallers.{floors, lies_in, one_year, starts_rise}
-use Rattle.tz_info.specs.LocalTypes.{LocalType}
+use Rattle.tz_base.specs.LocalTypes.{LocalType}
 use Rattle.tz_info.specs.Rules.{Alternate as AlternateRule, IsAlternateRule}
 use Rattle.tz_info.specs.Moments.{IsYearOf, IsDstAt, IsRuleYear, IsRuleTime, AlternateAt, IsAlternateRefused, start_in, end_in, type_when}
 use Rattle.tz_info.specs.Steps.Turns.{is_in_three}

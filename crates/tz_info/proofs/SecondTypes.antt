@@ -7,16 +7,16 @@ use mir.Val.{SFits}
 use Rattle.naive_base.specs.DateOf.{year_of}
 use Rattle.naive_base.specs.Year.{floor_div}
 use Rattle.naive_base.proofs.ForCallers.{one_year, lies_in}
+use Rattle.tz_base.specs.LocalTypes.{LocalType}
+use Rattle.tz_base.specs.contracts.local_time_type.LocalTimeTypePartialEq.TheImpl.{eq-value as type_eq}
 use Rattle.tz_info.specs.Changes.{IsChange, HasNoChange}
 use Rattle.tz_info.specs.Leaps.{IsLeapTime, corrections, passed_count}
-use Rattle.tz_info.specs.LocalTypes.{LocalType}
 use Rattle.tz_info.specs.Moments.{AlternateAt, IsAlternateRefused, IsRuleYear, start_in, end_in, type_when}
 use Rattle.tz_info.specs.RuleTypes.{RuleAt, IsRule, IsRuleRefused}
 use Rattle.tz_info.specs.Rules.{Alternate as AlternateRule, IsAlternateRule}
 use Rattle.tz_info.specs.Steps.ChangeLists.{is_second, all_fit, is_rule_year, is_dst_by_three, alternate_type, rule_type, rule_type_or, type_at_leap_time, type_or_none, change_between, change_here}
 use Rattle.tz_info.specs.Transitions.{passed}
 use Rattle.tz_info.specs.Zones.{Zone, IsValid, IsRuleOrNone, RuleOrElse, HasType, IsRefusedBy, TypeAt, IsTypeRefused, by_leap_time, by_rule, index_at}
-use Rattle.tz_info.specs.contracts.local_time_type.LocalTimeTypePartialEq.TheImpl.{eq-value as type_eq}
 use Rattle.tz_info.specs.declared.change.Change.{Change}
 use Rattle.tz_info.specs.declared.rule.transition_rule.TransitionRule.{TransitionRule}
 use Rattle.tz_info.specs.declared.rule.transition_rule.TransitionRule.TheVariants.{Fixed, Alternate}

@@ -2,8 +2,8 @@
 use Rattle.std.proofs.Common.{◌≡◌, ℕ, zero, suc, ◌+◌, ◌<◌, ◌≤◌, ◌↔◌, arith, refl, ap, ◌∙◌, sym, List, [], ◌∷◌, length, get_or, take, length-take, ℤ, ◌+ℤ◌, ◌≤ℤ◌, ◌<ℤ◌, inl, inr}
 use Rattle.std.proofs.lemmas.Int.{ints, by_lt_z}
 use Rattle.std.proofs.lemmas.Bool.{cases_lt}
+use Rattle.tz_base.specs.LocalTypes.{LocalType}
 use Rattle.tz_info.specs.Leaps.{AreLeapSeconds, IsLeapTime, correction_at, least_time}
-use Rattle.tz_info.specs.LocalTypes.{LocalType}
 use Rattle.tz_info.specs.Segments.{segment_of}
 use Rattle.tz_info.specs.Steps.Segments.{begin_of, index_of}
 use Rattle.tz_info.specs.Steps.Walk.{TypeIn}

@@ -4,7 +4,7 @@ use Rattle.std.proofs.lemmas.Bool.Decides.{Decides-ltb}
 use Rattle.std.proofs.lemmas.List.{length-append, length-take, take-append-drop}
 use Rattle.std.proofs.Math.Seq.{take-append_seam}
 use Rattle.std.specs.Int.{w32, from_be_bytes}
-use Rattle.tz_info.specs.Fronts.{◌>>=◌, exact_at, be_u32_at}
+use Rattle.tz_base.specs.Fronts.{◌>>=◌, exact_at, be_u32_at}
 use Rattle.tz_info.specs.FileHeaders.{IsNumber, Short, Bytes}
 use Rattle.tz_info.proofs.Decided.{Decided, like, choice, done, refused, either}
 use Rattle.tz_info.proofs.PieceLaws.{Law, Then, Made, then_law, made_law, like_law, same_pair}

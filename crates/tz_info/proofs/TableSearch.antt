@@ -2,12 +2,11 @@
 use Rattle.std.proofs.Common.{◌≡◌, ℕ, ℤ, ◌+◌, ◌-◌, ◌<◌, ◌≤◌, arith, List, length, get_or, map, pos, take, ◌≤ℤ◌, ◌<ℤ◌, inl, inr, int_le}
 use Rattle.std.proofs.lemmas.Bool.{cases_lt}
 use Rattle.std.proofs.lemmas.Int.{ints}
-use Rattle.tz_info.specs.Steps.Search.{AreOrdered, ArePassed}
+use Rattle.timeline.specs.Search.{AreOrdered, ArePassed}
+use Rattle.timeline.proofs.ForCallers.{filter_first, le_true, le_false, first_come, times_ordered}
 use Rattle.tz_info.specs.Transitions.{passed, AreRising}
 use Rattle.tz_info.specs.Steps.Validity.{Stands}
 use Rattle.tz_info.specs.declared.zone.transition.Transition.{Transition}
-use Rattle.tz_info.proofs.Prefixes.{filter_first, le_true, le_false}
-use Rattle.tz_info.proofs.SearchSteps.{first_come, times_ordered}
 
 -- the transitions below `low` come at or before v, those from `high` on after it
 pub record Between (xs : List Transition) (v : ℤ) (low high : ℕ) : Type 0 where

@@ -2,14 +2,14 @@
 use Rattle.std.proofs.Common.{◌≡◌, ◌≤◌, arith, ℕ, ℤ, refl, ap, ◌∙◌, sym, subst, List, [], ◌∷◌, Bool, true, false, Ok, Err, Result, inl, inr, ◌⊎◌, ◌≢◌, Option, Some, IfOk, IfErr}
 use Rattle.std.specs.Bool.{Decides}
 use Rattle.std.specs.Result.{IsOkAnd}
-use Rattle.tz_info.specs.Errors.{number_of}
-use Rattle.tz_info.specs.Fronts.{Gives, optional_tag_at, ◌>>=◌}
-use Rattle.tz_info.specs.LocalTypes.{LocalType}
+use Rattle.tz_base.specs.Errors.{number_of}
+use Rattle.tz_base.specs.Fronts.{Gives, optional_tag_at, ◌>>=◌}
+use Rattle.tz_base.specs.LocalTypes.{LocalType}
+use Rattle.tz_base.specs.declared.error.Error.{Error}
 use Rattle.tz_info.specs.Pieces.{Name, Offset, DstOffset}
 use Rattle.tz_info.specs.TzTexts.{IsNamed, IsTzText}
 use Rattle.tz_info.specs.TzFaults.{Days, IsBadName, TurnsFault, RuleFault, IsTextFault}
 use Rattle.tz_info.specs.Steps.Readings.{checked_at, name_at, letters_at, named_type_of, end_at, more_at, dst_offset_at, given_offset_at, fixed_at, named_types_of, alternate_at, rule_at, text_at, is_end}
-use Rattle.tz_info.specs.declared.error.Error.{Error}
 use Rattle.tz_info.specs.declared.rule.day.DayTime.{DayTime}
 use Rattle.tz_info.specs.declared.rule.transition_rule.TransitionRule.{TransitionRule}
 use Rattle.tz_info.specs.declared.rule.transition_rule.TransitionRule.TheVariants as rules

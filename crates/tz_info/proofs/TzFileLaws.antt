@@ -1,10 +1,12 @@
 -- The law of a whole file, and what it says of a reader: a file is a zone's or has one first fault.
 use Rattle.std.proofs.Common.{◌≡◌, ◌⊎◌, ℕ, ◌≤◌, arith, refl, sym, ap, ◌∙◌, subst, List, Result, Ok, Err, Option, Some, None, Bool, IfOk, IfErr, MatchResult, inl, inr}
 use Rattle.std.specs.Result.{IsErrAnd}
-use Rattle.tz_info.specs.Errors.{number_of, IsOutOfMemory}
+use Rattle.tz_base.specs.Errors.{number_of, IsOutOfMemory}
+use Rattle.tz_base.specs.LocalTypes.{LocalType}
+use Rattle.tz_base.specs.declared.error.Error.{Error}
+use Rattle.tz_base.specs.declared.error.Error.TheVariants.{OutOfMemory}
 use Rattle.tz_info.specs.Zones.{Zone, IsValid}
 use Rattle.tz_info.specs.FileContents.{HasTypeFault, SpellTypes, SpellTransitions, IndicatorsAgree}
-use Rattle.tz_info.specs.LocalTypes.{LocalType}
 use Rattle.tz_info.specs.declared.zone.transition.Transition.{Transition}
 use Rattle.tz_info.specs.declared.zone.leap_second.LeapSecond.{LeapSecond}
 use Rattle.tz_info.specs.Footers.{FooterFault}
@@ -14,8 +16,6 @@ use Rattle.tz_info.specs.Steps.ContentReading.{GivesInMemory}
 use Rattle.tz_info.specs.Steps.FooterReading.{footer_of}
 use Rattle.tz_info.specs.Steps.FileLists.{zone_of, HasLengths, with_rule, with_types, lists_in, file_at, Reads}
 use Rattle.tz_info.specs.TzFiles.{HasRule, SayZone, IsTzFile, ContentFault, In_type, In_indicators, In_footer, IsFileFault, In_piece, In_contents, Not_valid, IsZoneFault, In_file, No_memory}
-use Rattle.tz_info.specs.declared.error.Error.{Error}
-use Rattle.tz_info.specs.declared.error.Error.TheVariants.{OutOfMemory}
 use Rattle.tz_info.specs.declared.file.reader.Lists.{Lists}
 use Rattle.tz_info.specs.declared.rule.transition_rule.TransitionRule.{TransitionRule}
 use Rattle.tz_info.specs.declared.zone.time_zone.TimeZone.{TimeZone}

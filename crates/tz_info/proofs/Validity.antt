@@ -1,7 +1,7 @@
 -- Whether a rule agrees with the last transition.
 use Rattle.std.proofs.Common.{◌≡◌, sym, ◌∙◌, List, slice_get, ℤ, Some, inl, inr, Bool, IsTrue, ◌↔◌}
+use Rattle.tz_base.specs.LocalTypes.{LocalType}
 use Rattle.tz_info.specs.Leaps.{IsUnixTime, IsUnixTimeRefused}
-use Rattle.tz_info.specs.LocalTypes.{LocalType}
 use Rattle.tz_info.specs.RuleTypes.{RuleAt, IsRuleRefused}
 use Rattle.tz_info.specs.Zones.{Agrees}
 use Rattle.tz_info.specs.declared.rule.transition_rule.TransitionRule.{TransitionRule}

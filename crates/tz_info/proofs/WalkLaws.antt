@@ -8,15 +8,15 @@ use Rattle.naive_base.specs.Range.{IsWide}
 use Rattle.offset_core.specs.WallAnswer.{IsWallAnswer}
 use Rattle.offset_core.specs.declared.local_result.LocalResult.{LocalResult}
 use Rattle.offset_core.specs.declared.local_result.LocalResult.TheVariants.{None as Never}
-use Rattle.tz_info.specs.Counts.{Counts, RoseWithin}
-use Rattle.tz_info.specs.Digits.{digits}
+use Rattle.tz_base.specs.LocalTypes.{LocalType}
+use Rattle.timeline.specs.Counts.{Counts, RoseWithin, reads_more}
+use Rattle.timeline.specs.Digits.{digits}
+use Rattle.timeline.proofs.ForCallers.{le_true, lt_true}
 use Rattle.tz_info.specs.Leaps.{IsNear, least_time}
-use Rattle.tz_info.specs.LocalTypes.{LocalType}
 use Rattle.tz_info.specs.RuleTypes.{RuleAt}
 use Rattle.tz_info.specs.Segments.{segment_of, table_count}
 use Rattle.tz_info.specs.Steps.Segments.{begin_of, index_of}
 use Rattle.tz_info.specs.Steps.RuleSeconds.{AreUtOffsets, TypeFrom}
-use Rattle.tz_info.specs.Steps.Looks.{reads_more}
 use Rattle.tz_info.specs.Steps.Walk.{TypeIn, IsShownIn, IsTried, IsAskedLast}
 use Rattle.tz_info.specs.Transitions.{AreRising}
 use Rattle.tz_info.specs.WallClocks.{Shows}
@@ -30,7 +30,6 @@ use Rattle.tz_info.proofs.AnswerLaws.{Parts, same_answer}
 use Rattle.tz_info.proofs.Candidates.{Gains, gained, offset_of_rule}
 use Rattle.tz_info.proofs.ExtremeLaws.{at_most_greatest, at_least_least}
 use Rattle.tz_info.proofs.OnePass.{table_most}
-use Rattle.tz_info.proofs.Prefixes.{le_true, lt_true}
 use Rattle.tz_info.proofs.SegmentLaws.{segment_is, segment_at, segment_here, segment_most, segments_rise, later_segment, within_of, between_of, type_from, type_in_from}
 use Rattle.tz_info.proofs.TableSearch.{Between}
 use Rattle.tz_info.proofs.WallSegments.{leap_time_of, near_of, rule_begun, offset_here, type_of_table}

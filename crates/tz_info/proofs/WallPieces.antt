@@ -5,17 +5,17 @@ use Rattle.std.proofs.lemmas.Bool.{cases_lt}
 use Rattle.std.proofs.lemmas.List.{take_more, length_push, length-map}
 use Rattle.std.proofs.lemmas.List.Elements.{All-push}
 use Rattle.std.proofs.lemmas.List.Quantifiers.{all_pairs_push}
+use Rattle.timeline.specs.Search.{AreOrdered, ArePassed, IsLastOf}
+use Rattle.timeline.proofs.ForCallers.{le_true, le_false, first_come, times_ordered}
 use Rattle.tz_info.specs.Steps.Merging.{IsNext, IsStep}
 use Rattle.std.proofs.lemmas.Option.{none-some}
 use Rattle.std.specs.Prelude.{Option, Some as some, None as none, unwrap_or}
 use Rattle.tz_info.specs.Steps.Shown.{together}
-use Rattle.tz_info.specs.Steps.Search.{AreOrdered, ArePassed, IsLastOf}
 use Rattle.tz_info.specs.WallPieces.{answer_before, answer_at, AreInOrder}
 use Rattle.tz_info.specs.declared.zone.pieces.Piece.{Piece}
 use Rattle.tz_info.specs.declared.zone.shown.Shown.{Shown}
 use Rattle.tz_info.specs.declared.zone.shown.Shown.TheVariants.{Once}
-use Rattle.tz_info.proofs.Prefixes.{le_true, le_false, last_taken}
-use Rattle.tz_info.proofs.SearchSteps.{first_come, times_ordered}
+use Rattle.tz_info.proofs.Prefixes.{last_taken}
 
 abbrev pub Answer : Type 0
 Answer = Shown

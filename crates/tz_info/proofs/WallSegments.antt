@@ -7,8 +7,9 @@ use Rattle.naive_base.specs.Range.{IsWide}
 use Rattle.offset_core.specs.WallAnswer.{IsWallAnswer}
 use Rattle.offset_core.specs.declared.local_result.LocalResult.{LocalResult}
 use Rattle.offset_core.specs.declared.local_result.LocalResult.TheVariants.{None, Single, Ambiguous}
+use Rattle.tz_base.specs.LocalTypes.{LocalType, IsUtOffset}
+use Rattle.timeline.proofs.ForCallers.{le_true, le_false}
 use Rattle.tz_info.specs.Leaps.{IsLeapTime, IsNear}
-use Rattle.tz_info.specs.LocalTypes.{LocalType, IsUtOffset}
 use Rattle.tz_info.specs.Segments.{segment_of, table_count, table_count_by}
 use Rattle.tz_info.specs.Steps.Segments.{index_of}
 use Rattle.tz_info.specs.Steps.Shown.{together}
@@ -29,7 +30,6 @@ use Rattle.tz_info.specs.declared.zone.transition.Transition.{Transition}
 use Rattle.tz_info.proofs.AnswerLaws.{Parts, joined_answer, same_answer}
 use Rattle.tz_info.proofs.LeapOrder.{leap_times_answer}
 use Rattle.tz_info.proofs.LeapStarts.{saturated, saturated_rise}
-use Rattle.tz_info.proofs.Prefixes.{le_true, le_false}
 use Rattle.tz_info.proofs.ShownLaws.{wall_together, side_together}
 use Rattle.tz_info.proofs.SegmentLaws.{segment_at, segments_rise, segment_most, come_at_time, come_by_time, later_segment, type_before, type_from, type_in_before, type_in_from}
 use Rattle.tz_info.proofs.TableSearch.{Between}

@@ -1,11 +1,11 @@
 -- The zone of a file: of the lists that are read, those that make a valid zone.
 use Rattle.std.proofs.Common.{◌≡◌, ℕ, ◌∙◌, sym, subst, List, Result, Ok, Err, IfOk, IfErr, MatchResult, ◌⊎◌, inl, inr}
-use Rattle.tz_info.specs.Errors.{number_of}
+use Rattle.tz_base.specs.Errors.{number_of}
+use Rattle.tz_base.specs.declared.error.Error.{Error}
+use Rattle.tz_base.specs.declared.error.Error.TheVariants.{OutOfMemory}
 use Rattle.tz_info.specs.Zones.{Zone, IsValid}
 use Rattle.tz_info.specs.FilePieces.{FilePieces, HasPieces}
 use Rattle.tz_info.specs.TzFiles.{IsTzFile, IsZoneFault, Not_valid, In_file, No_memory}
-use Rattle.tz_info.specs.declared.error.Error.{Error}
-use Rattle.tz_info.specs.declared.error.Error.TheVariants.{OutOfMemory}
 use Rattle.tz_info.specs.declared.zone.time_zone.TimeZone.{TimeZone}
 use Rattle.tz_info.proofs.TzFileLaws.{one_zone}
 

@@ -4,16 +4,16 @@ use Rattle.std.proofs.lemmas.Int.{ints, by_lt_z}
 use Rattle.std.proofs.lemmas.Bool.{cases_lt}
 use Rattle.std.proofs.lemmas.List.Sums.{length-filter, count_by-le-length}
 use mir.Val.{SFits}
+use Rattle.tz_base.specs.LocalTypes.{LocalType}
+use Rattle.timeline.proofs.ForCallers.{le_true, le_false}
 use Rattle.tz_info.specs.Leaps.{AreLeapSeconds, corrections, passed_count, correction_at, IsLeapTime, IsLeapTimeRefused}
 use Rattle.tz_info.specs.Lists.{last_else}
-use Rattle.tz_info.specs.LocalTypes.{LocalType}
 use Rattle.tz_info.specs.Transitions.{passed, AreTransitions}
 use Rattle.tz_info.specs.Zones.{Zone, HasType, IsValid, RuleOrElse, IsRefusedBy, index_at, IsBeforeLast, IsFromLast, TypeAt, IsTypeRefused, by_leap_time, by_rule, IsRuleOrNone, IsTypeOf, zone_of_rule}
 use Rattle.tz_info.specs.declared.rule.transition_rule.TransitionRule.{TransitionRule}
 use Rattle.tz_info.specs.declared.zone.leap_second.LeapSecond.{LeapSecond}
 use Rattle.tz_info.specs.declared.zone.transition.Transition.{Transition}
 use Rattle.tz_info.proofs.PassedTransitions.{no_items}
-use Rattle.tz_info.proofs.Prefixes.{le_true, le_false}
 use Rattle.tz_info.proofs.RuleLaws.{rule_once, rule_not_refused, rule_decided}
 
 passed_at_most : (z : Zone) (x : ℤ) → length (passed z.transitions x) ≤ length z.transitions

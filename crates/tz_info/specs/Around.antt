@@ -1,8 +1,8 @@
 -- What shows a local time, or the gap that it lies in.
 use Rattle.std.specs.Prelude.{ℤ}
 use Rattle.offset_core.specs.WallAnswer.{IsShownOnce, IsShownBetween}
+use Rattle.tz_base.specs.LocalTypes.{LocalType}
 use Rattle.tz_info.specs.Gaps.{HasGap}
-use Rattle.tz_info.specs.LocalTypes.{LocalType}
 use Rattle.tz_info.specs.WallClocks.{Shows}
 use Rattle.tz_info.specs.declared.zone.around.TypesAround.{TypesAround}
 use Rattle.tz_info.specs.declared.zone.around.TypesAround.TheVariants.{Single, Ambiguous, Gap}

@@ -1,8 +1,8 @@
 -- What the parts of a data block say (RFC 8536 section 3.2).
 use Rattle.std.specs.Prelude.{ℕ, ℤ, pos, neg_ℤ, ◌<ℤ◌, ◌≡◌, ◌≢◌, ◌==◌, ◌+◌, Bool, true, false, if◌then◌else◌, List, [], ◌∷◌, ◌++◌, length, take, slice_index, map, Option, Some, None}
 use Rattle.std.specs.Int.{Width, w32, w64, from_be_bytes, cast_signed}
-use Rattle.tz_info.specs.LocalTypes.{LocalType}
-use Rattle.tz_info.specs.Names.{IsNameOrNone}
+use Rattle.tz_base.specs.LocalTypes.{LocalType}
+use Rattle.tz_base.specs.Names.{IsNameOrNone}
 use Rattle.tz_info.specs.declared.zone.transition.Transition.{Transition}
 use Rattle.tz_info.specs.declared.zone.leap_second.LeapSecond.{LeapSecond}
 

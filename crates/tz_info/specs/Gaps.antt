@@ -1,7 +1,7 @@
 -- Gaps: local times that no clock shows, and what is in force before they are skipped.
 use Rattle.std.specs.Prelude.{ℤ, pos, ◌+ℤ◌, ◌-ℤ◌, ◌≤ℤ◌, ◌<ℤ◌}
 use Rattle.offset_core.specs.WallAnswer.{IsNeverShown}
-use Rattle.tz_info.specs.LocalTypes.{LocalType}
+use Rattle.tz_base.specs.LocalTypes.{LocalType}
 use Rattle.tz_info.specs.WallClocks.{Shows}
 
 -- at the Unix time u a type is in force, and a clock of that type shows more than the local time

@@ -1,6 +1,3 @@
-pub mod Errors
-pub mod Names
-pub mod LocalTypes
 pub mod RuleDays
 pub mod RuleDayOf
 pub mod Rules
@@ -9,8 +6,6 @@ pub mod RuleTypes
 pub mod RuleEquality
 pub mod Lists
 pub mod Leaps
-pub mod Digits
-pub mod Counts
 pub mod Transitions
 pub mod Zones
 pub mod WallClocks
@@ -24,7 +19,6 @@ pub mod Questions
 pub mod Segments
 pub mod WallPieces
 pub mod ZoneEquality
-pub mod Fronts
 pub mod Pieces
 pub mod TzTexts
 pub mod TzFaults

@@ -1,7 +1,7 @@
 -- The moments at which a rule changes the clock, and the type in force between them (POSIX.1 section 8.3).
 use Rattle.std.specs.Prelude.{◌≡◌, Bool, if◌then◌else◌, IsTrue, IsFalse, ◌↔◌, ℤ, pos, neg_ℤ, ◌+ℤ◌, ◌-ℤ◌, ◌*ℤ◌, ◌≤ℤ◌, ◌<ℤ◌, ◌⊎◌}
 use Rattle.naive_base.specs.Year.{floor_div, LiesIn}
-use Rattle.tz_info.specs.LocalTypes.{LocalType}
+use Rattle.tz_base.specs.LocalTypes.{LocalType}
 use Rattle.tz_info.specs.RuleDayOf.{rule_day}
 use Rattle.tz_info.specs.Rules.{Alternate}
 use Rattle.tz_info.specs.declared.rule.day.DayTime.{DayTime}

@@ -1,6 +1,6 @@
 -- The zones of TZ texts (POSIX.1 section 8.3, "TZ").
 use Rattle.std.specs.Prelude.{ℕ, pos, ◌≡◌, ◌≢◌, ◌⊎◌, false, List, [], ◌∷◌, Some}
-use Rattle.tz_info.specs.LocalTypes.{LocalType}
+use Rattle.tz_base.specs.LocalTypes.{LocalType}
 use Rattle.tz_info.specs.Zones.{Zone, plain_zone, zone_of_rule}
 use Rattle.tz_info.specs.Trims.{IsTrimmed}
 use Rattle.tz_info.specs.TzTexts.{IsTzText}

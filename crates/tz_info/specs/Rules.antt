@@ -1,7 +1,7 @@
 -- Rules with two types (POSIX.1 section 8.3: `std`, `dst`, and when each begins).
 use Rattle.std.specs.Prelude.{ℤ, pos, neg_ℤ, ◌<ℤ◌}
 use Rattle.offset_core.specs.Offset.{IsWithinDay}
-use Rattle.tz_info.specs.LocalTypes.{LocalType}
+use Rattle.tz_base.specs.LocalTypes.{LocalType}
 use Rattle.tz_info.specs.RuleDays.{IsRuleDay}
 use Rattle.tz_info.specs.declared.rule.day.DayTime.{DayTime}
 

@@ -20,13 +20,10 @@ pub mod FileReading
 pub mod ContentReading
 pub mod FooterReading
 pub mod FileLists
-pub mod StoredNames
 pub mod Gaps
 pub mod Changes
 pub mod ChangeLists
-pub mod Search
-pub mod Looks
-pub mod Hints
+pub mod Asked
 pub mod KindPlaces
 pub mod Kinds
 pub mod RuleDays

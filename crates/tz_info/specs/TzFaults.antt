@@ -1,10 +1,10 @@
 -- What is wrong with a TZ text, by the number of the refusal: the first parts of the text are spelled, and at the next
 -- part, or at a limit of a part that was spelled, stands what the number says.
 use Rattle.std.specs.Prelude.{ℕ, ℤ, pos, ◌+ℤ◌, ◌<ℤ◌, ◌≡◌, ◌≢◌, ◌<◌, ◌⊎◌, Bool, List, [], ◌∷◌, ◌++◌, length}
-use Rattle.tz_info.specs.Fronts.{is_digit, value_from}
-use Rattle.tz_info.specs.Names.{IsName}
+use Rattle.tz_base.specs.Fronts.{is_digit, value_from, AllOf, NoneFirst, AllDigits}
+use Rattle.tz_base.specs.Names.{IsName}
 use Rattle.tz_info.specs.RuleDays.{IsRuleDay}
-use Rattle.tz_info.specs.Pieces.{comma, dot, slash, colon, less, letter_J, letter_M, is_not_greater, AllOf, NoneFirst, AllDigits, Without, Number, clock_max, date_max, day_max, HoursMinutesSeconds, Sign, TimeSign, time_limit, Offset, Date, Day, DstOffset, Name}
+use Rattle.tz_info.specs.Pieces.{comma, dot, slash, colon, less, letter_J, letter_M, is_not_greater, Without, Number, clock_max, date_max, day_max, HoursMinutesSeconds, Sign, TimeSign, time_limit, Offset, Date, Day, DstOffset, Name}
 use Rattle.tz_info.specs.declared.rule.day.DayForm.{DayForm}
 use Rattle.tz_info.specs.declared.rule.day.DayForm.TheVariants.{Julian1, Julian0, MonthWeekday}
 use Rattle.tz_info.specs.declared.rule.day.DayTime.{DayTime}

@@ -1,6 +1,6 @@
 -- The lists that the bytes of a TZif file spell (RFC 8536 section 3).
 use Rattle.std.specs.Prelude.{ℕ, ◌≡◌, Bool, List, Option, Some, None}
-use Rattle.tz_info.specs.LocalTypes.{LocalType}
+use Rattle.tz_base.specs.LocalTypes.{LocalType}
 use Rattle.tz_info.specs.Zones.{Zone, IsValid}
 use Rattle.tz_info.specs.FileContents.{SpellTransitions, SpellLeapSeconds, SpellTypes, HasTypeFault, IndicatorsAgree}
 use Rattle.tz_info.specs.Footers.{IsFooter, FooterFault}

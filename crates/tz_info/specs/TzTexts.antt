@@ -1,8 +1,8 @@
 -- TZ texts (POSIX.1 section 8.3, "TZ": stdoffset[dst[offset],start[/time],end[/time]]; RFC 8536 section 3.3.1), and the
 -- rules that they spell.
 use Rattle.std.specs.Prelude.{ℕ, ◌≡◌, Bool, true, false, List, [], ◌∷◌, Some}
-use Rattle.tz_info.specs.Names.{IsName}
-use Rattle.tz_info.specs.LocalTypes.{LocalType}
+use Rattle.tz_base.specs.Names.{IsName}
+use Rattle.tz_base.specs.LocalTypes.{LocalType}
 use Rattle.tz_info.specs.Rules.{Alternate}
 use Rattle.tz_info.specs.Pieces.{Name, Offset, DstOffset, Day, comma}
 use Rattle.tz_info.specs.declared.rule.transition_rule.TransitionRule.{TransitionRule}

@@ -3,7 +3,7 @@ use Rattle.std.specs.Prelude.{◌≡◌, ℤ, ◌+ℤ◌, ◌-ℤ◌, ◌≤ℤ�
 use Rattle.std.specs.Int.{w64}
 use Rattle.offset_core.specs.declared.local_result.LocalResult.{LocalResult}
 use Rattle.offset_core.specs.declared.local_result.LocalResult.TheVariants.{None, Single, Ambiguous}
-use Rattle.tz_info.specs.LocalTypes.{LocalType}
+use Rattle.tz_base.specs.LocalTypes.{LocalType}
 
 -- at the Unix time u, one of 64 bits, the type t is in force, and a clock of that type shows the local time: the seconds
 -- from 1970-01-01 00:00:00 on the clock, every day counted as 86,400

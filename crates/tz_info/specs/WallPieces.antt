@@ -4,9 +4,9 @@ use Rattle.naive_base.specs.Range.{IsWide}
 use Rattle.offset_core.specs.WallAnswer.{IsWallAnswer}
 use Rattle.offset_core.specs.declared.local_result.LocalResult.{LocalResult}
 use Rattle.offset_core.specs.declared.local_result.LocalResult.TheVariants.{None, Single, Ambiguous}
+use Rattle.tz_base.specs.LocalTypes.{LocalType}
 use Rattle.tz_info.specs.Leaps.{IsLeapTime, IsNear}
 use Rattle.tz_info.specs.Lists.{last_else}
-use Rattle.tz_info.specs.LocalTypes.{LocalType}
 use Rattle.tz_info.specs.Segments.{segment_of, table_count}
 use Rattle.tz_info.specs.Transitions.{passed}
 use Rattle.tz_info.specs.WallClocks.{Shows}

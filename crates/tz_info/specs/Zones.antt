@@ -1,8 +1,8 @@
 -- Time zones (RFC 8536 section 3.2: a file's transitions, local time types and leap seconds; section 3.3: its footer's rule).
 use Rattle.std.specs.Prelude.{ℕ, ℤ, ◌≡◌, ◌<◌, ◌-◌, List, [], ◌∷◌, length, map, slice_get, Option, Some, None, IfSome}
+use Rattle.tz_base.specs.LocalTypes.{LocalType, plain_type}
 use Rattle.tz_info.specs.Leaps.{AreLeapSeconds, IsLeapTime, IsLeapTimeRefused, IsUnixTime}
 use Rattle.tz_info.specs.Lists.{last_else}
-use Rattle.tz_info.specs.LocalTypes.{LocalType, plain_type}
 use Rattle.tz_info.specs.RuleTypes.{RuleAt, IsRuleRefused, IsRule}
 use Rattle.tz_info.specs.Transitions.{AreTransitions, passed}
 use Rattle.tz_info.specs.declared.rule.transition_rule.TransitionRule.{TransitionRule}

@@ -1,6 +1,8 @@
-//! Answers of wall clocks, joined.
+//! The second at which a wall clock shows a local time, and answers of wall clocks, joined.
 
-ghost use Rattle.std.specs.Prelude.{◌≡◌};
+ghost use Rattle.std.specs.Prelude.{◌≡◌, ◌-ℤ◌};
+ghost use Rattle.naive_base.specs.Range.{IsWide};
+ghost use Rattle.tz_info.specs.Leaps.{IsNear};
 ghost use Rattle.tz_info.specs.Steps.Answers.{joined, shown_if};
 
 use offset_core::MappedLocalTime;
@@ -48,4 +50,14 @@ pub(crate) fn answer_of_two<T: Copy>(
     } else {
         MappedLocalTime::None
     }
+}
+
+// The second at which a clock at that offset, in seconds east of UTC, shows the local time.
+#[inline(always)]
+pub(crate) fn second_showing(local: i64, offset: i32) -> i64
+    requires { IsWide local }
+    ensures value { result ≡ local -ℤ offset }
+    ensures near { IsNear (local -ℤ offset) }
+{
+    local - offset as i64
 }

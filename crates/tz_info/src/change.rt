@@ -2,7 +2,7 @@
 
 ghost use Rattle.std.specs.Prelude.{◌≡◌, ◌≢◌, ◌≤ℤ◌, ◌<ℤ◌, IsTrue, ◌↔◌, MatchOption};
 
-use crate::local_time_type::LocalTimeType;
+use tz_base::LocalTimeType;
 
 /// A change of the clocks: up to the second before `at` one type of local time is in force, and
 /// from `at` on another one, which differs in its offset, in whether it is daylight saving time, or

@@ -2,13 +2,13 @@
 
 ghost use Rattle.std.specs.Prelude.{◌≡◌, ◌⊎◌, ℕ, IfOk, IfErr, MatchResult};
 ghost use Rattle.std.specs.Result.{IsErrAnd};
-ghost use Rattle.tz_info.specs.Errors.{number_of, IsOutOfMemory};
+ghost use Rattle.tz_base.specs.Errors.{number_of, IsOutOfMemory};
+ghost use Rattle.tz_base.specs.declared.error.Error.TheVariants.{InvalidTzFile, OutOfMemory};
+ghost use Rattle.tz_base.specs.declared.error.Expected.TheVariants.{TZifAtFrontOfHeader};
 ghost use Rattle.tz_info.specs.FileHeaders.{HasOtherMagic};
 ghost use Rattle.tz_info.specs.FilePieces.{FilePieces, HasPieces};
 ghost use Rattle.tz_info.specs.TzFiles.{IsTzFile, IsFileFault, IsZoneFault};
 ghost use Rattle.tz_info.specs.Zones.{Zone, IsValid};
-ghost use Rattle.tz_info.specs.declared.error.Error.TheVariants.{InvalidTzFile, OutOfMemory};
-ghost use Rattle.tz_info.specs.declared.error.Expected.TheVariants.{TZifAtFrontOfHeader};
 
 mod block;
 mod contents;
@@ -18,10 +18,10 @@ mod numbers;
 mod reader;
 mod types;
 
-use crate::error::Error;
 use crate::zone::TimeZone;
 use reader::read_lists;
 use std::alloc::Global;
+use tz_base::Error;
 
 impl TimeZone {
     /// The zone of a TZif file of version 1, 2 or 3 (RFC 8536 section 3). Of version 1 the one data

@@ -7,8 +7,8 @@ pub mod texts;
 pub mod wall_clocks;
 
 ghost use Rattle.std.specs.Prelude.{◌≡◌, ℕ, ◌+◌, ◌<◌, length, slice_index_or, List, ℤ, pos, neg_ℤ, ◌+ℤ◌, ◌-ℤ◌, ◌*ℤ◌, ◌≤ℤ◌, ◌<ℤ◌, ◌⊎◌, ◌↔◌, Some};
+ghost use Rattle.tz_base.specs.LocalTypes.{LocalType};
 ghost use Rattle.tz_info.specs.Leaps.{AreLeapSeconds, AreCounted, IsLeapTime, IsLeapTimeRefused, IsUnixTime};
-ghost use Rattle.tz_info.specs.LocalTypes.{LocalType};
 ghost use Rattle.tz_info.specs.RuleDays.{IsRuleDay, IsDayOf};
 ghost use Rattle.tz_info.specs.RuleDayOf.{rule_day};
 ghost use Rattle.tz_info.specs.Moments.{IsYearOf, IsRuleYear, IsRuleTime, IsBetween, start_in, end_in};

@@ -3,22 +3,15 @@
 
 mod answers;
 mod change;
-mod cursor;
-mod error;
 mod file;
 pub mod laws;
-mod local_time_type;
-mod name;
 mod rule;
 mod zone;
 
 pub use change::Change;
-pub use cursor::Cursor;
-pub use error::{Error, Expected};
-pub use local_time_type::LocalTimeType;
-pub use name::TimeZoneName;
 pub use rule::{AlternateTime, DayForm, RuleDay, TransitionRule};
+pub use timeline::Probes;
+pub use tz_base::{Cursor, Error, Expected, LocalTimeType, TimeZoneName};
 pub use zone::all_changes::Changes;
 pub use zone::around::{Gap, TypesAround};
-pub use zone::probes::Probes;
 pub use zone::{LeapSecond, TimeZone, Transition};

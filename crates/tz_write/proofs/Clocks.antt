@@ -5,8 +5,8 @@ use Rattle.std.proofs.lemmas.Int.{ints}
 use Rattle.std.proofs.lemmas.Bool.{both_ways, false≢true}
 use Rattle.std.proofs.lemmas.Bool.Decides.{nat_tests}
 use Rattle.offset_core.specs.Offset.{IsWithinDay}
-use Rattle.tz_info.specs.Fronts.{is_digit}
-use Rattle.tz_info.specs.Pieces.{NoneFirst, Without, Optional, Seconds, MinutesSeconds, HoursMinutesSeconds, Sign, seconds_of, Duration, Offset, TimeSign, time_limit, Time, clock_max, colon, plus, minus}
+use Rattle.tz_base.specs.Fronts.{is_digit, NoneFirst}
+use Rattle.tz_info.specs.Pieces.{Without, Optional, Seconds, MinutesSeconds, HoursMinutesSeconds, Sign, seconds_of, Duration, Offset, TimeSign, time_limit, Time, clock_max, colon, plus, minus}
 use Rattle.tz_info.specs.Rules.{IsWithinWeek}
 use Rattle.tz_write.specs.WrittenTexts.{AreInPairs}
 use Rattle.tz_write.specs.Steps.TextPieces.{pair_text, seconds_text, minutes_text, clock_text_of, clock_text, signed_text, offset_text, time_text, is_positive, is_negative, IsPlainTime, IsTimeOf}

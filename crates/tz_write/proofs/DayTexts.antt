@@ -6,8 +6,8 @@ use Rattle.std.proofs.lemmas.Int.{ints}
 use Rattle.std.proofs.lemmas.Bool.{both_ways}
 use Rattle.std.proofs.lemmas.Bool.Decides.{Decides-int_eq}
 use Rattle.offset_core.specs.Offset.{IsWithinDay}
-use Rattle.tz_info.specs.Fronts.{is_digit}
-use Rattle.tz_info.specs.Pieces.{NoneFirst, Without, Number, Optional, Time, Date, Day, DstOffset, date_max, day_max, comma, dot, slash, letter_J, letter_M}
+use Rattle.tz_base.specs.Fronts.{is_digit, NoneFirst}
+use Rattle.tz_info.specs.Pieces.{Without, Number, Optional, Time, Date, Day, DstOffset, date_max, day_max, comma, dot, slash, letter_J, letter_M}
 use Rattle.tz_info.specs.RuleDays.{IsRuleDay}
 use Rattle.tz_info.specs.Rules.{IsWithinWeek}
 use Rattle.tz_info.specs.declared.rule.day.DayForm.{DayForm}

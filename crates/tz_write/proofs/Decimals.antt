@@ -4,8 +4,8 @@ use Rattle.std.specs.Fmt.{decimal}
 use Rattle.std.proofs.lemmas.Fmt.{decimal_digit, decimal_step}
 use Rattle.std.proofs.lemmas.Bool.{cases_lt, both_ways}
 use Rattle.std.proofs.lemmas.Bool.Decides.{nat_tests}
-use Rattle.tz_info.specs.Fronts.{is_digit, value_from}
-use Rattle.tz_info.specs.Pieces.{AllDigits, NoneFirst, Number, colon}
+use Rattle.tz_base.specs.Fronts.{is_digit, value_from, AllDigits, NoneFirst}
+use Rattle.tz_info.specs.Pieces.{Number, colon}
 use Rattle.tz_write.specs.WrittenTexts.{AreInPairs, TwoDigits}
 use Rattle.tz_write.specs.Steps.TextPieces.{pair_text}
 use Rattle.tz_write.proofs.Shortest.{Best, Front, front_cons}

@@ -6,9 +6,9 @@ use Rattle.std.proofs.lemmas.Bool.Decides.{nat_tests}
 use Rattle.std.proofs.lemmas.List.{length-append}
 use Rattle.std.proofs.lemmas.List.Elements.{All-nil, All-cons, All-head, All-tail, All-weaker}
 use Rattle.std.specs.Prelude.{All, MatchOption}
+use Rattle.tz_base.specs.LocalTypes.{LocalType}
+use Rattle.tz_base.specs.Names.{IsNameOrNone}
 use Rattle.tz_info.specs.FileContents.{HasNoZero, StandsAt}
-use Rattle.tz_info.specs.LocalTypes.{LocalType}
-use Rattle.tz_info.specs.Names.{IsNameOrNone}
 use Rattle.tz_write.specs.FileDesignations.{text_or_none, text_of, place_of, IsNamedIn, AreNamesIn, AreShortest}
 use Rattle.tz_write.specs.Steps.FileLayouts.{HasPlace, HavePlaces, with_text, ends, before_last, laid, before_zero, text_at, laid_from, ArePlaced, IsPlacedFrom, AreNotPlacedBefore, IsFirstPlaced, IsLaid, In_order, Otherwise}
 use Rattle.tz_write.proofs.FileMeetings.{Stands, Ends, Meeting, In_front, Behind, Is_end, Has_end, meet}

@@ -3,12 +3,12 @@ use Rattle.std.proofs.Common.{◌≡◌, ℕ, zero, suc, ◌+◌, ◌*◌, ◌<�
 use Rattle.std.proofs.lemmas.List.{length-append, length-map, get_or_append_left}
 use Rattle.std.proofs.lemmas.List.Elements.{All-nil, All-cons, All-head, All-tail}
 use Rattle.std.specs.Prelude.{All}
+use Rattle.tz_base.specs.LocalTypes.{LocalType}
+use Rattle.tz_base.specs.Names.{IsNameOrNone}
 use Rattle.tz_info.specs.FileBlocks.{Parts, IsBlock, in_order}
 use Rattle.tz_info.specs.FileContents.{AreRecords, SpellsLeapSecond, StandsAt, designation_of, place_in, SpellsType, SpellTypes}
 use Rattle.tz_info.specs.FileHeaders.{magic, IsNumber, AreCounts, IsHeader}
 use Rattle.tz_info.specs.FilePieces.{FilePieces, HasPieces, IsSecondHalf, IsAfterFirstBlock}
-use Rattle.tz_info.specs.LocalTypes.{LocalType}
-use Rattle.tz_info.specs.Names.{IsNameOrNone}
 use Rattle.tz_info.specs.TzFiles.{IsTzFile, HasRule}
 use Rattle.tz_info.specs.Zones.{Zone}
 use Rattle.tz_info.specs.declared.file.header.Counts.{Counts}

@@ -11,9 +11,9 @@ use Rattle.std.specs.Bool.{nat_eq}
 use Rattle.std.specs.Int.{w32, w64}
 use Rattle.std.specs.List.{flat_map, starts_with}
 use Rattle.std.specs.Prelude.{All, FitsSigned}
+use Rattle.tz_base.specs.LocalTypes.{LocalType, IsUtOffset}
+use Rattle.tz_base.specs.Names.{IsNameOrNone, is_name_byte}
 use Rattle.tz_info.specs.FileContents.{time_of, AreRecords, SpellTransitions, SpellsLeapSecond, SpellLeapSeconds, HasNoZero, StandsAt, designation_of, IsMark, SpellsType, SpellTypes, least_offset}
-use Rattle.tz_info.specs.LocalTypes.{LocalType, IsUtOffset}
-use Rattle.tz_info.specs.Names.{IsNameOrNone, is_name_byte}
 use Rattle.tz_info.specs.declared.zone.leap_second.LeapSecond.{LeapSecond}
 use Rattle.tz_info.specs.declared.zone.transition.Transition.{Transition}
 use Rattle.tz_write.specs.FileBytes.{signed_bytes, time_bytes, index_bytes, mark_byte, type_bytes, leap_bytes}

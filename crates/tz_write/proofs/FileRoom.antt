@@ -6,8 +6,8 @@ use Rattle.std.proofs.lemmas.List.{length-append}
 use Rattle.std.proofs.lemmas.List.Elements.{All-nil, All-cons, All-head, All-tail}
 use Rattle.std.specs.List.{fold}
 use Rattle.std.specs.Prelude.{All}
+use Rattle.tz_base.specs.LocalTypes.{LocalType}
 use Rattle.tz_info.specs.FileContents.{HasNoZero}
-use Rattle.tz_info.specs.LocalTypes.{LocalType}
 use Rattle.tz_write.specs.FileDesignations.{text_of, place_of}
 use Rattle.tz_write.specs.Steps.FileLayouts.{with_text, ends, with_text_of, with_texts, before_last}
 use Rattle.tz_write.proofs.FileMeetings.{Stands, Ends, Meeting, In_front, Behind, Is_end, Has_end, meet}

@@ -6,12 +6,12 @@ use Rattle.std.proofs.lemmas.Str.Ascii.{IsAscii-from_all}
 use Rattle.std.proofs.lemmas.List.Elements.{All-head, All-tail, All-weaker, All-append, All-cons, All-nil}
 use Rattle.std.specs.Char.{is_ascii_whitespace}
 use Rattle.std.specs.Prelude.{All, Option}
+use Rattle.tz_base.specs.LocalTypes.{LocalType}
 use Rattle.tz_info.specs.FileBlocks.{Parts, IsBlock}
 use Rattle.tz_info.specs.FileContents.{HasNoZero}
 use Rattle.tz_info.specs.FileHeaders.{CountsAgree}
 use Rattle.tz_info.specs.FilePieces.{FilePieces, later_pieces, is_extended, HasPieces, IsSecondHalf, IsAfterFirstBlock}
 use Rattle.tz_info.specs.Footers.{IsFooter, SaysRule}
-use Rattle.tz_info.specs.LocalTypes.{LocalType}
 use Rattle.tz_info.specs.Trims.{BeginsBare, EndsBare}
 use Rattle.tz_info.specs.TzFiles.{IsTzFile, SayZone}
 use Rattle.tz_info.specs.Zones.{Zone}

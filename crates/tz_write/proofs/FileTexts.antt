@@ -3,11 +3,11 @@ use Rattle.std.proofs.Common.{◌≡◌, ◌≢◌, ℕ, suc, ℤ, ◌<◌, ◌�
 use Rattle.std.proofs.lemmas.Bool.Decides.{nat_tests}
 use Rattle.std.proofs.lemmas.List.Elements.{All-cons, All-nil}
 use Rattle.std.specs.Prelude.{All}
-use Rattle.tz_info.specs.Fronts.{is_digit}
-use Rattle.tz_info.specs.Names.{IsName, is_name_byte}
-use Rattle.tz_info.specs.Pieces.{plus, comma, minus, dot, slash, colon, less, greater, letter_J, letter_M, is_letter, AllOf, Nothing, Marked, Number, clock_max, date_max, day_max, Seconds, MinutesSeconds, HoursMinutesSeconds, Sign, Duration, Offset, TimeSign, time_limit, Time, Name, Date, MonthDate, JulianDate, DayNumber, Day, NextHour, DstOffset}
+use Rattle.tz_base.specs.Fronts.{is_digit, AllOf}
+use Rattle.tz_base.specs.Names.{IsName, is_name_byte}
+use Rattle.tz_base.specs.LocalTypes.{LocalType}
+use Rattle.tz_info.specs.Pieces.{plus, comma, minus, dot, slash, colon, less, greater, letter_J, letter_M, is_letter, Nothing, Marked, Number, clock_max, date_max, day_max, Seconds, MinutesSeconds, HoursMinutesSeconds, Sign, Duration, Offset, TimeSign, time_limit, Time, Name, Date, MonthDate, JulianDate, DayNumber, Day, NextHour, DstOffset}
 use Rattle.tz_info.specs.TzTexts.{IsTzText, IsFixedText, IsAlternateText}
-use Rattle.tz_info.specs.LocalTypes.{LocalType}
 use Rattle.tz_info.specs.Rules.{Alternate}
 use Rattle.tz_info.specs.declared.rule.transition_rule.TransitionRule.{TransitionRule}
 use Rattle.tz_info.specs.declared.rule.transition_rule.TransitionRule.TheVariants as rules

@@ -3,8 +3,9 @@ use Rattle.std.proofs.Common.{◌≡◌, ℕ, suc, ◌<◌, ◌≤◌, ◌≢◌
 use Rattle.std.specs.List.{list_all}
 use Rattle.std.proofs.lemmas.Bool.{and_parts, and_from, both_ways}
 use Rattle.std.proofs.lemmas.Bool.Decides.{nat_tests}
-use Rattle.tz_info.specs.Names.{is_name_byte, IsName}
-use Rattle.tz_info.specs.Pieces.{AllOf, NoneFirst, Without, Name, is_letter, is_not_greater, less, greater, colon}
+use Rattle.tz_base.specs.Names.{is_name_byte, IsName}
+use Rattle.tz_base.specs.Fronts.{AllOf, NoneFirst}
+use Rattle.tz_info.specs.Pieces.{Without, Name, is_letter, is_not_greater, less, greater, colon}
 use Rattle.tz_write.specs.WrittenTexts.{AreInPairs}
 use Rattle.tz_write.specs.Steps.TextPieces.{name_text}
 use Rattle.tz_write.proofs.Shortest.{Front, front_cons}

@@ -5,10 +5,10 @@ use Rattle.std.proofs.lemmas.Bool.Decides.{nat_tests}
 use Rattle.std.proofs.lemmas.Bool.{both_ways}
 use Rattle.std.specs.Ordering.{int_eq}
 use Rattle.offset_core.specs.Offset.{IsWithinDay}
-use Rattle.tz_info.specs.Fronts.{is_digit}
-use Rattle.tz_info.specs.LocalTypes.{LocalType}
-use Rattle.tz_info.specs.Names.{IsName}
-use Rattle.tz_info.specs.Pieces.{NoneFirst, Name, Offset, Day, comma, is_letter}
+use Rattle.tz_base.specs.Fronts.{is_digit, NoneFirst}
+use Rattle.tz_base.specs.LocalTypes.{LocalType}
+use Rattle.tz_base.specs.Names.{IsName}
+use Rattle.tz_info.specs.Pieces.{Name, Offset, Day, comma, is_letter}
 use Rattle.tz_info.specs.Rules.{Alternate, IsAlternateRule}
 use Rattle.tz_info.specs.RuleTypes.{IsRule}
 use Rattle.tz_info.specs.TzTexts.{IsFixedText, IsAlternateText, IsTzText}

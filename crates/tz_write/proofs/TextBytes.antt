@@ -7,10 +7,10 @@ use Rattle.std.specs.Ordering.{int_eq}
 use Rattle.std.proofs.lemmas.List.{append-nil}
 use Rattle.std.proofs.lemmas.Bool.Decides.{nat_tests}
 use Rattle.offset_core.specs.Offset.{IsWithinDay}
-use Rattle.tz_info.specs.Fronts.{is_digit}
-use Rattle.tz_info.specs.LocalTypes.{LocalType}
-use Rattle.tz_info.specs.Names.{is_name_byte, IsName}
-use Rattle.tz_info.specs.Pieces.{AllOf, AllDigits, comma, dot, slash, colon, less, greater, is_letter}
+use Rattle.tz_base.specs.Fronts.{is_digit, AllOf, AllDigits}
+use Rattle.tz_base.specs.LocalTypes.{LocalType}
+use Rattle.tz_base.specs.Names.{is_name_byte, IsName}
+use Rattle.tz_info.specs.Pieces.{comma, dot, slash, colon, less, greater, is_letter}
 use Rattle.tz_info.specs.RuleDays.{IsRuleDay}
 use Rattle.tz_info.specs.Rules.{Alternate, IsAlternateRule, IsWithinWeek}
 use Rattle.tz_info.specs.RuleTypes.{IsRule}

@@ -3,9 +3,9 @@
 use Rattle.std.specs.Prelude.{ℕ, ℤ, Bool, if◌then◌else◌, List, [], ◌∷◌, ◌++◌, length}
 use Rattle.std.specs.Int.{Width, w32, w64, to_be_bytes, cast_unsigned}
 use Rattle.std.specs.List.{flat_map}
+use Rattle.tz_base.specs.LocalTypes.{LocalType}
 use Rattle.tz_info.specs.FileBlocks.{Parts, in_order}
 use Rattle.tz_info.specs.FileHeaders.{magic}
-use Rattle.tz_info.specs.LocalTypes.{LocalType}
 use Rattle.tz_info.specs.Zones.{Zone}
 use Rattle.tz_info.specs.declared.file.header.Counts.{Counts}
 use Rattle.tz_info.specs.declared.zone.leap_second.LeapSecond.{LeapSecond}

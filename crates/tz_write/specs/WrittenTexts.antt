@@ -1,8 +1,8 @@
 -- The TZ text that is written of a rule, or of a zone that a TZ text gives (POSIX.1 section 8.3, "TZ"; RFC 8536 section 3.3.1
 -- has the extensions).
 use Rattle.std.specs.Prelude.{ℕ, ◌≡◌, ◌<◌, ◌⊎◌, Bool, true, false, List, [], ◌∷◌, length}
-use Rattle.tz_info.specs.Fronts.{is_digit}
-use Rattle.tz_info.specs.Pieces.{colon, NoneFirst}
+use Rattle.tz_base.specs.Fronts.{is_digit, NoneFirst}
+use Rattle.tz_info.specs.Pieces.{colon}
 use Rattle.tz_info.specs.PosixZones.{IsPosixZone}
 use Rattle.tz_info.specs.TzTexts.{IsTzText}
 use Rattle.tz_info.specs.Zones.{Zone}

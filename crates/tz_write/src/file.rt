@@ -1,7 +1,7 @@
 //! Time zone files (TZif, RFC 8536): the bytes of the file of a zone.
 
 ghost use Rattle.std.specs.Prelude.{IfOk, IfSome, MatchOption, MatchResult, OnErr, option_map, string_bytes};
-ghost use Rattle.tz_info.specs.Errors.{IsOutOfMemory};
+ghost use Rattle.tz_base.specs.Errors.{IsOutOfMemory};
 ghost use Rattle.tz_write.specs.Steps.FileParts.{HasRoom, IsLaidFile};
 ghost use Rattle.tz_write.specs.WrittenFiles.{HasText, IsFooterText, IsInNoFile, IsWritable, IsWrittenFile};
 

@@ -1,8 +1,8 @@
 //! The TZ text of a rule.
 
 ghost use Rattle.std.specs.Prelude.{◌≡◌, ◌∷◌, ◌++◌, List, ℕ, true, false, OnOk, IsTrue, MatchBool, ◌↔◌, MatchResult, MatchOption, OnErr, Bool, Some, None, string_bytes};
-ghost use Rattle.tz_info.specs.Errors.{IsOutOfMemory};
-ghost use Rattle.tz_info.specs.Names.{IsName};
+ghost use Rattle.tz_base.specs.Errors.{IsOutOfMemory};
+ghost use Rattle.tz_base.specs.Names.{IsName};
 ghost use Rattle.tz_info.specs.RuleTypes.{IsRule};
 ghost use Rattle.tz_info.specs.Rules.{IsAlternateRule};
 ghost use Rattle.offset_core.specs.Offset.{IsWithinDay};

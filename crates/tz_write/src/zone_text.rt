@@ -1,8 +1,8 @@
 //! The TZ text of a zone.
 
 ghost use Rattle.std.specs.Prelude.{◌≡◌, [], ◌∷◌, IsTrue, ◌↔◌, MatchOption, MatchResult, OnErr, List, ℕ, Some, None, pos, true, false, string_bytes};
-ghost use Rattle.tz_info.specs.Errors.{IsOutOfMemory};
-ghost use Rattle.tz_info.specs.LocalTypes.{plain_type};
+ghost use Rattle.tz_base.specs.Errors.{IsOutOfMemory};
+ghost use Rattle.tz_base.specs.LocalTypes.{plain_type};
 ghost use Rattle.tz_info.specs.PosixZones.{types_of, IsPosixZone};
 ghost use Rattle.tz_info.specs.RuleTypes.{IsRule};
 ghost use Rattle.tz_info.specs.Zones.{zone_of_rule};
@@ -127,6 +127,6 @@ fn are_both(types: &[LocalTimeType], first: &LocalTimeType, second: &LocalTimeTy
 fn is_same(local: &LocalTimeType, other: &LocalTimeType) -> bool
     ensures { IsTrue result ↔ (local.now ≡ other.now) }
 {
-    tz_info::laws::equality::local_time_types();
+    tz_base::laws::local_time_types();
     local == other
 }

@@ -11,7 +11,7 @@ use Rattle.json.specs.Tree.{json_tokens, items_tokens, depth, items_depth}
 use Rattle.json.specs.Value.{items_of}
 use Rattle.json.specs.Written.{Written, Writes}
 use Rattle.json.proofs.Printed.Trees.{value-json_tokens}
-use Rattle.tz_info.specs.LocalTypes.{LocalType}
+use Rattle.tz_base.specs.LocalTypes.{LocalType}
 use Rattle.tz_info.specs.Zones.{Zone}
 use Rattle.tz_info.specs.declared.change.Change.{Change}
 use Rattle.tz_info.specs.declared.rule.day.DayForm.{DayForm}

@@ -11,7 +11,7 @@ use Rattle.naive_base.specs.Stamp.{of_secs}
 use Rattle.naive_base.specs.Text.{reading_text}
 use Rattle.naive_base.specs.Year.{year_start}
 use Rattle.naive_base.proofs.ForCallers.{starts_rise, floors}
-use Rattle.tz_info.specs.LocalTypes.{LocalType}
+use Rattle.tz_base.specs.LocalTypes.{LocalType}
 use Rattle.tz_info.specs.Changes.{AreChanges}
 use Rattle.tz_info.specs.declared.change.Change.{Change}
 use Rattle.zone_dump.specs.Spans.{AreYears, IsInYears, IsNearYears, year_second, year_until}

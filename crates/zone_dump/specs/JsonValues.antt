@@ -3,8 +3,8 @@ use Rattle.std.specs.Prelude.{◌≡◌, ℕ, ℤ, ◌-ℤ◌, int_lt, unsigned_
 use Rattle.std.specs.Fmt.{signed_decimal}
 use Rattle.json.specs.Json.{Json, null, boolean, number, string, array, object, Members, no_members, member, document}
 use Rattle.json.specs.Value.{items_of}
+use Rattle.tz_base.specs.LocalTypes.{LocalType}
 use Rattle.tz_info.specs.Changes.{AreChanges}
-use Rattle.tz_info.specs.LocalTypes.{LocalType}
 use Rattle.tz_info.specs.Zones.{Zone, TypeAt}
 use Rattle.tz_info.specs.declared.change.Change.{Change}
 use Rattle.tz_info.specs.declared.rule.day.DayForm.{DayForm}

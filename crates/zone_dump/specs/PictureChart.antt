@@ -3,7 +3,7 @@ use Rattle.std.specs.Prelude.{ℕ, zero, suc, ◌+◌, ◌*◌, ◌/◌, ◌%◌
 use Rattle.std.specs.Fmt.{signed_decimal}
 use Rattle.naive_base.specs.Date.{day_number}
 use Rattle.naive_base.specs.Year.{floor_div}
-use Rattle.tz_info.specs.LocalTypes.{LocalType}
+use Rattle.tz_base.specs.LocalTypes.{LocalType}
 use Rattle.tz_info.specs.declared.change.Change.{Change}
 use Rattle.zone_dump.specs.PictureWords.{zone_words}
 use Rattle.zone_dump.specs.Spans.{year_second, year_until}

@@ -1,7 +1,7 @@
 -- The panels of a picture: what wall clocks show at each change of a year. Wall clocks go upwards, UTC goes to the right. A
 -- panel is the same for each gap and for each fold, but for its place, its names and its clocks.
 use Rattle.std.specs.Prelude.{ℕ, ◌+◌, ◌*◌, ◌/◌, ◌%◌, ℤ, ◌+ℤ◌, int_lt, List, [], ◌∷◌, ◌++◌, codes, decimal, if◌then◌else◌}
-use Rattle.tz_info.specs.LocalTypes.{LocalType}
+use Rattle.tz_base.specs.LocalTypes.{LocalType}
 use Rattle.tz_info.specs.declared.change.Change.{Change}
 use Rattle.zone_dump.specs.Clocks.{clock_words}
 use Rattle.zone_dump.specs.PictureWords.{band_words, kind_words, step_words}

@@ -1,7 +1,7 @@
 -- Pictures of what the clocks of a zone do in some years.
 use Rattle.std.specs.Prelude.{◌≡◌, ℕ, ℤ, pos, List, length, ◌++◌, ◌⊎◌, codes}
+use Rattle.tz_base.specs.LocalTypes.{LocalType, plain_type}
 use Rattle.tz_info.specs.Changes.{AreChanges}
-use Rattle.tz_info.specs.LocalTypes.{LocalType, plain_type}
 use Rattle.tz_info.specs.Zones.{Zone, TypeAt, IsTypeRefused}
 use Rattle.tz_info.specs.declared.change.Change.{Change}
 use Rattle.zone_dump.specs.PictureChart.{chart_text}

@@ -5,8 +5,8 @@ use Rattle.std.specs.List.{flat_map}
 use Rattle.naive_base.specs.Reading.{ahead}
 use Rattle.naive_base.specs.Stamp.{of_secs}
 use Rattle.naive_base.specs.Text.{reading_text}
+use Rattle.tz_base.specs.LocalTypes.{LocalType}
 use Rattle.tz_info.specs.Changes.{AreChanges}
-use Rattle.tz_info.specs.LocalTypes.{LocalType}
 use Rattle.tz_info.specs.Zones.{Zone, TypeAt}
 use Rattle.tz_info.specs.declared.change.Change.{Change}
 use Rattle.tz_info.specs.declared.zone.leap_second.LeapSecond.{LeapSecond}

@@ -3,7 +3,7 @@ use Rattle.std.specs.Prelude.{ℕ, ◌==◌, ℤ, pos, neg_ℤ, List, ◌++◌, 
 use Rattle.std.specs.Fmt.{signed_decimal}
 use Rattle.naive_base.specs.Text.{time_text}
 use Rattle.offset_core.specs.Offset.{offset_text}
-use Rattle.tz_info.specs.LocalTypes.{LocalType}
+use Rattle.tz_base.specs.LocalTypes.{LocalType}
 use Rattle.tz_info.specs.Rules.{Alternate}
 use Rattle.tz_info.specs.declared.rule.day.DayForm.{DayForm}
 use Rattle.tz_info.specs.declared.rule.day.DayForm.TheVariants as days

@@ -7,8 +7,8 @@ use Rattle.naive_base.specs.Reading.{Reading, ahead, day_at, second_at}
 use Rattle.naive_base.specs.Stamp.{of_secs}
 use Rattle.naive_base.specs.Text.{time_text}
 use Rattle.naive_base.specs.Weekday.{weekday_of}
+use Rattle.tz_base.specs.LocalTypes.{LocalType}
 use Rattle.tz_info.specs.Changes.{AreChanges}
-use Rattle.tz_info.specs.LocalTypes.{LocalType}
 use Rattle.tz_info.specs.Zones.{Zone, TypeAt}
 use Rattle.tz_info.specs.declared.change.Change.{Change}
 use Rattle.zone_dump.specs.Spans.{year_second, year_until}

@@ -1,7 +1,7 @@
 //! A file or a TZ text told in some form.
 
 ghost use Rattle.std.specs.Prelude.{◌≡◌, IfErr, OnErr, OnOk, string_bytes};
-ghost use Rattle.tz_info.specs.Errors.{number_of};
+ghost use Rattle.tz_base.specs.Errors.{number_of};
 ghost use Rattle.zone_dump.specs.Forms.{IsTold, IsFileTold, IsTextTold, Tells, IsFileRefused, IsTextRefused};
 
 use crate::form::{Form, told};

@@ -25,7 +25,7 @@ use Rattle.naive_base.specs.Year.{is_leap}
 use Rattle.naive_base.specs.Range.{IsInRange, IsYearInRange, first_year, last_year}
 use Rattle.naive_base.specs.Reading.{Reading, reading_at}
 use Rattle.naive_base.proofs.ForCallers.{date_in_years}
-use Rattle.tz_info.specs.Pieces.{NoneFirst}
+use Rattle.tz_base.specs.Fronts.{NoneFirst}
 use Rattle.tz_info.proofs.ForCallers.{run_splits, run_again}
 use Rattle.zone_query.specs.Choices.{choice_text, fold_text, gap_text}
 use Rattle.zone_query.specs.Questions.{Query, Text, Data, At, Wall, Resolve, Show, Asks, IsBadLine, Exists, IsLocalTime, IsTimestamp}

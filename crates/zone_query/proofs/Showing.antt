@@ -11,7 +11,7 @@ use Rattle.naive_base.specs.Range.{IsInRange}
 use Rattle.naive_base.specs.Reading.{Reading}
 use Rattle.naive_base.specs.Year.{floor_mod}
 use Rattle.naive_base.proofs.ForCallers.{in_range_or_not}
-use Rattle.tz_info.specs.LocalTypes.{LocalType}
+use Rattle.tz_base.specs.LocalTypes.{LocalType}
 use Rattle.tz_info.specs.Zones.{Zone, IsValid, IsRuleOrNone}
 use Rattle.naive_base.specs.Stamp.{IsStamp, IsSubsecond, of_secs}
 use Rattle.zoned_time.specs.Stamps.{IsAtWhere}

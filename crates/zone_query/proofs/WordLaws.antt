@@ -9,8 +9,9 @@ use Rattle.std.proofs.lemmas.Bool.Decides.{nat_tests, Decides-and, Decides-ltb}
 use Rattle.std.proofs.lemmas.Int.{ints}
 use Rattle.std.proofs.lemmas.List.{take-append-drop, length-take, length-drop, get_or-take, get_or-drop}
 use denote.Ref.{Bor}
-use Rattle.tz_info.specs.Pieces.{AllOf, NoneFirst}
-use Rattle.tz_info.proofs.ForCallers.{run_splits, run_again, runs_are, le_is, le_true}
+use Rattle.tz_base.specs.Fronts.{AllOf, NoneFirst}
+use Rattle.tz_base.proofs.ForCallers.{runs_are}
+use Rattle.tz_info.proofs.ForCallers.{run_splits, run_again, le_is, le_true}
 use Rattle.zone_query.specs.Numerals.{IsNatural, IsInteger}
 use Rattle.zone_query.specs.Words.{AreNumbers}
 use Rattle.zone_query.specs.Steps.LineReading.{◌>>=◌, Gives, behind, is_no_space, first_word, other_words, are_digits, natural_at, integer_at, small_integer_at, next_number_at, numbers_at}

@@ -1,11 +1,11 @@
 -- The answer to what sets the zone, by what was read.
 use Rattle.std.proofs.Common.{◌≡◌, ℕ, ◌⊎◌, refl, inl, inr, List, Option, Some, Result, Ok, Err, IfOk, IfErr, MatchResult}
+use Rattle.tz_base.specs.Errors.{number_of}
+use Rattle.tz_base.specs.declared.error.Error.{Error}
 use Rattle.tz_info.proofs.ForCallers.{text_fault_or_zone, file_fault_or_zone}
-use Rattle.tz_info.specs.Errors.{number_of}
 use Rattle.tz_info.specs.PosixZones.{IsPosixZone, IsPosixFault}
 use Rattle.tz_info.specs.TzFiles.{IsTzFile, IsFileFault, IsZoneFault, In_file, No_memory}
 use Rattle.tz_info.specs.Zones.{Zone, IsValid}
-use Rattle.tz_info.specs.declared.error.Error.{Error}
 use Rattle.tz_info.specs.declared.zone.time_zone.TimeZone.{TimeZone}
 use Rattle.zone_query.specs.Answers.{AnswersRead, AnswersText, AnswersData, zone_text, refusal_text}
 

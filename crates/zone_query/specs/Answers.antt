@@ -8,7 +8,7 @@ use Rattle.offset_core.specs.declared.local_result.LocalResult.{LocalResult}
 use Rattle.offset_core.specs.declared.local_result.LocalResult.TheVariants as results
 use Rattle.naive_base.specs.Reading.{Reading, ahead}
 use Rattle.naive_base.specs.Text.{reading_text}
-use Rattle.tz_info.specs.LocalTypes.{LocalType}
+use Rattle.tz_base.specs.LocalTypes.{LocalType}
 use Rattle.tz_info.specs.PosixZones.{IsPosixZone, IsPosixFault}
 use Rattle.tz_info.specs.TzFiles.{IsTzFile, IsFileFault}
 use Rattle.tz_info.specs.WallClocks.{Shows}

@@ -23,9 +23,9 @@ pub use Rattle.naive_base.specs.NaiveDate
 pub use Rattle.naive_base.specs.NaiveTime
 pub use Rattle.naive_base.specs.NaiveDateTime
 pub use Rattle.naive_base.specs.Fields
-pub use Rattle.tz_info.specs.Errors
-pub use Rattle.tz_info.specs.Names
-pub use Rattle.tz_info.specs.LocalTypes
+pub use Rattle.tz_base.specs.Errors
+pub use Rattle.tz_base.specs.Names
+pub use Rattle.tz_base.specs.LocalTypes
 pub use Rattle.tz_info.specs.RuleDays
 pub use Rattle.tz_info.specs.RuleDayOf
 pub use Rattle.tz_info.specs.Rules
@@ -34,8 +34,8 @@ pub use Rattle.tz_info.specs.RuleTypes
 pub use Rattle.tz_info.specs.RuleEquality
 pub use Rattle.tz_info.specs.Lists
 pub use Rattle.tz_info.specs.Leaps
-pub use Rattle.tz_info.specs.Digits as TextDigits
-pub use Rattle.tz_info.specs.Counts
+pub use Rattle.timeline.specs.Digits as TextDigits
+pub use Rattle.timeline.specs.Counts
 pub use Rattle.tz_info.specs.Transitions
 pub use Rattle.tz_info.specs.Zones
 pub use Rattle.tz_info.specs.WallClocks
@@ -46,7 +46,7 @@ pub use Rattle.tz_info.specs.Looks
 pub use Rattle.tz_info.specs.Segments
 pub use Rattle.tz_info.specs.WallPieces
 pub use Rattle.tz_info.specs.ZoneEquality
-pub use Rattle.tz_info.specs.Fronts
+pub use Rattle.tz_base.specs.Fronts
 pub use Rattle.tz_info.specs.Pieces
 pub use Rattle.tz_info.specs.TzTexts
 pub use Rattle.tz_info.specs.TzFaults

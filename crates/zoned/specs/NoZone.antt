@@ -1,9 +1,9 @@
 -- Why the bytes of a file give no kept zone.
 use Rattle.std.specs.Prelude.{ℕ, ◌≡◌, List}
-use Rattle.tz_info.specs.Errors.{number_of}
+use Rattle.tz_base.specs.Errors.{number_of}
+use Rattle.tz_base.specs.declared.error.Error.TheVariants as errors
 use Rattle.tz_info.specs.TzFiles.{IsTzFile, IsZoneFault}
 use Rattle.tz_info.specs.Zones.{Zone, IsValid}
-use Rattle.tz_info.specs.declared.error.Error.TheVariants as errors
 use Rattle.zoned_kept.specs.KeepError.{IsRefused}
 use Rattle.zoned_kept.specs.declared.keep_error.KeepError.TheVariants as kept
 use Rattle.zoned.specs.declared.headline.NoZone.{NoZone}

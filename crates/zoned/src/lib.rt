@@ -171,6 +171,7 @@ pub use naive_base::{
 pub use offset_core::{
     Choice, FixedOffset, FoldChoice, GapChoice, LocalResult, MappedLocalTime, TimeDelta,
 };
+pub use tz_base;
 pub use tz_info;
 pub use tz_write::{ToPosixTz, ToTzData, ToTzString, TzText};
 pub use zoned_kept::{KeepError, KeptChange, KeptOffset, KeptZone};

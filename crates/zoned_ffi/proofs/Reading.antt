@@ -1,11 +1,11 @@
 -- What comes of reading, as a call tells it.
 use Rattle.std.proofs.Common.{◌≡◌, ◌≢◌, ◌⊎◌, ◌↔◌, Bool, IsTrue, IsFalse, ℕ, List, IfErr, Result, Ok, Err, subst, sym, inl, inr, arith, refl}
-use Rattle.tz_info.specs.Errors.{number_of}
+use Rattle.tz_base.specs.Errors.{number_of}
+use Rattle.tz_base.specs.declared.error.Error.{Error}
+use Rattle.tz_base.specs.declared.error.Error.TheVariants as errors
 use Rattle.tz_info.specs.PosixZones.{IsPosixZone, IsPosixFault}
 use Rattle.tz_info.specs.TzFiles.{IsZoneFault}
 use Rattle.tz_info.specs.Zones.{Zone}
-use Rattle.tz_info.specs.declared.error.Error.{Error}
-use Rattle.tz_info.specs.declared.error.Error.TheVariants as errors
 use Rattle.zoned_ffi.specs.Kinds.{number_of as kind_number, IsZoneOf, Spells}
 use Rattle.zoned_ffi.specs.Refusals.{IsFault, IsReaderNumber, IsRefusal, IsTextFault, refusal_number}
 use Rattle.zoned_ffi.specs.declared.kind.Kind.{Kind}

@@ -3,8 +3,8 @@ use Rattle.std.proofs.Common.{ℤ, ◌-ℤ◌, ◌≡◌, ◌∙◌, ap, inl, in
 use Rattle.std.proofs.Math.IntN.{+ℤ-neg_ℤ_cancel}
 use Rattle.naive_base.specs.Range.{IsInRange}
 use Rattle.offset_core.specs.declared.choice.Choice.{Choice}
+use Rattle.tz_base.specs.LocalTypes.{IsUtOffset, LocalType}
 use Rattle.tz_info.specs.Gaps.{HasGap, IsBeforeGap}
-use Rattle.tz_info.specs.LocalTypes.{IsUtOffset, LocalType}
 use Rattle.tz_info.specs.WallClocks.{Shows}
 use Rattle.tz_info.specs.Zones.{Zone, TypeAt}
 use Rattle.zoned_ffi.specs.Resolved.{IsResolvedAt, IsTaken}

@@ -1,7 +1,7 @@
 -- What is written for instants.
 use Rattle.std.specs.Prelude.{ℤ, ◌≡◌, ◌⊎◌, pos, neg_ℤ, List}
 use Rattle.std.specs.List.{AllZip}
-use Rattle.tz_info.specs.LocalTypes.{LocalType, IsUtOffset}
+use Rattle.tz_base.specs.LocalTypes.{LocalType, IsUtOffset}
 use Rattle.tz_info.specs.Zones.{Zone, TypeAt, IsTypeRefused}
 
 -- INT32_MIN, which is no offset

@@ -1,7 +1,7 @@
 -- Why a call is refused, by the number that it returns.
 use Rattle.std.specs.Prelude.{ℕ, ◌≡◌, ◌≢◌, ◌≤◌, List}
 use Rattle.std.specs.Str.{IsUtf8}
-use Rattle.tz_info.specs.Errors.{number_of as error_number}
+use Rattle.tz_base.specs.Errors.{number_of as error_number}
 use Rattle.tz_info.specs.PosixZones.{IsPosixZone, IsPosixFault}
 use Rattle.tz_info.specs.TzFiles.{IsZoneFault}
 use Rattle.tz_info.specs.Zones.{Zone}

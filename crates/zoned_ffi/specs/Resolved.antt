@@ -8,8 +8,8 @@ use Rattle.offset_core.specs.declared.choice.GapChoice.{GapChoice}
 use Rattle.offset_core.specs.declared.choice.GapChoice.TheVariants as gaps
 use Rattle.offset_core.specs.declared.choice.FoldChoice.{FoldChoice}
 use Rattle.offset_core.specs.declared.choice.FoldChoice.TheVariants as folds
+use Rattle.tz_base.specs.LocalTypes.{LocalType}
 use Rattle.tz_info.specs.Gaps.{IsBeforeGap}
-use Rattle.tz_info.specs.LocalTypes.{LocalType}
 use Rattle.tz_info.specs.WallClocks.{Shows}
 use Rattle.tz_info.specs.Zones.{Zone, TypeAt}
 use Rattle.zoned_ffi.specs.Instants.{IsOffsetAt}

@@ -1,6 +1,6 @@
 -- The gap of the borrowed zone's offset is that of the kept one.
 use Rattle.std.proofs.Common.{◌≡◌, sym, subst, ℤ, pos, ◌-ℤ◌}
-use Rattle.tz_info.specs.LocalTypes.{LocalType}
+use Rattle.tz_base.specs.LocalTypes.{LocalType}
 use Rattle.tz_info.specs.Zones.{Zone, TypeAt}
 use Rattle.zoned_time.specs.Choice.{IsBeforeGap}
 

@@ -2,7 +2,7 @@
 use Rattle.std.specs.Prelude.{ℤ}
 use Rattle.offset_core.specs.declared.fixed_offset.FixedOffset.{FixedOffset}
 use Rattle.offset_core.specs.FixedOffset.{seconds_of}
-use Rattle.tz_info.specs.LocalTypes.{LocalType}
+use Rattle.tz_base.specs.LocalTypes.{LocalType}
 use Rattle.tz_info.specs.Zones.{TypeAt}
 use Rattle.zoned_time.specs.Zone.{Meaning, Law}
 use Rattle.zoned_kept.specs.KeptZone.{zone_of, off_of}

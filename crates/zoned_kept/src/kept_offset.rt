@@ -69,7 +69,7 @@ impl KeptOffset {
 
 impl PartialEq for KeptOffset {
     ghost use Rattle.std.specs.Cmp.{on_per};
-    ghost use Rattle.tz_info.specs.contracts.local_time_type.LocalTimeTypePartialEq.TheImpl.Laws.{laws-law};
+    ghost use Rattle.tz_base.specs.contracts.local_time_type.LocalTimeTypePartialEq.TheImpl.Laws.{laws-law};
     ghost use Rattle.zoned_kept.specs.KeptOffset.{type_of};
 
     ghost eq = { on type_of ⟦<LocalTimeType as PartialEq>⟧.eq };
@@ -83,7 +83,7 @@ impl PartialEq for KeptOffset {
 
 impl Eq for KeptOffset {
     ghost use Rattle.std.specs.Cmp.{on_equiv};
-    ghost use Rattle.tz_info.specs.contracts.local_time_type.LocalTimeTypeEq.TheImpl.Laws.{laws-law};
+    ghost use Rattle.tz_base.specs.contracts.local_time_type.LocalTimeTypeEq.TheImpl.Laws.{laws-law};
     ghost use Rattle.zoned_kept.specs.KeptOffset.{type_of};
 
     ghost laws = { on_equiv type_of laws-law };

@@ -17,7 +17,7 @@ pub fn kept_offsets()
         ≡ fed.i32 (ahead_of a) }
     ensures cloned { (a b : AnyOffset) → ⟦<KeptOffset as Clone>⟧.is_clone a b ↔ (b ≡ a) }
 {
-    tz_info::laws::equality::local_time_types();
+    tz_base::laws::local_time_types();
 }
 
 /// A clone is the zone.

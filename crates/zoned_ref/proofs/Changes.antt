@@ -5,8 +5,8 @@ use Rattle.std.proofs.lemmas.Int.{ints}
 use Rattle.naive_base.specs.Range.{first_second, last_second, IsInRange}
 use Rattle.naive_base.specs.Stamp.{of_secs}
 use Rattle.naive_base.proofs.ForCallers.{gap_of}
+use Rattle.tz_base.specs.LocalTypes.{LocalType}
 use Rattle.tz_info.specs.Changes.{IsChange, HasNoChange, IsFirst, IsFirstChange, IsLast, IsLastChange}
-use Rattle.tz_info.specs.LocalTypes.{LocalType}
 use Rattle.tz_info.specs.Zones.{Zone, TypeAt}
 use Rattle.tz_info.specs.declared.change.Change.{Change}
 use Rattle.tz_info.proofs.ForCallers.{type_once}

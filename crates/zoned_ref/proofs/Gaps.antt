@@ -3,8 +3,8 @@ use Rattle.std.proofs.Common.{◌≡◌, ℤ, pos, ◌+ℤ◌, ◌-ℤ◌, arith
 use Rattle.std.proofs.lemmas.Int.{ints}
 use Rattle.offset_core.specs.Offset.{IsWithinDay}
 use Rattle.naive_base.specs.Range.{IsWide}
+use Rattle.tz_base.specs.LocalTypes.{LocalType}
 use Rattle.tz_info.specs.Gaps as types
-use Rattle.tz_info.specs.LocalTypes.{LocalType}
 use Rattle.tz_info.specs.Zones.{Zone, TypeAt}
 use Rattle.tz_info.proofs.ForCallers.{type_once}
 use Rattle.zoned_time.specs.Choice.{IsBeforeGap, IsOffsetBeforeGap}

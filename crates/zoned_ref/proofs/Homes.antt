@@ -1,6 +1,6 @@
 -- An offset knows the zone that it came from, and its type.
 use Rattle.std.proofs.Common.{◌≡◌, ℤ, sym, subst}
-use Rattle.tz_info.specs.LocalTypes.{LocalType}
+use Rattle.tz_base.specs.LocalTypes.{LocalType}
 use Rattle.tz_info.specs.Zones.{Zone, TypeAt}
 use Rattle.zoned_time.specs.Zone.{SameLaw, home_law}
 use Rattle.zoned_time.proofs.ForCallers.{same_itself}

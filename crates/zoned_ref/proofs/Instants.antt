@@ -6,7 +6,7 @@ use Rattle.offset_core.specs.declared.local_result.LocalResult.TheVariants.{Sing
 use Rattle.offset_core.specs.LocalResult.{all_or_none}
 use Rattle.offset_core.proofs.ForCallers.{one_wall_answer}
 use Rattle.naive_base.specs.Reading.{Reading}
-use Rattle.tz_info.specs.LocalTypes.{LocalType}
+use Rattle.tz_base.specs.LocalTypes.{LocalType}
 use Rattle.tz_info.specs.WallClocks.{Shows}
 use Rattle.tz_info.specs.Zones.{Zone, TypeAt}
 use Rattle.tz_info.proofs.ForCallers.{type_once}

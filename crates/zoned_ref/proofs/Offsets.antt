@@ -7,7 +7,7 @@ use Rattle.offset_core.specs.Offset.{IsWithinDay}
 use Rattle.naive_base.specs.Year.{floor_div}
 use Rattle.naive_base.specs.DateOf.{year_of}
 use Rattle.naive_base.proofs.ForCallers.{lies_in}
-use Rattle.tz_info.specs.LocalTypes.{LocalType}
+use Rattle.tz_base.specs.LocalTypes.{LocalType}
 use Rattle.tz_info.specs.Moments.{type_when}
 use Rattle.tz_info.specs.Rules.{Alternate as AlternateRule}
 use Rattle.tz_info.specs.Zones.{Zone, TypeAt, IsValid, IsTypeRefused, by_leap_time, by_rule, IsRefusedBy, IsRuleOrNone, IsTypeOf}

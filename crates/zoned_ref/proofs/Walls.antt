@@ -9,7 +9,7 @@ use Rattle.offset_core.specs.Offset.{IsWithinDay}
 use Rattle.offset_core.specs.WallAnswer.{IsWallAnswer}
 use Rattle.offset_core.proofs.ForCallers.{IsWallAnswer-map_of}
 use Rattle.naive_base.specs.Range.{IsWide}
-use Rattle.tz_info.specs.LocalTypes.{LocalType}
+use Rattle.tz_base.specs.LocalTypes.{LocalType}
 use Rattle.tz_info.specs.WallClocks as types
 use Rattle.tz_info.specs.Zones.{Zone, TypeAt}
 use Rattle.tz_info.proofs.ForCallers.{type_once}

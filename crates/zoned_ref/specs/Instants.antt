@@ -1,11 +1,10 @@
 -- The instants at which the clocks of a parsed zone show a reading.
-use Rattle.std.specs.Prelude.{ℤ, Option}
-use Rattle.std.specs.Prelude.{Some as some, None as none}
+use Rattle.std.specs.Prelude.{ℤ, Option, Some as some, None as none}
 use Rattle.offset_core.specs.declared.local_result.LocalResult.{LocalResult}
 use Rattle.offset_core.specs.LocalResult.{map_of}
 use Rattle.offset_core.specs.WallAnswer.{IsWallAnswer}
 use Rattle.naive_base.specs.Reading.{Reading}
-use Rattle.tz_info.specs.LocalTypes.{LocalType}
+use Rattle.tz_base.specs.LocalTypes.{LocalType}
 use Rattle.tz_info.specs.WallClocks.{Shows}
 use Rattle.tz_info.specs.Zones.{Zone, TypeAt}
 use Rattle.zoned_time.specs.Relocal.{AreInstantsOf}

@@ -1,7 +1,7 @@
 -- The offsets of a parsed zone: those of the types in force.
 use Rattle.std.specs.Prelude.{◌≡◌, ℤ, List, [], All, Option, Some, None}
 use Rattle.offset_core.specs.Offset.{IsWithinDay}
-use Rattle.tz_info.specs.LocalTypes.{LocalType}
+use Rattle.tz_base.specs.LocalTypes.{LocalType}
 use Rattle.tz_info.specs.PosixZones.{types_of}
 use Rattle.tz_info.specs.Zones.{Zone, TypeAt}
 use Rattle.tz_info.specs.declared.rule.transition_rule.TransitionRule.{TransitionRule}

@@ -2,7 +2,7 @@
 use Rattle.std.specs.Prelude.{◌≡◌, ℤ, pos, ◌-ℤ◌, ◌≤ℤ◌, ◌<ℤ◌}
 use Rattle.naive_base.specs.Range.{first_second, last_second, IsInRange}
 use Rattle.naive_base.specs.Stamp.{of_secs}
-use Rattle.tz_info.specs.LocalTypes.{LocalType}
+use Rattle.tz_base.specs.LocalTypes.{LocalType}
 use Rattle.tz_info.specs.Zones.{Zone, TypeAt}
 use Rattle.tz_info.specs.declared.change.Change.{Change}
 use Rattle.zoned_time.specs.DateTime.{zoned}

@@ -17,7 +17,7 @@ pub fn zone_offsets<'a>()
     ensures cloned { (a b : AnyOffset) → ⟦<ZoneOffset<'a> as Clone>⟧.is_clone a b ↔ (b ≡ a) }
     ensures infallible { (a : AnyOffset) → ⟦<ZoneOffset<'a> as Clone>⟧.is_infallible a }
 {
-    tz_info::laws::equality::local_time_types();
+    tz_base::laws::local_time_types();
 }
 
 /// A clone of a borrowed zone is that zone, and making it never fails.

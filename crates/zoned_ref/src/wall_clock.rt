@@ -4,14 +4,14 @@ ghost use Rattle.std.specs.Prelude.{◌≡◌, ◌⊎◌, IfOk, IfErr, MatchResu
 ghost use Rattle.offset_core.specs.FixedOffset.{seconds_of};
 ghost use Rattle.offset_core.specs.LocalResult.{map_of};
 ghost use Rattle.naive_base.specs.NaiveDateTime.{reading};
-ghost use Rattle.tz_info.specs.Counts.{HasRoom};
-ghost use Rattle.tz_info.specs.Errors.{number_of};
+ghost use Rattle.tz_base.specs.Errors.{number_of};
+ghost use Rattle.tz_base.specs.declared.error.Error.TheVariants.{OutOfMemory};
+ghost use Rattle.timeline.specs.Counts.{HasRoom};
 ghost use Rattle.tz_info.specs.FilePieces.{FilePieces, HasPieces};
 ghost use Rattle.tz_info.specs.Looks.{RoseByWallClock};
 ghost use Rattle.tz_info.specs.PosixZones.{IsPosixZone, IsPosixFault};
 ghost use Rattle.tz_info.specs.TzFiles.{IsTzFile, IsZoneFault};
 ghost use Rattle.tz_info.specs.Zones.{Zone, IsValid};
-ghost use Rattle.tz_info.specs.declared.error.Error.TheVariants.{OutOfMemory};
 ghost use Rattle.zoned_time.specs.DateTime.{zoned};
 ghost use Rattle.zoned_time.specs.Zoned.{in_seconds};
 ghost use Rattle.zoned_ref.specs.Instants.{AreTypesFor, AreInstantsAt, AreInstantsFor};

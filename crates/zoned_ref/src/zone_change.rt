@@ -2,8 +2,8 @@
 ghost use Rattle.std.specs.Prelude.{◌≡◌, ◌≢◌, ◌⊎◌, pos, ◌-ℤ◌, ◌≤ℤ◌, ◌<ℤ◌, IfSome, MatchOption, option_map};
 ghost use Rattle.naive_base.specs.Range.{IsInRange};
 ghost use Rattle.naive_base.specs.Stamp.{of_secs};
+ghost use Rattle.tz_base.specs.LocalTypes.{LocalType};
 ghost use Rattle.tz_info.specs.Changes.{IsChange, IsFirst, IsLast};
-ghost use Rattle.tz_info.specs.LocalTypes.{LocalType};
 ghost use Rattle.tz_info.specs.Zones.{TypeAt};
 ghost use Rattle.zoned_time.specs.DateTime.{zoned};
 ghost use Rattle.zoned_time.specs.Zoned.{IsAt};
@@ -122,5 +122,5 @@ impl<'a> TimeZoneRef<'a> {
 fn types_are_decided()
     ensures { (s t : LocalType) → (s ≡ t) ⊎ (s ≢ t) }
 {
-    tz_info::laws::equality::local_time_types();
+    tz_base::laws::local_time_types();
 }

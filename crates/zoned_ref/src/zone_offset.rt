@@ -87,7 +87,7 @@ impl<'a> ZoneOffset<'a> {
 
 impl PartialEq for ZoneOffset<'_> {
     ghost use Rattle.std.specs.Cmp.{on_per};
-    ghost use Rattle.tz_info.specs.contracts.local_time_type.LocalTimeTypePartialEq.TheImpl.Laws.{laws-law};
+    ghost use Rattle.tz_base.specs.contracts.local_time_type.LocalTimeTypePartialEq.TheImpl.Laws.{laws-law};
     ghost use Rattle.zoned_ref.specs.ZoneOffset.{type_of};
 
     ghost eq = { on type_of ⟦<LocalTimeType as PartialEq>⟧.eq };
@@ -101,7 +101,7 @@ impl PartialEq for ZoneOffset<'_> {
 
 impl Eq for ZoneOffset<'_> {
     ghost use Rattle.std.specs.Cmp.{on_equiv};
-    ghost use Rattle.tz_info.specs.contracts.local_time_type.LocalTimeTypeEq.TheImpl.Laws.{laws-law};
+    ghost use Rattle.tz_base.specs.contracts.local_time_type.LocalTimeTypeEq.TheImpl.Laws.{laws-law};
     ghost use Rattle.zoned_ref.specs.ZoneOffset.{type_of};
 
     ghost laws = { on_equiv type_of laws-law };

@@ -1,16 +1,16 @@
 -- Reading the lists of a TZif file, and what its reader answers.
 use Rattle.std.specs.Prelude.{ℕ, ◌≡◌, ◌⊎◌, ◌*◌, ◌+◌, Result, Ok, Err, List, length, Option, option_map}
-use Rattle.tz_info.specs.Errors.{number_of}
-use Rattle.tz_info.specs.LocalTypes.{LocalType}
+use Rattle.tz_base.specs.Errors.{number_of}
+use Rattle.tz_base.specs.LocalTypes.{LocalType}
+use Rattle.tz_base.specs.Fronts.{◌>>=◌}
+use Rattle.tz_base.specs.declared.error.Error.{Error}
+use Rattle.tz_base.specs.declared.error.Error.TheVariants.{OutOfMemory}
 use Rattle.tz_info.specs.Zones.{Zone}
-use Rattle.tz_info.specs.Fronts.{◌>>=◌}
 use Rattle.tz_info.specs.FileBlocks.{parts_of}
 use Rattle.tz_info.specs.FilePieces.{FilePieces}
 use Rattle.tz_info.specs.Steps.ContentReading.{values_below, transition_in, leap_second_in, type_in, indicators_of}
 use Rattle.tz_info.specs.Steps.FileReading.{pieces_at}
 use Rattle.tz_info.specs.Steps.FooterReading.{footer_of}
-use Rattle.tz_info.specs.declared.error.Error.{Error}
-use Rattle.tz_info.specs.declared.error.Error.TheVariants.{OutOfMemory}
 use Rattle.tz_info.specs.declared.rule.transition_rule.TransitionRule.{TransitionRule}
 use Rattle.tz_info.specs.declared.file.reader.Pieces.{Pieces}
 use Rattle.tz_info.specs.declared.file.reader.Lists.{Lists}

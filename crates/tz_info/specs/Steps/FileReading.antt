@@ -2,8 +2,8 @@
 use Rattle.std.specs.Prelude.{ℕ, ◌+◌, ◌*◌, ◌==◌, Bool, not, ◌&&◌, ◌||◌, if◌then◌else◌, List, [], ◌∷◌, slice_index, Result, Ok, Err}
 use Rattle.std.specs.Bool.{nat_eq}
 use Rattle.std.specs.Cmp.Lexicographic.{pointwise}
+use Rattle.tz_base.specs.Fronts.{◌>>=◌, exact_at, be_u32_at}
 use Rattle.tz_info.specs.FileHeaders.{magic}
-use Rattle.tz_info.specs.Fronts.{◌>>=◌, exact_at, be_u32_at}
 use Rattle.tz_info.specs.FileBlocks.{Parts}
 use Rattle.tz_info.specs.FilePieces.{FilePieces, first_pieces, later_pieces}
 use Rattle.tz_info.specs.declared.file.header.Place.{Place}

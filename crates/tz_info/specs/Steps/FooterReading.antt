@@ -4,7 +4,7 @@ use Rattle.std.specs.Bool.{nat_eq}
 use Rattle.std.specs.List.{list_any, starts_with, ends_with}
 use Rattle.std.specs.Str.{is_utf8}
 use Rattle.std.specs.Char.{is_ascii_whitespace}
-use Rattle.tz_info.specs.Fronts.{◌>>=◌}
+use Rattle.tz_base.specs.Fronts.{◌>>=◌}
 use Rattle.tz_info.specs.Steps.ContentReading.{is_zero}
 use Rattle.tz_info.specs.Steps.Readings.{text_at}
 use Rattle.tz_info.specs.declared.rule.transition_rule.TransitionRule.{TransitionRule}

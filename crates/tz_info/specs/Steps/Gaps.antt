@@ -1,7 +1,7 @@
 -- The way to the first second at which clocks show more than a local time that they never show.
 use Rattle.std.specs.Prelude.{◌≡◌, ◌<◌, length, ℤ, pos, ◌+ℤ◌, ◌-ℤ◌, ◌≤ℤ◌, ◌<ℤ◌}
+use Rattle.tz_base.specs.LocalTypes.{LocalType}
 use Rattle.tz_info.specs.Leaps.{IsNear}
-use Rattle.tz_info.specs.LocalTypes.{LocalType}
 use Rattle.tz_info.specs.Segments.{segment_of}
 use Rattle.tz_info.specs.Windows.{IsGreatest, IsLeast, offsets}
 use Rattle.tz_info.specs.Zones.{Zone, TypeAt}

@@ -1,6 +1,6 @@
 -- From one moment of a rule to the next, and to the one before.
 use Rattle.std.specs.Prelude.{ℤ, ◌≤ℤ◌, ◌<ℤ◌, ◌⊎◌}
-use Rattle.tz_info.specs.LocalTypes.{LocalType}
+use Rattle.tz_base.specs.LocalTypes.{LocalType}
 use Rattle.tz_info.specs.Moments.{AlternateAt}
 use Rattle.tz_info.specs.Rules.{Alternate}
 

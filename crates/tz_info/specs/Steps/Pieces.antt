@@ -4,7 +4,7 @@ use Rattle.std.specs.Int.{saturate_signed, w64}
 use Rattle.naive_base.specs.Range.{IsWide}
 use Rattle.offset_core.specs.declared.local_result.LocalResult.{LocalResult}
 use Rattle.offset_core.specs.declared.local_result.LocalResult.TheVariants.{None, Single, Ambiguous}
-use Rattle.tz_info.specs.LocalTypes.{LocalType, IsUtOffset}
+use Rattle.tz_base.specs.LocalTypes.{LocalType, IsUtOffset}
 use Rattle.tz_info.specs.Steps.Segments.{index_of}
 use Rattle.tz_info.specs.Steps.Starts.{IsCut}
 use Rattle.tz_info.specs.WallPieces.{AreInOrder, IsShownAmong, IsStart, answer_at}

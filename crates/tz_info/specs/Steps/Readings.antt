@@ -3,10 +3,10 @@
 use Rattle.std.specs.Prelude.{ℕ, ℤ, pos, ◌+ℤ◌, int_le, nat_lt, nat_le, Bool, true, false, not, ◌&&◌, ◌||◌, if◌then◌else◌, List, [], ◌∷◌, length, Result, Ok, Err, Some}
 use Rattle.std.specs.List.{list_all}
 use Rattle.offset_core.specs.Offset.{IsWithinDay}
-use Rattle.tz_info.specs.Fronts.{◌>>=◌, tag_at, optional_tag_at, int_at, run_of, after_run}
+use Rattle.tz_base.specs.Fronts.{◌>>=◌, tag_at, optional_tag_at, int_at, run_of, after_run}
+use Rattle.tz_base.specs.Names.{is_name_byte}
+use Rattle.tz_base.specs.LocalTypes.{LocalType}
 use Rattle.tz_info.specs.Pieces.{plus, comma, minus, dot, slash, colon, less, greater, letter_J, letter_M, is_letter, is_not_greater, clock_max, date_max, day_max, seconds_of, time_limit}
-use Rattle.tz_info.specs.Names.{is_name_byte}
-use Rattle.tz_info.specs.LocalTypes.{LocalType}
 use Rattle.tz_info.specs.Rules.{Alternate, IsWithinWeek}
 use Rattle.tz_info.specs.declared.rule.day.DayForm.{DayForm}
 use Rattle.tz_info.specs.declared.rule.day.DayForm.TheVariants.{Julian1, Julian0, MonthWeekday}

@@ -1,6 +1,6 @@
 -- A rule's seconds from one second on: the types there, and how often the rule is asked for a local time.
 use Rattle.std.specs.Prelude.{ℕ, ℤ, ◌≡◌, ◌+◌, ◌-ℤ◌, ◌≤ℤ◌, ◌<ℤ◌, ◌⊎◌, Contains, Some}
-use Rattle.tz_info.specs.LocalTypes.{LocalType, IsUtOffset}
+use Rattle.tz_base.specs.LocalTypes.{LocalType, IsUtOffset}
 use Rattle.tz_info.specs.Questions.{IsAskedAtEach}
 use Rattle.tz_info.specs.RuleTypes.{RuleAt}
 use Rattle.tz_info.specs.Steps.Seasons.{IsDecidedIn}

@@ -1,13 +1,12 @@
 //! The data blocks of a file (RFC 8536 section 3.2).
 
 ghost use Rattle.std.specs.Prelude.{◌≡◌, ◌≤◌};
-ghost use Rattle.tz_info.specs.Fronts.{Gives};
+ghost use Rattle.tz_base.specs.Fronts.{Gives};
 ghost use Rattle.tz_info.specs.FileBlocks.{parts_of};
 ghost use Rattle.tz_info.specs.Steps.FileReading.{block_at};
 
-use crate::cursor::Cursor;
-use crate::error::Error;
 use crate::file::header::Counts;
+use tz_base::{Cursor, Error};
 
 /// The parts of a data block, each a slice of the file.
 #[derive(Clone, Copy)]

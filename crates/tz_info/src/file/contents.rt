@@ -1,14 +1,14 @@
 //! What the records of a data block say (RFC 8536 section 3.2).
 
 ghost use Rattle.std.specs.Prelude.{◌≡◌, ◌≤◌, ◌*◌, ◌+◌, ◌⊎◌, length, slice_index};
-ghost use Rattle.tz_info.specs.Fronts.{Gives};
+ghost use Rattle.tz_base.specs.Fronts.{Gives};
 ghost use Rattle.tz_info.specs.Steps.ContentReading.{GivesInMemory, values_below, transition_in, leap_second_in, leap_second_of, pair_agrees, indicators_of};
 ghost use Rattle.tz_info.specs.Steps.Below.{all_below};
 
-use crate::error::{Error, Expected};
 use crate::file::numbers::{record_at, signed_32, time_of};
 use crate::zone::{LeapSecond, Transition};
 use std::alloc::Global;
+use tz_base::{Error, Expected};
 
 /// The transitions of a block: a time and a type index for each.
 pub fn read_transitions(

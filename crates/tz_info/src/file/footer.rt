@@ -3,14 +3,14 @@
 ghost use Rattle.std.specs.Prelude.{◌≡◌};
 ghost use Rattle.std.specs.List.{list_any};
 ghost use Rattle.std.specs.Str.{is_utf8};
-ghost use Rattle.tz_info.specs.Fronts.{Gives};
+ghost use Rattle.tz_base.specs.Fronts.{Gives};
 ghost use Rattle.tz_info.specs.Steps.ContentReading.{is_zero};
 ghost use Rattle.tz_info.specs.Steps.FooterReading.{trimmed, is_between_newlines, is_no_text, rule_in, rule_or_none, text_or_none, footer_at};
 
-use crate::error::{Error, Expected};
 use crate::file::contents::byte_or_zero;
 use crate::rule::TransitionRule;
 use crate::rule::reader::read_all;
+use tz_base::{Error, Expected};
 
 /// The rule of a footer: none, or that of the TZ text that stands between two newlines.
 #[tactic(auto, unfolding(crate::specs::Steps::FooterReading::footer_at))]

@@ -2,14 +2,13 @@
 
 ghost use Rattle.std.specs.Prelude.{◌≡◌};
 ghost use Rattle.std.specs.Result.{IsErrAnd};
+ghost use Rattle.tz_base.specs.Fronts.{Gives};
+ghost use Rattle.tz_base.specs.declared.error.Error.TheVariants.{InvalidTzFile};
+ghost use Rattle.tz_base.specs.declared.error.Expected.TheVariants.{TZifAtFrontOfHeader};
 ghost use Rattle.tz_info.specs.FileHeaders.{HasOtherMagic};
-ghost use Rattle.tz_info.specs.Fronts.{Gives};
 ghost use Rattle.tz_info.specs.Steps.FileReading.{magic_at, version_of, version_at, counts_at, counts_agree, header_at};
-ghost use Rattle.tz_info.specs.declared.error.Error.TheVariants.{InvalidTzFile};
-ghost use Rattle.tz_info.specs.declared.error.Expected.TheVariants.{TZifAtFrontOfHeader};
 
-use crate::cursor::Cursor;
-use crate::error::{Error, Expected};
+use tz_base::{Cursor, Error, Expected};
 
 /// Which of a file's headers it is.
 #[derive(Clone, Copy)]

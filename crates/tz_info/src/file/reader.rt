@@ -2,8 +2,10 @@
 
 ghost use Rattle.std.specs.Prelude.{◌≡◌, ◌⊎◌, IfOk, IfErr, MatchResult, option_map};
 ghost use Rattle.std.specs.Result.{IsErrAnd};
-ghost use Rattle.tz_info.specs.Errors.{IsTimeZoneError, number_of};
-ghost use Rattle.tz_info.specs.Fronts.{Gives};
+ghost use Rattle.tz_base.specs.Errors.{IsTimeZoneError, number_of};
+ghost use Rattle.tz_base.specs.Fronts.{Gives};
+ghost use Rattle.tz_base.specs.declared.error.Error.TheVariants.{InvalidTzFile, OutOfMemory};
+ghost use Rattle.tz_base.specs.declared.error.Expected.TheVariants.{TZifAtFrontOfHeader};
 ghost use Rattle.tz_info.specs.Zones.{Zone, IsValid};
 ghost use Rattle.tz_info.specs.FileBlocks.{parts_of};
 ghost use Rattle.tz_info.specs.Steps.FileReading.{first_version_in, later_version_at, after_version, pieces_at};
@@ -13,20 +15,16 @@ ghost use Rattle.tz_info.specs.Steps.FileLists.{pieces_of, zone_of, lists_in, wi
 ghost use Rattle.tz_info.specs.FileHeaders.{HasOtherMagic};
 ghost use Rattle.tz_info.specs.FilePieces.{FilePieces, HasPieces, is_extended};
 ghost use Rattle.tz_info.specs.TzFiles.{IsTzFile, IsZoneFault};
-ghost use Rattle.tz_info.specs.declared.error.Error.TheVariants.{InvalidTzFile, OutOfMemory};
-ghost use Rattle.tz_info.specs.declared.error.Expected.TheVariants.{TZifAtFrontOfHeader};
 
-use crate::cursor::Cursor;
-use crate::error::{Error, Expected};
 use crate::file::block::{Block, read_block};
 use crate::file::contents::{check_indicators, read_leap_seconds, read_transitions};
 use crate::file::footer::read_footer;
 use crate::file::header::{Counts, Header, Place, Version, read_header};
 use crate::file::types::read_types;
-use crate::local_time_type::LocalTimeType;
 use crate::rule::TransitionRule;
 use crate::zone::{LeapSecond, TimeZone, Transition};
 use std::alloc::Global;
+use tz_base::{Cursor, Error, Expected, LocalTimeType};
 
 /// The lists that a file spells. They need not make a valid zone.
 #[derive(Drop)]

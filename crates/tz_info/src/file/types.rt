@@ -2,14 +2,13 @@
 
 ghost use Rattle.std.specs.Prelude.{◌≡◌, ◌≤◌, ◌<◌, ◌*◌, length, IfSome, option_map};
 ghost use Rattle.std.specs.List.{position_from};
-ghost use Rattle.tz_info.specs.Fronts.{Gives};
+ghost use Rattle.tz_base.specs.Fronts.{Gives};
 ghost use Rattle.tz_info.specs.FileContents.{designation_of};
 ghost use Rattle.tz_info.specs.Steps.ContentReading.{GivesInMemory, values_below, type_in, type_of_record, with_next_type, mark_of, type_of, text_before_zero, designation_at, is_zero};
 
-use crate::error::{Error, Expected};
 use crate::file::numbers::{record_at, signed_32};
-use crate::local_time_type::LocalTimeType;
 use std::alloc::Global;
+use tz_base::{Error, Expected, LocalTimeType};
 
 /// The types of a block: each an offset of four bytes, a mark of daylight saving time, and where in
 /// the designations its name begins.

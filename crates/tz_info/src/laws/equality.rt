@@ -1,21 +1,15 @@
 //! Theorems of equality and clones: each function is empty, its contract is proved; never called.
 
-ghost use Rattle.std.specs.Prelude.{◌≡◌, ◌↔◌, List, ℕ, IsTrue};
-ghost use Rattle.tz_info.specs.LocalTypes.{LocalType};
+ghost use Rattle.std.specs.Prelude.{◌≡◌, ◌↔◌, IsTrue};
 ghost use Rattle.tz_info.specs.Rules.{Alternate as AlternateRule};
 ghost use Rattle.tz_info.specs.Zones.{Zone};
 ghost use Rattle.tz_info.specs.declared.change.Change.{Change as ClockChange};
-ghost use Rattle.tz_info.specs.declared.error.Error.{Error as Refusal};
-ghost use Rattle.tz_info.specs.declared.error.Expected.{Expected as Wanted};
 ghost use Rattle.tz_info.specs.declared.rule.day.DayForm.{DayForm};
 ghost use Rattle.tz_info.specs.declared.rule.transition_rule.TransitionRule.{TransitionRule as Rule};
 ghost use Rattle.tz_info.specs.declared.zone.leap_second.LeapSecond.{LeapSecond as Leap};
 ghost use Rattle.tz_info.specs.declared.zone.transition.Transition.{Transition as ListedTransition};
 
 use crate::change::Change;
-use crate::error::{Error, Expected};
-use crate::local_time_type::LocalTimeType;
-use crate::name::TimeZoneName;
 use crate::rule::{AlternateTime, RuleDay, TransitionRule};
 use crate::zone::{LeapSecond, TimeZone, Transition};
 
@@ -35,21 +29,6 @@ pub fn leap_seconds()
     ensures equal { (a b : Leap) → IsTrue (⟦<LeapSecond as PartialEq>⟧.eq a b) ↔ (a ≡ b) }
     ensures clone { (a b : Leap) → ⟦<LeapSecond as Clone>⟧.is_clone a b ↔ (b ≡ a) }
     ensures infallible { (a : Leap) → ⟦<LeapSecond as Clone>⟧.is_infallible a }
-{}
-
-/// Names are equal if and only if their bytes are. A clone is the value, and does not fail.
-pub fn names()
-    ensures equal { (a b : List ℕ) → IsTrue (⟦<TimeZoneName as PartialEq>⟧.eq a b) ↔ (a ≡ b) }
-    ensures clone { (a b : List ℕ) → ⟦<TimeZoneName as Clone>⟧.is_clone a b ↔ (b ≡ a) }
-    ensures infallible { (a : List ℕ) → ⟦<TimeZoneName as Clone>⟧.is_infallible a }
-{}
-
-/// Types are equal if and only if their offsets, DST flags and names are. A clone is the value, and
-/// does not fail.
-pub fn local_time_types()
-    ensures equal { (a b : LocalType) → IsTrue (⟦<LocalTimeType as PartialEq>⟧.eq a b) ↔ (a ≡ b) }
-    ensures clone { (a b : LocalType) → ⟦<LocalTimeType as Clone>⟧.is_clone a b ↔ (b ≡ a) }
-    ensures infallible { (a : LocalType) → ⟦<LocalTimeType as Clone>⟧.is_infallible a }
 {}
 
 /// Changes of the clocks are equal if and only if their seconds and the types before and after are.
@@ -82,20 +61,6 @@ pub fn transition_rules()
     ensures equal { (a b : Rule) → IsTrue (⟦<TransitionRule as PartialEq>⟧.eq a b) ↔ (a ≡ b) }
     ensures clone { (a b : Rule) → ⟦<TransitionRule as Clone>⟧.is_clone a b ↔ (b ≡ a) }
     ensures infallible { (a : Rule) → ⟦<TransitionRule as Clone>⟧.is_infallible a }
-{}
-
-/// What was expected is equal where it is the same. A clone is the value, and does not fail.
-pub fn expectations()
-    ensures equal { (a b : Wanted) → IsTrue (⟦<Expected as PartialEq>⟧.eq a b) ↔ (a ≡ b) }
-    ensures clone { (a b : Wanted) → ⟦<Expected as Clone>⟧.is_clone a b ↔ (b ≡ a) }
-    ensures infallible { (a : Wanted) → ⟦<Expected as Clone>⟧.is_infallible a }
-{}
-
-/// Errors are equal where they are the same. A clone is the error, and does not fail.
-pub fn errors()
-    ensures equal { (a b : Refusal) → IsTrue (⟦<Error as PartialEq>⟧.eq a b) ↔ (a ≡ b) }
-    ensures clone { (a b : Refusal) → ⟦<Error as Clone>⟧.is_clone a b ↔ (b ≡ a) }
-    ensures infallible { (a : Refusal) → ⟦<Error as Clone>⟧.is_infallible a }
 {}
 
 /// Zones are equal if and only if their transitions, types, leap seconds and rules are.

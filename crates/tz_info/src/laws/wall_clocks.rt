@@ -5,8 +5,8 @@ ghost use Rattle.std.specs.Prelude.{◌≡◌, ℕ, ℤ, ◌+ℤ◌, FitsSigned}
 ghost use Rattle.std.specs.Int.{w64};
 ghost use Rattle.offset_core.specs.WallAnswer.{IsWallAnswer};
 ghost use Rattle.offset_core.specs.declared.local_result.LocalResult.{LocalResult};
+ghost use Rattle.tz_base.specs.LocalTypes.{LocalType};
 ghost use Rattle.tz_info.specs.Around.{IsAround};
-ghost use Rattle.tz_info.specs.LocalTypes.{LocalType};
 ghost use Rattle.tz_info.specs.WallClocks.{Shows, AreShown, IsAmongShown};
 ghost use Rattle.tz_info.specs.Windows.{IsWindowCount};
 ghost use Rattle.tz_info.specs.Zones.{Zone, IsValid, IsRuleOrNone, TypeAt};

@@ -4,20 +4,19 @@ ghost use Rattle.std.specs.Prelude.{◌≡◌, ◌<◌, ℤ, pos, neg_ℤ, ◌+�
 ghost use Rattle.naive_base.specs.DateOf.{year_of, day_of_year};
 ghost use Rattle.naive_base.specs.Year.{floor_div, year_start, LiesIn, IsDay};
 ghost use Rattle.offset_core.specs.Offset.{IsWithinDay};
-ghost use Rattle.tz_info.specs.Errors.{IsOutOfRangeError, IsTransitionRuleError};
+ghost use Rattle.tz_base.specs.Errors.{IsOutOfRangeError, IsTransitionRuleError};
 ghost use Rattle.tz_info.specs.Rules.{Alternate, IsAlternate, IsAlternateRule, IsWithinWeek};
 ghost use Rattle.tz_info.specs.Moments.{IsRuleTime};
 ghost use Rattle.tz_info.specs.Steps.Kinds.{kind_place};
 ghost use Rattle.tz_info.specs.Steps.Seasons.{IsDecidedIn};
 ghost use Rattle.tz_info.specs.Steps.Turns.{is_between, is_dst_by_one};
 
-use crate::error::{Error, Expected};
-use crate::local_time_type::LocalTimeType;
 use crate::rule::day::{DayTime, RuleDay};
 use crate::rule::kinds::{kind_by, kind_of, margin_of};
 use naive_base::calendar::{year_day_of, year_of, year_start};
 use std::fmt;
 use std::marker::Model;
+use tz_base::{Error, Expected, LocalTimeType};
 
 // The first and the last second of the years that a rule answers in.
 pub(super) const FIRST_RULE_TIME: i64 = -67_768_100_504_812_800;
@@ -109,8 +108,8 @@ impl Model for AlternateTime {
 
 impl PartialEq for AlternateTime {
     ghost use Rattle.std.specs.Cmp.{partial_equiv_from_equiv};
+    ghost use Rattle.tz_base.specs.contracts.local_time_type.LocalTimeTypeEq.TheImpl.Laws.{laws-law as types};
     ghost use Rattle.tz_info.specs.RuleEquality.{alternate_eq, alternate_eq_equiv};
-    ghost use Rattle.tz_info.specs.contracts.local_time_type.LocalTimeTypeEq.TheImpl.Laws.{laws-law as types};
     ghost use Rattle.tz_info.specs.contracts.rule.day.DayTimeEq.TheImpl.Laws.{laws-law as days};
 
     ghost eq = { alternate_eq ⟦<LocalTimeType as PartialEq>⟧.eq ⟦<DayTime as PartialEq>⟧.eq };
@@ -126,8 +125,8 @@ impl PartialEq for AlternateTime {
 }
 
 impl Eq for AlternateTime {
+    ghost use Rattle.tz_base.specs.contracts.local_time_type.LocalTimeTypeEq.TheImpl.Laws.{laws-law as types};
     ghost use Rattle.tz_info.specs.RuleEquality.{alternate_eq_equiv};
-    ghost use Rattle.tz_info.specs.contracts.local_time_type.LocalTimeTypeEq.TheImpl.Laws.{laws-law as types};
     ghost use Rattle.tz_info.specs.contracts.rule.day.DayTimeEq.TheImpl.Laws.{laws-law as days};
 
     ghost laws = { alternate_eq_equiv types days };

@@ -12,11 +12,11 @@ ghost use Rattle.tz_info.specs.Steps.Changes.{IsIdle, IsIdleUntil, IsInStretch, 
 ghost use Rattle.tz_info.specs.Steps.Seasons.{IsAmid, IsDecidedIn, IsSeason};
 
 use crate::change::Change;
-use crate::local_time_type::LocalTimeType;
 use crate::rule::alternate::{
     AlternateTime, FIRST_RULE_TIME, LAST_RULE_TIME, Season, day_of, is_rule_time,
 };
 use naive_base::calendar::{year_of, year_start};
+use tz_base::LocalTimeType;
 
 // The first and the last of the years that a rule answers in.
 const FIRST_RULE_YEAR: i64 = -2_147_483_646;

@@ -6,19 +6,19 @@ ghost use Rattle.naive_base.specs.Year.{is_leap, year_start};
 ghost use Rattle.naive_base.specs.Month.{days_in_month};
 ghost use Rattle.naive_base.specs.Date.{day_number};
 ghost use Rattle.naive_base.specs.Weekday.{weekday_of};
+ghost use Rattle.tz_base.specs.Errors.{IsTransitionRuleError};
 ghost use Rattle.tz_info.specs.RuleDays.{IsWrittenDate};
 ghost use Rattle.tz_info.specs.Rules.{IsWithinWeek};
 ghost use Rattle.tz_info.specs.Steps.KindPlaces.{place_from, places_by_kind};
 ghost use Rattle.tz_info.specs.Steps.RuleDays.{julian_place, weekday_place};
 ghost use Rattle.tz_info.specs.declared.rule.day.DayForm.TheVariants.{MonthWeekday};
-ghost use Rattle.tz_info.specs.Errors.{IsTransitionRuleError};
 
-use crate::error::{Error, Expected};
 use naive_base::calendar::{
     day_number, days_before_month, days_in_month, days_in_year, is_leap_year, month_and_day,
     weekday_of, year_start,
 };
 use std::marker::Model;
+use tz_base::{Error, Expected};
 
 /// The three forms of a date in a TZ text.
 #[derive(Clone, Copy, Debug, PartialEq, Eq)]

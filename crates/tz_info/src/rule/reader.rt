@@ -2,8 +2,8 @@
 
 ghost use Rattle.std.specs.Prelude.{◌≡◌, List, ℕ, IfOk, IfErr};
 ghost use Rattle.std.specs.Result.{IsOkAnd};
-ghost use Rattle.tz_info.specs.Errors.{number_of};
-ghost use Rattle.tz_info.specs.Fronts.{Gives};
+ghost use Rattle.tz_base.specs.Errors.{number_of};
+ghost use Rattle.tz_base.specs.Fronts.{Gives};
 ghost use Rattle.tz_info.specs.Steps.Readings.{text_at};
 ghost use Rattle.tz_info.specs.TzTexts.{IsTzText};
 ghost use Rattle.tz_info.specs.TzFaults.{IsTextFault};
@@ -14,10 +14,9 @@ mod date;
 mod name;
 mod text;
 
-use crate::cursor::Cursor;
-use crate::error::Error;
 use crate::rule::transition_rule::TransitionRule;
 use text::{read_text, rule_of};
+use tz_base::{Cursor, Error};
 
 impl TransitionRule {
     /// The rule that a TZ text spells, as `EST5EDT,M3.2.0,M11.1.0` (POSIX.1 section 8.3). With

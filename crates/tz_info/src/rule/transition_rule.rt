@@ -1,11 +1,10 @@
 //! The rule of a TZ text.
 
 ghost use Rattle.std.specs.Prelude.{◌≡◌, MatchResult};
-ghost use Rattle.tz_info.specs.Errors.{IsOutOfRangeError};
+ghost use Rattle.tz_base.specs.Errors.{IsOutOfRangeError};
 
-use crate::error::Error;
-use crate::local_time_type::LocalTimeType;
 use crate::rule::alternate::AlternateTime;
+use tz_base::{Error, LocalTimeType};
 
 /// What a TZ text says: one type for ever, or two that take turns each year.
 #[derive(Clone, Copy, Debug, PartialEq, Eq)]

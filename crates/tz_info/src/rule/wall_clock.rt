@@ -5,25 +5,23 @@ ghost use Rattle.std.specs.Result.{IsOkAnd};
 ghost use Rattle.naive_base.specs.NaiveDateTime.{reading};
 ghost use Rattle.naive_base.specs.Range.{IsWide};
 ghost use Rattle.offset_core.specs.WallAnswer.{IsWallAnswer};
-ghost use Rattle.tz_info.specs.Counts.{RoseWithin};
-ghost use Rattle.tz_info.specs.LocalTypes.{IsUtOffset};
+ghost use Rattle.tz_base.specs.LocalTypes.{IsUtOffset};
+ghost use Rattle.timeline.specs.Counts.{RoseWithin, HasRoomFor};
 ghost use Rattle.tz_info.specs.RuleTypes.{RuleAt};
 ghost use Rattle.tz_info.specs.Rules.{IsAlternateRule};
-ghost use Rattle.tz_info.specs.Steps.Looks.{HasRoomFor};
 ghost use Rattle.tz_info.specs.Steps.RuleSeconds.{TypeFrom, IsAskedSince, IsAskedFrom, IsAmidFrom, AreUtOffsets};
 ghost use Rattle.tz_info.specs.Steps.Seasons.{IsSeason};
 ghost use Rattle.tz_info.specs.Steps.Walk.{IsAskedLast};
 ghost use Rattle.tz_info.specs.WallClocks.{Shows};
 ghost use Rattle.tz_info.specs.declared.rule.transition_rule.TransitionRule.TheVariants.{Fixed, Alternate};
 
-use crate::answers::{answer_of_two, joined};
-use crate::error::Error;
-use crate::local_time_type::{LocalTimeType, second_showing};
+use crate::answers::{answer_of_two, joined, second_showing};
 use crate::rule::alternate::{AlternateTime, Season};
 use crate::rule::transition_rule::TransitionRule;
-use crate::zone::probes::Probes;
 use naive_base::NaiveDateTime;
 use offset_core::MappedLocalTime;
+use timeline::Probes;
+use tz_base::{Error, LocalTimeType};
 
 impl TransitionRule {
     /// The types in force at the instants at which a clock by this rule shows the reading.

@@ -1,6 +1,6 @@
 //! What shows a local time, and what is in force around a gap.
 
-use crate::local_time_type::LocalTimeType;
+use tz_base::LocalTimeType;
 
 /// What shows a local time; where nothing does, the gap that it lies in.
 #[derive(Clone, Copy, PartialEq, Eq, Debug)]

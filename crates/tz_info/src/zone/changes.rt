@@ -14,12 +14,12 @@ ghost use Rattle.tz_info.specs.Zones.{HasType, TypeAt};
 ghost use Rattle.tz_info.specs.declared.rule.transition_rule.TransitionRule.TheVariants.{Alternate};
 
 use crate::change::Change;
-use crate::local_time_type::LocalTimeType;
 use crate::rule::{AlternateTime, TransitionRule, later_of};
 use crate::zone::leap_second::LeapSecond;
-use crate::zone::probes::Probes;
 use crate::zone::starts::{correction_behind, entries_come};
 use crate::zone::time_zone::TimeZone;
+use timeline::Probes;
+use tz_base::LocalTimeType;
 
 impl TimeZone {
     /// The first change of the clocks after that second, or `None` if none comes at a later second

@@ -4,8 +4,8 @@ ghost use Rattle.std.specs.Prelude.{◌<◌, length};
 ghost use Rattle.tz_info.specs.Steps.Extremes.{AreExtremes, AreJoined, AreJoinedByRule, offsets_of};
 ghost use Rattle.tz_info.specs.Windows.{offsets};
 
-use crate::local_time_type::LocalTimeType;
 use crate::rule::TransitionRule;
+use tz_base::LocalTimeType;
 
 // The least and the greatest of some offsets, in seconds east of UTC.
 #[derive(Clone, Copy, Debug)]

@@ -4,9 +4,8 @@ ghost use Rattle.std.specs.Prelude.{◌≡◌, length, ◌+ℤ◌, MatchOption, 
 ghost use Rattle.naive_base.specs.NaiveDateTime.{reading};
 ghost use Rattle.naive_base.specs.Range.{IsWide};
 ghost use Rattle.offset_core.specs.WallAnswer.{IsNeverShown};
+ghost use Rattle.timeline.specs.Counts.{HasRoom, RoseWithin, HasRoomFor};
 ghost use Rattle.tz_info.specs.Around.{IsAround};
-ghost use Rattle.tz_info.specs.Counts.{HasRoom, RoseWithin};
-ghost use Rattle.tz_info.specs.Steps.Looks.{HasRoomFor};
 ghost use Rattle.tz_info.specs.Gaps.{IsBeforeGap, HasGap, IsShown};
 ghost use Rattle.tz_info.specs.Leaps.{IsNear};
 ghost use Rattle.tz_info.specs.Looks.{RoseAround};
@@ -19,15 +18,16 @@ ghost use Rattle.tz_info.specs.WallPieces.{AreLessAmong, IsTypeBefore, Jumps, Is
 ghost use Rattle.tz_info.specs.Zones.{TypeAt};
 ghost use Rattle.tz_info.specs.declared.rule.transition_rule.TransitionRule.TheVariants.{Alternate};
 
-use crate::local_time_type::{LocalTimeType, second_showing};
+use crate::answers::second_showing;
 use crate::rule::{AlternateTime, TransitionRule};
 use crate::zone::around::{Gap, TypesAround};
-use crate::zone::probes::Probes;
 use crate::zone::shown::{Jump, Shown};
 use crate::zone::starts::{first_second, later};
 use crate::zone::time_zone::TimeZone;
 use naive_base::NaiveDateTime;
 use offset_core::MappedLocalTime;
+use timeline::Probes;
+use tz_base::LocalTimeType;
 
 // The seconds between which clocks may come to show a local time: by the greatest offset, and by
 // the least.

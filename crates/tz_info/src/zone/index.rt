@@ -1,29 +1,26 @@
 //! A zone's index of the wall-clock axis.
 
 ghost use Rattle.std.specs.Prelude.{◌≡◌, ◌<◌, length, MatchResult};
-ghost use Rattle.tz_info.specs.Counts.{RoseByPieces};
-ghost use Rattle.tz_info.specs.Steps.Looks.{HasRoomFor};
-ghost use Rattle.tz_info.specs.Digits.{digits};
+ghost use Rattle.tz_base.specs.declared.error.Error.TheVariants.{OutOfMemory};
+ghost use Rattle.timeline.specs.Counts.{RoseByPieces, HasRoomFor};
+ghost use Rattle.timeline.specs.Digits.{digits};
 ghost use Rattle.tz_info.specs.Segments.{table_count};
 ghost use Rattle.tz_info.specs.Steps.Pieces.{zone_in, ArePieces};
 ghost use Rattle.tz_info.specs.WallPieces.{answer_at, IsIndex};
 ghost use Rattle.tz_info.specs.Zones.{IsValid};
-ghost use Rattle.tz_info.specs.declared.error.Error.TheVariants.{OutOfMemory};
 
-use crate::error::Error;
-use crate::local_time_type::LocalTimeType;
 use crate::rule::TransitionRule;
 use crate::zone::leap_second::LeapSecond;
 use crate::zone::one_pass::pieces_in_one_pass;
 use crate::zone::pieces::Piece;
-use crate::zone::probes::Probes;
 use crate::zone::segments::{Lists, Pieces, index_of_segment, listed, pieces_of, table_count};
 use crate::zone::shown::Shown;
 use crate::zone::starts::start_of;
-use crate::zone::timeline::{Timed, Timeline};
 use crate::zone::transition::Transition;
 use std::alloc::Global;
 use std::marker::Model;
+use timeline::{Probes, Timed, Timeline};
+use tz_base::{Error, LocalTimeType};
 
 // The pieces of a zone's wall-clock axis. A lookup can look at one of them only where the look is
 // counted.
@@ -49,7 +46,7 @@ impl Model for Index {
 }
 
 impl Timed for Piece {
-    ghost use Rattle.tz_info.specs.Steps.Looks.{pieces_more, pieces_more_on, pieces_more_none, pieces_more_looks};
+    ghost use Rattle.timeline.specs.Counts.{pieces_more, pieces_more_on, pieces_more_none, pieces_more_looks};
 
     ghost time = { λ p. p.start };
 

@@ -1,11 +1,11 @@
 //! Leap times of Unix times, and Unix times of leap times.
 
 ghost use Rattle.std.specs.Prelude.{◌≡◌, MatchResult};
-ghost use Rattle.tz_info.specs.Errors.{IsOutOfRangeError};
+ghost use Rattle.tz_base.specs.Errors.{IsOutOfRangeError};
 ghost use Rattle.tz_info.specs.Leaps.{AreLeapSeconds, IsLeapTime, IsLeapTimeRefused, IsUnixTime, IsUnixTimeRefused, correction_before};
 
-use crate::error::{Error, Expected};
 use crate::zone::leap_second::LeapSecond;
+use tz_base::{Error, Expected};
 
 // The leap time of a Unix time.
 #[inline(always)]

@@ -1,23 +1,22 @@
 //! The type in force at an instant, and the looks that lookups share.
 
 ghost use Rattle.std.specs.Prelude.{◌≡◌, ◌+◌, ◌<◌, ◌≤◌, length, take, slice_index_or, IfOk, MatchResult, Some, None};
-ghost use Rattle.tz_info.specs.Counts.{HasRoom, RoseWithin};
-ghost use Rattle.tz_info.specs.Digits.{digits};
-ghost use Rattle.tz_info.specs.Errors.{IsFindLocalTimeTypeError};
+ghost use Rattle.tz_base.specs.Errors.{IsFindLocalTimeTypeError};
+ghost use Rattle.timeline.specs.Counts.{HasRoom, RoseWithin, HasRoomFor};
+ghost use Rattle.timeline.specs.Digits.{digits};
 ghost use Rattle.tz_info.specs.Leaps.{IsLeapTime, IsNear};
 ghost use Rattle.tz_info.specs.Looks.{RoseByInstant};
 ghost use Rattle.tz_info.specs.Questions.{IsAskedAt};
-ghost use Rattle.tz_info.specs.Steps.Looks.{IsAskedAtLeapTime, HasRoomFor};
+ghost use Rattle.tz_info.specs.Steps.Asked.{IsAskedAtLeapTime};
 ghost use Rattle.tz_info.specs.Transitions.{passed};
 ghost use Rattle.tz_info.specs.Zones.{RuleOrType, IsRefusedBy, IsFromLast, TypeAtLeapTime, TypeAt, IsTypeRefused};
 ghost use Rattle.tz_info.specs.declared.rule.transition_rule.TransitionRule.{TransitionRule};
 
-use crate::error::{Error, Expected};
-use crate::local_time_type::LocalTimeType;
 use crate::zone::leap_time::leap_time;
-use crate::zone::probes::Probes;
 use crate::zone::time_zone::TimeZone;
 use crate::zone::transition::Transition;
+use timeline::Probes;
+use tz_base::{Error, Expected, LocalTimeType};
 
 impl TimeZone {
     /// The type in force at the second of Unix time.

@@ -2,17 +2,16 @@
 
 ghost use Rattle.std.specs.Prelude.{◌≡◌, ◌+ℤ◌, ◌≤ℤ◌, ◌<ℤ◌, ◌-◌, ◌<◌, ◌≤◌, length, IsTrue, IsFalse, MatchOption, MatchResult};
 ghost use Rattle.std.specs.Int.{saturate_signed, w64};
+ghost use Rattle.tz_base.specs.LocalTypes.{IsUtOffset};
+ghost use Rattle.tz_base.specs.declared.error.Error.TheVariants.{OutOfMemory};
 ghost use Rattle.tz_info.specs.Leaps.{AreLeapSeconds};
-ghost use Rattle.tz_info.specs.LocalTypes.{IsUtOffset};
 ghost use Rattle.tz_info.specs.Segments.{table_count};
 ghost use Rattle.tz_info.specs.Steps.Pieces.{zone_in, ArePieces, ArePiecesAt, AreCutsCrossed, IsSegment};
 ghost use Rattle.tz_info.specs.Steps.Starts.{IsFarFromEnds, IsLeapless};
 ghost use Rattle.tz_info.specs.Transitions.{AreRising};
 ghost use Rattle.tz_info.specs.WallPieces.{IsStart};
 ghost use Rattle.tz_info.specs.Zones.{IsValid};
-ghost use Rattle.tz_info.specs.declared.error.Error.TheVariants.{OutOfMemory};
 
-use crate::error::Error;
 use crate::zone::leap_second::LeapSecond;
 use crate::zone::pieces::Piece;
 use crate::zone::segments::{Lists, Pieces, index_of_segment, listed, table_count};
@@ -20,6 +19,7 @@ use crate::zone::shown::{Jump, Shown};
 use crate::zone::starts::{cut_at, start_of};
 use crate::zone::transition::Transition;
 use std::alloc::Global;
+use tz_base::Error;
 
 // How far from 1970 a transition may lie whose time takes an offset within 64 bits.
 const FAR: i64 = 1 << 62;

@@ -1,13 +1,13 @@
 //! Pieces of the wall-clock axis: on each of them local times have one answer.
 
 ghost use Rattle.std.specs.Prelude.{◌≡◌, ◌+◌, ◌<◌, ◌≤◌, length, take, IsTrue, IsFalse, MatchResult};
+ghost use Rattle.tz_base.specs.declared.error.Error.TheVariants.{OutOfMemory};
 ghost use Rattle.tz_info.specs.Steps.Merging.{IsMerged, IsNext, IsStep};
 ghost use Rattle.tz_info.specs.WallPieces.{answer_before, AreInOrder};
-ghost use Rattle.tz_info.specs.declared.error.Error.TheVariants.{OutOfMemory};
 
-use crate::error::Error;
 use crate::zone::shown::{Shown, together};
 use std::alloc::Global;
+use tz_base::Error;
 
 // From its start on, and until the next piece starts, a local time has this answer.
 #[derive(Clone, Copy, Debug)]

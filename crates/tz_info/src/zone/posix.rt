@@ -1,15 +1,14 @@
 //! Zones of TZ texts.
 
 ghost use Rattle.std.specs.Prelude.{◌≡◌, IfOk, IfErr, MatchResult, ◌⊎◌, [], ◌∷◌};
-ghost use Rattle.tz_info.specs.Errors.{IsOutOfMemory, number_of};
+ghost use Rattle.tz_base.specs.Errors.{IsOutOfMemory, number_of};
 ghost use Rattle.tz_info.specs.Zones.{Zone};
 ghost use Rattle.tz_info.specs.PosixZones.{IsPosixZone, IsPosixFault, types_of, posix_zone};
 
-use crate::error::Error;
-use crate::local_time_type::LocalTimeType;
 use crate::rule::TransitionRule;
 use crate::zone::time_zone::TimeZone;
 use std::alloc::Global;
+use tz_base::{Error, LocalTimeType};
 
 impl TimeZone {
     /// The zone of a TZ text, such as `EST5EDT,M3.2.0,M11.1.0` (POSIX.1 section 8.3): its rule, and

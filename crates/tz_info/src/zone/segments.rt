@@ -1,16 +1,14 @@
 //! The segments between transitions, and the pieces of the wall-clock axis that they make.
 
 ghost use Rattle.std.specs.Prelude.{◌≡◌, ◌+◌, ◌<◌, ◌≤◌, length, slice_get, Some, MatchResult};
-ghost use Rattle.tz_info.specs.LocalTypes.{IsUtOffset};
+ghost use Rattle.tz_base.specs.LocalTypes.{IsUtOffset};
+ghost use Rattle.tz_base.specs.declared.error.Error.TheVariants.{OutOfMemory};
 ghost use Rattle.tz_info.specs.Segments.{table_count};
 ghost use Rattle.tz_info.specs.Steps.Segments.{index_of};
 ghost use Rattle.tz_info.specs.Steps.Pieces.{zone_in, ArePieces};
 ghost use Rattle.tz_info.specs.WallPieces.{IsTypeBefore};
 ghost use Rattle.tz_info.specs.Zones.{IsValid};
-ghost use Rattle.tz_info.specs.declared.error.Error.TheVariants.{OutOfMemory};
 
-use crate::error::Error;
-use crate::local_time_type::LocalTimeType;
 use crate::rule::TransitionRule;
 use crate::zone::leap_second::LeapSecond;
 use crate::zone::pieces::{Piece, merged};
@@ -18,6 +16,7 @@ use crate::zone::shown::{Jump, Shown, together};
 use crate::zone::starts::{cut_at, start_of};
 use crate::zone::transition::Transition;
 use std::alloc::Global;
+use tz_base::{Error, LocalTimeType};
 
 // The lists of a zone, lent.
 #[derive(Clone, Copy)]

@@ -2,16 +2,16 @@
 
 ghost use Rattle.std.specs.Prelude.{◌≡◌, ℤ, pos, ◌+ℤ◌, ◌≤ℤ◌, ◌↔◌, ◌<◌, ◌≤◌, length, take};
 ghost use Rattle.std.specs.Int.{saturate_signed, w64};
+ghost use Rattle.tz_base.specs.LocalTypes.{IsUtOffset};
 ghost use Rattle.tz_info.specs.Leaps.{AreLeapSeconds, corrections};
 ghost use Rattle.tz_info.specs.Lists.{last_else};
-ghost use Rattle.tz_info.specs.LocalTypes.{IsUtOffset};
 ghost use Rattle.tz_info.specs.Steps.Starts.{HaveCome, IsReachedFrom};
 ghost use Rattle.tz_info.specs.Transitions.{AreRising};
 ghost use Rattle.tz_info.specs.WallPieces.{IsStart};
 
-use crate::local_time_type::LocalTimeType;
 use crate::zone::leap_second::LeapSecond;
 use crate::zone::transition::Transition;
+use tz_base::LocalTimeType;
 
 // The first second at which the leap time has come.
 pub(super) fn first_second(leaps: &[LeapSecond], leap_time: i64) -> i64

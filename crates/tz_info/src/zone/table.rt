@@ -1,20 +1,18 @@
 //! The transitions of a zone. A lookup can look at one of them only where the look is counted.
 
 ghost use Rattle.std.specs.Prelude.{◌≡◌, ◌+◌, ◌<◌, ◌≤◌, [], length, option_map, take, slice_index_or, MatchResult};
-ghost use Rattle.tz_info.specs.Counts.{RoseWithin};
-ghost use Rattle.tz_info.specs.Steps.Looks.{HasRoomFor};
-ghost use Rattle.tz_info.specs.Steps.Search.{IsLastOf};
-ghost use Rattle.tz_info.specs.Digits.{digits};
+ghost use Rattle.tz_base.specs.declared.error.Error.TheVariants.{OutOfMemory};
+ghost use Rattle.timeline.specs.Counts.{RoseWithin, HasRoomFor};
+ghost use Rattle.timeline.specs.Search.{IsLastOf};
+ghost use Rattle.timeline.specs.Digits.{digits};
 ghost use Rattle.tz_info.specs.Transitions.{AreRising, passed};
-ghost use Rattle.tz_info.specs.declared.error.Error.TheVariants.{OutOfMemory};
 
-use crate::error::Error;
-use crate::zone::probes::Probes;
-use crate::zone::timeline::{Passed, Timed, Timeline};
 use crate::zone::transition::Transition;
 use std::alloc::Global;
 use std::fmt;
 use std::marker::Model;
+use timeline::{Passed, Probes, Timed, Timeline};
+use tz_base::Error;
 
 // Transitions whose times rise.
 #[derive(Drop)]
@@ -35,7 +33,7 @@ impl Model for Table {
 }
 
 impl Timed for Transition {
-    ghost use Rattle.tz_info.specs.Steps.Looks.{reads_more, reads_more_on, reads_more_none, reads_more_looks};
+    ghost use Rattle.timeline.specs.Counts.{reads_more, reads_more_on, reads_more_none, reads_more_looks};
 
     ghost time = { λ t. t.unix_leap_time };
 

@@ -3,22 +3,19 @@
 
 ghost use Rattle.std.specs.Prelude.{◌≡◌, pos, ◌+◌, ◌*◌, ◌<◌, ◌≤◌, length, MatchResult, ◌⊎◌, option_map};
 ghost use Rattle.std.specs.List.{slice_get};
-ghost use Rattle.tz_info.specs.Errors.{IsLocalTimeTypeError, IsOutOfMemory, IsOutOfRangeError, IsTimeZoneError};
+ghost use Rattle.tz_base.specs.Errors.{IsLocalTimeTypeError, IsOutOfMemory, IsOutOfRangeError, IsTimeZoneError};
+ghost use Rattle.tz_base.specs.LocalTypes.{IsUtOffset};
+ghost use Rattle.tz_base.specs.declared.error.Error.TheVariants.{OutOfMemory};
 ghost use Rattle.tz_info.specs.Leaps.{IsLeapTime, IsLeapTimeRefused, IsUnixTime, IsUnixTimeRefused};
-ghost use Rattle.tz_info.specs.LocalTypes.{IsUtOffset};
 ghost use Rattle.tz_info.specs.WallPieces.{WallIndex, IsIndex};
 ghost use Rattle.tz_info.specs.Windows.{IsGreatest, IsLeast, offsets};
 ghost use Rattle.tz_info.specs.Zones.{Zone, IsValid, IsRuleOrNone, plain_zone, zone_of_rule, zone_of_type};
-ghost use Rattle.tz_info.specs.declared.error.Error.TheVariants.{OutOfMemory};
 
-use crate::error::{Error, Expected};
-use crate::local_time_type::LocalTimeType;
 use crate::rule::TransitionRule;
 use crate::zone::extremes::{Extremes, extremes_of};
 use crate::zone::index::Index;
 use crate::zone::leap_second::LeapSecond;
 use crate::zone::leap_time::{leap_time, unix_time};
-use crate::zone::probes::Probes;
 use crate::zone::segments::Lists;
 use crate::zone::table::Table;
 use crate::zone::transition::Transition;
@@ -26,6 +23,8 @@ use crate::zone::valid::is_valid;
 use std::alloc::Global;
 use std::fmt;
 use std::marker::Model;
+use timeline::Probes;
+use tz_base::{Error, Expected, LocalTimeType};
 
 /// A time zone: which type of local time is in force at each instant.
 ///
@@ -83,9 +82,9 @@ impl fmt::Debug for TimeZone {
 
 impl PartialEq for TimeZone {
     ghost use Rattle.std.specs.Cmp.{partial_equiv_from_equiv};
+    ghost use Rattle.tz_base.specs.contracts.local_time_type.LocalTimeTypeEq.TheImpl.Laws.{laws-law as types};
     ghost use Rattle.tz_info.specs.ZoneEquality.{zone_eq, zone_eq_equiv};
     ghost use Rattle.tz_info.specs.contracts.zone.transition.TransitionEq.TheImpl.Laws.{laws-law as transitions};
-    ghost use Rattle.tz_info.specs.contracts.local_time_type.LocalTimeTypeEq.TheImpl.Laws.{laws-law as types};
     ghost use Rattle.tz_info.specs.contracts.zone.leap_second.LeapSecondEq.TheImpl.Laws.{laws-law as leaps};
     ghost use Rattle.tz_info.specs.contracts.rule.transition_rule.TransitionRuleEq.TheImpl.Laws.{laws-law as rules};
 
@@ -103,9 +102,9 @@ impl PartialEq for TimeZone {
 }
 
 impl Eq for TimeZone {
+    ghost use Rattle.tz_base.specs.contracts.local_time_type.LocalTimeTypeEq.TheImpl.Laws.{laws-law as types};
     ghost use Rattle.tz_info.specs.ZoneEquality.{zone_eq_equiv};
     ghost use Rattle.tz_info.specs.contracts.zone.transition.TransitionEq.TheImpl.Laws.{laws-law as transitions};
-    ghost use Rattle.tz_info.specs.contracts.local_time_type.LocalTimeTypeEq.TheImpl.Laws.{laws-law as types};
     ghost use Rattle.tz_info.specs.contracts.zone.leap_second.LeapSecondEq.TheImpl.Laws.{laws-law as leaps};
     ghost use Rattle.tz_info.specs.contracts.rule.transition_rule.TransitionRuleEq.TheImpl.Laws.{laws-law as rules};
 

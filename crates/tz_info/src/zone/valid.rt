@@ -6,11 +6,11 @@ ghost use Rattle.tz_info.specs.Transitions.{AreTransitions};
 ghost use Rattle.tz_info.specs.Steps.Validity.{Stands};
 ghost use Rattle.tz_info.specs.Zones.{IsValid, Agrees};
 
-use crate::local_time_type::LocalTimeType;
 use crate::rule::TransitionRule;
 use crate::zone::leap_second::LeapSecond;
 use crate::zone::leap_time::unix_time;
 use crate::zone::transition::Transition;
+use tz_base::LocalTimeType;
 
 // Whether the lists make a zone, in one pass over each.
 pub(super) fn is_valid(

@@ -6,8 +6,7 @@ ghost use Rattle.std.specs.Result.{IsOkAnd};
 ghost use Rattle.naive_base.specs.NaiveDateTime.{reading};
 ghost use Rattle.naive_base.specs.Range.{IsWide};
 ghost use Rattle.offset_core.specs.WallAnswer.{IsWallAnswer};
-ghost use Rattle.tz_info.specs.Counts.{HasRoom, RoseWithin};
-ghost use Rattle.tz_info.specs.Steps.Looks.{HasRoomFor};
+ghost use Rattle.timeline.specs.Counts.{HasRoom, RoseWithin, HasRoomFor};
 ghost use Rattle.tz_info.specs.Looks.{RoseByWalk};
 ghost use Rattle.tz_info.specs.Questions.{IsAskedFor};
 ghost use Rattle.tz_info.specs.Steps.Segments.{begin_of, index_of};
@@ -16,14 +15,13 @@ ghost use Rattle.tz_info.specs.WallClocks.{Shows};
 ghost use Rattle.tz_info.specs.Windows.{IsWindow};
 ghost use Rattle.tz_info.specs.Zones.{IsValid, TypeAt};
 
-use crate::answers::joined;
-use crate::error::Error;
-use crate::local_time_type::{LocalTimeType, second_showing};
-use crate::zone::probes::Probes;
+use crate::answers::{joined, second_showing};
 use crate::zone::time_zone::TimeZone;
 use crate::zone::transition::Transition;
 use naive_base::NaiveDateTime;
 use offset_core::MappedLocalTime;
+use timeline::Probes;
+use tz_base::{Error, LocalTimeType};
 
 // The leap times between which the transitions come that matter for a local time: after the first,
 // and not after the second.

@@ -5,27 +5,25 @@ ghost use Rattle.std.specs.Result.{IsOkAnd};
 ghost use Rattle.naive_base.specs.NaiveDateTime.{reading};
 ghost use Rattle.naive_base.specs.Range.{IsWide};
 ghost use Rattle.offset_core.specs.WallAnswer.{IsWallAnswer};
-ghost use Rattle.tz_info.specs.Counts.{HasRoom, RoseByPieces, RoseWithin};
-ghost use Rattle.tz_info.specs.Digits.{digits};
+ghost use Rattle.timeline.specs.Counts.{HasRoom, RoseByPieces, RoseWithin, HasRoomFor};
+ghost use Rattle.timeline.specs.Digits.{digits};
 ghost use Rattle.tz_info.specs.Looks.{RoseByWallClock};
 ghost use Rattle.tz_info.specs.Questions.{IsAskedFor};
 ghost use Rattle.tz_info.specs.Segments.{table_count};
 ghost use Rattle.tz_info.specs.WallClocks.{Shows};
 ghost use Rattle.tz_info.specs.WallPieces.{IsShownAmong, ShownAmong, wall_of};
-ghost use Rattle.tz_info.specs.Steps.Looks.{HasRoomFor};
 ghost use Rattle.tz_info.specs.Steps.Pieces.{AreBelow, AreListed};
 ghost use Rattle.tz_info.specs.Steps.Walk.{IsShownIn};
 ghost use Rattle.tz_info.specs.Zones.{IsValid, TypeAt};
 
 use crate::answers::joined;
-use crate::error::Error;
-use crate::local_time_type::LocalTimeType;
 use crate::rule::TransitionRule;
-use crate::zone::probes::Probes;
 use crate::zone::shown::Shown;
 use crate::zone::time_zone::TimeZone;
 use naive_base::NaiveDateTime;
 use offset_core::MappedLocalTime;
+use timeline::Probes;
+use tz_base::{Error, LocalTimeType};
 
 impl TimeZone {
     /// The types in force at the instants at which a clock of this zone shows the reading.

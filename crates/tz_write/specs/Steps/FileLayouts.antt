@@ -3,8 +3,8 @@
 use Rattle.std.specs.Prelude.{ℕ, ◌≡◌, ◌<◌, ◌≤◌, ◌+◌, Bool, ◌&&◌, ◌==◌, nat_lt, not, if◌then◌else◌, List, [], ◌∷◌, ◌++◌, length, drop, All}
 use Rattle.std.specs.Bool.{nat_eq}
 use Rattle.std.specs.List.{fold, ends_with}
-use Rattle.tz_info.specs.LocalTypes.{LocalType}
-use Rattle.tz_info.specs.Names.{IsNameOrNone}
+use Rattle.tz_base.specs.LocalTypes.{LocalType}
+use Rattle.tz_base.specs.Names.{IsNameOrNone}
 use Rattle.tz_write.specs.FileDesignations.{text_of, place_of, place_limit}
 
 -- the type's text stands in the designations, and its first place is one that a byte can name

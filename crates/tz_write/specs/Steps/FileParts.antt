@@ -1,8 +1,8 @@
 -- What the parts of a written file rest on.
 use Rattle.std.specs.Prelude.{ℕ, ◌≡◌, ◌≤◌, Bool, List, length, All, FitsSigned}
 use Rattle.std.specs.Int.{w32, w64}
-use Rattle.tz_info.specs.LocalTypes.{LocalType, IsUtOffset}
-use Rattle.tz_info.specs.Names.{IsNameOrNone}
+use Rattle.tz_base.specs.LocalTypes.{LocalType, IsUtOffset}
+use Rattle.tz_base.specs.Names.{IsNameOrNone}
 use Rattle.tz_info.specs.Zones.{Zone}
 use Rattle.tz_info.specs.declared.file.header.Counts.{Counts}
 use Rattle.tz_info.specs.declared.zone.leap_second.LeapSecond.{LeapSecond}

@@ -3,8 +3,8 @@ use Rattle.std.specs.Prelude.{ℕ, ◌≡◌, zero, suc, ℤ, pos, negsuc, ◌+�
 use Rattle.std.specs.Int.RustNames.{unsigned_abs}
 use Rattle.std.specs.Ordering.{int_eq}
 use Rattle.std.specs.List.{list_all}
+use Rattle.tz_base.specs.LocalTypes.{LocalType}
 use Rattle.tz_info.specs.Pieces.{comma, minus, dot, slash, colon, less, greater, letter_J, letter_M, is_letter}
-use Rattle.tz_info.specs.LocalTypes.{LocalType}
 use Rattle.tz_info.specs.Rules.{Alternate, IsWithinWeek}
 use Rattle.offset_core.specs.Offset.{IsWithinDay}
 use Rattle.tz_info.specs.TzTexts.{IsNamed}

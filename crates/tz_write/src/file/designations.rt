@@ -2,7 +2,7 @@
 //! with names of which one ends the other, share bytes.
 
 ghost use Rattle.std.specs.Prelude.{◌≡◌, ◌<◌, ◌≤◌, ◌+◌, ◌↔◌, [], ◌∷◌, ◌++◌, length, All, IsTrue, List, ℕ, MatchOption};
-ghost use Rattle.tz_info.specs.Names.{IsNameOrNone};
+ghost use Rattle.tz_base.specs.Names.{IsNameOrNone};
 ghost use Rattle.tz_write.specs.FileDesignations.{text_of, begins, place_of, AreNamesIn, AreShortest};
 ghost use Rattle.tz_write.specs.Steps.FileLayouts.{HasPlace, HavePlaces, with_text, ends, with_text_of, with_texts, before_last, laid, text_at, laid_from, ArePlaced, IsPlacedFrom, AreNotPlacedBefore, IsFirstPlaced, IsLaid};
 

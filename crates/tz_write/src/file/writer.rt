@@ -1,7 +1,7 @@
 //! A file from its first byte to its last.
 
 ghost use Rattle.std.specs.Prelude.{◌≡◌, ◌<◌, ◌≤◌, ◌++◌, [], All, OnOk, IfOk, MatchOption, length};
-ghost use Rattle.tz_info.specs.Names.{IsNameOrNone};
+ghost use Rattle.tz_base.specs.Names.{IsNameOrNone};
 ghost use Rattle.tz_write.specs.FileBytes.{zone_counts, zone_parts, block_bytes, footer_bytes, second_half, file_bytes};
 ghost use Rattle.tz_write.specs.WrittenFiles.{IsCount, HasCounts, HasIndex, FitsBlock};
 ghost use Rattle.tz_write.specs.Steps.FileLayouts.{HavePlaces};

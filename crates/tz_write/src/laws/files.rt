@@ -1,7 +1,7 @@
 //! Theorems of the files that are written.
 
 ghost use Rattle.std.specs.Prelude.{◌≡◌, ℕ, List, IfOk, IfSome, MatchOption, MatchResult};
-ghost use Rattle.tz_info.specs.Errors.{IsOutOfMemory};
+ghost use Rattle.tz_base.specs.Errors.{IsOutOfMemory};
 ghost use Rattle.tz_info.specs.TzFiles.{IsTzFile};
 ghost use Rattle.tz_info.specs.Zones.{Zone};
 ghost use Rattle.tz_write.specs.WrittenFiles.{AreBytes, IsInNoFile, IsWritable, IsWrittenFile};

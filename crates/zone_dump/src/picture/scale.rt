@@ -2,7 +2,7 @@
 
 ghost use Rattle.std.specs.Prelude.{◌≡◌, ◌+◌, ◌<◌, ◌≤◌, ℤ, pos, neg_ℤ, ◌+ℤ◌, ◌-ℤ◌, ◌*ℤ◌, ◌≤ℤ◌, ◌<ℤ◌, ◌⊎◌};
 ghost use Rattle.naive_base.specs.Date.{day_number};
-ghost use Rattle.tz_info.specs.LocalTypes.{IsUtOffset};
+ghost use Rattle.tz_base.specs.LocalTypes.{IsUtOffset};
 ghost use Rattle.zone_dump.specs.PictureChart.{across, axes_for, down, greater, greatest, lesser, least, hours_below};
 ghost use Rattle.zone_dump.specs.Spans.{year_second};
 

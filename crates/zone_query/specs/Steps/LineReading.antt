@@ -15,7 +15,7 @@ use Rattle.naive_base.specs.Month.{days_in_month}
 use Rattle.naive_base.specs.Range.{first_year, last_year}
 use Rattle.naive_base.specs.Reading.{Reading, reading_at}
 use Rattle.naive_base.specs.Year.{is_leap}
-use Rattle.tz_info.specs.Fronts.{run_of, after_run}
+use Rattle.tz_base.specs.Fronts.{run_of, after_run}
 use Rattle.zone_query.specs.Questions.{Query, Text, Data, At, Wall, Resolve, Show}
 use Rattle.zone_query.specs.Steps.HexBytes.{bytes_of}
 

@@ -2,7 +2,7 @@
 use Rattle.std.specs.Prelude.{ℤ, ◌-ℤ◌, ◌≡◌, ◌⊎◌}
 use Rattle.naive_base.specs.Range.{IsInRange}
 use Rattle.offset_core.specs.declared.choice.Choice.{Choice}
-use Rattle.tz_info.specs.LocalTypes.{LocalType}
+use Rattle.tz_base.specs.LocalTypes.{LocalType}
 use Rattle.tz_info.specs.Zones.{Zone}
 use Rattle.zoned_ffi.specs.Instants.{IsOffsetAt}
 use Rattle.zoned_ffi.specs.Resolved.{IsTaken, unresolved}

@@ -1,6 +1,6 @@
 use Rattle.std.proofs.Common.{◌≡◌, arith, refl, ℕ, zero, suc, ◌<◌, true, [], ◌∷◌, slice_index}
 use Rattle.std.proofs.lemmas.Bool.{false≢true}
-use Rattle.tz_info.specs.Names.{is_name_byte}
+use Rattle.tz_base.specs.Names.{is_name_byte}
 use Rattle.pins.proofs.SpelledPieces.{is_name_3}
 use Rattle.pins.proofs.texts.names.Goals as goal
 

@@ -2,12 +2,11 @@
 
 ghost use Rattle.std.specs.Prelude.{◌≡◌, ◌≤◌, ◌<ℤ◌, ◌≤ℤ◌, pos, neg_ℤ, not, Ok, IfOk};
 ghost use Rattle.offset_core.specs.Offset.{IsWithinDay};
-ghost use Rattle.tz_info.specs.Fronts.{Gives};
+ghost use Rattle.tz_base.specs.Fronts.{Gives};
 ghost use Rattle.tz_info.specs.Rules.{IsWithinWeek};
 ghost use Rattle.tz_info.specs.Steps.Readings.{sign_at, seconds_at, minutes_seconds_at, others_at, hours_minutes_seconds_at, seconds_within, duration_at, offset_at, time_sign_at, time_at, optional_time_at};
 
-use crate::cursor::Cursor;
-use crate::error::{Error, Expected};
+use tz_base::{Cursor, Error, Expected};
 
 // The limit of each number, before those of hours, minutes and seconds.
 const CLOCK_MAX: u32 = i32::MAX as u32;

@@ -1,14 +1,13 @@
 //! The days of a TZ text: a date, and a time of that day.
 
 ghost use Rattle.std.specs.Prelude.{◌≡◌, IfOk};
-ghost use Rattle.tz_info.specs.Fronts.{Gives, int_at};
+ghost use Rattle.tz_base.specs.Fronts.{Gives, int_at};
 ghost use Rattle.tz_info.specs.Rules.{IsWithinWeek};
 ghost use Rattle.tz_info.specs.Steps.Readings.{date_at, month_date_at, julian_date_at, day_number_at, day_at, day_time_of};
 
-use crate::cursor::Cursor;
-use crate::error::Error;
 use crate::rule::day::RuleDay;
 use crate::rule::reader::clock::read_optional_time;
+use tz_base::{Cursor, Error};
 
 // The limit of a month, a week and a weekday, before their own.
 const DATE_MAX: u32 = u8::MAX as u32;

@@ -1,12 +1,11 @@
 //! The names of a TZ text: letters, or any bytes between `<` and `>`.
 
 ghost use Rattle.std.specs.Prelude.{◌≡◌, ◌==◌};
-ghost use Rattle.tz_info.specs.Fronts.{Gives, run_of, after_run};
+ghost use Rattle.tz_base.specs.Fronts.{Gives, run_of, after_run};
 ghost use Rattle.tz_info.specs.Pieces.{greater, is_letter, is_not_greater};
 ghost use Rattle.tz_info.specs.Steps.Readings.{name_at, quoted_at};
 
-use crate::cursor::Cursor;
-use crate::error::Error;
+use tz_base::{Cursor, Error};
 
 // A name as the text gives it, which need not be one that a type can have.
 #[tactic(auto, unfolding(crate::specs::Steps::Readings::name_at, crate::specs::Steps::Readings::letters_at))]

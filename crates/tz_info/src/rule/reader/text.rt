@@ -2,19 +2,17 @@
 
 ghost use Rattle.std.specs.Prelude.{◌≡◌, IfOk};
 ghost use Rattle.offset_core.specs.Offset.{IsWithinDay};
-ghost use Rattle.tz_info.specs.Fronts.{Gives};
+ghost use Rattle.tz_base.specs.Fronts.{Gives};
 ghost use Rattle.tz_info.specs.Rules.{IsWithinWeek};
 ghost use Rattle.tz_info.specs.Steps.Readings.{is_end, more_at, end_at, next_hour_of, given_offset_at, dst_offset_at, named_type_of, fixed_at, alternate_at, days_at, named_types_of, rule_at, text_at, day_time_of, alternate_of, rule_of, IsSpelled};
 
-use crate::cursor::Cursor;
-use crate::error::{Error, Expected};
-use crate::local_time_type::LocalTimeType;
 use crate::rule::alternate::AlternateTime;
 use crate::rule::day::RuleDay;
 use crate::rule::reader::clock::read_offset;
 use crate::rule::reader::date::read_day;
 use crate::rule::reader::name::read_name;
 use crate::rule::transition_rule::TransitionRule;
+use tz_base::{Cursor, Error, Expected, LocalTimeType};
 
 // What a text spells: one type, or two with the days and times at which the second starts and
 // ends. The rule is made of it at the end, since it is large and each call would copy it.

@@ -1,6 +1,6 @@
 use Rattle.std.proofs.Common.{◌≡◌, inl}
 use Rattle.std.proofs.lemmas.Result.{on_ok_weaker, IfErr-weaker}
-use Rattle.tz_info.specs.Errors.{number_of}
+use Rattle.tz_base.specs.Errors.{number_of}
 use Rattle.zone_dump.specs.Forms.{IsFileRefused}
 use Rattle.zone_dump.proofs.tell.tell_file.Goals as goal
 

@@ -1,6 +1,6 @@
 use Rattle.std.proofs.Common.{◌≡◌, ◌⊎◌, ◌∙◌}
 use Rattle.std.proofs.lemmas.Result.{IfErr-weaker}
-use Rattle.tz_info.specs.Errors.{number_of}
+use Rattle.tz_base.specs.Errors.{number_of}
 use Rattle.tz_info.specs.TzFiles.{IsFileFault, IsZoneFault}
 use Rattle.zone_query.specs.Steps.HexBytes.{bytes_of}
 use Rattle.zone_query.proofs.HexLaws.{decoded}

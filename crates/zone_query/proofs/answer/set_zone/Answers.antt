@@ -1,6 +1,6 @@
 use Rattle.std.proofs.Common.{refl}
 use Rattle.std.proofs.lemmas.Result.{on_ok_weaker}
-use Rattle.tz_info.specs.Errors.{number_of}
+use Rattle.tz_base.specs.Errors.{number_of}
 use Rattle.zone_query.specs.Answers.{zone_text, refusal_text}
 use Rattle.zone_query.proofs.answer.set_zone.Goals as goal
 

@@ -1,5 +1,5 @@
 use Rattle.std.proofs.Common.{List, subst, sym, ℕ}
-use Rattle.tz_info.specs.Errors.{number_of}
+use Rattle.tz_base.specs.Errors.{number_of}
 use Rattle.tz_info.specs.PosixZones.{IsPosixZone}
 use Rattle.zoned_ffi.proofs.Reading.{reader_number, text_refused}
 use Rattle.zoned_ffi.specs.Refusals.{IsTextFault}

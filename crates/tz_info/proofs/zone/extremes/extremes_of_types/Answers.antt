@@ -1,7 +1,7 @@
 use Rattle.std.proofs.Common.{arith, ap, ◌∙◌, w32, to_z-of_z}
 use mir.Val.{SFits}
 use Rattle.std.proofs.lemmas.Int.{ints}
-use Rattle.tz_info.specs.LocalTypes.{LocalType}
+use Rattle.tz_base.specs.LocalTypes.{LocalType}
 use Rattle.tz_info.proofs.ExtremeLaws.{first_until, more_until, all_until}
 use Rattle.tz_info.proofs.zone.extremes.extremes_of_types.Goals as goal
 

@@ -1,6 +1,6 @@
 use Rattle.std.proofs.Common.{ap, MatchResult, Result, Ok, Err, sym, subst, ◌∙◌}
 use Rattle.std.specs.Result.{IsErrAnd}
-use Rattle.tz_info.specs.Errors.{number_of, IsOutOfMemory}
+use Rattle.tz_base.specs.Errors.{number_of, IsOutOfMemory}
 use Rattle.tz_info.specs.TzFiles.{IsTzFile}
 use Rattle.tz_write.proofs.laws.files.written_and_read.Goals as goal
 

@@ -1,5 +1,5 @@
 use Rattle.std.proofs.Common.{◌≡◌, [], rules, subst, Some, None, MatchOption, MatchResult, string_bytes}
-use Rattle.tz_info.specs.Errors.{IsOutOfMemory}
+use Rattle.tz_base.specs.Errors.{IsOutOfMemory}
 use Rattle.tz_info.specs.RuleTypes.{IsRule}
 use Rattle.tz_info.specs.Zones.{Zone}
 use Rattle.tz_write.specs.WrittenTexts.{IsWrittenZone, IsNoPosixZone}

@@ -1,5 +1,5 @@
 use Rattle.std.proofs.Common.{◌≡◌, drop, ◌≤ℤ◌}
-use Rattle.tz_info.specs.LocalTypes.{IsUtOffset}
+use Rattle.tz_base.specs.LocalTypes.{IsUtOffset}
 use Rattle.zone_dump.specs.PictureChart.{least}
 use Rattle.zone_dump.proofs.picture.scale.least.Given as goal
 

@@ -1,8 +1,8 @@
 use Rattle.std.proofs.Common.{◌≡◌, arith, rules, inl, ap, ◌∙◌, ◌-ℤ◌, ◌<ℤ◌, w32, w64, to_z-of_z}
 use mir.Val.{SFits}
 use Rattle.std.proofs.lemmas.Int.{ints}
-use Rattle.tz_info.specs.Counts.{Counts}
-use Rattle.tz_info.specs.LocalTypes.{LocalType}
+use Rattle.tz_base.specs.LocalTypes.{LocalType}
+use Rattle.timeline.specs.Counts.{Counts}
 use Rattle.tz_info.specs.Steps.RuleSeconds.{IsAskedFrom}
 use Rattle.tz_info.specs.declared.rule.transition_rule.TransitionRule.TheVariants.{Alternate}
 use Rattle.tz_info.proofs.Candidates.{dst_or_std, std_or_dst}

@@ -2,7 +2,7 @@ use mir.Val.{SFits}
 use Rattle.std.proofs.Common.{w64, arith, rules, subst, ◌≡◌, to_z-of_z}
 use Rattle.std.proofs.lemmas.Int.{ints}
 use Rattle.offset_core.specs.Offset.{IsWithinDay}
-use Rattle.tz_info.specs.LocalTypes.{LocalType}
+use Rattle.tz_base.specs.LocalTypes.{LocalType}
 use Rattle.tz_info.specs.Rules.{Alternate, IsAlternate}
 use Rattle.tz_info.specs.Steps.Kinds.{seconds_by_kind}
 use Rattle.tz_info.specs.declared.rule.day.DayTime.{DayTime}

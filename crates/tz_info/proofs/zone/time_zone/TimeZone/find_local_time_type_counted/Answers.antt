@@ -1,9 +1,9 @@
 use Rattle.std.proofs.Common.{ap, length, ◌∙◌, sym, to_z-of_z, w64, rules}
 use mir.Val.{SFits}
 use Rattle.std.specs.Borrow.{Bor}
-use Rattle.tz_info.specs.Errors.{number_of}
+use Rattle.tz_base.specs.Errors.{number_of}
+use Rattle.tz_base.specs.LocalTypes.{LocalType}
 use Rattle.tz_info.specs.Leaps.{IsLeapTime}
-use Rattle.tz_info.specs.LocalTypes.{LocalType}
 use Rattle.tz_info.specs.Zones.{Zone}
 use Rattle.tz_info.proofs.PassedTransitions.{without_transitions, with_transitions}
 use Rattle.tz_info.proofs.QuestionLaws.{asked_at_time, asked_without}

@@ -2,11 +2,11 @@ use Rattle.std.proofs.Common.{arith, ap, ◌+◌, sym, ◌∙◌, ◌≡◌, len
 use mir.Val.{SFits}
 use Rattle.std.proofs.lemmas.Int.{ints}
 use Rattle.offset_core.specs.WallAnswer.{IsWallAnswer}
-use Rattle.tz_info.specs.Counts.{Counts}
+use Rattle.timeline.specs.Counts.{Counts}
+use Rattle.timeline.proofs.ForCallers.{digits-le}
 use Rattle.tz_info.specs.Steps.Walk.{IsShownIn}
 use Rattle.tz_info.specs.Windows.{IsWindow}
 use Rattle.tz_info.specs.declared.zone.transition.Transition.{Transition}
-use Rattle.tz_info.proofs.DigitLaws.{digits-le}
 use Rattle.tz_info.proofs.QuestionLaws.{asked_for_window}
 use Rattle.tz_info.proofs.SegmentLaws.{between_passed, begin_next, index_next}
 use Rattle.tz_info.proofs.TableSearch.{Between}

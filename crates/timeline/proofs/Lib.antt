@@ -1,0 +1,5 @@
+pub mod Prefixes
+pub mod DigitLaws
+pub mod SearchSteps
+pub mod HintLaws
+pub mod ForCallers

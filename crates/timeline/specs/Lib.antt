@@ -1,0 +1,4 @@
+pub mod Counts
+pub mod Digits
+pub mod Search
+pub mod Steps

@@ -1,0 +1,42 @@
+-- Errors are equal by `==` if and only if they are equal.
+use Rattle.std.proofs.Common.{rules, ◌≡◌, ◌↔◌, IsTrue, refl, ap}
+use Rattle.tz_base.specs.contracts.error.ErrorPartialEq.TheImpl.{eq-value as error_eq}
+use Rattle.tz_base.specs.contracts.error.ExpectedPartialEq.TheImpl.{eq-value as expected_eq}
+use Rattle.tz_base.specs.declared.error.Error.{Error}
+use Rattle.tz_base.specs.declared.error.Error.TheVariants.{DateTime, FindLocalTimeType, LocalTimeType, InvalidSlice, InvalidTzFile, InvalidTzString, UnexpectedEnd, MissingTag, OutOfRange, ParseInt, ProjectDateTime, TimeZone, TransitionRule, UnsupportedTzFile, UnsupportedTzString, Utf8, OutOfMemory}
+use Rattle.tz_base.specs.declared.error.Expected.{Expected}
+
+expected_exact : (a b : Expected) → IsTrue (expected_eq.it a b) ↔ (a ≡ b)
+expected_exact a b = search rules
+
+expected_from : (a b : Expected) → IsTrue (expected_eq.it a b) → a ≡ b
+expected_from a b h = (expected_exact a b).0 h
+
+expected_self : (a : Expected) → IsTrue (expected_eq.it a a)
+expected_self a = (expected_exact a a).1 refl
+
+error_from : (a b : Error) → IsTrue (error_eq.it a b) → a ≡ b
+error_from (DateTime x) (DateTime y) h = ap DateTime (expected_from x y h)
+error_from (FindLocalTimeType x) (FindLocalTimeType y) h = ap FindLocalTimeType (expected_from x y h)
+error_from (LocalTimeType x) (LocalTimeType y) h = ap LocalTimeType (expected_from x y h)
+error_from (InvalidSlice x) (InvalidSlice y) h = ap InvalidSlice (expected_from x y h)
+error_from (InvalidTzFile x) (InvalidTzFile y) h = ap InvalidTzFile (expected_from x y h)
+error_from (InvalidTzString x) (InvalidTzString y) h = ap InvalidTzString (expected_from x y h)
+error_from (UnexpectedEnd x) (UnexpectedEnd y) h = ap UnexpectedEnd (expected_from x y h)
+error_from (MissingTag x) (MissingTag y) h = ap MissingTag (expected_from x y h)
+error_from (OutOfRange x) (OutOfRange y) h = ap OutOfRange (expected_from x y h)
+error_from (ParseInt x) (ParseInt y) h = ap ParseInt (expected_from x y h)
+error_from (ProjectDateTime x) (ProjectDateTime y) h = ap ProjectDateTime (expected_from x y h)
+error_from (TimeZone x) (TimeZone y) h = ap TimeZone (expected_from x y h)
+error_from (TransitionRule x) (TransitionRule y) h = ap TransitionRule (expected_from x y h)
+error_from (UnsupportedTzFile x) (UnsupportedTzFile y) h = ap UnsupportedTzFile (expected_from x y h)
+error_from (UnsupportedTzString x) (UnsupportedTzString y) h = ap UnsupportedTzString (expected_from x y h)
+error_from (Utf8 x) (Utf8 y) h = ap Utf8 (expected_from x y h)
+error_from OutOfMemory OutOfMemory h = refl
+error_from _ _ h = cc
+
+error_self : (a : Error) → IsTrue (error_eq.it a a)
+error_self a = search (rules, expected_self)
+
+pub error_exact : (a b : Error) → IsTrue (error_eq.it a b) ↔ (a ≡ b)
+error_exact a b = (λ h. error_from a b h, λ e. rw e (error_self b))

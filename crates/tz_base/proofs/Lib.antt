@@ -1,0 +1,4 @@
+pub mod NameLaws
+pub mod RunLaws
+pub mod ErrorEquality
+pub mod ForCallers

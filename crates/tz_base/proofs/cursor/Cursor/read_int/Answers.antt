@@ -1,0 +1,20 @@
+use Rattle.std.proofs.Common.{rules, sym, ◌∙◌, Ok, ap}
+use Rattle.std.proofs.lemmas.Result.{err_from_is_err_and}
+use Rattle.tz_base.proofs.RunLaws.{int_at_is, all_of}
+use Rattle.tz_base.specs.Fronts.{is_digit}
+use Rattle.tz_base.proofs.cursor.Cursor.read_int.Goals as goal
+
+pub number-requires : goal.number-requires
+number-requires c = all_of is_digit _ (λ k h. let r = c.read_while-digits.ensures.run k h in search rules)
+
+pub returns-in_err-n-clause-value : goal.returns-in_err-n-clause-value
+returns-in_err-n-clause-value c =
+    let w = c.read_while-digits.ensures in
+    let p = err_from_is_err_and c.from_residual.result c.from_residual.ensures.1 in
+    rw (p.1, p.2) (int_at_is c.args.max c.args.self.now c.read_while-digits.result.now c.read_while-digits.new.self _ (w.whole ∙ c.self.view_is) (λ k h. sym (w.run k h)) (λ h. sym (w.stop h)) c.in_err-n.ensures.value)
+
+pub returns-clause-value : goal.returns-clause-value
+returns-clause-value c =
+    let w = c.read_while-digits.ensures in
+    int_at_is c.args.max c.args.self.now c.read_while-digits.result.now c.read_while-digits.new.self _ (w.whole ∙ c.self.view_is) (λ k h. sym (w.run k h)) (λ h. sym (w.stop h)) c.in_ok-n.ensures.value
+    ∙ ap (λ rest. Ok (c.in_ok-n.n, rest)) (sym c.ahead.view_is)

@@ -1,0 +1,43 @@
+-- The errors, by their variants and by the numbers of these.
+use Rattle.std.specs.Prelude.{ℕ, ◌≡◌}
+use Rattle.tz_base.specs.declared.error.Error.{Error}
+use Rattle.tz_base.specs.declared.error.Error.TheVariants as errors
+
+-- the number of an error, by its variant
+abbrev pub number_of : Error → ℕ
+number_of (errors.DateTime _) = 1
+number_of (errors.FindLocalTimeType _) = 2
+number_of (errors.LocalTimeType _) = 3
+number_of (errors.InvalidSlice _) = 4
+number_of (errors.InvalidTzFile _) = 5
+number_of (errors.InvalidTzString _) = 6
+number_of (errors.UnexpectedEnd _) = 7
+number_of (errors.MissingTag _) = 8
+number_of (errors.OutOfRange _) = 9
+number_of (errors.ParseInt _) = 10
+number_of (errors.ProjectDateTime _) = 11
+number_of (errors.TimeZone _) = 12
+number_of (errors.TransitionRule _) = 13
+number_of (errors.UnsupportedTzFile _) = 14
+number_of (errors.UnsupportedTzString _) = 15
+number_of (errors.Utf8 _) = 16
+number_of errors.OutOfMemory = 17
+
+-- the error is of the variant that is named, whatever was expected
+abbrev pub IsFindLocalTimeTypeError : Error → Type 0
+IsFindLocalTimeTypeError e = number_of e ≡ 2
+
+abbrev pub IsLocalTimeTypeError : Error → Type 0
+IsLocalTimeTypeError e = number_of e ≡ 3
+
+abbrev pub IsOutOfRangeError : Error → Type 0
+IsOutOfRangeError e = number_of e ≡ 9
+
+abbrev pub IsTimeZoneError : Error → Type 0
+IsTimeZoneError e = number_of e ≡ 12
+
+abbrev pub IsTransitionRuleError : Error → Type 0
+IsTransitionRuleError e = number_of e ≡ 13
+
+abbrev pub IsOutOfMemory : Error → Type 0
+IsOutOfMemory e = number_of e ≡ 17

@@ -1,0 +1,74 @@
+-- What stands at the front of bytes: a value with the bytes after it, or the number of a refusal.
+use Rattle.std.specs.Prelude.{ℕ, ◌+◌, ◌*◌, ◌-◌, nat_eq, nat_lt, nat_le, Bool, true, false, ◌&&◌, if◌then◌else◌, List, [], ◌∷◌, length, take, drop, Result, Ok, Err, ◌≡◌}
+use Rattle.std.specs.List.{starts_with}
+use Rattle.std.specs.Int.{w32, from_be_bytes}
+use Rattle.tz_base.specs.declared.error.Error.{Error}
+use Rattle.tz_base.specs.Errors.{number_of}
+
+infixl 10 ◌>>=◌
+abbrev pub ◌>>=◌ : {A B : Type 0} → Result A ℕ → (A → Result B ℕ) → Result B ℕ
+(Ok x) >>= f = f x
+(Err n) >>= f = Err n
+
+-- what a call returned, seen by `view`, is what stands there
+abbrev pub Gives : {X Y : Type 0} → (X → Y) → Result X Error → Result Y ℕ → Type 0
+Gives view (Ok x) front = front ≡ Ok (view x)
+Gives view (Err e) front = front ≡ Err (number_of e)
+
+-- so many bytes
+unfoldable pub exact_at : ℕ → List ℕ → Result (List ℕ × List ℕ) ℕ
+exact_at count bytes = if nat_lt (length bytes) count then Err 7 else Ok (take count bytes, drop count bytes)
+
+-- a big-endian number of four bytes
+unfoldable pub be_u32_at : List ℕ → Result (ℕ × List ℕ) ℕ
+be_u32_at bytes = exact_at 4 bytes >>= λ p. Ok (from_be_bytes w32 p.0, p.1)
+
+-- the bytes of a tag
+unfoldable pub tag_at : List ℕ → List ℕ → Result (Unit {0} × List ℕ) ℕ
+tag_at tag bytes =
+    if nat_lt (length bytes) (length tag) then Err 7 else
+    (if starts_with nat_eq bytes tag then Ok (tt, drop (length tag) bytes) else Err 8)
+
+-- whether the tag stands there, and the bytes after it if so
+unfoldable pub optional_tag_at : List ℕ → List ℕ → Bool × List ℕ
+optional_tag_at tag bytes = if starts_with nat_eq bytes tag then (true, drop (length tag) bytes) else (false, bytes)
+
+-- the longest run of bytes that pass, and the bytes after it
+abbrev pub run_of : (ℕ → Bool) → List ℕ → List ℕ
+run_of p [] = []
+run_of p (b ∷ bs) = if p b then b ∷ run_of p bs else []
+
+abbrev pub after_run : (ℕ → Bool) → List ℕ → List ℕ
+after_run p [] = []
+after_run p (b ∷ bs) = if p b then after_run p bs else b ∷ bs
+
+-- a digit of ASCII
+abbrev pub is_digit : ℕ → Bool
+is_digit b = nat_le 48 b && nat_le b 57
+
+-- each byte passes the test
+abbrev pub AllOf : (ℕ → Bool) → List ℕ → Type 0
+AllOf p [] = Unit {0}
+AllOf p (b ∷ bs) = (p b ≡ true) × AllOf p bs
+
+-- the first byte, if there is one, does not pass it
+abbrev pub NoneFirst : (ℕ → Bool) → List ℕ → Type 0
+NoneFirst p [] = Unit {0}
+NoneFirst p (b ∷ bs) = p b ≡ false
+
+abbrev pub AllDigits : List ℕ → Type 0
+AllDigits = AllOf is_digit
+
+-- what digits stand for, after those of n
+abbrev pub value_from : ℕ → List ℕ → ℕ
+value_from n [] = n
+value_from n (d ∷ ds) = value_from (10 * n + (d - 48)) ds
+
+-- what digits stand for, if there are any and it is not above the limit
+abbrev pub number_within : ℕ → List ℕ → Result ℕ ℕ
+number_within max [] = Err 10
+number_within max (d ∷ ds) = if nat_le (value_from 0 (d ∷ ds)) max then Ok (value_from 0 (d ∷ ds)) else Err 10
+
+-- the number that the longest run of digits stands for
+unfoldable pub int_at : ℕ → List ℕ → Result (ℕ × List ℕ) ℕ
+int_at max bytes = number_within max (run_of is_digit bytes) >>= λ n. Ok (n, after_run is_digit bytes)

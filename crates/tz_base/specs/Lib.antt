@@ -1,0 +1,5 @@
+pub mod Errors
+pub mod Names
+pub mod LocalTypes
+pub mod Fronts
+pub mod Steps

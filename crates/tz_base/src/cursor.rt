@@ -1,0 +1,194 @@
+//! A cursor over bytes.
+
+ghost use Rattle.std.specs.Prelude.{◌≡◌, ◌≤◌, ◌<◌, ◌++◌, [], true, false, length, slice_get, slice_index, OnErr, IfOk, IsTrue, ◌↔◌, EachIndex};
+ghost use Rattle.std.specs.Option.{option_copied};
+ghost use Rattle.tz_base.specs.Fronts.{Gives, exact_at, be_u32_at, tag_at, optional_tag_at, int_at, number_within, is_digit, AllDigits};
+
+use crate::error::{Error, Expected};
+use std::marker::Model;
+
+/// What is left of some bytes. Each call reads from the front, and what it gives is lent from those
+/// bytes. A call that refuses leaves the cursor where it was.
+#[derive(Drop)]
+pub struct Cursor<'a> {
+    rest: &'a [u8],
+}
+
+impl<'a> Model for Cursor<'a> {
+    ghost use Rattle.std.specs.Prelude.{List, ℕ};
+
+    ghost Value = { List ℕ };
+
+    ghost view = { λ c. c.rest.now };
+}
+
+impl<'a> Cursor<'a> {
+    /// A cursor at the first of those bytes.
+    pub fn new(bytes: &'a [u8]) -> Self
+        ensures { result ≡ bytes.now }
+    {
+        Cursor { rest: bytes }
+    }
+
+    /// The next byte, which stays.
+    pub fn peek(&self) -> Option<&u8>
+        ensures { option_copied result ≡ slice_get self.now 0 }
+    {
+        self.rest.first()
+    }
+
+    /// The bytes that are left.
+    pub fn remaining(&self) -> &'a [u8]
+        ensures { result.now ≡ self.now }
+    {
+        self.rest
+    }
+
+    /// Whether no byte is left.
+    pub fn is_empty(&self) -> bool
+        ensures { IsTrue result ↔ (self.now ≡ []) }
+    {
+        self.rest.is_empty()
+    }
+
+    /// The next `count` bytes.
+    ///
+    /// # Errors
+    ///
+    /// [`Error::UnexpectedEnd`] if fewer are left.
+    #[tactic(auto, unfolding(crate::specs::Fronts::exact_at))]
+    pub fn read_exact(&mut self, count: usize) -> Result<&'a [u8], Error>
+        ensures value { Gives (λ bytes. (bytes.now, self.new)) result (exact_at count self.old) }
+        ensures err { OnErr result (self.new ≡ self.old) }
+        ensures len { IfOk result (λ bytes. length bytes.now ≡ count) }
+    {
+        if self.rest.len() < count {
+            return Err(Error::UnexpectedEnd(Expected::MoreBytes));
+        }
+        let (front, rest) = self.rest.split_at(count);
+        self.rest = rest;
+        Ok(front)
+    }
+
+    /// The next four bytes as a big-endian number.
+    ///
+    /// # Errors
+    ///
+    /// [`Error::UnexpectedEnd`] if fewer are left.
+    #[tactic(auto, unfolding(crate::specs::Fronts::be_u32_at))]
+    pub fn read_be_u32(&mut self) -> Result<u32, Error>
+        ensures value { Gives (λ n. (n, self.new)) result (be_u32_at self.old) }
+        ensures err { OnErr result (self.new ≡ self.old) }
+    {
+        let bytes = self.read_exact(4)?;
+        Ok(u32::from_be_bytes([bytes[0], bytes[1], bytes[2], bytes[3]]))
+    }
+
+    /// Goes past a tag that must come.
+    ///
+    /// # Errors
+    ///
+    /// [`Error::UnexpectedEnd`] if fewer bytes are left than the tag has, which is looked at first;
+    /// [`Error::MissingTag`] if others stand there.
+    #[tactic(auto, unfolding(crate::specs::Fronts::tag_at))]
+    pub fn read_tag(&mut self, tag: &[u8]) -> Result<(), Error>
+        ensures value { Gives (λ unit. (unit, self.new)) result (tag_at tag.now self.old) }
+        ensures err { OnErr result (self.new ≡ self.old) }
+    {
+        if self.rest.len() < tag.len() {
+            return Err(Error::UnexpectedEnd(Expected::Tag));
+        }
+        if !self.rest.starts_with(tag) {
+            return Err(Error::MissingTag(Expected::OtherBytes));
+        }
+        self.rest = &self.rest[tag.len()..];
+        Ok(())
+    }
+
+    /// Goes past a tag that may come, and says whether it did.
+    #[tactic(auto, unfolding(crate::specs::Fronts::optional_tag_at))]
+    pub fn read_optional_tag(&mut self, tag: &[u8]) -> bool
+        ensures { (result, self.new) ≡ optional_tag_at tag.now self.old }
+    {
+        if self.rest.starts_with(tag) {
+            self.rest = &self.rest[tag.len()..];
+            true
+        } else {
+            false
+        }
+    }
+
+    /// The longest run of bytes for which `f` holds.
+    pub fn read_while<F: Fn(u8) -> bool + Drop>(&mut self, f: F) -> &'a [u8]
+        requires { F.IsAlwaysCallable f }
+        ensures whole { result.now ++ self.new ≡ self.old }
+        ensures run { EachIndex result.now (λ k. F.post f (slice_index result.now k) true) }
+        ensures stop { 0 < length self.new → F.post f (slice_index self.new 0) false }
+    {
+        let bytes = self.rest;
+        let mut n = 0;
+        while n < bytes.len() && f(bytes[n]) {
+            n += 1;
+        }
+        let (run, rest) = bytes.split_at(n);
+        self.rest = rest;
+        run
+    }
+
+    /// The longest run of bytes for which `f` fails.
+    pub fn read_until<F: Fn(u8) -> bool + Drop>(&mut self, f: F) -> &'a [u8]
+        requires { F.IsAlwaysCallable f }
+        ensures whole { result.now ++ self.new ≡ self.old }
+        ensures run { EachIndex result.now (λ k. F.post f (slice_index result.now k) false) }
+        ensures stop { 0 < length self.new → F.post f (slice_index self.new 0) true }
+    {
+        let bytes = self.rest;
+        let mut n = 0;
+        while n < bytes.len() && !f(bytes[n]) {
+            n += 1;
+        }
+        let (run, rest) = bytes.split_at(n);
+        self.rest = rest;
+        run
+    }
+
+    /// The number that the longest run of ASCII digits stands for, with any leading zeros.
+    ///
+    /// # Errors
+    ///
+    /// [`Error::ParseInt`] if no digit comes, or if the number is above `max`.
+    pub fn read_int(&mut self, max: u32) -> Result<u32, Error>
+        ensures value { Gives (λ n. (n, self.new)) result (int_at max self.old) }
+        ensures err { OnErr result (self.new ≡ self.old) }
+        ensures limit { IfOk result (λ n. n ≤ max) }
+    {
+        let mut ahead = Cursor { rest: self.rest };
+        let digits = ahead.read_while(
+            |b: u8| -> bool
+                ensures { result ≡ is_digit b }
+            { b.is_ascii_digit() },
+        );
+        let n = number(digits, max)?;
+        self.rest = ahead.rest;
+        Ok(n)
+    }
+}
+
+// What the digits stand for.
+fn number(digits: &[u8], max: u32) -> Result<u32, Error>
+    requires { AllDigits digits.now }
+    ensures value { Gives (λ n. n) result (number_within max digits.now) }
+    ensures limit { IfOk result (λ n. n ≤ max) }
+{
+    if digits.is_empty() {
+        return Err(Error::ParseInt(Expected::Digit));
+    }
+    let mut n = 0u64;
+    for digit in digits {
+        n = 10 * n + (*digit - b'0') as u64;
+        if n > max as u64 {
+            return Err(Error::ParseInt(Expected::NumberWithinItsLimit));
+        }
+    }
+    Ok(n as u32)
+}

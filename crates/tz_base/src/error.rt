@@ -1,0 +1,241 @@
+//! Why bytes, values or instants give an error.
+
+ghost use Rattle.std.specs.Prelude.{◌≡◌};
+ghost use Rattle.tz_base.specs.Errors.{number_of};
+ghost use Rattle.tz_base.specs.declared.error.Error.TheVariants.{OutOfMemory};
+
+use std::alloc::{AllocError, AllocFailed};
+use std::fmt;
+use thiserror::Error;
+
+/// What was expected where something was refused. It prints as a short text.
+#[derive(Clone, Copy, Debug, PartialEq, Eq)]
+pub enum Expected {
+    /// More bytes.
+    MoreBytes,
+    /// A tag.
+    Tag,
+    /// Other bytes than those that stand there.
+    OtherBytes,
+    /// A digit.
+    Digit,
+    /// A number within its limit.
+    NumberWithinItsLimit,
+    /// Standard time where the time is UT.
+    StandardTimeWhereTimeIsUt,
+    /// A footer in UTF-8.
+    FooterInUtf8,
+    /// A footer between newlines.
+    FooterBetweenNewlines,
+    /// A TZ text in the footer.
+    TzTextInFooter,
+    /// Counts that agree.
+    CountsThatAgree,
+    /// TZif at the front of a header.
+    TZifAtFrontOfHeader,
+    /// Version 2 or 3 in a second header.
+    Version2Or3InSecondHeader,
+    /// Version 1, 2 or 3.
+    Version1To3,
+    /// Nothing after a block of version 1.
+    NothingAfterBlockOfVersion1,
+    /// 0 or 1 as a type's isdst.
+    ZeroOrOneAsIsDst,
+    /// A name within the designations.
+    NameWithinDesignations,
+    /// A 0 byte after a name.
+    ZeroByteBehindName,
+    /// An offset above i32::MIN.
+    OffsetAboveI32Min,
+    /// A name of three to seven bytes.
+    NameOfThreeToSevenBytes,
+    /// Letters, digits, + or - in a name.
+    LettersDigitsPlusOrMinusInName,
+    /// Offsets within a day.
+    OffsetsWithinDay,
+    /// A start within a week.
+    StartWithinWeek,
+    /// An end within a week.
+    EndWithinWeek,
+    /// A year that the rule answers in.
+    YearThatRuleAnswersIn,
+    /// A day from J1 to J365.
+    DayFromJ1ToJ365,
+    /// A day from 0 to 365.
+    DayFrom0To365,
+    /// A month from 1 to 12.
+    MonthFrom1To12,
+    /// A week from 1 to 5.
+    WeekFrom1To5,
+    /// A weekday from 0 to 6.
+    WeekdayFrom0To6,
+    /// Hours, minutes and seconds within their limits.
+    HoursMinutesAndSecondsWithinTheirLimits,
+    /// An offset of daylight saving time within a day.
+    OffsetOfDaylightSavingTimeWithinDay,
+    /// Days when daylight saving time starts and ends.
+    DaysWhenDaylightSavingTimeStartsAndEnds,
+    /// Nothing after the text.
+    NothingBehindText,
+    /// A leap time of 64 bits.
+    LeapTimeOf64Bits,
+    /// A leap time above i64::MIN.
+    LeapTimeAboveI64Min,
+    /// A Unix time of 64 bits.
+    UnixTimeOf64Bits,
+    /// Lists that make a zone.
+    ListsOfZone,
+}
+
+impl Expected {
+    /// What was expected, as a short text without a capital or a full stop.
+    pub fn as_str(self) -> &'static str {
+        TEXTS[self as usize]
+    }
+}
+
+// What was expected, in the order of the variants.
+const TEXTS: [&str; 37] = [
+    "more bytes",
+    "a tag",
+    "other bytes",
+    "a digit",
+    "a number within its limit",
+    "standard time where the time is UT",
+    "a footer in UTF-8",
+    "a footer between newlines",
+    "a TZ text in the footer",
+    "counts that agree",
+    "TZif at the front of a header",
+    "version 2 or 3 in a second header",
+    "version 1, 2 or 3",
+    "nothing after a block of version 1",
+    "0 or 1 as a type's isdst",
+    "a name within the designations",
+    "a 0 byte behind a name",
+    "an offset above i32::MIN",
+    "a name of three to seven bytes",
+    "letters, digits, + or - in a name",
+    "offsets within a day",
+    "a start within a week",
+    "an end within a week",
+    "a year that the rule answers in",
+    "a day from J1 to J365",
+    "a day from 0 to 365",
+    "a month from 1 to 12",
+    "a week from 1 to 5",
+    "a weekday from 0 to 6",
+    "hours, minutes and seconds within their limits",
+    "an offset of daylight saving time within a day",
+    "days when daylight saving time starts and ends",
+    "nothing behind the text",
+    "a leap time of 64 bits",
+    "a leap time above i64::MIN",
+    "a Unix time of 64 bits",
+    "lists that make a zone",
+];
+
+impl fmt::Display for Expected {
+    fn fmt<W: fmt::Write>(&self, f: &mut fmt::Formatter<W>) -> fmt::Result {
+        f.write_str(self.as_str())
+    }
+}
+
+/// A refusal. Each variant but the last says what was expected.
+#[derive(Clone, Copy, Debug, PartialEq, Eq, Error)]
+pub enum Error {
+    /// A date or time that does not exist. Kept for its name; no call answers it.
+    #[error("invalid date time: expected {0}")]
+    DateTime(Expected),
+    /// The instant asked of a zone has no type: its leap time or its rule's year is out of range.
+    #[error("no local time type: expected {0}")]
+    FindLocalTimeType(Expected),
+    /// An offset or a name that no local time type can have.
+    #[error("invalid local time type: expected {0}")]
+    LocalTimeType(Expected),
+    /// A slice that could not be taken. Kept for its name; no call answers it.
+    #[error("invalid slice: expected {0}")]
+    InvalidSlice(Expected),
+    /// A fault in the form of a TZif file.
+    #[error("invalid TZif file: expected {0}")]
+    InvalidTzFile(Expected),
+    /// A time or an offset of a TZ text out of its limits, or bytes left over after it.
+    #[error("invalid TZ text: expected {0}")]
+    InvalidTzString(Expected),
+    /// Fewer bytes than are required.
+    #[error("unexpected end: expected {0}")]
+    UnexpectedEnd(Expected),
+    /// Another byte than the one that must come.
+    #[error("missing tag: expected {0}")]
+    MissingTag(Expected),
+    /// An instant outside the range that can be answered.
+    #[error("out of range: expected {0}")]
+    OutOfRange(Expected),
+    /// No digit, or a number over its limit.
+    #[error("invalid number: expected {0}")]
+    ParseInt(Expected),
+    /// A date time that cannot be projected. Kept for its name; no call answers it.
+    #[error("cannot project date time: expected {0}")]
+    ProjectDateTime(Expected),
+    /// Lists that make no valid zone.
+    #[error("invalid time zone: expected {0}")]
+    TimeZone(Expected),
+    /// A value out of its limits in a rule.
+    #[error("invalid transition rule: expected {0}")]
+    TransitionRule(Expected),
+    /// A TZif version that is not read.
+    #[error("unsupported TZif version: expected {0}")]
+    UnsupportedTzFile(Expected),
+    /// A TZ text that names daylight saving time and does not say when it starts and ends.
+    #[error("unsupported TZ text: expected {0}")]
+    UnsupportedTzString(Expected),
+    /// Bytes that are not UTF-8.
+    #[error("invalid UTF-8: expected {0}")]
+    Utf8(Expected),
+    /// There was no memory for the zone.
+    #[error("out of memory")]
+    OutOfMemory,
+}
+
+impl Error {
+    /// The number of the refusal, from 1 to 17 in the order of the variants.
+    pub fn number(&self) -> u8
+        ensures { result ≡ number_of self.now }
+    {
+        match self {
+            Error::DateTime(_) => 1,
+            Error::FindLocalTimeType(_) => 2,
+            Error::LocalTimeType(_) => 3,
+            Error::InvalidSlice(_) => 4,
+            Error::InvalidTzFile(_) => 5,
+            Error::InvalidTzString(_) => 6,
+            Error::UnexpectedEnd(_) => 7,
+            Error::MissingTag(_) => 8,
+            Error::OutOfRange(_) => 9,
+            Error::ParseInt(_) => 10,
+            Error::ProjectDateTime(_) => 11,
+            Error::TimeZone(_) => 12,
+            Error::TransitionRule(_) => 13,
+            Error::UnsupportedTzFile(_) => 14,
+            Error::UnsupportedTzString(_) => 15,
+            Error::Utf8(_) => 16,
+            Error::OutOfMemory => 17,
+        }
+    }
+}
+
+impl From<AllocError> for Error {
+    ghost from_gives = { λ _ e. e ≡ OutOfMemory };
+
+    fn from(_: AllocError) -> Error {
+        Error::OutOfMemory
+    }
+}
+
+impl<T: Drop> From<AllocFailed<T>> for Error {
+    ghost from_gives = { λ _ e. e ≡ OutOfMemory };
+
+    fn from(_: AllocFailed<T>) -> Error {
+        Error::OutOfMemory
+    }
+}

@@ -1,0 +1,39 @@
+//! Theorems of equality and clones: each function is empty, its contract is proved; never called.
+
+ghost use Rattle.std.specs.Prelude.{◌≡◌, ◌↔◌, List, ℕ, IsTrue};
+ghost use Rattle.tz_base.specs.LocalTypes.{LocalType};
+ghost use Rattle.tz_base.specs.declared.error.Error.{Error as Refusal};
+ghost use Rattle.tz_base.specs.declared.error.Expected.{Expected as Wanted};
+
+use crate::error::{Error, Expected};
+use crate::local_time_type::LocalTimeType;
+use crate::name::TimeZoneName;
+
+/// Names are equal if and only if their bytes are. A clone is the value, and does not fail.
+pub fn names()
+    ensures equal { (a b : List ℕ) → IsTrue (⟦<TimeZoneName as PartialEq>⟧.eq a b) ↔ (a ≡ b) }
+    ensures clone { (a b : List ℕ) → ⟦<TimeZoneName as Clone>⟧.is_clone a b ↔ (b ≡ a) }
+    ensures infallible { (a : List ℕ) → ⟦<TimeZoneName as Clone>⟧.is_infallible a }
+{}
+
+/// Types are equal if and only if their offsets, DST flags and names are. A clone is the value, and
+/// does not fail.
+pub fn local_time_types()
+    ensures equal { (a b : LocalType) → IsTrue (⟦<LocalTimeType as PartialEq>⟧.eq a b) ↔ (a ≡ b) }
+    ensures clone { (a b : LocalType) → ⟦<LocalTimeType as Clone>⟧.is_clone a b ↔ (b ≡ a) }
+    ensures infallible { (a : LocalType) → ⟦<LocalTimeType as Clone>⟧.is_infallible a }
+{}
+
+/// What was expected is equal where it is the same. A clone is the value, and does not fail.
+pub fn expectations()
+    ensures equal { (a b : Wanted) → IsTrue (⟦<Expected as PartialEq>⟧.eq a b) ↔ (a ≡ b) }
+    ensures clone { (a b : Wanted) → ⟦<Expected as Clone>⟧.is_clone a b ↔ (b ≡ a) }
+    ensures infallible { (a : Wanted) → ⟦<Expected as Clone>⟧.is_infallible a }
+{}
+
+/// Errors are equal where they are the same. A clone is the error, and does not fail.
+pub fn errors()
+    ensures equal { (a b : Refusal) → IsTrue (⟦<Error as PartialEq>⟧.eq a b) ↔ (a ≡ b) }
+    ensures clone { (a b : Refusal) → ⟦<Error as Clone>⟧.is_clone a b ↔ (b ≡ a) }
+    ensures infallible { (a : Refusal) → ⟦<Error as Clone>⟧.is_infallible a }
+{}

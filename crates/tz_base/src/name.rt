@@ -1,0 +1,119 @@
+//! Names of local time types.
+
+ghost use Rattle.std.specs.Prelude.{◌≡◌, ℕ, ◌<◌, ◌≤◌, length, IfErr, ◌↔◌, IsTrue, MatchResult};
+ghost use Rattle.std.specs.Bool.{nat_eq};
+ghost use Rattle.std.specs.Cmp.{partial_equiv_from_equiv};
+ghost use Rattle.std.specs.Cmp.Lexicographic.{pointwise, nat_list_eq_equiv};
+ghost use Rattle.tz_base.specs.Names.{IsName, is_name_byte};
+ghost use Rattle.tz_base.specs.Errors.{IsLocalTimeTypeError};
+
+use crate::error::{Error, Expected};
+use std::fmt;
+use std::marker::Model;
+
+/// The name of a local time type, such as `CET` or `-03`: three to seven letters, digits, `+` or
+/// `-` (RFC 8536 section 3.2 says that a name should have three to six).
+#[derive(Clone, Copy)]
+pub struct TimeZoneName {
+    buffer: [u8; 7],
+    len: u8,
+}
+
+impl Model for TimeZoneName {
+    ghost use Rattle.std.specs.Prelude.{List, ℕ, take, length};
+
+    ghost Value = { List ℕ };
+
+    ghost use Rattle.tz_base.specs.Steps.StoredNames.{Holds, padded, padded_back, length_back};
+
+    ghost view = { λ n. take n.len n.buffer };
+
+    ghost invariant = { λ n. Holds n.buffer n.len };
+
+    ghost inverse = { λ text. record { buffer = padded text; len = length text } };
+
+    ghost use Rattle.std.proofs.Common.{ap, ◌≡◌, refl};
+
+    ghost inverse_ok = { λ n h i. record {
+      buffer = padded_back n.buffer n.len h i;
+      len = length_back n.buffer n.len h i;
+    } };
+}
+
+impl TimeZoneName {
+    /// The name of those bytes.
+    ///
+    /// # Errors
+    ///
+    /// [`Error::LocalTimeType`] if they are fewer than three or more than seven, or if one of them
+    /// is none of `A` to `Z`, `a` to `z`, `0` to `9`, `+` and `-`.
+    pub fn new(name: &[u8]) -> Result<TimeZoneName, Error>
+        ensures { MatchResult result (λ n. IsName name.now × (n ≡ name.now))
+            (λ e. IsLocalTimeTypeError e × ¬ (IsName name.now)) }
+    {
+        let len = name.len();
+        if len < 3 || len > 7 {
+            return Err(Error::LocalTimeType(Expected::NameOfThreeToSevenBytes));
+        }
+        if !name.iter().all(|byte| is_name_byte(*byte)) {
+            return Err(Error::LocalTimeType(Expected::LettersDigitsPlusOrMinusInName));
+        }
+        let mut buffer = [0; 7];
+        buffer[..len].copy_from_slice(name);
+        Ok(TimeZoneName {
+            buffer,
+            len: len as u8,
+        })
+    }
+
+    /// The bytes of the name.
+    pub fn as_bytes(&self) -> &[u8]
+        ensures bytes { result.now ≡ self.now }
+        ensures name { IsName self.now }
+    {
+        &self.buffer[..self.len as usize]
+    }
+
+    /// The name as text.
+    pub fn as_str(&self) -> &str
+        ensures { result.now ≡ self.now }
+    {
+        match std::str::from_utf8(self.as_bytes()) {
+            Ok(text) => text,
+            Err(_) => unreachable!(),
+        }
+    }
+
+    /// Whether two names are the same bytes.
+    pub fn equal(&self, other: &TimeZoneName) -> bool
+        ensures { IsTrue result ↔ (self.now ≡ other.now) }
+    {
+        self.as_bytes() == other.as_bytes()
+    }
+}
+
+impl PartialEq for TimeZoneName {
+    ghost eq = { pointwise nat_eq };
+
+    ghost laws = { partial_equiv_from_equiv nat_list_eq_equiv };
+
+    fn eq(&self, other: &TimeZoneName) -> bool {
+        self.as_bytes() == other.as_bytes()
+    }
+}
+
+impl Eq for TimeZoneName {
+    ghost laws = { nat_list_eq_equiv };
+}
+
+impl fmt::Debug for TimeZoneName {
+    fn fmt<W: fmt::Write>(&self, f: &mut fmt::Formatter<W>) -> fmt::Result {
+        write!(f, "\"{}\"", self.as_str())
+    }
+}
+
+fn is_name_byte(byte: u8) -> bool
+    ensures { result ≡ is_name_byte byte }
+{
+    byte.is_ascii_alphanumeric() || byte == b'+' || byte == b'-'
+}

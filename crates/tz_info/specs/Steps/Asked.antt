@@ -1,0 +1,11 @@
+-- Questions to the rule, counted.
+use Rattle.std.specs.Prelude.{ℕ, ℤ, ◌≡◌, ◌+◌, ◌⊎◌, Some, None}
+use Rattle.tz_info.specs.Zones.{Zone, IsBeforeLast, IsFromLast}
+use Rattle.tz_info.specs.declared.rule.transition_rule.TransitionRule.{TransitionRule}
+
+-- one question more where the rule says the type at the leap time x, else none
+abbrev pub IsAskedAtLeapTime : Zone → ℤ → ℕ → ℕ → Type 0
+IsAskedAtLeapTime z x before after =
+    ((rule : TransitionRule) × (z.rule ≡ Some rule) × IsFromLast z x × (after ≡ before + 1))
+    ⊎ ((z.rule ≡ None) × (after ≡ before))
+    ⊎ (IsBeforeLast z x × (after ≡ before))
