@@ -1,5 +1,5 @@
-//! Items that come in order of time, and the search for the latest one at a second: a lookup can look
-//! at an item only where the look is counted.
+//! Items that come in order of time, and the search for the latest one at a second, which counts how
+//! often it looks at an item.
 #![tactic(auto)]
 
 mod hints;

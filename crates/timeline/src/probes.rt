@@ -72,7 +72,7 @@ impl Probes {
             && self.index_reads < Self::ROOM
     }
 
-    /// Counts a look at a transition.
+    /// Counts a look at a transition. It makes none: whoever looks calls this.
     #[inline(always)]
     pub fn count_read(&mut self)
         requires { HasRoomFor 1 self.old.reads }

@@ -1,5 +1,5 @@
-//! Items that come in order of time, and the search for the latest one. A lookup can look at an
-//! item only where the look is counted.
+//! Items that come in order of time, and the search for the latest one. Both calls that are made for
+//! lookups, `read` and `passed`, count each look at an item; `items` gives all of them uncounted.
 //!
 //! The times of the first and the last item are kept beside them, and so are hints at the places of
 //! the others. A search compares with these two first, and where one of them decides, that counts
@@ -61,7 +61,7 @@ struct Ends {
 }
 
 /// How many items have come, and the last of them.
-#[derive(Clone, Copy)]
+#[derive(Drop)]
 pub struct Passed<'a, T> {
     pub count: usize,
     pub latest: Option<&'a T>,
@@ -92,7 +92,11 @@ impl<T: Timed> Model for Timeline<T> {
 }
 
 impl<T: Timed> Timeline<T> {
-    /// Those items.
+    /// Those items, which come in order of time: none before one that stands earlier.
+    ///
+    /// # Errors
+    ///
+    /// [`AllocError`] if there is no memory for the hints.
     pub fn new(alloc: Global, items: Vec<T>) -> Result<Timeline<T>, AllocError>
         requires { AreOrdered (map T.time items.items) }
         ensures { MatchResult result (λ t. t ≡ items.items) (λ _. ⊤) }
@@ -122,14 +126,14 @@ impl<T: Timed> Timeline<T> {
         self.items.len()
     }
 
-    /// All of them, to be compared or printed: no lookup takes this.
+    /// All of them, to be compared or printed. No look is counted.
     pub fn items(&self) -> &[T]
         ensures { result.now ≡ self.now }
     {
         &self.items
     }
 
-    /// The item at that place. This is the only look that a lookup can take.
+    /// The item at that place, which counts as one look.
     #[inline(always)]
     pub fn read(&self, place: usize, probes: &mut Probes) -> &T
         requires place { place < length self.now }

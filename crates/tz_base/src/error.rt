@@ -8,8 +8,9 @@ use std::alloc::{AllocError, AllocFailed};
 use std::fmt;
 use thiserror::Error;
 
-/// What was expected where something was refused. It prints as a short text.
-#[derive(Clone, Copy, Debug, PartialEq, Eq)]
+/// What was expected where something was refused. It prints as a short text, and by `{:?}` as that
+/// text in double quotes.
+#[derive(Clone, Copy, PartialEq, Eq)]
 pub enum Expected {
     /// More bytes.
     MoreBytes,
@@ -90,54 +91,60 @@ pub enum Expected {
 impl Expected {
     /// What was expected, as a short text without a capital or a full stop.
     pub fn as_str(self) -> &'static str {
-        TEXTS[self as usize]
+        match self {
+            Expected::MoreBytes => "more bytes",
+            Expected::Tag => "a tag",
+            Expected::OtherBytes => "other bytes",
+            Expected::Digit => "a digit",
+            Expected::NumberWithinItsLimit => "a number within its limit",
+            Expected::StandardTimeWhereTimeIsUt => "standard time where the time is UT",
+            Expected::FooterInUtf8 => "a footer in UTF-8",
+            Expected::FooterBetweenNewlines => "a footer between newlines",
+            Expected::TzTextInFooter => "a TZ text in the footer",
+            Expected::CountsThatAgree => "counts that agree",
+            Expected::TZifAtFrontOfHeader => "TZif at the front of a header",
+            Expected::Version2Or3InSecondHeader => "version 2 or 3 in a second header",
+            Expected::Version1To3 => "version 1, 2 or 3",
+            Expected::NothingAfterBlockOfVersion1 => "nothing after a block of version 1",
+            Expected::ZeroOrOneAsIsDst => "0 or 1 as a type's isdst",
+            Expected::NameWithinDesignations => "a name within the designations",
+            Expected::ZeroByteBehindName => "a 0 byte behind a name",
+            Expected::OffsetAboveI32Min => "an offset above i32::MIN",
+            Expected::NameOfThreeToSevenBytes => "a name of three to seven bytes",
+            Expected::LettersDigitsPlusOrMinusInName => "letters, digits, + or - in a name",
+            Expected::OffsetsWithinDay => "offsets within a day",
+            Expected::StartWithinWeek => "a start within a week",
+            Expected::EndWithinWeek => "an end within a week",
+            Expected::YearThatRuleAnswersIn => "a year that the rule answers in",
+            Expected::DayFromJ1ToJ365 => "a day from J1 to J365",
+            Expected::DayFrom0To365 => "a day from 0 to 365",
+            Expected::MonthFrom1To12 => "a month from 1 to 12",
+            Expected::WeekFrom1To5 => "a week from 1 to 5",
+            Expected::WeekdayFrom0To6 => "a weekday from 0 to 6",
+            Expected::HoursMinutesAndSecondsWithinTheirLimits =>
+                "hours, minutes and seconds within their limits",
+            Expected::OffsetOfDaylightSavingTimeWithinDay =>
+                "an offset of daylight saving time within a day",
+            Expected::DaysWhenDaylightSavingTimeStartsAndEnds =>
+                "days when daylight saving time starts and ends",
+            Expected::NothingBehindText => "nothing behind the text",
+            Expected::LeapTimeOf64Bits => "a leap time of 64 bits",
+            Expected::LeapTimeAboveI64Min => "a leap time above i64::MIN",
+            Expected::UnixTimeOf64Bits => "a Unix time of 64 bits",
+            Expected::ListsOfZone => "lists that make a zone",
+        }
     }
 }
-
-// What was expected, in the order of the variants.
-const TEXTS: [&str; 37] = [
-    "more bytes",
-    "a tag",
-    "other bytes",
-    "a digit",
-    "a number within its limit",
-    "standard time where the time is UT",
-    "a footer in UTF-8",
-    "a footer between newlines",
-    "a TZ text in the footer",
-    "counts that agree",
-    "TZif at the front of a header",
-    "version 2 or 3 in a second header",
-    "version 1, 2 or 3",
-    "nothing after a block of version 1",
-    "0 or 1 as a type's isdst",
-    "a name within the designations",
-    "a 0 byte behind a name",
-    "an offset above i32::MIN",
-    "a name of three to seven bytes",
-    "letters, digits, + or - in a name",
-    "offsets within a day",
-    "a start within a week",
-    "an end within a week",
-    "a year that the rule answers in",
-    "a day from J1 to J365",
-    "a day from 0 to 365",
-    "a month from 1 to 12",
-    "a week from 1 to 5",
-    "a weekday from 0 to 6",
-    "hours, minutes and seconds within their limits",
-    "an offset of daylight saving time within a day",
-    "days when daylight saving time starts and ends",
-    "nothing behind the text",
-    "a leap time of 64 bits",
-    "a leap time above i64::MIN",
-    "a Unix time of 64 bits",
-    "lists that make a zone",
-];
 
 impl fmt::Display for Expected {
     fn fmt<W: fmt::Write>(&self, f: &mut fmt::Formatter<W>) -> fmt::Result {
         f.write_str(self.as_str())
+    }
+}
+
+impl fmt::Debug for Expected {
+    fn fmt<W: fmt::Write>(&self, f: &mut fmt::Formatter<W>) -> fmt::Result {
+        write!(f, "\"{}\"", self.as_str())
     }
 }
 

@@ -2,7 +2,7 @@
 use Rattle.std.proofs.Common.{◌≡◌, ◌↔◌, ◌⊎◌, ℕ, zero, suc, ℤ, pos, ◌+ℤ◌, ◌-ℤ◌, ◌<ℤ◌, ◌≤ℤ◌, Bool, true, false, IsTrue, Option, Some, None, arith, refl, sym, subst, ◌∙◌, ap, inl, inr}
 use Rattle.std.specs.Prelude.{◌≢◌, IfSome, MatchOption, option_map, unsigned_abs}
 use Rattle.std.proofs.lemmas.Int.{ints}
-use Rattle.naive_base.specs.Range.{first_second, last_second, IsInRange}
+use Rattle.naive_base.specs.Range.{IsInRange}
 use Rattle.naive_base.specs.Stamp.{of_secs}
 use Rattle.naive_base.proofs.ForCallers.{gap_of}
 use Rattle.tz_base.specs.LocalTypes.{LocalType}

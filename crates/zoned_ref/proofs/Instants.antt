@@ -2,7 +2,7 @@
 use Rattle.std.proofs.Common.{◌≡◌, ℤ, refl, subst, Option}
 use Rattle.std.specs.Prelude.{SomeIff}
 use Rattle.offset_core.specs.declared.local_result.LocalResult.{LocalResult}
-use Rattle.offset_core.specs.declared.local_result.LocalResult.TheVariants.{Single, Ambiguous, None as none}
+use Rattle.offset_core.specs.declared.local_result.LocalResult.TheVariants.{Single, Ambiguous}
 use Rattle.offset_core.specs.LocalResult.{all_or_none}
 use Rattle.offset_core.proofs.ForCallers.{one_wall_answer}
 use Rattle.naive_base.specs.Reading.{Reading}

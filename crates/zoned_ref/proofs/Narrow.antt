@@ -1,5 +1,5 @@
 -- A zone is narrow if its least and its greatest offset are less than a day away from UTC.
-use Rattle.std.proofs.Common.{◌≡◌, ℕ, ◌<◌, ℤ, arith, refl, subst, sym, List, ◌++◌, length, map, get_or, All, Option, Some, None}
+use Rattle.std.proofs.Common.{◌≡◌, ◌<◌, ℤ, arith, refl, subst, sym, List, ◌++◌, length, map, get_or, All, Option, Some, None}
 use Rattle.std.proofs.Math.ListN.{get_or-map}
 use Rattle.std.proofs.lemmas.Int.{ints}
 use Rattle.std.proofs.lemmas.List.{length-map}

@@ -8,7 +8,6 @@ use Rattle.tz_info.specs.declared.change.Change.{Change}
 use Rattle.zoned_time.specs.DateTime.{zoned}
 use Rattle.zoned_time.specs.Zone.{Meaning, Law}
 use Rattle.zoned_time.specs.Zoned.{Zoned, IsAt}
-use Rattle.zoned_ref.specs.TimeZoneRef.{zone_of, off_of}
 use Rattle.zoned_ref.specs.ZoneOffset.{law_of, type_of}
 use Rattle.zoned_ref.specs.declared.time_zone_ref.TimeZoneRef.{TimeZoneRef}
 use Rattle.zoned_ref.specs.declared.zone_change.ZoneChange.{ZoneChange}
