@@ -9,17 +9,15 @@ if and only if a time of day in the text is negative or has more than 24 hours.
 
 Each text is a test of its own, laid into a crate as `tools/try_tests.py` does it, run and not proved. It takes some 20 seconds
 for each hundred texts. Prints how many texts are the same, and the report if one differs. Ends with status 1 if one does.
-
-Takes the command rt from the variable RT, if that is set.
 """
 
 import re
-import subprocess
 import sys
 import tempfile
 from pathlib import Path
 
 import try_tests
+from kit import tried
 
 FOLDER = "/usr/share/zoneinfo"
 MODULE = "of_tz_write"
@@ -77,18 +75,17 @@ def main():
     if not texts:
         sys.exit(f"no TZif file with a text: {folder}")
     with tempfile.TemporaryDirectory() as top:
-        crate = try_tests.repository(Path(top), ["tz_write"])
+        [(crate, (_, used))] = try_tests.repository(Path(top), ["tz_write"]).items()
         for old in (crate / "src" / MODULE).iterdir():
             old.unlink()
         (crate / "src" / f"{MODULE}.rt").write_text("mod footers;\n")
         (crate / "src" / MODULE / "footers.rt").write_text(tests(texts))
-        tried = subprocess.run([try_tests.RT, "try", "--test"], cwd=crate, capture_output=True, text=True)
-    report = tried.stdout + tried.stderr
+        status, report = tried(crate, used, try_tests.SECONDS)
     same = len(re.findall(r"(?m)^test \S+::text_\d+ \.\.\. ok$", report))
     if same != len(texts):
         print(report)
-    print(f"{same} of {len(texts)} texts are written as they stand in the footers, status {tried.returncode}")
-    return 0 if tried.returncode == 0 and same == len(texts) else 1
+    print(f"{same} of {len(texts)} texts are written as they stand in the footers, status {status}")
+    return 0 if status == 0 and same == len(texts) else 1
 
 
 if __name__ == "__main__":

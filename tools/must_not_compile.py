@@ -4,26 +4,24 @@
 usage: tools/must_not_compile.py [NAME ..]
 
 Each text is a test, which says in its head why it is refused, by `//! error: ` and words of the compiler's message. Lines that
-end with `// refused` make the fault, and lines that end with `// accepted` mend it. Each text is tried both ways, beside a
-copy of this repository's libraries: without the fault the test must pass, so that nothing else is amiss; with it the compiler
-must refuse the text, with those words.
-
-Takes the command rt from the variable RT, if that is set.
+end with `// refused` make the fault, and lines that end with `// accepted` mend it. The texts are tried both ways, beside a
+copy of this repository's libraries: without their faults all tests must pass, in one crate, so that nothing else is amiss; with
+its fault the compiler must refuse each text, with those words.
 """
 
-import os
 import re
 import shutil
-import subprocess
 import sys
 import tempfile
 from pathlib import Path
 
+from kit import tried
 from sources import TOP, libraries_below
 
 TEXTS = TOP / "tools/refused"
-RT = os.environ.get("RT", "rt")
-# The status of `rt try` for what it refuses to compile.
+# The gate tries them beside its proofs, where they take longer than alone.
+SECONDS = "300"
+# The status of a try for what it refuses to compile.
 REFUSED = 1
 LIBRARIES = sorted({*libraries_below("zoned_ref"), "zoned_ref"})
 
@@ -45,42 +43,45 @@ def repository(top):
     return top / "crates/tried"
 
 
-def try_test(crate, text):
-    """The status with which that text is tried, and what is said of it."""
-    head = re.match(r"(//!.*\n)*", text).end()
-    (crate / "src/lib.rt").write_text(text[:head] + "#![tactic(auto)]\n" + text[head:])
-    tried = subprocess.run([RT, "try", "--test"], cwd=crate, capture_output=True, text=True)
-    return tried.returncode, tried.stdout + tried.stderr
+def try_texts(crate, texts):
+    """The status with which these texts are tried as modules of one crate, and what is said of them."""
+    source = crate / "src"
+    shutil.rmtree(source)
+    source.mkdir()
+    source.joinpath("lib.rt").write_text("#![tactic(auto)]\n" + "".join(f"#[cfg(test)]\nmod {name};\n" for name in texts))
+    for name, text in texts.items():
+        source.joinpath(f"{name}.rt").write_text(text)
+    return tried(crate, LIBRARIES, SECONDS)
 
 
-def fault_of(crate, path):
-    """What is amiss when that text is tried, or None."""
-    text = path.read_text()
+def fault_of(crate, name, text):
+    """What is amiss when that text is tried with its fault, or None."""
     error = re.search(r"^//! error: (.*)$", text, re.M)
     if not error:
         return "it names no error"
-    status, report = try_test(crate, without(text, "refused"))
-    if status != 0 or "1 passed; 0 failed" not in report:
-        return f"without the fault it doesn't pass:\n{report}"
-    status, report = try_test(crate, without(text, "accepted"))
+    status, report = try_texts(crate, {name: without(text, "accepted")})
     if status != REFUSED or error[1] not in report:
         return f"status {status}, where `{error[1]}` was due:\n{report}"
     return None
 
 
 def main():
-    texts = sorted(TEXTS.glob("*.txt"))
-    names = sys.argv[1:] or [path.stem for path in texts]
-    tried = [path for path in texts if path.stem in names]
-    faults = 0
+    known = {path.stem: path.read_text() for path in sorted(TEXTS.glob("*.txt"))}
+    names = sys.argv[1:] or list(known)
+    texts = {name: known[name] for name in names if name in known}
     with tempfile.TemporaryDirectory() as folder:
         crate = repository(Path(folder))
-        for path in tried:
-            fault = fault_of(crate, path)
+        status, report = try_texts(crate, {name: without(text, "refused") for name, text in texts.items()})
+        do_pass = status == 0 and f"{len(texts)} passed; 0 failed" in report
+        if not do_pass:
+            print(f"without their faults they don't all pass:\n{report}")
+        faults = 0
+        for name, text in texts.items():
+            fault = fault_of(crate, name, text)
             faults += fault is not None
-            print(f"{path.stem}: {fault or 'refused, as it must be'}", flush=True)
-    print(f"{len(tried)} tried, {faults} not as they must be")
-    return 1 if faults or len(tried) != len(names) else 0
+            print(f"{name}: {fault or 'refused, as it must be'}", flush=True)
+    print(f"{len(texts)} tried, {faults} not as they must be")
+    return 0 if do_pass and not faults and len(texts) == len(names) else 1
 
 
 if __name__ == "__main__":

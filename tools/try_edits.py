@@ -16,7 +16,7 @@ read, nor where nothing but a proof misses a name.
 
 The libraries below are taken as `rt ci` or `rt check` has built them. Beside an `rt ci` that still runs, and whose words go to
 FILE, a crate's edits wait until the crate is proved. Then each function that FILE tells as proved, and that no edit changes, is
-taken by its contract, with a hole for its proof: to prove it once more would tell nothing new. Where FILE tells none, as of a
+taken by its contract, with a hole for its proof and without its body: to prove it once more would tell nothing new. Where FILE tells none, as of a
 crate that an earlier run proved, the functions with a plain name are taken so, by the sources. The edits of tz_info don't wait
 for its long proof, beside which processors are free. With no FILE the functions that the edited ones call are proved as well, over
 what `rt check` keeps of the crate, where it is there.
@@ -163,6 +163,22 @@ def leave_out(folder, crate, functions, edits):
         (proof / "Proof.antt").write_text(hole)
 
 
+def leave_bodies_out(folder, functions, edits):
+    """Takes the body from each of these functions that no edit changes: with its proof left out, its contract is all that is taken of
+    it, and what it calls isn't looked at. One with a closure keeps it for the closure's proof, and one that calls itself."""
+    kept = {part.rsplit("::", 1)[-1] for edit in edits for part in edit.parts}
+    kept |= {path.name[1:] for path in folder.joinpath("proofs").rglob("+*")}
+    names = {path.rsplit("::", 1)[-1] for path in functions} - kept
+    for path in folder.joinpath("src").rglob("*.rt"):
+        text = path.read_text()
+        for begin in reversed(list(FUNCTION.finditer(text))):
+            end = text.find(f"\n{begin[1]}}}\n", begin.end())
+            start = text.find(f"\n{begin[1]}{{\n", begin.end(), end)
+            if begin[2] in names and start >= 0 and "|" not in text[start:end] and "const fn" not in begin[0]:
+                text = f"{text[:start]}\n{begin[1]}{{ unreachable!() {text[end + 1 + len(begin[1]):]}"
+        path.write_text(text)
+
+
 def is_of(path, part):
     """Whether the function of that path is the one that the part names, or stands in the module that it names."""
     return f"::{path}::".find(f"::{part}::") >= 0
@@ -178,6 +194,7 @@ def checked(crate, edits, proved):
         for file, text in made(edits).items():
             (folder / file).write_text(text)
         leave_out(folder, crate, proved, edits)
+        leave_bodies_out(folder, proved, edits)
         only = [word for part in sorted({part for edit in edits for part in edit.parts}) for word in ("--only", part)]
         holes = ["--allow-holes"] if proved else ["--incremental", kept_of(crate, folder / "kept")]
         command = [*words("check", crate), "--jobs", "1", *only, *holes]

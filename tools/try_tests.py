@@ -6,7 +6,7 @@ usage: tools/try_tests.py [--fmt] [NAME ..]
 `rt ci` proves each test of a crate's src/, which takes seconds to minutes for a test. What a test tells of values from outside
 it tells when it runs. So tests stand beside their crate: each text of crates/NAME/tried is a module that uses the crate by its
 name, and others that it needs, as a client does. All of them, or those of the named crates, are laid into one crate beside a
-copy of this repository's libraries, and `rt try --test` runs them: it stops at what Rust would panic at, and proves nothing. No
+copy of this repository's libraries, and are run as `rt try --test` does: it stops at what Rust would panic at, and proves nothing. No
 crate can stand on a static library: its texts are laid into the copy of that crate itself.
 
 With --fmt the texts are laid out as `rt fmt` lays out code, and none is run.
@@ -16,7 +16,6 @@ Ends with status 1 if a test fails, or if not each `#[test]` that stands there r
 Takes the command rt from the variable RT, if that is set.
 """
 
-import os
 import re
 import shutil
 import subprocess
@@ -24,9 +23,9 @@ import sys
 import tempfile
 from pathlib import Path
 
+from kit import RT, tried
 from sources import TOP, crates, is_static, uses
 
-RT = os.environ.get("RT", "rt")
 LAID = "tried"
 # The gate runs them beside its proofs, where they take longer than alone.
 SECONDS = "300"
@@ -42,19 +41,20 @@ def named_in(texts):
 
 
 def repository(top, names):
-    """A copy of this repository with one crate more. Returns each crate that has tests laid in, with the names whose they are."""
+    """A copy of this repository with one crate more. Returns each crate that has tests laid in: the names whose they are, and the
+    libraries that it names."""
     apart = [name for name in names if not is_static(name)]
     below = {library for name in apart for library in [name, *uses()[name], *named_in(texts_of(name))]}
     for file in ("HANDLES", "crates.txt"):
         shutil.copy(TOP / file, top / file)
     left = shutil.ignore_patterns("out", "must-fail*", LAID)
     shutil.copytree(TOP / "crates", top / "crates", ignore=left)
-    laid_in = {top / "crates" / name: [name] for name in names if is_static(name)}
+    laid_in = {top / "crates" / name: ([name], uses()[name]) for name in names if is_static(name)}
     if apart:
         with (top / "crates.txt").open("a") as file:
             file.write(f"{LAID}: {' '.join(sorted(below))}\n")
-        laid_in[top / "crates" / LAID] = apart
-    for crate, those in laid_in.items():
+        laid_in[top / "crates" / LAID] = apart, sorted(below)
+    for crate, (those, _) in laid_in.items():
         lay(crate / "src", those)
     return laid_in
 
@@ -92,12 +92,9 @@ def count(name):
 
 
 def reports(laid_in):
-    """What is said of the tests of each crate, and the worst status."""
-    tried = [
-        subprocess.run([RT, "try", "--test", "--seconds", SECONDS], cwd=crate, capture_output=True, text=True)
-        for crate in laid_in
-    ]
-    return "".join(run.stdout + run.stderr for run in tried), max(run.returncode for run in tried)
+    """The worst status, and what is said of the tests of each crate."""
+    ran = [tried(crate, used, SECONDS) for crate, (_, used) in laid_in.items()]
+    return max(status for status, _ in ran), "".join(said for _, said in ran)
 
 
 def main():
@@ -111,10 +108,10 @@ def main():
     with tempfile.TemporaryDirectory() as folder:
         laid_in = repository(Path(folder), names)
         if "--fmt" in words:
-            for crate, those in laid_in.items():
+            for crate, (those, _) in laid_in.items():
                 lay_out(crate, those)
             return 0
-        report, status = reports(laid_in)
+        status, report = reports(laid_in)
     ran = re.findall(r"(?m)^test of_(\w+)::\S+ \.\.\. ok$", report)
     if status != 0 or len(ran) != wanted or wanted == 0:
         print(report)

@@ -26,7 +26,7 @@ fn last_item<'a>(
     series: &DailySeries<TimeZoneRef<'a>>,
     days: u32,
 ) -> Option<Result<DateTime<TimeZoneRef<'a>>, SeriesError>> {
-    series.days(days).rev().next()
+    series.days(days).next_back()
 }
 
 /// That, and `?` on an item.

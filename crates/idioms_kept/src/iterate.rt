@@ -25,7 +25,7 @@ pub fn last_of_days(
     series: &DailySeries<KeptZone>,
     days: u32,
 ) -> Result<Option<DateTime<KeptZone>>, SeriesError> {
-    match series.days(days).rev().next() {
+    match series.days(days).next_back() {
         Some(instant) => Ok(Some(instant?)),
         None => Ok(None),
     }

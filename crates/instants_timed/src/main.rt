@@ -40,28 +40,57 @@ fn main(rt: HostRuntime) -> ExitCode {
 fn work(rt: &HostRuntime) -> Result<(), WorkError> {
     let mut words = env::args(rt)?;
     let _program = words.next();
-    let what = words.next().ok_or(WorkError::Usage)?;
-    let zone = words.next().ok_or(WorkError::Usage)?;
-    let other = words.next().ok_or(WorkError::Usage)?;
-    let (zone, other) = (zone.as_str(), other.as_str());
-    match what.as_str() {
-        "times" => {
-            let (zone, other) = (kept(rt, zone)?, kept(rt, other)?);
-            print_times(rt, &Values::new(rt.alloc(), zone, other, COUNT)?)
-        }
+    let what = needed(words.next())?;
+    let zone = needed(words.next())?;
+    let other = needed(words.next())?;
+    let count = words.next();
+    print(
+        rt,
+        what.as_str(),
+        zone.as_str(),
+        other.as_str(),
+        text_of(&count),
+    )
+}
+
+// A word that is needed.
+fn needed(word: Option<String>) -> Result<String, WorkError> {
+    match word {
+        Some(word) => Ok(word),
+        None => Err(WorkError::Usage),
+    }
+}
+
+// A word that isn't needed is empty where there is none.
+fn text_of(word: &Option<String>) -> &str {
+    match word {
+        Some(word) => word.as_str(),
+        None => "",
+    }
+}
+
+fn print(
+    rt: &HostRuntime,
+    what: &str,
+    zone: &str,
+    other: &str,
+    count: &str,
+) -> Result<(), WorkError> {
+    match what {
+        "times" => print_times(rt, &values_of(rt, zone, other, COUNT)?),
         "answers" => {
-            let count = words.next().ok_or(WorkError::Usage)?;
             let Ok(count) = count.parse::<usize>() else {
                 return Err(WorkError::Usage);
             };
-            let (zone, other) = (kept(rt, zone)?, kept(rt, other)?);
-            print_answers(rt, &Values::new(rt.alloc(), zone, other, count)?)
+            print_answers(rt, &values_of(rt, zone, other, count)?)
         }
-        kind => {
-            let count = words.next().ok_or(WorkError::Usage)?;
-            print_sum(rt, kind, zone, Lookup::of_word(other)?, count.as_str())
-        }
+        kind => print_sum(rt, kind, zone, Lookup::of_word(other)?, count),
     }
+}
+
+fn values_of(rt: &HostRuntime, zone: &str, other: &str, count: usize) -> Result<Values, WorkError> {
+    let (zone, other) = (kept(rt, zone)?, kept(rt, other)?);
+    Ok(Values::new(rt.alloc(), zone, other, count)?)
 }
 
 // What the answers of a zone of that kind sum up to.

@@ -24,7 +24,15 @@ impl Meeting {
         length: TimeDelta,
     ) -> Result<Meeting, MeetingError> {
         let parsed = tz_info::TimeZone::from_tz_data(alloc, zone_file)?;
-        let zone = TimeZoneRef::new(&parsed).ok_or(MeetingError::WideZone)?;
+        Meeting::by_zone(&parsed, clock, length)
+    }
+
+    fn by_zone(
+        parsed: &tz_info::TimeZone,
+        clock: Clock,
+        length: TimeDelta,
+    ) -> Result<Meeting, MeetingError> {
+        let zone = TimeZoneRef::new(parsed).ok_or(MeetingError::WideZone)?;
         let local = clock.reading().ok_or(MeetingError::NoSuchTime)?;
         let choice = Choice {
             gap: GapChoice::ShiftForward,

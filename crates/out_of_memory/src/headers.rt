@@ -7,13 +7,21 @@ const MOST: u32 = u32::MAX;
 
 /// Prints a line for each header: the number that refuses it.
 pub fn print_answers(rt: &HostRuntime) -> io::Result<()> {
+    print_early_counts(rt)?;
+    print_late_counts(rt)?;
+    print_answer(rt, "types and indicators", [MOST, MOST, 0, 0, MOST, 1])
+}
+
+fn print_early_counts(rt: &HostRuntime) -> io::Result<()> {
     print_answer(rt, "UT indicators", [MOST, 0, 0, 0, 1, 1])?;
     print_answer(rt, "standard time indicators", [0, MOST, 0, 0, 1, 1])?;
-    print_answer(rt, "leap seconds", [0, 0, MOST, 0, 1, 1])?;
+    print_answer(rt, "leap seconds", [0, 0, MOST, 0, 1, 1])
+}
+
+fn print_late_counts(rt: &HostRuntime) -> io::Result<()> {
     print_answer(rt, "transitions", [0, 0, 0, MOST, 1, 1])?;
     print_answer(rt, "types", [0, 0, 0, 0, MOST, 1])?;
-    print_answer(rt, "designations", [0, 0, 0, 0, 1, MOST])?;
-    print_answer(rt, "types and indicators", [MOST, MOST, 0, 0, MOST, 1])
+    print_answer(rt, "designations", [0, 0, 0, 0, 1, MOST])
 }
 
 fn print_answer(rt: &HostRuntime, name: &str, counts: [u32; 6]) -> io::Result<()> {

@@ -1,6 +1,6 @@
 //! Lines in, answers out.
 
-ghost use Rattle.std.specs.Prelude.{◌≡◌, ℕ, List, true, false, OnOk, MatchResult};
+ghost use Rattle.std.specs.Prelude.{◌≡◌, ◌<◌, ℕ, List, [], true, false, length, OnOk, MatchResult};
 ghost use Rattle.std.specs.Io.KnownBytes.{Appends, Consumes, IsAtEnd};
 ghost use Rattle.zone_query.specs.Runs.{Answers, StopsWith};
 
@@ -53,10 +53,36 @@ pub fn run<R: Read, W: Write>(
     ensures none_left { writer.old.unsent ≡ false → writer.new.failed ≡ false
         → writer.new.unsent ≡ false }
 {
-    let mut dialogue = Dialogue::new(alloc);
     let mut block = [0; BLOCK];
+    let mut dialogue = Dialogue::new(alloc);
+    answer_all(&mut dialogue, reader, writer, &mut block)
+}
+
+// Answers what the reader gives, a block at a time.
+fn answer_all<R: Read, W: Write>(
+    dialogue: &mut Dialogue,
+    reader: &mut Watched<R>,
+    writer: &mut Watched<W>,
+    block: &mut [u8],
+) -> Result<(), RunError>
+    requires zone { dialogue.old.zone ≡ None }
+    requires begun { dialogue.old.begun.items ≡ [] }
+    requires reader { (reader.old.failed ≡ false) × (reader.old.ended ≡ false) }
+    requires writer { (writer.old.failed ≡ false) × (writer.old.ended ≡ false) }
+    requires room { 0 < length block.old }
+    ensures answers { (input : List ℕ) × (output : List ℕ)
+        × Consumes (R.remaining reader.old.inner) (R.remaining reader.new.inner) input
+        × Appends (W.contents writer.old.inner) (W.contents writer.new.inner) output
+        × MatchResult result
+        (λ _. (reader.new.ended ≡ true) × IsAtEnd (R.remaining reader.new.inner)
+        × (reader.new.failed ≡ false) × (writer.new.failed ≡ false) × Answers input output)
+        (λ e. StopsWith reader.new.failed writer.new.failed reader.new.reads e input output) }
+    ensures sent { OnOk result (writer.new.unsent ≡ false) }
+    ensures none_left { writer.old.unsent ≡ false → writer.new.failed ≡ false
+        → writer.new.unsent ≡ false }
+{
     for _ in 0..u64::MAX {
-        match reader.read(&mut block) {
+        match reader.read(block) {
             Err(_) => return Err(RunError::Read),
             Ok(0) => return dialogue.finish(writer),
             Ok(n) => dialogue.take_block(writer, &block[..n])?,

@@ -1,10 +1,11 @@
 //! The examples of the library's front page.
 
 use crate::{MyError, line};
-use std::alloc::Global;
+use std::alloc::{AllocError, Global};
+use std::fmt;
 use zoned::{
     Choice, DailySeries, DateTime, KeptZone, LocalResult, NaiveDate, NaiveDateTime, NaiveTime,
-    TimeZone, TimeZoneRef, Utc, tz_info,
+    TimeZone, TimeZoneRef, Utc, ZoneChange, tz_info,
 };
 
 /// What a clock shows on a day, at a time of that day.
@@ -52,9 +53,36 @@ pub fn daily(
     days: u32,
 ) -> Result<Vec<String>, MyError> {
     let parsed = tz_info::TimeZone::from_tz_data(alloc, bytes)?;
-    let new_york = TimeZoneRef::new(&parsed).ok_or(MyError::WideZone)?;
+    daily_in(alloc, &parsed, first, time, choice, days)
+}
+
+// That of a parsed zone: no `?` stands where the zone would be let go, which takes long to prove.
+fn daily_in(
+    alloc: Global,
+    parsed: &tz_info::TimeZone,
+    first: NaiveDate,
+    time: NaiveTime,
+    choice: Choice,
+    days: u32,
+) -> Result<Vec<String>, MyError> {
+    let new_york = TimeZoneRef::new(parsed).ok_or(MyError::WideZone)?;
+    lines_of(
+        alloc,
+        &DailySeries::new(new_york, first, time, choice),
+        days,
+    )
+}
+
+fn lines_of<Tz: TimeZone>(
+    alloc: Global,
+    series: &DailySeries<Tz>,
+    days: u32,
+) -> Result<Vec<String>, MyError>
+where
+    Tz::Offset: fmt::Display,
+{
     let mut lines = Vec::new(alloc);
-    for instant in DailySeries::new(new_york, first, time, choice).days(days) {
+    for instant in series.days(days) {
         let instant = instant?;
         lines.push(format!(in alloc; "{instant}")?)?;
     }
@@ -69,13 +97,25 @@ pub fn next_change(
     after: &DateTime<Utc>,
 ) -> Result<Option<(String, String)>, MyError> {
     let parsed = tz_info::TimeZone::from_tz_data(alloc, bytes)?;
-    let new_york = TimeZoneRef::new(&parsed).ok_or(MyError::WideZone)?;
-    let Some(change) = new_york.next_change(after) else {
-        return Ok(None);
-    };
+    next_change_in(alloc, &parsed, after)
+}
+
+fn next_change_in(
+    alloc: Global,
+    parsed: &tz_info::TimeZone,
+    after: &DateTime<Utc>,
+) -> Result<Option<(String, String)>, MyError> {
+    let new_york = TimeZoneRef::new(parsed).ok_or(MyError::WideZone)?;
+    match new_york.next_change(after) {
+        Some(change) => Ok(Some(lines_of_change(alloc, &change)?)),
+        None => Ok(None),
+    }
+}
+
+fn lines_of_change(alloc: Global, change: &ZoneChange<'_>) -> Result<(String, String), AllocError> {
     let before = line(alloc, &change.before)?;
     let at = line(alloc, &change.at)?;
-    Ok(Some((before, at)))
+    Ok((before, at))
 }
 
 /// A zone that is kept, and an instant of it.

@@ -20,55 +20,72 @@ fn with_years<'a>(alloc: Global, command: Command<'a>) -> Result<Command<'a>, Al
 }
 
 fn year<'a>(alloc: Global, name: &'a str, unless_asked: &'a str, help: &'a str) -> Arg<'a> {
-    Arg::new(alloc, name)
-        .long(name)
-        .value_name("YEAR")
+    with_value(alloc, name, "YEAR", help)
         .value_parser(value_parser!(i32))
         .default_value(unless_asked)
-        .help(help)
 }
 
 // What is done with the zones.
 fn with_forms<'a>(alloc: Global, command: Command<'a>) -> Result<Command<'a>, AllocError> {
-    let zdump = Arg::new(alloc, "zdump")
-        .long("zdump")
-        .action(ArgAction::SetTrue)
-        .help("Prints what zdump -v prints");
+    let zdump = flag(alloc, "zdump", "Prints what zdump -v prints");
     let command = command.arg(zdump)?;
-    let json = Arg::new(alloc, "json")
-        .long("json")
-        .action(ArgAction::SetTrue)
-        .help("Prints an object of JSON for each zone, on a line of its own")
-        .conflicts_with("zdump")?;
-    let command = command.arg(json)?;
-    let write = Arg::new(alloc, "write")
-        .long("write")
-        .value_name("FILE")
-        .help("Writes the zone as a TZif file, and prints nothing");
+    let json = flag(
+        alloc,
+        "json",
+        "Prints an object of JSON for each zone, on a line of its own",
+    );
+    let command = without(command.arg(json)?, "json", &["zdump"])?;
+    let write = with_value(
+        alloc,
+        "write",
+        "FILE",
+        "Writes the zone as a TZif file, and prints nothing",
+    );
     let command = command.arg(write)?;
-    let svg = Arg::new(alloc, "svg")
-        .long("svg")
-        .value_name("FILE")
-        .help("Draws the zone as a picture of SVG, and prints nothing")
-        .conflicts_with("zdump")?
-        .conflicts_with("json")?
-        .conflicts_with("write")?;
-    command.arg(svg)
+    let svg = with_value(
+        alloc,
+        "svg",
+        "FILE",
+        "Draws the zone as a picture of SVG, and prints nothing",
+    );
+    without(command.arg(svg)?, "svg", &["zdump", "json", "write"])
 }
 
 // The zones: those of files, or that of a TZ text.
 fn with_zones<'a>(alloc: Global, command: Command<'a>) -> Result<Command<'a>, AllocError> {
-    let text = Arg::new(alloc, "text")
-        .long("text")
-        .value_name("TZ")
-        .help("A TZ text in place of files")
-        .conflicts_with("FILE")?;
-    let command = command.arg(text)?;
-    let files = Arg::new(alloc, "FILE")
-        .action(ArgAction::Append)
-        .help("TZif files")
-        .required_unless_present("text")?;
-    command.arg(files)
+    let text = with_value(alloc, "text", "TZ", "A TZ text in place of files");
+    let command = without(command.arg(text)?, "text", &["FILE"])?;
+    let files = argument(alloc, "FILE", "TZif files").action(ArgAction::Append);
+    command.arg(files)?.mut_arg(
+        "FILE",
+        |files: Arg<'_>| files.required_unless_present("text"),
+    )
+}
+
+// The command, where the argument of that name is used with none of the others.
+fn without<'a>(
+    command: Command<'a>,
+    name: &str,
+    others: &[&'a str],
+) -> Result<Command<'a>, AllocError> {
+    command.mut_arg(name, |arg: Arg<'_>| arg.conflicts_with_all(others))
+}
+
+fn flag<'a>(alloc: Global, name: &'a str, help: &'a str) -> Arg<'a> {
+    named(alloc, name, help).action(ArgAction::SetTrue)
+}
+
+fn with_value<'a>(alloc: Global, name: &'a str, value: &'a str, help: &'a str) -> Arg<'a> {
+    named(alloc, name, help).value_name(value)
+}
+
+// An argument that is written with its name.
+fn named<'a>(alloc: Global, name: &'a str, help: &'a str) -> Arg<'a> {
+    argument(alloc, name, help).long(name)
+}
+
+fn argument<'a>(alloc: Global, name: &'a str, help: &'a str) -> Arg<'a> {
+    Arg::new(alloc, name).help(help)
 }
 
 /// The years that are asked for, if they are years from 1 to 9999 in order.

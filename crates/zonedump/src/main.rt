@@ -5,6 +5,7 @@ mod arguments;
 mod files;
 mod told;
 
+use clap::ArgMatches;
 use std::process::ExitCode;
 use std::{env, io};
 use told::{Asked, tell_file, tell_text};
@@ -33,36 +34,55 @@ fn run(rt: &HostRuntime) -> io::Result<u8> {
 
 // Does what the words ask for.
 fn answer<'a>(rt: &HostRuntime, words: &'a [String]) -> io::Result<u8> {
-    let matches = match arguments::command(rt.alloc())?.try_get_matches_from(words) {
-        Ok(matches) => matches,
-        Err(error) => {
-            error.print(rt)?;
-            return Ok(error.exit_code() as u8);
-        }
+    match arguments::command(rt.alloc())?.try_get_matches_from(words) {
+        Ok(matches) => tell_matched(rt, &matches),
+        Err(error) => explain(rt, &error),
+    }
+}
+
+// Prints what is wrong with the words, or the help that they ask for.
+fn explain(rt: &HostRuntime, error: &clap::Error) -> io::Result<u8> {
+    error.print(rt)?;
+    Ok(error.exit_code() as u8)
+}
+
+fn tell_matched(rt: &HostRuntime, matches: &ArgMatches<'_>) -> io::Result<u8> {
+    let Some(years) = arguments::years_of(matches) else {
+        return refuse(
+            rt,
+            "the years go from one of 1 to 9999 to the same or a later one",
+        );
     };
-    let Some(years) = arguments::years_of(&matches) else {
-        eprintln!(rt; "zonedump: the years go from one of 1 to 9999 to the same or a later one")?;
-        return Ok(WRONG);
-    };
-    let asked = Asked {
-        years,
-        what: arguments::what_of(&matches),
-    };
+    let what = arguments::what_of(matches);
+    tell_asked(rt, matches, Asked { years, what })
+}
+
+fn tell_asked(rt: &HostRuntime, matches: &ArgMatches<'_>, asked: Asked<'_>) -> io::Result<u8> {
     if let Some(text) = matches.get_str("text") {
-        return Ok(status_of(tell_text(rt, text, asked)?));
+        let is_told = tell_text(rt, text, asked)?;
+        return Ok(status_of(is_told));
     }
-    let Some(files) = matches.get_strs("FILE") else {
-        return Ok(TOLD);
-    };
+    match matches.get_strs("FILE") {
+        Some(files) => tell_files(rt, files, asked),
+        None => Ok(TOLD),
+    }
+}
+
+// Says why what is asked for can't be done.
+fn refuse(rt: &HostRuntime, why: &str) -> io::Result<u8> {
+    eprintln!(rt; "zonedump: {why}")?;
+    Ok(WRONG)
+}
+
+fn tell_files(rt: &HostRuntime, files: &[&str], asked: Asked<'_>) -> io::Result<u8> {
     if asked.what.is_of_one_zone() && files.len() > 1 {
-        eprintln!(rt; "zonedump: only one zone is written or drawn")?;
-        return Ok(WRONG);
+        return refuse(rt, "only one zone is written or drawn");
     }
-    tell_files(rt, files, asked)
+    tell_each(rt, files, asked)
 }
 
 // Tells each of the files. One that is refused leaves the others as they are.
-fn tell_files(rt: &HostRuntime, files: &[&str], asked: Asked<'_>) -> io::Result<u8> {
+fn tell_each(rt: &HostRuntime, files: &[&str], asked: Asked<'_>) -> io::Result<u8> {
     let mut status = TOLD;
     for file in files {
         if !tell_file(rt, file, asked)? {

@@ -93,20 +93,39 @@ pub fn tell_file(rt: &HostRuntime, file: &str, asked: Asked<'_>) -> io::Result<b
 }
 
 fn tell(rt: &HostRuntime, name: &str, source: Source<'_>, asked: Asked<'_>) -> io::Result<bool> {
+    match asked.what {
+        What::Table => tell_lines(rt, name, source, asked.years, Form::Table),
+        What::Zdump => tell_lines(rt, name, source, asked.years, Form::Zdump(name)),
+        What::Json | What::Write(_) | What::Draw(_) => tell_zone(rt, name, source, asked),
+    }
+}
+
+// Prints the zone in a form of lines.
+fn tell_lines(
+    rt: &HostRuntime,
+    name: &str,
+    source: Source<'_>,
+    years: Years,
+    form: Form<'_>,
+) -> io::Result<bool> {
     let mut out = String::new(rt.alloc());
-    let told = match asked.what {
-        What::Table => {
-            writeln!(out, "{name}")?;
-            source.tell(rt.alloc(), asked.years, Form::Table, &mut out)
-        }
-        What::Zdump => source.tell(rt.alloc(), asked.years, Form::Zdump(name), &mut out),
-        What::Json | What::Write(_) | What::Draw(_) => match source.zone(rt.alloc()) {
-            Ok(zone) => return give(rt, name, &zone, asked),
-            Err(fault) => Err(fault),
-        },
-    };
-    match told {
+    if let Form::Table = form {
+        writeln!(out, "{name}")?;
+    }
+    match source.tell(rt.alloc(), years, form, &mut out) {
         Ok(()) => print(rt, out.as_bytes()),
+        Err(fault) => refuse(rt, name, source.kind(), &fault),
+    }
+}
+
+fn tell_zone(
+    rt: &HostRuntime,
+    name: &str,
+    source: Source<'_>,
+    asked: Asked<'_>,
+) -> io::Result<bool> {
+    match source.zone(rt.alloc()) {
+        Ok(zone) => give(rt, name, &zone, asked),
         Err(fault) => refuse(rt, name, source.kind(), &fault),
     }
 }

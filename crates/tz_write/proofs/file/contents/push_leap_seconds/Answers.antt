@@ -1,3 +1,5 @@
+use Rattle.std.proofs.Common.{arith}
+use Rattle.std.proofs.lemmas.List.{take_all}
 use Rattle.std.proofs.lemmas.List.Elements.{All-more}
 use Rattle.tz_write.specs.FileBytes.{leap_bytes}
 use Rattle.tz_write.specs.Steps.FileParts.{IsEntry}
@@ -9,3 +11,13 @@ loop-leap-preserved c = record {
   appended = flat_map_next leap_bytes c.args.bytes.now.items c.args.leaps.now c.loop-leap.leap-index _ c.loop-leap.bytes.items c.push_leap_second.new.bytes.items c.loop-leap-test.true c.loop-leap.invariant.appended c.in_ok-push_leap_second.ensures.appended;
   sound = All-more IsEntry c.args.leaps.now c.loop-leap.leap-index _ c.loop-leap-test.true c.loop-leap.invariant.sound c.in_ok-push_leap_second.ensures.sound;
 }
+
+pub returns-clause-appended : goal.returns-clause-appended
+returns-clause-appended c =
+    let whole = take_all c.loop-leap.leap-index c.args.leaps.now (omega (arith, c.loop-leap-test.false)) in
+    rw whole at c.loop-leap.invariant.appended
+
+pub returns-clause-sound : goal.returns-clause-sound
+returns-clause-sound c =
+    let whole = take_all c.loop-leap.leap-index c.args.leaps.now (omega (arith, c.loop-leap-test.false)) in
+    rw whole at c.loop-leap.invariant.sound

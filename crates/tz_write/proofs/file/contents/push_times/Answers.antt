@@ -1,4 +1,5 @@
 use Rattle.std.proofs.Common.{arith, ap, ◌++◌, ◌∙◌, ◌<◌, length}
+use Rattle.std.proofs.lemmas.List.{take_all}
 use Rattle.std.proofs.lemmas.List.Elements.{All-more}
 use Rattle.tz_write.specs.FileBytes.{time_bytes}
 use Rattle.tz_write.specs.Steps.FileParts.{IsTime}
@@ -15,3 +16,13 @@ loop-place-preserved c =
           (c.in_ok-push_time.ensures.appended ∙ ap (λ x. c.loop-place.bytes.items ++ time_bytes x) e);
       sound = All-more IsTime c.args.zone.now.transitions c.loop-place.place t below c.loop-place.invariant.sound (rw (← e) c.in_ok-push_time.ensures.sound);
     }
+
+pub returns-clause-appended : goal.returns-clause-appended
+returns-clause-appended c =
+    let whole = take_all c.loop-place.place c.args.zone.now.transitions (omega (arith, c.loop-place-test.false, c.transition_count-place-end.ensures)) in
+    rw whole at c.loop-place.invariant.appended
+
+pub returns-clause-sound : goal.returns-clause-sound
+returns-clause-sound c =
+    let whole = take_all c.loop-place.place c.args.zone.now.transitions (omega (arith, c.loop-place-test.false, c.transition_count-place-end.ensures)) in
+    rw whole at c.loop-place.invariant.sound

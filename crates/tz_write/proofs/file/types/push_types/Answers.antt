@@ -1,4 +1,5 @@
-use Rattle.std.proofs.Common.{ap, ◌++◌, ◌∙◌}
+use Rattle.std.proofs.Common.{arith, ap, ◌++◌, ◌∙◌}
+use Rattle.std.proofs.lemmas.List.{take_all}
 use Rattle.std.proofs.lemmas.List.Elements.{All-more}
 use Rattle.tz_write.specs.FileBytes.{type_bytes}
 use Rattle.tz_write.specs.Steps.FileParts.{IsType}
@@ -14,3 +15,13 @@ loop-local-preserved c =
           (c.in_ok-push_type.ensures.appended ∙ ap (λ x. c.loop-local.bytes.items ++ type_bytes c.args.designations.now x) e);
       sound = All-more IsType c.args.types.now c.loop-local.local-index t c.loop-local-test.true c.loop-local.invariant.sound (rw (← e) c.in_ok-push_type.ensures.sound);
     }
+
+pub returns-clause-appended : goal.returns-clause-appended
+returns-clause-appended c =
+    let whole = take_all c.loop-local.local-index c.args.types.now (omega (arith, c.loop-local-test.false)) in
+    rw whole at c.loop-local.invariant.appended
+
+pub returns-clause-sound : goal.returns-clause-sound
+returns-clause-sound c =
+    let whole = take_all c.loop-local.local-index c.args.types.now (omega (arith, c.loop-local-test.false)) in
+    rw whole at c.loop-local.invariant.sound

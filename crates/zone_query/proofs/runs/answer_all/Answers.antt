@@ -2,7 +2,7 @@ use Rattle.std.proofs.Common.{arith, take, [], ◌++◌, None}
 use Rattle.zone_query.proofs.Bytes.{appends_join, consumes_join, still_works}
 use Rattle.zone_query.proofs.Joining.{answered_join}
 use Rattle.zone_query.proofs.Ending.{not_failed, ended_now, block_stopped, stop_passed_on, reader_ended}
-use Rattle.zone_query.proofs.runs.run.Goals as goal
+use Rattle.zone_query.proofs.runs.answer_all.Goals as goal
 
 pub loop-preserved : goal.loop-preserved
 loop-preserved g c =
@@ -53,3 +53,19 @@ returns-in-Ok-eq0-clause-answers g c =
     (read.ensures.bytes.1 none (omega (arith, c.read.auto.buf)))
     (not_failed c.read.new.self.failed c.loop.reader.failed read.ensures.failed kept.reader_works)
     f.2 f.3 f.4 (rw none at read.ensures.bytes.0) c.finish.ensures.ok c.finish.ensures.err
+
+-- the count of reads was used up
+pub returns-clause-answers : goal.returns-clause-answers
+returns-clause-answers g c =
+    let kept = c.loop.invariant in
+    let f = kept.answered in
+    let below = kept.bounded (omega (arith, c.loop-test.false)) in (
+      f.0,
+      f.1,
+      f.2,
+      f.3,
+      (kept.reader_works, kept.writer_works, omega (arith, c.loop-test.false, kept.counted, below), (f.4.pieces, f.4.front, c.loop.dialogue.zone, f.4.cut, f.4.answered)),
+    )
+
+pub returns-clause-sent : goal.returns-clause-sent
+returns-clause-sent g c = tt

@@ -1,7 +1,7 @@
 use Rattle.std.proofs.Common.{◌≡◌, ◌≤◌, ◌<◌, ◌^◌, length, false, List, [], ℕ, None}
 use Rattle.std.specs.Io.KnownBytes.{Appends, Consumes}
 use Rattle.zone_query.specs.Steps.Blocks.{Answered}
-use Rattle.zone_query.proofs.runs.run.Given as goal
+use Rattle.zone_query.proofs.runs.answer_all.Given as goal
 
 abbrev pub invariant-loop : goal.invariant-loop
 invariant-loop g l = record {
