@@ -6,7 +6,7 @@ usage: tools/must_not_compile.py [NAME ..]
 Each text is a test, which says in its head why it is refused, by `//! error: ` and words of the compiler's message. Lines that
 end with `// refused` make the fault, and lines that end with `// accepted` mend it. The texts are tried both ways, beside a
 copy of this repository's libraries: without their faults all tests must pass, in one crate, so that nothing else is amiss; with
-its fault the compiler must refuse each text, with those words.
+its fault the compiler must refuse each text, with those words at a line of that text.
 """
 
 import re
@@ -54,15 +54,26 @@ def try_texts(crate, texts):
     return tried(crate, LIBRARIES, SECONDS)
 
 
-def fault_of(crate, name, text):
-    """What is amiss when that text is tried with its fault, or None."""
-    error = re.search(r"^//! error: (.*)$", text, re.M)
-    if not error:
-        return "it names no error"
-    status, report = try_texts(crate, {name: without(text, "accepted")})
-    if status != REFUSED or error[1] not in report:
-        return f"status {status}, where `{error[1]}` was due:\n{report}"
-    return None
+def faults_of(crate, texts):
+    """What is amiss with each of these texts when they are tried with their faults, or None for it.
+
+    They are tried in one crate. The compiler tells those faults that it meets first, and the rest once those texts are left out.
+    """
+    found, left = {}, {name: without(text, "accepted") for name, text in texts.items()}
+    while left:
+        status, report = try_texts(crate, left)
+        lines = {name: re.findall(rf"(?m)^src/{name}\.rt:\d+:\d+: error.*$", report) for name in left}
+        told = [name for name in left if lines[name] and status == REFUSED]
+        for name in told or left:
+            error = re.search(r"^//! error: (.*)$", texts[name], re.M)
+            if not error:
+                found[name] = "it names no error"
+            elif name in told and any(error[1] in line for line in lines[name]):
+                found[name] = None
+            else:
+                found[name] = f"status {status}, where `{error[1]}` was due:\n{report}"
+        left = {name: text for name, text in left.items() if name not in found}
+    return found
 
 
 def main():
@@ -76,8 +87,7 @@ def main():
         if not do_pass:
             print(f"without their faults they don't all pass:\n{report}")
         faults = 0
-        for name, text in texts.items():
-            fault = fault_of(crate, name, text)
+        for name, fault in faults_of(crate, texts).items():
             faults += fault is not None
             print(f"{name}: {fault or 'refused, as it must be'}", flush=True)
     print(f"{len(texts)} tried, {faults} not as they must be")

@@ -78,5 +78,5 @@ case $where in
 esac
 python -m pytest -q -p no:cacheprovider python/tests
 python -m pytest -q -p no:cacheprovider --doctest-modules --pyargs sahvumbi
-timeout 120 "$room/venv/bin/python" examples/at_scale.py --rows 100000 --partition 5000 \
+timeout 600 "$room/venv/bin/python" examples/at_scale.py --rows 100000 --partition 5000 \
   --workers 1,2 --kill --folder "$room/at_scale" </dev/null || fail 'examples/at_scale.py failed'

@@ -1,7 +1,7 @@
 #!/usr/bin/env python3
 """Tries must-fail edits: wrong bodies that the prover must refuse.
 
-usage: tools/try_edits.py [--lanes N] [--beside FILE] [NAME | NAME/EDIT ..]
+usage: tools/try_edits.py [--lanes N] [--beside FILE] [--unedited] [NAME | NAME/EDIT ..]
 
 With no names it tries those of must-fail-in-part/, as the gate does. Of a named crate it tries those of must-fail-by-hand/ too.
 
@@ -21,6 +21,9 @@ crate that an earlier run proved, the functions with a plain name are taken so, 
 for its long proof, beside which processors are free. With no FILE the functions that the edited ones call are proved as well, over
 what `rt check` keeps of the crate, where it is there.
 
+With --unedited the same functions are checked in the same way as they stand, and each must be proved: so what refuses an edit is
+the edit, and nothing that is left out around it.
+
 N crates are tried at a time (3). Ends with status 1 unless each edit is refused.
 """
 
@@ -33,7 +36,7 @@ import tempfile
 import threading
 from collections import defaultdict
 from concurrent.futures import ThreadPoolExecutor
-from dataclasses import dataclass, field
+from dataclasses import dataclass, field, replace
 from pathlib import Path
 
 from kit import wait_for, words
@@ -168,6 +171,7 @@ def leave_bodies_out(folder, functions, edits):
     it, and what it calls isn't looked at. One with a closure keeps it for the closure's proof, and one that calls itself."""
     kept = {part.rsplit("::", 1)[-1] for edit in edits for part in edit.parts}
     kept |= {path.name[1:] for path in folder.joinpath("proofs").rglob("+*")}
+    kept |= {path.rsplit("::", 1)[-1] for path in functions if any(is_of(path, part) for edit in edits for part in edit.parts)}
     names = {path.rsplit("::", 1)[-1] for path in functions} - kept
     for path in folder.joinpath("src").rglob("*.rt"):
         text = path.read_text()
@@ -239,10 +243,28 @@ def told(edit, said):
     return f"{edit}: not tried: {(faults or [said[-900:]])[0]}", False
 
 
+def told_unedited(edit, said):
+    """What is said of the functions of an edit that changes nothing, and whether they are proved."""
+    verdicts = re.findall(r"(?m)^fn \w+?::(\S+): (.*)$", said)
+    of_edit = [verdict for path, verdict in verdicts if any(is_of(path, part) for part in edit.parts)]
+    if not of_edit:
+        return f"{edit}: not tried: {said[-900:]}", False
+    are_proved = all(verdict == "proved" for verdict in of_edit)
+    return f"{edit}: {'proved as it stands' if are_proved else 'NOT PROVED as it stands: ' + '; '.join(of_edit)}", are_proved
+
+
+def unedited(edit):
+    return replace(edit, pairs=[(file, old, old) for file, old, _ in edit.pairs])
+
+
+def is_unedited(edit):
+    return all(old == new for _, old, new in edit.pairs)
+
+
 def tried_together(crate, edits, proved):
     """Tries edits by one check, or each alone where the check says nothing of one of them."""
     said = checked(crate, edits, proved)
-    rows = [told(edit, said) for edit in edits]
+    rows = [told_unedited(edit, said) if is_unedited(edit) else told(edit, said) for edit in edits]
     if len(edits) > 1 and any(": not tried: " in row for row, _ in rows):
         return [row for edit in edits for row in tried_together(crate, [edit], proved)]
     return rows
@@ -292,18 +314,21 @@ def main():
     given = argparse.ArgumentParser(usage=__doc__.partition("usage: ")[2].partition("\n\n")[0])
     given.add_argument("--lanes", type=int, default=3)
     given.add_argument("--beside", type=Path)
+    given.add_argument("--unedited", action="store_true")
     given.add_argument("names", nargs="*")
     given = given.parse_args()
     edits, free = wanted(given.names), threading.Semaphore(given.lanes)
-    refused = 0
+    if given.unedited:
+        edits = {crate: [unedited(edit) for edit in those] for crate, those in edits.items()}
+    as_due = 0
     with ThreadPoolExecutor(len(edits)) as pool:
         for rows in pool.map(lambda crate: tried(crate, edits[crate], free, given.beside), edits):
-            for row, is_refused in rows:
+            for row, is_as_due in rows:
                 print(row, flush=True)
-                refused += is_refused
+                as_due += is_as_due
     count = sum(map(len, edits.values()))
-    print(f"{count} tried, {count - refused} not refused")
-    return 0 if count == refused > 0 else 1
+    print(f"{count} tried, {count - as_due} not {'proved as they stand' if given.unedited else 'refused'}")
+    return 0 if count == as_due > 0 else 1
 
 
 if __name__ == "__main__":

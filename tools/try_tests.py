@@ -28,7 +28,7 @@ from sources import TOP, crates, is_static, uses
 
 LAID = "tried"
 # The gate runs them beside its proofs, where they take longer than alone.
-SECONDS = "300"
+SECONDS = "1200"
 
 
 def texts_of(name):

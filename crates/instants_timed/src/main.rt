@@ -11,24 +11,22 @@
 //! or other files, it ends with status 1.
 #![tactic(auto)]
 
-mod answers;
-mod lookups;
-mod question;
 mod timing;
-mod values;
 mod work_error;
 
-use lookups::Lookup;
-use question::Question;
+use instants_asked::{Lookup, Question, Values, sum_of, sum_of_lookups};
 use std::alloc::Global;
 use std::io::{BufWriter, Write};
 use std::process::ExitCode;
-use std::{env, fs, str};
-use values::{COUNT, MANY, Values, copy_of};
+use std::{env, fs, io, str};
+use timing::COUNT;
 use work_error::WorkError;
 use zoned_kept::KeptZone;
 use zoned_ref::TimeZoneRef;
 use zoned_time::DateTime;
+
+// How many instants are sorted.
+const MANY: usize = 1_000_000;
 
 fn main(rt: HostRuntime) -> ExitCode {
     match work(&rt) {
@@ -40,9 +38,9 @@ fn main(rt: HostRuntime) -> ExitCode {
 fn work(rt: &HostRuntime) -> Result<(), WorkError> {
     let mut words = env::args(rt)?;
     let _program = words.next();
-    let what = needed(words.next())?;
-    let zone = needed(words.next())?;
-    let other = needed(words.next())?;
+    let what = words.next().ok_or(WorkError::Usage)?;
+    let zone = words.next().ok_or(WorkError::Usage)?;
+    let other = words.next().ok_or(WorkError::Usage)?;
     let count = words.next();
     print(
         rt,
@@ -51,14 +49,6 @@ fn work(rt: &HostRuntime) -> Result<(), WorkError> {
         other.as_str(),
         text_of(&count),
     )
-}
-
-// A word that is needed.
-fn needed(word: Option<String>) -> Result<String, WorkError> {
-    match word {
-        Some(word) => Ok(word),
-        None => Err(WorkError::Usage),
-    }
 }
 
 // A word that isn't needed is empty where there is none.
@@ -84,11 +74,22 @@ fn print(
             };
             print_answers(rt, &values_of(rt, zone, other, count)?)
         }
-        kind => print_sum(rt, kind, zone, Lookup::of_word(other)?, count),
+        kind => print_sum(
+            rt,
+            kind,
+            zone,
+            Lookup::of_word(other).ok_or(WorkError::Usage)?,
+            count,
+        ),
     }
 }
 
-fn values_of(rt: &HostRuntime, zone: &str, other: &str, count: usize) -> Result<Values, WorkError> {
+fn values_of(
+    rt: &HostRuntime,
+    zone: &str,
+    other: &str,
+    count: usize,
+) -> Result<Values<KeptZone>, WorkError> {
     let (zone, other) = (kept(rt, zone)?, kept(rt, other)?);
     Ok(Values::new(rt.alloc(), zone, other, count)?)
 }
@@ -114,27 +115,22 @@ fn print_sum(
 }
 
 fn sum_of_kept(zone: &KeptZone, lookup: Lookup, count: u32) -> i64 {
-    lookups::sum_of(zone, lookup, count)
+    sum_of_lookups(zone, lookup, count)
 }
 
 fn sum_of_borrowed(zone: &tz_info::TimeZone, lookup: Lookup, count: u32) -> Result<i64, WorkError> {
     match TimeZoneRef::new(zone) {
-        Some(zone) => Ok(lookups::sum_of(&zone, lookup, count)),
+        Some(zone) => Ok(sum_of_lookups(&zone, lookup, count)),
         None => Err(WorkError::Zone),
     }
 }
 
-fn print_times(rt: &HostRuntime, values: &Values) -> Result<(), WorkError> {
+fn print_times(rt: &HostRuntime, values: &Values<KeptZone>) -> Result<(), WorkError> {
     for question in Question::ALL {
         let (nanoseconds, sum) = timing::least_nanoseconds(rt, rt.alloc(), values, question)?;
         print_time(rt, question.name(), nanoseconds, COUNT, sum)?;
     }
-    let many = Values::new(
-        rt.alloc(),
-        copy_of(&values.zone),
-        copy_of(&values.other),
-        MANY,
-    )?;
+    let many = Values::new(rt.alloc(), values.zone, values.other, MANY)?;
     let (nanoseconds, sum) = timing::least_nanoseconds_to_sort(rt, rt.alloc(), &many)?;
     print_time(rt, "sort", nanoseconds, MANY, sum)
 }
@@ -150,11 +146,11 @@ fn print_time(
     Ok(())
 }
 
-fn print_answers(rt: &HostRuntime, values: &Values) -> Result<(), WorkError> {
+fn print_answers(rt: &HostRuntime, values: &Values<KeptZone>) -> Result<(), WorkError> {
     let mut output = BufWriter::new(rt.alloc(), rt.stdout())?;
     for question in Question::ALL {
         for place in 0..values.seconds.len() {
-            let answer = answers::sum_of(rt.alloc(), values, question, place, place + 1);
+            let answer = sum_of(rt.alloc(), values, question, place, place + 1);
             print_answer(&mut output, question.name(), answer)?;
         }
     }
@@ -166,12 +162,11 @@ fn print_answers(rt: &HostRuntime, values: &Values) -> Result<(), WorkError> {
     Ok(())
 }
 
-fn print_answer<W: Write>(output: &mut W, name: &str, answer: i64) -> Result<(), WorkError> {
-    writeln!(output, "{name}\t{answer}")?;
-    Ok(())
+fn print_answer<W: Write>(output: &mut W, name: &str, answer: i64) -> io::Result<()> {
+    writeln!(output, "{name}\t{answer}")
 }
 
-fn print_texts<W: Write>(output: &mut W, instants: &[DateTime<KeptZone>]) -> Result<(), WorkError> {
+fn print_texts<W: Write>(output: &mut W, instants: &[DateTime<KeptZone>]) -> io::Result<()> {
     for instant in instants {
         writeln!(output, "text\t{instant}")?;
     }
@@ -194,19 +189,10 @@ fn read(rt: &HostRuntime, path: &str) -> Result<tz_info::TimeZone, WorkError> {
 
 fn parsed(alloc: Global, bytes: &[u8]) -> Result<tz_info::TimeZone, WorkError> {
     if bytes.starts_with(b"TZif") {
-        return spelled(tz_info::TimeZone::from_tz_data(alloc, bytes));
+        return Ok(tz_info::TimeZone::from_tz_data(alloc, bytes)?);
     }
     match str::from_utf8(bytes) {
-        Ok(text) => spelled(tz_info::TimeZone::from_posix_tz(alloc, text)),
-        Err(_) => Err(WorkError::Zone),
-    }
-}
-
-fn spelled(
-    answer: Result<tz_info::TimeZone, tz_info::Error>,
-) -> Result<tz_info::TimeZone, WorkError> {
-    match answer {
-        Ok(zone) => Ok(zone),
+        Ok(text) => Ok(tz_info::TimeZone::from_posix_tz(alloc, text)?),
         Err(_) => Err(WorkError::Zone),
     }
 }

@@ -27,3 +27,9 @@ impl From<AllocError> for WorkError {
         WorkError::OutOfMemory
     }
 }
+
+impl From<tz_info::Error> for WorkError {
+    fn from(_: tz_info::Error) -> WorkError {
+        WorkError::Zone
+    }
+}

@@ -4,15 +4,13 @@ use Rattle.std.proofs.lemmas.Bool.{cases_lt}
 use Rattle.std.proofs.lemmas.Bool.Decides.{nat_tests}
 use Rattle.std.proofs.lemmas.Int.{ints, by_lt_z}
 use Rattle.offset_core.specs.Digits.{in_digits}
-use Rattle.naive_base.specs.Year.{is_leap}
-use Rattle.naive_base.specs.Month.{days_in_month}
-use Rattle.naive_base.specs.DateOf.{year_of, month_of, day_of_month}
+use Rattle.gregorian.specs.Year.{is_leap}
+use Rattle.gregorian.specs.Month.{days_in_month}
+use Rattle.gregorian.specs.DateOf.{year_of, month_of, day_of_month}
 use Rattle.naive_base.specs.Range.{IsWide, IsWideDay, IsWideYear}
 use Rattle.naive_base.specs.Reading.{Reading, day_at, second_at}
 use Rattle.naive_base.specs.Text.{four_digits, year_text, month_day_text, date_text, clock_text, fraction_text, time_text, reading_text}
-use Rattle.naive_base.proofs.Floor.{floors}
-use Rattle.naive_base.proofs.Years.{floor_mod_parts}
-use Rattle.naive_base.proofs.Dates.{date_is}
+use Rattle.gregorian.proofs.ForCallers.{floors, floor_mod_parts, date_is}
 use Rattle.naive_base.proofs.Ranges.{wide_year}
 use Rattle.naive_base.proofs.Readings.{same_second, seconds_in_wide}
 use Rattle.offset_core.proofs.ForCallers.{split_left, split_right, length-in_digits, in_digits_once}

@@ -1,16 +1,13 @@
 -- The ISO week of a day is one, and the year's first has 4 January.
 use Rattle.std.proofs.Common.{◌≡◌, ◌∙◌, refl, ap, sym, ◌+◌, ◌/◌, ◌<◌, arith, ℤ, pos, ◌+ℤ◌, ◌≤ℤ◌, ◌<ℤ◌}
-use Rattle.naive_base.specs.Date.{day_number}
-use Rattle.naive_base.specs.DateOf.{year_of, day_of_year}
+use Rattle.gregorian.specs.Date.{day_number}
+use Rattle.gregorian.specs.DateOf.{year_of, day_of_year}
 use Rattle.naive_base.specs.IsoWeek.{IsWeekOf, iso_year, iso_number}
-use Rattle.naive_base.specs.Month.{days_of_months}
-use Rattle.naive_base.specs.Year.{year_start, LiesIn}
+use Rattle.gregorian.specs.Month.{days_of_months}
+use Rattle.gregorian.specs.Year.{year_start, LiesIn}
 use Rattle.naive_base.specs.declared.iso_week.IsoWeek.{IsoWeek}
-use Rattle.naive_base.proofs.Dates.{day_of_year_is}
-use Rattle.naive_base.proofs.Floor.{floors}
+use Rattle.gregorian.proofs.ForCallers.{day_of_year_is, floors, one_thursday, year_step, days_at_least, lies_in, one_year}
 use Rattle.naive_base.proofs.Values.{same_week}
-use Rattle.naive_base.proofs.Weekdays.{one_thursday}
-use Rattle.naive_base.proofs.Years.{year_step, days_at_least, lies_in, one_year}
 
 pub one_week : (day : ℤ) (a b : IsoWeek) → IsWeekOf day a → IsWeekOf day b → a ≡ b
 one_week day a b h k =

@@ -1,10 +1,3 @@
-pub mod Floor
-pub mod Years
-pub mod MonthDays
-pub mod Cycle
-pub mod Dates
-pub mod Weekdays
-pub mod YearDays
 pub mod Moves
 pub mod Ranges
 pub mod Digits

@@ -3,9 +3,8 @@ use Rattle.std.proofs.Common.{◌≡◌, ◌∙◌, inl, inr, ap, ℕ, ◌<◌, 
 use Rattle.std.proofs.lemmas.Bool.{cases_lt}
 use Rattle.std.proofs.lemmas.Bool.Decides.{nat_tests}
 use Rattle.std.proofs.lemmas.Int.{ints}
-use Rattle.naive_base.specs.Year.{floor_div, floor_mod}
-use Rattle.naive_base.proofs.Floor.{floors}
-use Rattle.naive_base.proofs.Years.{floor_mod_parts}
+use Rattle.gregorian.specs.Year.{floor_div, floor_mod}
+use Rattle.gregorian.proofs.ForCallers.{floors, floor_mod_parts}
 use Rattle.naive_base.specs.Reading.{Reading, moved, moved_leap, of_total, total, difference, leap_between}
 
 pub moved-plain : (r : Reading) (d : ℤ) → r.f < 1_000_000_000 → moved r d ≡ of_total (total r +ℤ d)

@@ -1,13 +1,11 @@
 -- The days of the years in range, and the seconds.
 use Rattle.std.proofs.Common.{◌≡◌, ℕ, ◌<◌, arith, refl, ℤ, pos, neg_ℤ, ◌+ℤ◌, ◌-ℤ◌, ◌⊎◌, inl, inr}
 use Rattle.std.proofs.lemmas.Int.{by_lt_z}
-use Rattle.naive_base.specs.Year.{year_start, days_in_year}
-use Rattle.naive_base.specs.Date.{IsDate, day_number}
-use Rattle.naive_base.specs.DateOf.{year_of}
+use Rattle.gregorian.specs.Year.{year_start, days_in_year}
+use Rattle.gregorian.specs.Date.{IsDate, day_number}
+use Rattle.gregorian.specs.DateOf.{year_of}
 use Rattle.naive_base.specs.Range.{IsInRange, IsYearInRange, IsInnerYear, IsDayInRange, IsInnerDay, IsWideDay, IsWideYear}
-use Rattle.naive_base.proofs.Floor.{floors}
-use Rattle.naive_base.proofs.Years.{lies_in, starts_rise, year_step}
-use Rattle.naive_base.proofs.Dates.{date_between}
+use Rattle.gregorian.proofs.ForCallers.{floors, lies_in, starts_rise, year_step, date_between}
 
 first_day_is : year_start (neg_ℤ (pos 262_143)) ≡ neg_ℤ (pos 96_465_292)
 unfolding year_start

@@ -1,14 +1,9 @@
 -- Weeks of ISO 8601: a week runs from Monday to Sunday, and belongs to the year that its Thursday lies in, whose weeks are
 -- counted from 1.
-use Rattle.std.specs.Prelude.{◌≡◌, ℕ, ◌+◌, ◌/◌, ℤ, pos, ◌+ℤ◌, ◌-ℤ◌, ◌≤ℤ◌}
-use Rattle.naive_base.specs.DateOf.{year_of, day_of_year}
-use Rattle.naive_base.specs.Weekday.{weekday_of}
+use Rattle.std.specs.Prelude.{◌≡◌, ℕ, ◌+◌, ◌/◌, ℤ}
+use Rattle.gregorian.specs.DateOf.{year_of, day_of_year}
+pub use Rattle.gregorian.specs.Weeks.{IsThursdayOf}
 use Rattle.naive_base.specs.declared.iso_week.IsoWeek.{IsoWeek}
-
--- the Thursday of the week that a day lies in
-abbrev pub IsThursdayOf : ℤ → ℤ → Type 0
-IsThursdayOf day thursday =
-    (weekday_of thursday ≡ 4) × ((thursday -ℤ pos 3) ≤ℤ day) × (day ≤ℤ (thursday +ℤ pos 3))
 
 -- what an `IsoWeek` shows: its year, and its number there
 abbrev pub iso_year : IsoWeek → ℤ

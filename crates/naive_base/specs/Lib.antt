@@ -1,8 +1,8 @@
-pub mod Year
-pub mod Month
+pub use Rattle.gregorian.specs.Year
+pub use Rattle.gregorian.specs.Month
+pub use Rattle.gregorian.specs.Date
+pub use Rattle.gregorian.specs.DateOf
 pub mod Months
-pub mod Date
-pub mod DateOf
 pub mod Weekday
 pub mod IsoWeek
 pub mod Range

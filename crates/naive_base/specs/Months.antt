@@ -1,6 +1,6 @@
 -- Months counted on over the years, from January of the year 0.
 use Rattle.std.specs.Prelude.{ℕ, ◌+◌, ℤ, pos, ◌+ℤ◌, ◌-ℤ◌, ◌*ℤ◌}
-use Rattle.naive_base.specs.Year.{floor_div, floor_mod}
+use Rattle.gregorian.specs.Year.{floor_div, floor_mod}
 use Rattle.naive_base.specs.declared.months_days.Months.{Months}
 use Rattle.naive_base.specs.declared.months_days.Days.{Days}
 

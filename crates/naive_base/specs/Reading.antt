@@ -1,7 +1,7 @@
 -- Readings of a clock without a time zone: the whole seconds from 1970-01-01 00:00:00, as if there were no leap seconds,
 -- and nanoseconds, which from 10^9 on are those of a leap second that follows that second.
 use Rattle.std.specs.Prelude.{ℕ, ◌≡◌, ◌<◌, ◌⊎◌, ◌&&◌, nat_lt, nat_le, if◌then◌else◌, ℤ, pos, neg_ℤ, ◌<ℤ◌, ◌+ℤ◌, ◌-ℤ◌, ◌*ℤ◌, unsigned_abs, int_lt}
-use Rattle.naive_base.specs.Year.{floor_div, floor_mod}
+use Rattle.gregorian.specs.Year.{floor_div, floor_mod}
 
 -- a reading: its second s, and its nanoseconds f
 pub record Reading : Type 0 where

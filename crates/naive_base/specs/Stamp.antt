@@ -1,6 +1,6 @@
 -- Timestamps: whole seconds since 1970-01-01 00:00:00, and nanoseconds beside them.
 use Rattle.std.specs.Prelude.{◌≡◌, ℕ, ◌<◌, ◌≤◌, ℤ}
-use Rattle.naive_base.specs.Year.{floor_mod}
+use Rattle.gregorian.specs.Year.{floor_mod}
 use Rattle.naive_base.specs.Range.{IsInRange}
 use Rattle.naive_base.specs.Reading.{Reading}
 

@@ -1,6 +1,2 @@
--- Steps of the proofs: what private functions ensure, and closed forms. No public contract cites a page of this folder.
-pub mod Floor
-pub mod Years
-pub mod Dates
-pub mod Cycle
+-- Steps of the proofs: what private functions ensure. No public contract cites a page of this folder.
 pub mod Moves

@@ -2,7 +2,7 @@
 use Rattle.std.specs.Prelude.{ℕ, ◌+◌, ◌-◌, ◌/◌, ◌%◌, ◌==◌, nat_lt, ◌||◌, if◌then◌else◌, List, [], ◌∷◌, ◌++◌, ℤ, pos, unsigned_abs, int_lt}
 use Rattle.std.specs.Fmt.{decimal}
 use Rattle.offset_core.specs.Digits.{in_digits, sign_byte}
-use Rattle.naive_base.specs.DateOf.{year_of, month_of, day_of_month}
+use Rattle.gregorian.specs.DateOf.{year_of, month_of, day_of_month}
 use Rattle.naive_base.specs.Reading.{Reading, day_at, second_at}
 
 -- a number in at least four digits

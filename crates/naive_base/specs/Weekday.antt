@@ -1,14 +1,10 @@
--- The weekday of a day.
-use Rattle.std.specs.Prelude.{ℕ, ◌+◌, ◌%◌, ℤ, pos, ◌+ℤ◌}
-use Rattle.naive_base.specs.Year.{floor_mod}
+-- The days of the week, and their numbers.
+use Rattle.std.specs.Prelude.{ℕ, ◌+◌, ◌%◌}
+pub use Rattle.gregorian.specs.Weekdays.{weekday_of}
 use Rattle.naive_base.specs.declared.weekday.Weekday.{Weekday}
 use Rattle.naive_base.specs.declared.weekday.Weekday.TheVariants.{Mon, Tue, Wed, Thu, Fri, Sat, Sun}
 
--- as POSIX counts, 0 for Sunday to 6 for Saturday; 1970-01-01 was a Thursday
-abbrev pub weekday_of : ℤ → ℕ
-weekday_of day = floor_mod (day +ℤ pos 4) 7
-
--- that number of a weekday
+-- the number of a weekday, 0 for Sunday to 6 for Saturday
 abbrev pub weekday_number : Weekday → ℕ
 weekday_number Sun = 0
 weekday_number Mon = 1

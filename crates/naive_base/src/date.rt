@@ -1,8 +1,8 @@
 //! Dates.
 ghost use Rattle.std.specs.Prelude.{◌≡◌, ◌↔◌, IsTrue, IfSome, ◌+◌, ◌*◌, ◌≤◌, pos, ◌+ℤ◌, ◌-ℤ◌, ◌*ℤ◌};
-ghost use Rattle.naive_base.specs.Year.{floor_div};
-ghost use Rattle.naive_base.specs.Date.{IsDate, day_number};
-ghost use Rattle.naive_base.specs.DateOf.{year_of, month_of, day_of_month};
+ghost use Rattle.gregorian.specs.Year.{floor_div};
+ghost use Rattle.gregorian.specs.Date.{IsDate, day_number};
+ghost use Rattle.gregorian.specs.DateOf.{year_of, month_of, day_of_month};
 ghost use Rattle.naive_base.specs.Range.{IsYearInRange, IsInnerYear, IsWideYear, IsDayInRange, IsInnerDay, IsInRange, IsInner, IsWideDay, IsWide};
 ghost use Rattle.naive_base.specs.Clock.{IsClock, clock_second};
 ghost use Rattle.naive_base.specs.Reading.{reading_at, day_at, second_at};
@@ -10,9 +10,9 @@ ghost use Rattle.naive_base.specs.Reading.{reading_at, day_at, second_at};
 mod fields;
 mod moves;
 
-use crate::calendar::{self, YearMonthDay};
 use crate::range::{FIRST_DAY_IN_RANGE, FIRST_YEAR, LAST_DAY_IN_RANGE, LAST_YEAR};
 use crate::{NaiveDateTime, NaiveTime};
+use gregorian::YearMonthDay;
 
 /// A day of the proleptic Gregorian calendar, in the years -262143 to 262142.
 ///
@@ -35,7 +35,7 @@ fn day_in_range(year: i32, month: u32, day: u32) -> i32
     ensures value { result ≡ day_number year month day }
     ensures bound { IsDayInRange result }
 {
-    calendar::day_number(year, month, day) as i32
+    gregorian::day_number(year, month, day) as i32
 }
 
 impl NaiveDate {
@@ -53,7 +53,7 @@ impl NaiveDate {
         if year < FIRST_YEAR || year > LAST_YEAR {
             return None;
         }
-        if calendar::is_date(year, month, day) {
+        if gregorian::is_date(year, month, day) {
             return Some(NaiveDate::of_ymd(year, month, day));
         }
         None
@@ -181,7 +181,7 @@ impl NaiveDate {
         ensures date { IsDate result.year result.month result.day }
         ensures bound { IsWideYear result.year }
     {
-        calendar::date_of(self.number())
+        gregorian::date_of(self.number())
     }
 
     // The day number.

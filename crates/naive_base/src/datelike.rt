@@ -1,6 +1,6 @@
 //! Values that show a date.
 ghost use Rattle.std.specs.Prelude.{◌≡◌, ◌+◌, ◌<◌, ◌≤◌, ℤ, Option};
-ghost use Rattle.naive_base.specs.DateOf.{year_of, day_of_year, month_of, day_of_month};
+ghost use Rattle.gregorian.specs.DateOf.{year_of, day_of_year, month_of, day_of_month};
 ghost use Rattle.naive_base.specs.Weekday.{weekday_of, weekday_number};
 ghost use Rattle.naive_base.specs.IsoWeek.{IsWeekOf};
 ghost use Rattle.naive_base.specs.Fields.{IsDateGiven, IsOrdinalGiven};

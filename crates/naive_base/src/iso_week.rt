@@ -2,8 +2,6 @@
 ghost use Rattle.std.specs.Prelude.{◌≡◌, ◌+◌, ◌≤◌};
 ghost use Rattle.naive_base.specs.Range.{IsWideDay};
 
-use crate::calendar;
-
 /// A week by the rule of ISO 8601: it runs from Monday to Sunday, and belongs to the year that its
 /// Thursday lies in, whose weeks are counted from 1.
 ///
@@ -24,10 +22,10 @@ impl IsoWeek {
         requires { IsWideDay day }
         ensures { IsWeekOf day result }
     {
-        let thursday = calendar::thursday_of_week(day);
+        let thursday = gregorian::thursday_of_week(day);
         IsoWeek {
-            year: calendar::year_of(thursday),
-            week: calendar::day_of_year(thursday) / 7 + 1,
+            year: gregorian::year_of(thursday),
+            week: gregorian::day_of_year(thursday) / 7 + 1,
         }
     }
 

@@ -1,9 +1,9 @@
 //! Theorems: the contract of each function is proved, and none is called. Each is empty, except one
 //! that names constants.
 ghost use Rattle.std.specs.Prelude.{◌≡◌, ◌↔◌, IsTrue, ◌<◌, ◌<ℤ◌, ℕ, ℤ, pos, neg_ℤ};
-ghost use Rattle.naive_base.specs.Year.{floor_div};
-ghost use Rattle.naive_base.specs.Date.{day_number};
-ghost use Rattle.naive_base.specs.DateOf.{year_of};
+ghost use Rattle.gregorian.specs.Year.{floor_div};
+ghost use Rattle.gregorian.specs.Date.{day_number};
+ghost use Rattle.gregorian.specs.DateOf.{year_of};
 ghost use Rattle.naive_base.specs.IsoWeek.{IsWeekOf, iso_year, iso_number};
 ghost use Rattle.naive_base.specs.Range.{IsYearInRange, IsInnerYear, IsWideYear, IsDayInRange, IsInnerDay, IsWideDay, IsInRange, IsInner, IsWide, first_reading, last_reading};
 ghost use Rattle.naive_base.specs.Reading.{Reading, reading_at, day_at, second_at, moved, difference, IsEarlier, IsEarlierTime, IsEarlierByDay};

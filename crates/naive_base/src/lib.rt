@@ -1,7 +1,6 @@
 //! Dates, times of day and readings of a clock, without a time zone.
 #![tactic(auto)]
 
-pub mod calendar;
 mod date;
 mod datelike;
 mod datetime;

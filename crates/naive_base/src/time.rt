@@ -1,6 +1,6 @@
 //! Times of the day.
 ghost use Rattle.std.specs.Prelude.{◌≡◌, ◌+◌, ◌*◌, ◌<◌};
-ghost use Rattle.naive_base.specs.Year.{floor_mod};
+ghost use Rattle.gregorian.specs.Year.{floor_mod};
 ghost use Rattle.naive_base.specs.Range.{IsTime};
 ghost use Rattle.naive_base.specs.Clock.{IsClock, clock_second};
 

@@ -1,8 +1,8 @@
 //! How many looks a lookup may take.
 
 ghost use Rattle.std.specs.Prelude.{◌≡◌, ℕ};
-ghost use Rattle.timeline.specs.Counts.{Counts};
-ghost use Rattle.timeline.specs.Digits.{digits};
+ghost use Rattle.tz_timeline.specs.Counts.{Counts};
+ghost use Rattle.tz_timeline.specs.Digits.{digits};
 ghost use Rattle.tz_info.specs.Looks.{RoseByInstant, RoseByWallClock};
 ghost use Rattle.pins.specs.Zones.{honolulu, hst10};
 ghost use Rattle.pins.specs.Looks.{looks};

@@ -1,4 +1,5 @@
 pub mod NameLaws
 pub mod RunLaws
 pub mod ErrorEquality
+pub mod ChangeEquality
 pub mod ForCallers

@@ -2,9 +2,11 @@
 
 ghost use Rattle.std.specs.Prelude.{◌≡◌, ◌↔◌, List, ℕ, IsTrue};
 ghost use Rattle.tz_base.specs.LocalTypes.{LocalType};
+ghost use Rattle.tz_base.specs.declared.change.Change.{Change as ClockChange};
 ghost use Rattle.tz_base.specs.declared.error.Error.{Error as Refusal};
 ghost use Rattle.tz_base.specs.declared.error.Expected.{Expected as Wanted};
 
+use crate::change::Change;
 use crate::error::{Error, Expected};
 use crate::local_time_type::LocalTimeType;
 use crate::name::TimeZoneName;
@@ -22,6 +24,14 @@ pub fn local_time_types()
     ensures equal { (a b : LocalType) → IsTrue (⟦<LocalTimeType as PartialEq>⟧.eq a b) ↔ (a ≡ b) }
     ensures clone { (a b : LocalType) → ⟦<LocalTimeType as Clone>⟧.is_clone a b ↔ (b ≡ a) }
     ensures infallible { (a : LocalType) → ⟦<LocalTimeType as Clone>⟧.is_infallible a }
+{}
+
+/// Changes of the clocks are equal if and only if their seconds and the types before and after are.
+/// A clone is the value, and does not fail.
+pub fn changes()
+    ensures equal { (a b : ClockChange) → IsTrue (⟦<Change as PartialEq>⟧.eq a b) ↔ (a ≡ b) }
+    ensures clone { (a b : ClockChange) → ⟦<Change as Clone>⟧.is_clone a b ↔ (b ≡ a) }
+    ensures infallible { (a : ClockChange) → ⟦<Change as Clone>⟧.is_infallible a }
 {}
 
 /// What was expected is equal where it is the same. A clone is the value, and does not fail.

@@ -1,13 +1,15 @@
-//! What rules, files and zones are read with: errors, the cursor over bytes, names, and types of local
-//! time.
+//! What rules, files and zones are read with: errors, the cursor over bytes, names, types of local
+//! time, and changes from one to another.
 #![tactic(auto)]
 
+mod change;
 mod cursor;
 mod error;
 pub mod laws;
 mod local_time_type;
 mod name;
 
+pub use change::Change;
 pub use cursor::Cursor;
 pub use error::{Error, Expected};
 pub use local_time_type::LocalTimeType;

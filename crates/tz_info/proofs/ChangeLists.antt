@@ -7,11 +7,11 @@ use Rattle.std.proofs.lemmas.Int.{ints, by_lt_z}
 use Rattle.std.proofs.lemmas.List.Elements.{Contains-get_or, Contains-push, Contains-push_cases, Contains-append_left}
 use Rattle.std.proofs.lemmas.List.Quantifiers.{all_pairs_push}
 use Rattle.tz_base.specs.LocalTypes.{LocalType}
-use Rattle.timeline.proofs.ForCallers.{lt_true, lt_false}
+use Rattle.tz_timeline.proofs.ForCallers.{lt_true, lt_false}
 use Rattle.tz_info.specs.Changes.{IsChange, HasNoChange, IsFirstChange, IsLastChange, IsFirst, IsLast, IsFromUntil, AreChanges}
 use Rattle.tz_info.specs.ChangesLeft.{changes_left}
 use Rattle.tz_info.specs.Leaps.{least_time}
-use Rattle.tz_info.specs.declared.change.Change.{Change}
+use Rattle.tz_base.specs.declared.change.Change.{Change}
 use Rattle.tz_info.specs.declared.zone.all_changes.Changes.{Changes}
 use Rattle.tz_info.specs.Steps.ChangeLists.{change_here, changes_in, changes_of, seconds_between, type_or_none}
 use Rattle.tz_info.specs.Zones.{Zone, IsValid, IsRuleOrNone, TypeAt}

@@ -4,11 +4,11 @@ use Rattle.std.proofs.lemmas.Int.{ints, by_lt_z}
 use Rattle.std.proofs.lemmas.Bool.{cases_lt}
 use mir.Val.{SFits}
 use Rattle.tz_base.specs.LocalTypes.{LocalType}
-use Rattle.timeline.proofs.ForCallers.{lt_true, lt_false}
+use Rattle.tz_timeline.proofs.ForCallers.{lt_true, lt_false}
 use Rattle.tz_info.specs.Changes.{IsChange, HasNoChange, IsFirst, IsLast, IsLastChange}
 use Rattle.tz_info.specs.Leaps.{least_time}
 use Rattle.tz_info.specs.Steps.Changes.{IsInStretch, IsNearest, IsOneOf, IsIdle, Precedes, nearer_one}
-use Rattle.tz_info.specs.declared.change.Change.{Change}
+use Rattle.tz_base.specs.declared.change.Change.{Change}
 
 abbrev pub InForce : Type 1
 InForce = ℤ → LocalType → Type 0

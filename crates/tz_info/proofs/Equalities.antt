@@ -1,5 +1,5 @@
 -- Values are equal by `==` exactly where they are equal.
-use Rattle.std.proofs.Common.{rules, ℤ, int_eq, ◌≡◌, ◌↔◌, IsTrue, refl, ap, ◌∙◌, Bool, true, false, ◌&&◌, List, [], ◌∷◌, Option, Some, None}
+use Rattle.std.proofs.Common.{rules, ◌≡◌, ◌↔◌, IsTrue, refl, ap, ◌∙◌, Bool, ◌&&◌, List, [], ◌∷◌, Option, Some, None}
 use Rattle.std.specs.Cmp.Lexicographic.{pointwise}
 use Rattle.std.specs.Option.{option_eq}
 use Rattle.tz_base.specs.LocalTypes.{LocalType}
@@ -11,26 +11,12 @@ use Rattle.tz_info.specs.contracts.rule.day.DayTimePartialEq.TheImpl.{eq-value a
 use Rattle.tz_info.specs.contracts.rule.transition_rule.TransitionRulePartialEq.TheImpl.{eq-value as rule_eq}
 use Rattle.tz_info.specs.contracts.zone.leap_second.LeapSecondPartialEq.TheImpl.{eq-value as leap_eq}
 use Rattle.tz_info.specs.contracts.zone.transition.TransitionPartialEq.TheImpl.{eq-value as transition_eq}
-use Rattle.tz_info.specs.declared.change.Change.{Change}
+use Rattle.tz_base.proofs.ForCallers.{IsExact, and_left, and_right, and_both, type_exact}
 use Rattle.tz_info.specs.declared.rule.day.DayTime.{DayTime}
 use Rattle.tz_info.specs.declared.rule.transition_rule.TransitionRule.{TransitionRule}
 use Rattle.tz_info.specs.declared.rule.transition_rule.TransitionRule.TheVariants.{Fixed, Alternate}
 use Rattle.tz_info.specs.declared.zone.leap_second.LeapSecond.{LeapSecond}
 use Rattle.tz_info.specs.declared.zone.transition.Transition.{Transition}
-
-abbrev pub IsExact : {X : Type 0} → (X → X → Bool) → Type 0
-IsExact {X} E = (a b : X) → IsTrue (E a b) ↔ (a ≡ b)
-
-pub and_left : (x y : Bool) → IsTrue (x && y) → IsTrue x
-and_left true y h = refl
-and_left false y h = cc
-
-pub and_right : (x y : Bool) → IsTrue (x && y) → IsTrue y
-and_right true y h = h
-and_right false y h = cc
-
-pub and_both : (x y : Bool) → IsTrue x → IsTrue y → IsTrue (x && y)
-and_both x y h k = rw (h, k) refl
 
 self : {X : Type 0} (E : X → X → Bool) → IsExact E → (a : X) → IsTrue (E a a)
 self E exact a = (exact a a).1 refl
@@ -59,9 +45,6 @@ option_self E exact None = refl
 option_self E exact (Some x) = self E exact x
 
 -- ---- rules
-pub type_exact : IsExact type_eq.it
-type_exact a b = search rules
-
 day_time_exact : IsExact day_time_eq.it
 day_time_exact a b = search rules
 
@@ -99,29 +82,6 @@ rule_exact (Fixed s) (Fixed t) = (λ h. ap Fixed ((type_exact s t).0 h), λ e. (
 rule_exact (Fixed s) (Alternate b) = (λ h. cc, λ e. cc)
 rule_exact (Alternate a) (Fixed t) = (λ h. cc, λ e. cc)
 rule_exact (Alternate a) (Alternate b) = (λ h. ap Alternate ((alternate_exact a b).0 h), λ e. (alternate_exact a b).1 (alternate_same a b e))
-
--- ---- changes
-second_exact : IsExact int_eq
-second_exact a b = search rules
-
-abbrev the_change : ℤ → LocalType → LocalType → Change
-the_change at before after = record { at = at; before = before; after = after }
-
-same_change : (u v : ℤ) (r s t w : LocalType) → u ≡ v → r ≡ s → t ≡ w → the_change u r t ≡ the_change v s w
-same_change u v r s t w a b c = cc
-
-pub change_exact : (a b : Change) → IsTrue (int_eq a.at b.at && (type_eq.it a.before b.before && type_eq.it a.after b.after)) ↔ (a ≡ b)
-change_exact a b = (
-  λ h.
-      let r = and_right (int_eq a.at b.at) _ h in
-      same_change a.at b.at a.before b.before a.after b.after
-      ((second_exact a.at b.at).0 (and_left (int_eq a.at b.at) _ h))
-      ((type_exact a.before b.before).0 (and_left (type_eq.it a.before b.before) _ r))
-      ((type_exact a.after b.after).0 (and_right (type_eq.it a.before b.before) _ r)),
-  λ e.
-      and_both (int_eq a.at b.at) _ ((second_exact a.at b.at).1 (ap (λ (x : Change). x.at) e))
-      (and_both (type_eq.it a.before b.before) _ ((type_exact a.before b.before).1 (ap (λ (x : Change). x.before) e)) ((type_exact a.after b.after).1 (ap (λ (x : Change). x.after) e))),
-)
 
 -- ---- zones
 transition_exact : IsExact transition_eq.it

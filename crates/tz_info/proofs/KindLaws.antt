@@ -7,7 +7,7 @@ use Rattle.naive_base.specs.Month.{days_in_month, days_of_months}
 use Rattle.naive_base.specs.Date.{day_number}
 use Rattle.naive_base.specs.Weekday.{weekday_of}
 use Rattle.naive_base.proofs.ForCallers.{floors, weekday_later, weekday_below}
-use Rattle.timeline.proofs.ForCallers.{le_true, le_false}
+use Rattle.tz_timeline.proofs.ForCallers.{le_true, le_false}
 use Rattle.tz_info.specs.RuleDays.{IsRuleDay}
 use Rattle.tz_info.specs.RuleDayOf.{rule_day}
 use Rattle.tz_info.specs.Rules.{Alternate, IsAlternateRule}

@@ -4,7 +4,7 @@ use Rattle.std.proofs.lemmas.Int.{ints}
 use Rattle.std.proofs.lemmas.List.{get_or_default}
 use borrow.Author.Count.{below_more}
 use mir.Val.{SFits}
-use Rattle.timeline.proofs.ForCallers.{filter_first, count_first, count_least, mapped_at, rises, le_true, le_false, lt_true, lt_false}
+use Rattle.tz_timeline.proofs.ForCallers.{filter_first, count_first, count_least, mapped_at, rises, le_true, le_false, lt_true, lt_false}
 use Rattle.tz_info.specs.Lists.{last_else}
 use Rattle.tz_info.specs.Leaps.{IsOneStep, IsNextLeap, AreLeapSeconds, corrections, thresholds, passed_count, correction_before, IsLeapTime, IsLeapTimeRefused}
 use Rattle.tz_info.specs.declared.zone.leap_second.LeapSecond.{LeapSecond}

@@ -4,7 +4,7 @@ use Rattle.std.proofs.Common.{◌≡◌, ℕ, zero, suc, ◌*◌, ◌<◌, ◌�
 use Rattle.std.specs.List.{count_by, filter}
 use Rattle.std.proofs.lemmas.Int.{ints, by_lt_z}
 use Rattle.std.proofs.lemmas.List.Sums.{sum_by-cons, count_by-le-length}
-use Rattle.timeline.proofs.ForCallers.{filter_first, mapped_at, le_true, le_false, lt_true, lt_false}
+use Rattle.tz_timeline.proofs.ForCallers.{filter_first, mapped_at, le_true, le_false, lt_true, lt_false}
 use Rattle.tz_info.specs.Lists.{last_else}
 use Rattle.tz_info.specs.Leaps.{AreLeapSeconds, AreCounted, corrections, thresholds, passed_count, correction_at, correction_before, IsLeapTime, IsLeapTimeRefused, IsUnixTime}
 use Rattle.tz_info.specs.declared.zone.leap_second.LeapSecond.{LeapSecond}

@@ -5,7 +5,7 @@ use Rattle.std.specs.List.Sorted.{IsPartitionedBy}
 use Rattle.std.proofs.lemmas.Int.{ints, by_lt_z}
 use Rattle.std.proofs.lemmas.Bool.{cases_lt}
 use Rattle.std.proofs.lemmas.List.Sums.{count_by-le-length}
-use Rattle.timeline.proofs.ForCallers.{rises}
+use Rattle.tz_timeline.proofs.ForCallers.{rises}
 use Rattle.tz_info.specs.Lists.{last_else}
 use Rattle.tz_info.specs.Leaps.{IsOneStep, AreLeapSeconds, corrections, thresholds, passed_count, IsLeapTime, IsNear}
 use Rattle.tz_info.specs.Steps.Starts.{HaveCome}

@@ -11,7 +11,7 @@ use Rattle.tz_info.specs.Leaps.{IsLeapTime, IsUnixTime, least_time}
 use Rattle.tz_info.specs.Steps.Changes.{ComesAt, HasNoneAt}
 use Rattle.tz_info.specs.Steps.Segments.{begin_of, index_of}
 use Rattle.tz_info.specs.Zones.{Zone, IsValid, HasType, TypeAt, last_transition}
-use Rattle.tz_info.specs.declared.change.Change.{Change}
+use Rattle.tz_base.specs.declared.change.Change.{Change}
 use Rattle.tz_info.specs.declared.zone.leap_second.LeapSecond.{LeapSecond}
 use Rattle.tz_info.specs.declared.zone.transition.Transition.{Transition}
 use Rattle.tz_info.proofs.ChangeSearch.{change_made, none_first}

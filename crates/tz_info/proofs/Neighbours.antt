@@ -4,7 +4,7 @@ use Rattle.std.proofs.lemmas.Bool.{not-false, or_cases, or_left, or_right}
 use Rattle.std.proofs.lemmas.Int.{by_lt_z, ints}
 use Rattle.naive_base.specs.Year.{year_start}
 use Rattle.naive_base.proofs.ForCallers.{floors, year_step, days_at_least, starts_rise}
-use Rattle.timeline.proofs.ForCallers.{le_false, le_is}
+use Rattle.tz_timeline.proofs.ForCallers.{le_false, le_is}
 use Rattle.tz_info.specs.RuleDays.{IsRuleDay}
 use Rattle.offset_core.specs.Offset.{IsWithinDay}
 use Rattle.tz_info.specs.Rules.{Alternate, IsAlternateRule, IsWithinWeek}

@@ -6,7 +6,7 @@ use Rattle.std.proofs.lemmas.Int.{ints, by_lt_z}
 use Rattle.std.proofs.lemmas.List.{length_push, get_or_default}
 use Rattle.std.proofs.lemmas.List.Quantifiers.{all_pairs_push}
 use Rattle.tz_base.specs.LocalTypes.{LocalType, IsUtOffset}
-use Rattle.timeline.proofs.ForCallers.{le_true, le_false}
+use Rattle.tz_timeline.proofs.ForCallers.{le_true, le_false}
 use Rattle.tz_info.specs.Leaps.{AreLeapSeconds}
 use Rattle.tz_info.specs.Segments.{table_count, table_count_by}
 use Rattle.tz_info.specs.Steps.Segments.{index_of}

@@ -2,7 +2,7 @@
 use Rattle.std.proofs.Common.{◌≡◌, ℕ, suc, ◌-◌, ◌<◌, ◌≤◌, arith, refl, ap, ◌∙◌, List, [], ◌∷◌, length, get_or, take, ℤ, length-take, Result, Ok, Err, MatchResult, None, Some, inl, inr}
 use Rattle.std.proofs.lemmas.Bool.{cases_lt}
 use Rattle.tz_base.specs.LocalTypes.{LocalType}
-use Rattle.timeline.specs.Search.{IsLastOf}
+use Rattle.tz_timeline.specs.Search.{IsLastOf}
 use Rattle.tz_info.specs.Leaps.{IsLeapTime}
 use Rattle.tz_info.specs.Transitions.{passed}
 use Rattle.tz_info.specs.Zones.{Zone, HasType, RuleOrType, IsRefusedBy, IsFromLast, index_at, TypeAtLeapTime, TypeAt, IsTypeRefused, by_rule}

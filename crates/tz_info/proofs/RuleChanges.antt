@@ -10,7 +10,7 @@ use Rattle.tz_info.specs.Rules.{Alternate, IsAlternateRule}
 use Rattle.tz_info.specs.Moments.{IsYearOf, IsInSomeYear, IsDstAt, IsRuleYear, IsRuleTime, AlternateAt, moment, start_in, end_in}
 use Rattle.tz_info.specs.Changes.{IsChange, HasNoChange}
 use Rattle.tz_info.specs.Steps.Changes.{AreIn, IsEarlierOf, IsInStretch, IsLaterOf, IsNearest, IsNearestChange, IsNearRuleTime, IsOfYear, IsOneOf, Precedes, moments_near, near_end, new_year, year_at}
-use Rattle.tz_info.specs.declared.change.Change.{Change}
+use Rattle.tz_base.specs.declared.change.Change.{Change}
 use Rattle.tz_info.specs.declared.rule.transition_rule.TransitionRule.TheVariants.{Alternate as AlternateRule}
 use Rattle.tz_info.specs.Steps.Kinds.{kind_place, second_in}
 use Rattle.tz_info.specs.declared.rule.day.DayTime.{DayTime}

@@ -7,7 +7,7 @@ use Rattle.offset_core.specs.WallAnswer.{IsWallAnswer}
 use Rattle.offset_core.specs.declared.local_result.LocalResult.{LocalResult}
 use Rattle.offset_core.specs.declared.local_result.LocalResult.TheVariants.{None, Single, Ambiguous}
 use Rattle.tz_base.specs.LocalTypes.{LocalType}
-use Rattle.timeline.proofs.ForCallers.{le_is, le_true, lt_is, lt_true}
+use Rattle.tz_timeline.proofs.ForCallers.{le_is, le_true, lt_is, lt_true}
 use Rattle.tz_info.specs.Moments.{AlternateAt, type_when}
 use Rattle.tz_info.specs.Rules.{Alternate as AlternateRule}
 use Rattle.tz_info.specs.RuleTypes.{RuleAt}
@@ -18,7 +18,7 @@ use Rattle.tz_info.specs.Steps.Walk.{IsAskedLast}
 use Rattle.tz_info.specs.WallClocks.{Shows}
 use Rattle.tz_info.specs.declared.rule.alternate.Season.{Season}
 use Rattle.tz_info.specs.declared.rule.transition_rule.TransitionRule.{TransitionRule}
-use Rattle.tz_info.proofs.Equalities.{and_both}
+use Rattle.tz_base.proofs.ForCallers.{and_both}
 use Rattle.tz_info.proofs.Candidates.{asked_both, asked_found, asked_other}
 
 joined_none : (a : LocalResult LocalType) → joined a None ≡ a

@@ -8,7 +8,7 @@ use Rattle.tz_info.specs.Steps.Changes.{IsIdleUntil}
 use Rattle.tz_info.specs.Steps.NextMoments.{IsNextAfter, IsLastUpTo}
 use Rattle.tz_info.specs.Steps.Seasons.{IsSeason, IsDecidedIn}
 use Rattle.tz_info.specs.Steps.Turns.{is_dst_by_one}
-use Rattle.tz_info.specs.declared.change.Change.{Change}
+use Rattle.tz_base.specs.declared.change.Change.{Change}
 use Rattle.tz_info.specs.declared.rule.alternate.Season.{Season}
 use Rattle.tz_info.proofs.ChangeSearch.{InForce, first_moved, last_moved}
 use Rattle.tz_info.proofs.RuleChanges.{rule_second, rule_type_once}

@@ -17,11 +17,11 @@ use Rattle.tz_info.specs.Rules.{Alternate as AlternateRule, IsAlternateRule}
 use Rattle.tz_info.specs.Steps.ChangeLists.{is_second, all_fit, is_rule_year, is_dst_by_three, alternate_type, rule_type, rule_type_or, type_at_leap_time, type_or_none, change_between, change_here}
 use Rattle.tz_info.specs.Transitions.{passed}
 use Rattle.tz_info.specs.Zones.{Zone, IsValid, IsRuleOrNone, RuleOrElse, HasType, IsRefusedBy, TypeAt, IsTypeRefused, by_leap_time, by_rule, index_at}
-use Rattle.tz_info.specs.declared.change.Change.{Change}
+use Rattle.tz_base.specs.declared.change.Change.{Change}
 use Rattle.tz_info.specs.declared.rule.transition_rule.TransitionRule.{TransitionRule}
 use Rattle.tz_info.specs.declared.rule.transition_rule.TransitionRule.TheVariants.{Fixed, Alternate}
 use Rattle.tz_info.proofs.ChangeSearch.{InForce, IsOnce, change_made, none_before, none_here}
-use Rattle.tz_info.proofs.Equalities.{type_exact}
+use Rattle.tz_base.proofs.ForCallers.{type_exact}
 use Rattle.tz_info.proofs.Neighbours.{starts_near, ends_near, dst_by_three}
 use Rattle.tz_info.proofs.PassedTransitions.{no_items}
 use Rattle.tz_info.proofs.RuleLaws.{rule_once}

@@ -2,8 +2,8 @@
 use Rattle.std.proofs.Common.{◌≡◌, ℕ, ℤ, ◌+◌, ◌-◌, ◌<◌, ◌≤◌, arith, List, length, get_or, map, pos, take, ◌≤ℤ◌, ◌<ℤ◌, inl, inr, int_le}
 use Rattle.std.proofs.lemmas.Bool.{cases_lt}
 use Rattle.std.proofs.lemmas.Int.{ints}
-use Rattle.timeline.specs.Search.{AreOrdered, ArePassed}
-use Rattle.timeline.proofs.ForCallers.{filter_first, le_true, le_false, first_come, times_ordered}
+use Rattle.tz_timeline.specs.Search.{AreOrdered, ArePassed}
+use Rattle.tz_timeline.proofs.ForCallers.{filter_first, le_true, le_false, first_come, times_ordered}
 use Rattle.tz_info.specs.Transitions.{passed, AreRising}
 use Rattle.tz_info.specs.Steps.Validity.{Stands}
 use Rattle.tz_info.specs.declared.zone.transition.Transition.{Transition}

@@ -9,9 +9,9 @@ use Rattle.offset_core.specs.WallAnswer.{IsWallAnswer}
 use Rattle.offset_core.specs.declared.local_result.LocalResult.{LocalResult}
 use Rattle.offset_core.specs.declared.local_result.LocalResult.TheVariants.{None as Never}
 use Rattle.tz_base.specs.LocalTypes.{LocalType}
-use Rattle.timeline.specs.Counts.{Counts, RoseWithin, reads_more}
-use Rattle.timeline.specs.Digits.{digits}
-use Rattle.timeline.proofs.ForCallers.{le_true, lt_true}
+use Rattle.tz_timeline.specs.Counts.{Counts, RoseWithin, reads_more}
+use Rattle.tz_timeline.specs.Digits.{digits}
+use Rattle.tz_timeline.proofs.ForCallers.{le_true, lt_true}
 use Rattle.tz_info.specs.Leaps.{IsNear, least_time}
 use Rattle.tz_info.specs.RuleTypes.{RuleAt}
 use Rattle.tz_info.specs.Segments.{segment_of, table_count}

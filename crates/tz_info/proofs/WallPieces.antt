@@ -5,8 +5,8 @@ use Rattle.std.proofs.lemmas.Bool.{cases_lt}
 use Rattle.std.proofs.lemmas.List.{take_more, length_push, length-map}
 use Rattle.std.proofs.lemmas.List.Elements.{All-push}
 use Rattle.std.proofs.lemmas.List.Quantifiers.{all_pairs_push}
-use Rattle.timeline.specs.Search.{AreOrdered, ArePassed, IsLastOf}
-use Rattle.timeline.proofs.ForCallers.{le_true, le_false, first_come, times_ordered}
+use Rattle.tz_timeline.specs.Search.{AreOrdered, ArePassed, IsLastOf}
+use Rattle.tz_timeline.proofs.ForCallers.{le_true, le_false, first_come, times_ordered}
 use Rattle.tz_info.specs.Steps.Merging.{IsNext, IsStep}
 use Rattle.std.proofs.lemmas.Option.{none-some}
 use Rattle.std.specs.Prelude.{Option, Some as some, None as none, unwrap_or}

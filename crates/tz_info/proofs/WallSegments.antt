@@ -8,7 +8,7 @@ use Rattle.offset_core.specs.WallAnswer.{IsWallAnswer}
 use Rattle.offset_core.specs.declared.local_result.LocalResult.{LocalResult}
 use Rattle.offset_core.specs.declared.local_result.LocalResult.TheVariants.{None, Single, Ambiguous}
 use Rattle.tz_base.specs.LocalTypes.{LocalType, IsUtOffset}
-use Rattle.timeline.proofs.ForCallers.{le_true, le_false}
+use Rattle.tz_timeline.proofs.ForCallers.{le_true, le_false}
 use Rattle.tz_info.specs.Leaps.{IsLeapTime, IsNear}
 use Rattle.tz_info.specs.Segments.{segment_of, table_count, table_count_by}
 use Rattle.tz_info.specs.Steps.Segments.{index_of}

@@ -16,7 +16,7 @@ use Rattle.tz_info.specs.Steps.Changes.{ComesAt, HasNoneAt, IsBegin, IsByRule, I
 use Rattle.tz_info.specs.Transitions.{passed}
 use Rattle.tz_info.specs.Steps.Starts.{HaveCome}
 use Rattle.tz_info.specs.Zones.{Zone, IsValid, TypeAt, RuleOrType}
-use Rattle.tz_info.specs.declared.change.Change.{Change}
+use Rattle.tz_base.specs.declared.change.Change.{Change}
 use Rattle.tz_info.specs.declared.rule.transition_rule.TransitionRule.{TransitionRule}
 use Rattle.tz_info.specs.declared.rule.transition_rule.TransitionRule.TheVariants.{Fixed, Alternate}
 use Rattle.tz_info.specs.declared.zone.leap_second.LeapSecond.{LeapSecond}

@@ -5,7 +5,7 @@ use Rattle.std.proofs.lemmas.Bool.{cases_lt}
 use Rattle.std.proofs.lemmas.List.Sums.{length-filter, count_by-le-length}
 use mir.Val.{SFits}
 use Rattle.tz_base.specs.LocalTypes.{LocalType}
-use Rattle.timeline.proofs.ForCallers.{le_true, le_false}
+use Rattle.tz_timeline.proofs.ForCallers.{le_true, le_false}
 use Rattle.tz_info.specs.Leaps.{AreLeapSeconds, corrections, passed_count, correction_at, IsLeapTime, IsLeapTimeRefused}
 use Rattle.tz_info.specs.Lists.{last_else}
 use Rattle.tz_info.specs.Transitions.{passed, AreTransitions}

@@ -2,7 +2,7 @@
 -- makes it, by `AreChanges`; that a step takes the first or the last of them says the iterator.
 use Rattle.std.specs.Prelude.{List}
 use Rattle.tz_info.specs.Steps.ChangeLists.{changes_of}
-use Rattle.tz_info.specs.declared.change.Change.{Change}
+use Rattle.tz_base.specs.declared.change.Change.{Change}
 use Rattle.tz_info.specs.declared.zone.all_changes.Changes.{Changes}
 
 -- the changes that are left

@@ -8,10 +8,9 @@ pub mod laws;
 mod rule;
 mod zone;
 
-pub use change::Change;
 pub use rule::{AlternateTime, DayForm, RuleDay, TransitionRule};
-pub use timeline::Probes;
-pub use tz_base::{Cursor, Error, Expected, LocalTimeType, TimeZoneName};
+pub use tz_base::{Change, Cursor, Error, Expected, LocalTimeType, TimeZoneName};
+pub use tz_timeline::Probes;
 pub use zone::all_changes::Changes;
 pub use zone::around::{Gap, TypesAround};
 pub use zone::{LeapSecond, TimeZone, Transition};

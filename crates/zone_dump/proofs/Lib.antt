@@ -1,3 +1,2 @@
-pub mod TableLaws
+mod TableLaws
 mod JsonPutting
-mod PictureLaws

@@ -1,14 +1,6 @@
-pub mod Clocks
-pub mod JsonSteps
+pub mod RuleWords
 pub mod JsonValues
-pub mod Spans
-pub mod Words
 pub mod Tables
 pub mod Zdump
 pub mod Forms
-pub mod PictureChart
-pub mod PictureFrame
-pub mod PicturePanels
-pub mod PictureWords
 pub mod Pictures
-pub mod Steps

@@ -4,8 +4,8 @@ ghost use Rattle.std.specs.Prelude.{◌≡◌, IfOk, string_bytes};
 ghost use Rattle.zone_dump.specs.Forms.{IsTold};
 
 use crate::tables::table;
-use crate::years::Years;
 use crate::zdump::zdump_lines;
+use change_words::Years;
 use std::alloc::{AllocError, Global};
 use tz_info::TimeZone;
 

@@ -6,21 +6,19 @@
 #![tactic(auto)]
 
 mod changes;
-mod clocks;
 mod form;
 mod json_text;
 mod picture;
+mod rule_words;
 mod tables;
 mod tell;
-mod words;
-mod years;
 mod zdump;
 
+pub use change_words::Years;
 pub use changes::changes_in;
 pub use form::Form;
 pub use json_text::to_json;
 pub use picture::draw;
 pub use tables::table;
 pub use tell::{tell_file, tell_text};
-pub use years::Years;
 pub use zdump::zdump_lines;

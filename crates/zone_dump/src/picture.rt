@@ -1,21 +1,12 @@
-//! A picture of changes of the clocks, as SVG.
+//! A picture of what the clocks of a zone do, as SVG.
 
-ghost use Rattle.std.specs.Prelude.{◌≡◌, IfOk, OnOk, string_bytes, ◌++◌};
-ghost use Rattle.zone_dump.specs.Pictures.{IsPicture, TypeOrPlain, head_text, last_text, picture_text};
-
-mod chart;
-mod frame;
-mod panels;
-mod scale;
-mod words;
+ghost use Rattle.std.specs.Prelude.{◌≡◌, IfOk, string_bytes};
+ghost use Rattle.zone_dump.specs.Pictures.{IsPicture, TypeOrPlain};
 
 use crate::changes::changes_in;
-use crate::years::Years;
-use chart::put_chart;
-use frame::{put_heading, put_opening, put_title};
-use panels::put_panels;
+use change_words::{Years, put_picture};
 use std::alloc::{AllocError, Global};
-use tz_info::{Change, LocalTimeType, TimeZone};
+use tz_info::{LocalTimeType, TimeZone};
 
 /// A picture of the zone's clocks in those years, as SVG: a chart of the offset from UTC, with a
 /// step at each change, and a panel for each change of the last year, with what wall clocks skip or
@@ -57,39 +48,4 @@ fn type_at(zone: &TimeZone, second: i64) -> LocalTimeType
         Ok(found) => *found,
         Err(_) => LocalTimeType::utc(),
     }
-}
-
-fn put_picture(
-    out: &mut String,
-    title: &str,
-    years: Years,
-    start: LocalTimeType,
-    changes: &[Change],
-    recent: &[Change],
-) -> Result<(), AllocError>
-    ensures { OnOk result (string_bytes out.new ≡ string_bytes out.old
-        ++ picture_text title.now years.first years.last start changes.now recent.now) }
-{
-    put_head(out, title, years, recent.len())?;
-    put_chart(out, years, &start, changes)?;
-    put_last(out, years.last, recent)
-}
-
-// What stands before the chart.
-fn put_head(out: &mut String, title: &str, years: Years, panels: usize) -> Result<(), AllocError>
-    ensures { OnOk result (string_bytes out.new ≡ string_bytes out.old
-        ++ head_text title.now years.first years.last panels) }
-{
-    put_opening(out, panels)?;
-    put_title(out, title, years)
-}
-
-// The panels of a year, and the end.
-fn put_last(out: &mut String, year: i32, changes: &[Change]) -> Result<(), AllocError>
-    ensures { OnOk result
-        (string_bytes out.new ≡ string_bytes out.old ++ last_text year changes.now) }
-{
-    put_heading(out, year, changes.len())?;
-    put_panels(out, changes)?;
-    write!(out, "</svg>\n")
 }

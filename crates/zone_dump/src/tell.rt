@@ -5,7 +5,7 @@ ghost use Rattle.tz_base.specs.Errors.{number_of};
 ghost use Rattle.zone_dump.specs.Forms.{IsTold, IsFileTold, IsTextTold, Tells, IsFileRefused, IsTextRefused};
 
 use crate::form::{Form, told};
-use crate::years::Years;
+use change_words::Years;
 use std::alloc::Global;
 use tz_info::{Error, TimeZone};
 

@@ -34,8 +34,8 @@ pub use Rattle.tz_info.specs.RuleTypes
 pub use Rattle.tz_info.specs.RuleEquality
 pub use Rattle.tz_info.specs.Lists
 pub use Rattle.tz_info.specs.Leaps
-pub use Rattle.timeline.specs.Digits as TextDigits
-pub use Rattle.timeline.specs.Counts
+pub use Rattle.tz_timeline.specs.Digits as TextDigits
+pub use Rattle.tz_timeline.specs.Counts
 pub use Rattle.tz_info.specs.Transitions
 pub use Rattle.tz_info.specs.Zones
 pub use Rattle.tz_info.specs.WallClocks

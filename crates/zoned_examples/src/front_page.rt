@@ -38,9 +38,19 @@ pub fn outcome(
     choice: Choice,
 ) -> Result<String, MyError> {
     let parsed = tz_info::TimeZone::from_tz_data(alloc, bytes)?;
-    let new_york = TimeZoneRef::new(&parsed).ok_or(MyError::WideZone)?;
+    outcome_in(alloc, &parsed, local, choice)
+}
+
+// That of a parsed zone: no `?` stands where the zone would be let go, which takes long to prove.
+fn outcome_in(
+    alloc: Global,
+    parsed: &tz_info::TimeZone,
+    local: NaiveDateTime,
+    choice: Choice,
+) -> Result<String, MyError> {
+    let new_york = TimeZoneRef::new(parsed).ok_or(MyError::WideZone)?;
     let instant = new_york.resolve(&local, choice)?;
-    Ok(format!(in alloc; "{instant}")?)
+    Ok(line(alloc, &instant)?)
 }
 
 /// What a meeting at a time of each day prints, a line a day.
@@ -56,7 +66,6 @@ pub fn daily(
     daily_in(alloc, &parsed, first, time, choice, days)
 }
 
-// That of a parsed zone: no `?` stands where the zone would be let go, which takes long to prove.
 fn daily_in(
     alloc: Global,
     parsed: &tz_info::TimeZone,

@@ -5,7 +5,7 @@ use Rattle.std.proofs.lemmas.List.{length-map, map-append}
 use Rattle.std.proofs.lemmas.List.Elements.{Contains-get_or}
 use Rattle.tz_info.specs.Changes.{AreChanges}
 use Rattle.tz_info.specs.Zones.{Zone, TypeAt}
-use Rattle.tz_info.specs.declared.change.Change.{Change}
+use Rattle.tz_base.specs.declared.change.Change.{Change}
 use Rattle.zoned_ffi.specs.WrittenChanges.{written_change, written_into}
 use Rattle.zoned_ffi.specs.declared.changes.WrittenChange.{WrittenChange}
 

@@ -2,7 +2,7 @@
 use Rattle.std.specs.Prelude.{ℕ, ℤ, ◌≡◌, ◌++◌, List, drop, length, map, take}
 use Rattle.tz_info.specs.Changes.{AreChanges, IsFirstChange, IsLastChange}
 use Rattle.tz_info.specs.Zones.{Zone, TypeAt}
-use Rattle.tz_info.specs.declared.change.Change.{Change}
+use Rattle.tz_base.specs.declared.change.Change.{Change}
 use Rattle.zoned_ffi.specs.WrittenTypes.{written_type}
 use Rattle.zoned_ffi.specs.declared.changes.WrittenChange.{WrittenChange}
 

@@ -1,5 +1,5 @@
 -- What a `KeptChange` shows.
-use Rattle.tz_info.specs.declared.change.Change.{Change}
+use Rattle.tz_base.specs.declared.change.Change.{Change}
 use Rattle.zoned_time.specs.DateTime.{zoned}
 use Rattle.zoned_ref.specs.ZoneChange.{change_between, AreAround}
 use Rattle.zoned_kept.specs.KeptOffset.{law_of, type_of}

@@ -4,7 +4,7 @@ use Rattle.naive_base.specs.Range.{first_second, last_second, IsInRange}
 use Rattle.naive_base.specs.Stamp.{of_secs}
 use Rattle.tz_base.specs.LocalTypes.{LocalType}
 use Rattle.tz_info.specs.Zones.{Zone, TypeAt}
-use Rattle.tz_info.specs.declared.change.Change.{Change}
+use Rattle.tz_base.specs.declared.change.Change.{Change}
 use Rattle.zoned_time.specs.DateTime.{zoned}
 use Rattle.zoned_time.specs.Zone.{Meaning, Law}
 use Rattle.zoned_time.specs.Zoned.{Zoned, IsAt}

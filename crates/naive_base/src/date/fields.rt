@@ -1,13 +1,13 @@
 //! A date's fields, and dates with a field changed.
 ghost use Rattle.std.specs.Prelude.{◌≡◌, ◌-◌, ◌≤◌, pos, ◌+ℤ◌, ◌↔◌, IsTrue, SomeIff, option_map};
 ghost use Rattle.naive_base.specs.Range.{IsYearInRange};
-ghost use Rattle.naive_base.specs.Date.{day_number};
-ghost use Rattle.naive_base.specs.Year.{year_start, days_in_year};
+ghost use Rattle.gregorian.specs.Date.{day_number};
+ghost use Rattle.gregorian.specs.Year.{year_start, days_in_year};
 ghost use Rattle.naive_base.specs.Fields.{MayShow, MayShowOrdinal};
 ghost use Rattle.naive_base.specs.NaiveDate.{day_of, IsDateOn};
 
 use crate::range::{FIRST_YEAR, LAST_YEAR};
-use crate::{Datelike, IsoWeek, NaiveDate, Weekday, calendar};
+use crate::{Datelike, IsoWeek, NaiveDate, Weekday};
 
 fn is_year(year: i32) -> bool
     ensures { IsTrue result ↔ IsYearInRange year }
@@ -21,13 +21,13 @@ impl NaiveDate {
         ensures { SomeIff (option_map day_of result) (MayShow (day_of self.now) year month day)
             (day_number year month day) }
     {
-        if !calendar::is_date(year, month, day) {
+        if !gregorian::is_date(year, month, day) {
             return None;
         }
         if is_year(year) {
             return Some(NaiveDate::of_ymd(year, month, day));
         }
-        if self.is_day(calendar::day_number(year, month, day)) {
+        if self.is_day(gregorian::day_number(year, month, day)) {
             return Some(*self);
         }
         None
@@ -38,7 +38,7 @@ impl NaiveDate {
         ensures { SomeIff (option_map day_of result) (MayShowOrdinal (day_of self.now) year ordinal)
             (year_start year +ℤ pos (ordinal - 1)) }
     {
-        if ordinal == 0 || ordinal > calendar::days_in_year(year) {
+        if ordinal == 0 || ordinal > gregorian::days_in_year(year) {
             return None;
         }
         if is_year(year) {
@@ -65,7 +65,7 @@ fn day_of_ordinal(year: i32, ordinal: u32) -> i64
     requires { (1 ≤ ordinal) × (ordinal ≤ 366) }
     ensures { result ≡ year_start year +ℤ pos (ordinal - 1) }
 {
-    calendar::year_start(year) + (ordinal as i64 - 1)
+    gregorian::year_start(year) + (ordinal as i64 - 1)
 }
 
 impl Datelike for NaiveDate {
@@ -74,7 +74,7 @@ impl Datelike for NaiveDate {
     ghost IsOnDay = { λ _. IsDateOn };
 
     fn year(&self) -> i32 {
-        calendar::year_of(self.number())
+        gregorian::year_of(self.number())
     }
 
     fn month(&self) -> u32 {
@@ -94,15 +94,15 @@ impl Datelike for NaiveDate {
     }
 
     fn ordinal(&self) -> u32 {
-        calendar::day_of_year(self.number()) + 1
+        gregorian::day_of_year(self.number()) + 1
     }
 
     fn ordinal0(&self) -> u32 {
-        calendar::day_of_year(self.number())
+        gregorian::day_of_year(self.number())
     }
 
     fn weekday(&self) -> Weekday {
-        Weekday::of_number(calendar::weekday_of(self.number()))
+        Weekday::of_number(gregorian::weekday_of(self.number()))
     }
 
     fn iso_week(&self) -> IsoWeek {
@@ -133,7 +133,7 @@ impl Datelike for NaiveDate {
     }
 
     fn with_ordinal(&self, ordinal: u32) -> Option<NaiveDate> {
-        self.on_ordinal(calendar::year_of(self.number()), ordinal)
+        self.on_ordinal(gregorian::year_of(self.number()), ordinal)
     }
 
     fn with_ordinal0(&self, ordinal0: u32) -> Option<NaiveDate> {

@@ -1,15 +1,15 @@
 //! Dates moved by months and by days.
 ghost use Rattle.std.specs.Prelude.{◌≡◌, ◌≤◌, ℤ, pos, neg_ℤ, ◌+ℤ◌, ◌-ℤ◌, ◌*ℤ◌, ◌≤ℤ◌, SomeIff, option_map, min};
 ghost use Rattle.naive_base.specs.Months.{month_number, year_of_number, month_of_number, months_of, days_of};
-ghost use Rattle.naive_base.specs.Date.{IsDate, day_number};
-ghost use Rattle.naive_base.specs.DateOf.{month_of, day_of_month};
+ghost use Rattle.gregorian.specs.Date.{IsDate, day_number};
+ghost use Rattle.gregorian.specs.DateOf.{month_of, day_of_month};
 ghost use Rattle.naive_base.specs.Range.{IsWideYear};
 ghost use Rattle.naive_base.specs.Fields.{MayShowDay, IsMonthsLater, IsDaysLater, month_after};
 ghost use Rattle.naive_base.specs.Steps.Moves.{IsWithin, IsInMonth};
 ghost use Rattle.naive_base.specs.NaiveDate.{day_of, IsDateOn};
 
 use crate::range::{FIRST_DAY_IN_RANGE, LAST_DAY_IN_RANGE};
-use crate::{Days, Months, NaiveDate, calendar};
+use crate::{Days, Months, NaiveDate};
 
 impl NaiveDate {
     /// The date so many months later: on the same day of the month, or on the month's last where it
@@ -100,7 +100,7 @@ impl NaiveDate {
         ensures { IsInMonth (day_of self) year month (option_map day_of result) }
     {
         let day = self.year_month_day().day;
-        self.changed(year, month, day.min(calendar::days_in_month(year, month)))
+        self.changed(year, month, day.min(gregorian::days_in_month(year, month)))
     }
 }
 

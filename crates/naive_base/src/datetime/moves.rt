@@ -2,7 +2,7 @@
 ghost use Rattle.std.specs.Prelude.{◌≡◌, ◌<◌, pos, neg_ℤ, ◌+ℤ◌, ◌-ℤ◌, ◌*ℤ◌};
 ghost use Rattle.offset_core.specs.Nanoseconds.{FitsTimeDelta};
 ghost use Rattle.offset_core.specs.TimeDelta.{nanos_of};
-ghost use Rattle.naive_base.specs.Year.{floor_div, floor_mod};
+ghost use Rattle.gregorian.specs.Year.{floor_div, floor_mod};
 ghost use Rattle.naive_base.specs.Reading.{total, of_total, moved, moved_leap, leap_between, difference};
 ghost use Rattle.naive_base.specs.Steps.Moves.{IsSmall, IsShort, IsWithin};
 ghost use Rattle.naive_base.specs.NaiveDateTime.{reading, IsReadingOf};

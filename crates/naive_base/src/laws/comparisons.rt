@@ -9,8 +9,6 @@ ghost use Rattle.naive_base.specs.declared.months_days.Months.{Months as AnyMont
 ghost use Rattle.naive_base.specs.declared.months_days.Days.{Days as AnyDays};
 ghost use Rattle.naive_base.specs.declared.weekday.Weekday.{Weekday as AnyWeekday};
 ghost use Rattle.naive_base.specs.declared.iso_week.IsoWeek.{IsoWeek as AnyWeek};
-ghost use Rattle.naive_base.specs.declared.calendar.year_days.YearDay.{YearDay as AnyYearDay};
-ghost use Rattle.naive_base.specs.declared.calendar.dates.YearMonthDay.{YearMonthDay as AnyYearMonthDay};
 ghost use Rattle.naive_base.specs.Reading.{IsEarlier, IsEarlierTime};
 ghost use Rattle.naive_base.specs.NaiveDate.{day_of};
 ghost use Rattle.naive_base.specs.NaiveTime.{second_of, fraction_of};
@@ -19,7 +17,6 @@ ghost use Rattle.naive_base.specs.Months.{months_of, days_of};
 ghost use Rattle.naive_base.specs.Weekday.{weekday_number, days_from_monday};
 ghost use Rattle.naive_base.specs.IsoWeek.{iso_year, iso_number};
 
-use crate::calendar::{YearDay, YearMonthDay};
 use crate::{Days, IsoWeek, Months, NaiveDate, NaiveDateTime, NaiveTime, Weekday};
 use std::hash::Hash;
 
@@ -117,19 +114,4 @@ pub fn iso_weeks()
         ≡ fed.i32 (iso_year a) ++ fed.u32 (iso_number a) }
     ensures cloned { (a b : AnyWeek) → ⟦<IsoWeek as Clone>⟧.is_clone a b ↔ (a ≡ b) }
     ensures infallible { (a : AnyWeek) → ⟦<IsoWeek as Clone>⟧.is_infallible a }
-{}
-
-/// A clone of a day's place in its year is that place.
-pub fn year_days()
-    ensures cloned { (a b : AnyYearDay) → ⟦<YearDay as Clone>⟧.is_clone a b ↔ (a ≡ b) }
-    ensures infallible { (a : AnyYearDay) → ⟦<YearDay as Clone>⟧.is_infallible a }
-{}
-
-/// Dates of the calendar are equal if and only if their years, months and days are, and a clone is
-/// the date.
-pub fn year_month_days()
-    ensures equal { (a b : AnyYearMonthDay) → IsTrue (⟦<YearMonthDay as PartialEq>⟧.eq a b)
-        ↔ ((a.year ≡ b.year) × (a.month ≡ b.month) × (a.day ≡ b.day)) }
-    ensures cloned { (a b : AnyYearMonthDay) → ⟦<YearMonthDay as Clone>⟧.is_clone a b ↔ (a ≡ b) }
-    ensures infallible { (a : AnyYearMonthDay) → ⟦<YearMonthDay as Clone>⟧.is_infallible a }
 {}

@@ -8,7 +8,7 @@ use Rattle.tz_info.specs.Moments.{AlternateAt, IsRuleTime, IsYearOf, start_in, e
 use Rattle.tz_info.specs.Rules.{Alternate}
 use Rattle.tz_info.specs.Segments.{segment_of}
 use Rattle.tz_info.specs.Zones.{Zone, TypeAt}
-use Rattle.tz_info.specs.declared.change.Change.{Change}
+use Rattle.tz_base.specs.declared.change.Change.{Change}
 
 -- the transition at place i has come if and only if the second is `start` or later
 abbrev pub ComesAt : Zone → ℕ → ℤ → Type 0

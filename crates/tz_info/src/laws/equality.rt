@@ -3,13 +3,11 @@
 ghost use Rattle.std.specs.Prelude.{◌≡◌, ◌↔◌, IsTrue};
 ghost use Rattle.tz_info.specs.Rules.{Alternate as AlternateRule};
 ghost use Rattle.tz_info.specs.Zones.{Zone};
-ghost use Rattle.tz_info.specs.declared.change.Change.{Change as ClockChange};
 ghost use Rattle.tz_info.specs.declared.rule.day.DayForm.{DayForm};
 ghost use Rattle.tz_info.specs.declared.rule.transition_rule.TransitionRule.{TransitionRule as Rule};
 ghost use Rattle.tz_info.specs.declared.zone.leap_second.LeapSecond.{LeapSecond as Leap};
 ghost use Rattle.tz_info.specs.declared.zone.transition.Transition.{Transition as ListedTransition};
 
-use crate::change::Change;
 use crate::rule::{AlternateTime, RuleDay, TransitionRule};
 use crate::zone::{LeapSecond, TimeZone, Transition};
 
@@ -29,14 +27,6 @@ pub fn leap_seconds()
     ensures equal { (a b : Leap) → IsTrue (⟦<LeapSecond as PartialEq>⟧.eq a b) ↔ (a ≡ b) }
     ensures clone { (a b : Leap) → ⟦<LeapSecond as Clone>⟧.is_clone a b ↔ (b ≡ a) }
     ensures infallible { (a : Leap) → ⟦<LeapSecond as Clone>⟧.is_infallible a }
-{}
-
-/// Changes of the clocks are equal if and only if their seconds and the types before and after are.
-/// A clone is the value, and does not fail.
-pub fn changes()
-    ensures equal { (a b : ClockChange) → IsTrue (⟦<Change as PartialEq>⟧.eq a b) ↔ (a ≡ b) }
-    ensures clone { (a b : ClockChange) → ⟦<Change as Clone>⟧.is_clone a b ↔ (b ≡ a) }
-    ensures infallible { (a : ClockChange) → ⟦<Change as Clone>⟧.is_infallible a }
 {}
 
 /// Days are equal if and only if their forms and their numbers are. A clone is the value, and does

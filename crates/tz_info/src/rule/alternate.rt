@@ -13,7 +13,7 @@ ghost use Rattle.tz_info.specs.Steps.Turns.{is_between, is_dst_by_one};
 
 use crate::rule::day::{DayTime, RuleDay};
 use crate::rule::kinds::{kind_by, kind_of, margin_of};
-use naive_base::calendar::{year_day_of, year_of, year_start};
+use gregorian::{year_day_of, year_of, year_start};
 use std::fmt;
 use std::marker::Model;
 use tz_base::{Error, Expected, LocalTimeType};

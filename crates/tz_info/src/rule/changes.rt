@@ -11,12 +11,12 @@ ghost use Rattle.tz_info.specs.Rules.{IsAlternateRule};
 ghost use Rattle.tz_info.specs.Steps.Changes.{IsIdle, IsIdleUntil, IsInStretch, IsEarlierOf, IsLaterOf, IsNearRuleTime, IsNearest, IsOfYear, IsOneOf, moments_near, near_end, new_year, year_at};
 ghost use Rattle.tz_info.specs.Steps.Seasons.{IsAmid, IsDecidedIn, IsSeason};
 
-use crate::change::Change;
+use crate::change::{change_between, nearer};
 use crate::rule::alternate::{
     AlternateTime, FIRST_RULE_TIME, LAST_RULE_TIME, Season, day_of, is_rule_time,
 };
-use naive_base::calendar::{year_of, year_start};
-use tz_base::LocalTimeType;
+use gregorian::{year_of, year_start};
+use tz_base::{Change, LocalTimeType};
 
 // The first and the last of the years that a rule answers in.
 const FIRST_RULE_YEAR: i64 = -2_147_483_646;
@@ -120,7 +120,7 @@ impl AlternateTime {
     {
         let before = self.is_dst_amid(season, second - 1);
         let after = self.is_dst_amid(season, second);
-        Change::between(second, *self.type_when(before), *self.type_when(after))
+        change_between(second, *self.type_when(before), *self.type_when(after))
     }
 
     // The type of daylight saving time, or of standard time.
@@ -236,7 +236,7 @@ impl AlternateTime {
     {
         let mut found = None;
         for second in seconds {
-            found = Change::nearer(found, self.change_in(*second, stretch), forward);
+            found = nearer(found, self.change_in(*second, stretch), forward);
         }
         found
     }
@@ -291,7 +291,7 @@ impl AlternateTime {
         let Ok(after) = self.find_local_time_type(second) else {
             return None;
         };
-        Change::between(second, *before, *after)
+        change_between(second, *before, *after)
     }
 }
 

@@ -13,7 +13,7 @@ ghost use Rattle.tz_info.specs.Steps.KindPlaces.{place_from, places_by_kind};
 ghost use Rattle.tz_info.specs.Steps.RuleDays.{julian_place, weekday_place};
 ghost use Rattle.tz_info.specs.declared.rule.day.DayForm.TheVariants.{MonthWeekday};
 
-use naive_base::calendar::{
+use gregorian::{
     day_number, days_before_month, days_in_month, days_in_year, is_leap_year, month_and_day,
     weekday_of, year_start,
 };

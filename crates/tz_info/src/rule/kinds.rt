@@ -10,7 +10,7 @@ ghost use Rattle.tz_info.specs.Rules.{IsWithinWeek};
 ghost use Rattle.tz_info.specs.Steps.Kinds.{kind_place, second_in, seconds_by_kind, is_inside, is_calm, is_calm_kind, are_calm, margin_of, second_at};
 
 use crate::rule::day::DayTime;
-use naive_base::calendar::{is_leap_year, weekday_of};
+use gregorian::{is_leap_year, weekday_of};
 
 // The place of the kind of the year that begins on that day: the common years that begin with
 // Sunday to Saturday, and then the leap years.

@@ -5,7 +5,7 @@ ghost use Rattle.tz_info.specs.Moments.{IsRuleTime};
 ghost use Rattle.tz_info.specs.Steps.NextMoments.{IsLastUpTo, IsNextAfter, IsSteadyUntil};
 
 use crate::rule::alternate::{AlternateTime, Turns, day_of};
-use naive_base::calendar::{year_of, year_start};
+use gregorian::{year_of, year_start};
 
 impl AlternateTime {
     // The next second at which the type may be another one: a start or an end of daylight saving

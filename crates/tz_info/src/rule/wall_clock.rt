@@ -6,7 +6,7 @@ ghost use Rattle.naive_base.specs.NaiveDateTime.{reading};
 ghost use Rattle.naive_base.specs.Range.{IsWide};
 ghost use Rattle.offset_core.specs.WallAnswer.{IsWallAnswer};
 ghost use Rattle.tz_base.specs.LocalTypes.{IsUtOffset};
-ghost use Rattle.timeline.specs.Counts.{RoseWithin, HasRoomFor};
+ghost use Rattle.tz_timeline.specs.Counts.{RoseWithin, HasRoomFor};
 ghost use Rattle.tz_info.specs.RuleTypes.{RuleAt};
 ghost use Rattle.tz_info.specs.Rules.{IsAlternateRule};
 ghost use Rattle.tz_info.specs.Steps.RuleSeconds.{TypeFrom, IsAskedSince, IsAskedFrom, IsAmidFrom, AreUtOffsets};
@@ -20,8 +20,8 @@ use crate::rule::alternate::{AlternateTime, Season};
 use crate::rule::transition_rule::TransitionRule;
 use naive_base::NaiveDateTime;
 use offset_core::MappedLocalTime;
-use timeline::Probes;
 use tz_base::{Error, LocalTimeType};
+use tz_timeline::Probes;
 
 impl TransitionRule {
     /// The types in force at the instants at which a clock by this rule shows the reading.

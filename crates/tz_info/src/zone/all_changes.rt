@@ -7,9 +7,10 @@ ghost use Rattle.tz_info.specs.ChangesLeft.{changes_left};
 ghost use Rattle.tz_info.specs.Leaps.{least_time};
 ghost use Rattle.tz_info.specs.Zones.{TypeAt};
 
-use crate::change::Change;
+use crate::change::{if_before, if_from};
 use crate::zone::time_zone::TimeZone;
 use std::iter::{DoubleEndedIterator, FusedIterator};
+use tz_base::Change;
 
 /// The changes of the clocks in a stretch of time, from both ends. From [`TimeZone::changes`].
 #[derive(Clone, Drop)]
@@ -51,7 +52,7 @@ impl TimeZone {
         ensures { IsFirst (TypeAt self.now) (IsFromUntil from until) result }
     {
         match self.next_change(second_before(from)) {
-            Some(change) => change.if_before(until),
+            Some(change) => if_before(change, until),
             None => None,
         }
     }
@@ -62,7 +63,7 @@ impl TimeZone {
     {
         match until.checked_sub(1) {
             Some(last) => match self.previous_change(last) {
-                Some(change) => change.if_from(from),
+                Some(change) => if_from(change, from),
                 None => None,
             },
             None => None,

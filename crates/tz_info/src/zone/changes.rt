@@ -13,13 +13,13 @@ ghost use Rattle.tz_info.specs.Steps.Changes.{AreAhead, AreComeAt, ComesAt, HasN
 ghost use Rattle.tz_info.specs.Zones.{HasType, TypeAt};
 ghost use Rattle.tz_info.specs.declared.rule.transition_rule.TransitionRule.TheVariants.{Alternate};
 
-use crate::change::Change;
+use crate::change::{change_between, if_after};
 use crate::rule::{AlternateTime, TransitionRule, later_of};
 use crate::zone::leap_second::LeapSecond;
 use crate::zone::starts::{correction_behind, entries_come};
 use crate::zone::time_zone::TimeZone;
-use timeline::Probes;
-use tz_base::LocalTimeType;
+use tz_base::{Change, LocalTimeType};
+use tz_timeline::Probes;
 
 impl TimeZone {
     /// The first change of the clocks after that second, or `None` if none comes at a later second
@@ -163,7 +163,7 @@ impl TimeZone {
         }
         match turns.previous_change(last) {
             None => None,
-            Some(change) => change.if_after(begin),
+            Some(change) => if_after(change, begin),
         }
     }
 
@@ -210,7 +210,7 @@ impl TimeZone {
             return None;
         }
         let before = self.latest(place, &mut probes);
-        Change::between(
+        change_between(
             here.unix_leap_time,
             *self.listed(before.type_index),
             *self.listed(here.type_index),
@@ -240,7 +240,7 @@ impl TimeZone {
         let Ok(after) = self.find_local_time_type(second) else {
             return None;
         };
-        Change::between(second, *before, *after)
+        change_between(second, *before, *after)
     }
 
     // The first second at which all transitions have come, or the first one of 64 bits if there is

@@ -4,7 +4,7 @@ ghost use Rattle.std.specs.Prelude.{◌≡◌, length, ◌+ℤ◌, MatchOption, 
 ghost use Rattle.naive_base.specs.NaiveDateTime.{reading};
 ghost use Rattle.naive_base.specs.Range.{IsWide};
 ghost use Rattle.offset_core.specs.WallAnswer.{IsNeverShown};
-ghost use Rattle.timeline.specs.Counts.{HasRoom, RoseWithin, HasRoomFor};
+ghost use Rattle.tz_timeline.specs.Counts.{HasRoom, RoseWithin, HasRoomFor};
 ghost use Rattle.tz_info.specs.Around.{IsAround};
 ghost use Rattle.tz_info.specs.Gaps.{IsBeforeGap, HasGap, IsShown};
 ghost use Rattle.tz_info.specs.Leaps.{IsNear};
@@ -26,8 +26,8 @@ use crate::zone::starts::{first_second, later};
 use crate::zone::time_zone::TimeZone;
 use naive_base::NaiveDateTime;
 use offset_core::MappedLocalTime;
-use timeline::Probes;
 use tz_base::LocalTimeType;
+use tz_timeline::Probes;
 
 // The seconds between which clocks may come to show a local time: by the greatest offset, and by
 // the least.

@@ -2,8 +2,8 @@
 
 ghost use Rattle.std.specs.Prelude.{◌≡◌, ◌<◌, length, MatchResult};
 ghost use Rattle.tz_base.specs.declared.error.Error.TheVariants.{OutOfMemory};
-ghost use Rattle.timeline.specs.Counts.{RoseByPieces, HasRoomFor};
-ghost use Rattle.timeline.specs.Digits.{digits};
+ghost use Rattle.tz_timeline.specs.Counts.{RoseByPieces, HasRoomFor};
+ghost use Rattle.tz_timeline.specs.Digits.{digits};
 ghost use Rattle.tz_info.specs.Segments.{table_count};
 ghost use Rattle.tz_info.specs.Steps.Pieces.{zone_in, ArePieces};
 ghost use Rattle.tz_info.specs.WallPieces.{answer_at, IsIndex};
@@ -19,8 +19,8 @@ use crate::zone::starts::start_of;
 use crate::zone::transition::Transition;
 use std::alloc::Global;
 use std::marker::Model;
-use timeline::{Probes, Timed, Timeline};
 use tz_base::{Error, LocalTimeType};
+use tz_timeline::{Probes, Timed, Timeline};
 
 // The pieces of a zone's wall-clock axis. A lookup can look at one of them only where the look is
 // counted.
@@ -46,7 +46,7 @@ impl Model for Index {
 }
 
 impl Timed for Piece {
-    ghost use Rattle.timeline.specs.Counts.{pieces_more, pieces_more_on, pieces_more_none, pieces_more_looks};
+    ghost use Rattle.tz_timeline.specs.Counts.{pieces_more, pieces_more_on, pieces_more_none, pieces_more_looks};
 
     ghost time = { λ p. p.start };
 

@@ -2,8 +2,8 @@
 
 ghost use Rattle.std.specs.Prelude.{◌≡◌, ◌+◌, ◌<◌, ◌≤◌, length, take, slice_index_or, IfOk, MatchResult, Some, None};
 ghost use Rattle.tz_base.specs.Errors.{IsFindLocalTimeTypeError};
-ghost use Rattle.timeline.specs.Counts.{HasRoom, RoseWithin, HasRoomFor};
-ghost use Rattle.timeline.specs.Digits.{digits};
+ghost use Rattle.tz_timeline.specs.Counts.{HasRoom, RoseWithin, HasRoomFor};
+ghost use Rattle.tz_timeline.specs.Digits.{digits};
 ghost use Rattle.tz_info.specs.Leaps.{IsLeapTime, IsNear};
 ghost use Rattle.tz_info.specs.Looks.{RoseByInstant};
 ghost use Rattle.tz_info.specs.Questions.{IsAskedAt};
@@ -15,8 +15,8 @@ ghost use Rattle.tz_info.specs.declared.rule.transition_rule.TransitionRule.{Tra
 use crate::zone::leap_time::leap_time;
 use crate::zone::time_zone::TimeZone;
 use crate::zone::transition::Transition;
-use timeline::Probes;
 use tz_base::{Error, Expected, LocalTimeType};
+use tz_timeline::Probes;
 
 impl TimeZone {
     /// The type in force at the second of Unix time.

@@ -2,17 +2,17 @@
 
 ghost use Rattle.std.specs.Prelude.{◌≡◌, ◌+◌, ◌<◌, ◌≤◌, [], length, option_map, take, slice_index_or, MatchResult};
 ghost use Rattle.tz_base.specs.declared.error.Error.TheVariants.{OutOfMemory};
-ghost use Rattle.timeline.specs.Counts.{RoseWithin, HasRoomFor};
-ghost use Rattle.timeline.specs.Search.{IsLastOf};
-ghost use Rattle.timeline.specs.Digits.{digits};
+ghost use Rattle.tz_timeline.specs.Counts.{RoseWithin, HasRoomFor};
+ghost use Rattle.tz_timeline.specs.Search.{IsLastOf};
+ghost use Rattle.tz_timeline.specs.Digits.{digits};
 ghost use Rattle.tz_info.specs.Transitions.{AreRising, passed};
 
 use crate::zone::transition::Transition;
 use std::alloc::Global;
 use std::fmt;
 use std::marker::Model;
-use timeline::{Passed, Probes, Timed, Timeline};
 use tz_base::Error;
+use tz_timeline::{Passed, Probes, Timed, Timeline};
 
 // Transitions whose times rise.
 #[derive(Drop)]
@@ -33,7 +33,7 @@ impl Model for Table {
 }
 
 impl Timed for Transition {
-    ghost use Rattle.timeline.specs.Counts.{reads_more, reads_more_on, reads_more_none, reads_more_looks};
+    ghost use Rattle.tz_timeline.specs.Counts.{reads_more, reads_more_on, reads_more_none, reads_more_looks};
 
     ghost time = { λ t. t.unix_leap_time };
 

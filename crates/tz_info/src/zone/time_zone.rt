@@ -23,8 +23,8 @@ use crate::zone::valid::is_valid;
 use std::alloc::Global;
 use std::fmt;
 use std::marker::Model;
-use timeline::Probes;
 use tz_base::{Error, Expected, LocalTimeType};
+use tz_timeline::Probes;
 
 /// A time zone: which type of local time is in force at each instant.
 ///

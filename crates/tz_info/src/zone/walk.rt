@@ -6,7 +6,7 @@ ghost use Rattle.std.specs.Result.{IsOkAnd};
 ghost use Rattle.naive_base.specs.NaiveDateTime.{reading};
 ghost use Rattle.naive_base.specs.Range.{IsWide};
 ghost use Rattle.offset_core.specs.WallAnswer.{IsWallAnswer};
-ghost use Rattle.timeline.specs.Counts.{HasRoom, RoseWithin, HasRoomFor};
+ghost use Rattle.tz_timeline.specs.Counts.{HasRoom, RoseWithin, HasRoomFor};
 ghost use Rattle.tz_info.specs.Looks.{RoseByWalk};
 ghost use Rattle.tz_info.specs.Questions.{IsAskedFor};
 ghost use Rattle.tz_info.specs.Steps.Segments.{begin_of, index_of};
@@ -20,8 +20,8 @@ use crate::zone::time_zone::TimeZone;
 use crate::zone::transition::Transition;
 use naive_base::NaiveDateTime;
 use offset_core::MappedLocalTime;
-use timeline::Probes;
 use tz_base::{Error, LocalTimeType};
+use tz_timeline::Probes;
 
 // The leap times between which the transitions come that matter for a local time: after the first,
 // and not after the second.

@@ -5,8 +5,8 @@ ghost use Rattle.std.specs.Result.{IsOkAnd};
 ghost use Rattle.naive_base.specs.NaiveDateTime.{reading};
 ghost use Rattle.naive_base.specs.Range.{IsWide};
 ghost use Rattle.offset_core.specs.WallAnswer.{IsWallAnswer};
-ghost use Rattle.timeline.specs.Counts.{HasRoom, RoseByPieces, RoseWithin, HasRoomFor};
-ghost use Rattle.timeline.specs.Digits.{digits};
+ghost use Rattle.tz_timeline.specs.Counts.{HasRoom, RoseByPieces, RoseWithin, HasRoomFor};
+ghost use Rattle.tz_timeline.specs.Digits.{digits};
 ghost use Rattle.tz_info.specs.Looks.{RoseByWallClock};
 ghost use Rattle.tz_info.specs.Questions.{IsAskedFor};
 ghost use Rattle.tz_info.specs.Segments.{table_count};
@@ -22,8 +22,8 @@ use crate::zone::shown::Shown;
 use crate::zone::time_zone::TimeZone;
 use naive_base::NaiveDateTime;
 use offset_core::MappedLocalTime;
-use timeline::Probes;
 use tz_base::{Error, LocalTimeType};
+use tz_timeline::Probes;
 
 impl TimeZone {
     /// The types in force at the instants at which a clock of this zone shows the reading.

@@ -1,5 +1,5 @@
 use Rattle.std.proofs.Common.{refl}
-use Rattle.timeline.specs.Digits.{digits}
+use Rattle.tz_timeline.specs.Digits.{digits}
 use Rattle.pins.proofs.looks.binary_digits.Goals as goal
 
 pub returns : goal.returns

@@ -5,7 +5,7 @@ use Rattle.std.proofs.lemmas.Result.{IfOk-weaker}
 use Rattle.tz_info.specs.Changes.{AreChanges}
 use Rattle.tz_info.specs.ChangesLeft.{changes_left}
 use Rattle.tz_info.specs.Zones.{TypeAt}
-use Rattle.zone_dump.specs.Spans.{year_second, year_until}
+use Rattle.change_words.specs.Spans.{year_second, year_until}
 use Rattle.zone_dump.proofs.changes.changes_after.Goals as goal
 
 pub returns : goal.returns

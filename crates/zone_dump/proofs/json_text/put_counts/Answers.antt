@@ -1,4 +1,4 @@
-use Rattle.zone_dump.proofs.JsonPutting.{puts_then}
+use Rattle.change_words.proofs.ForCallers.{puts_then}
 use Rattle.zone_dump.proofs.json_text.put_counts.Goals as goal
 
 pub returns : goal.returns

@@ -1,4 +1,4 @@
-use Rattle.zone_dump.proofs.JsonPutting.{puts_then, wrote}
+use Rattle.change_words.proofs.ForCallers.{puts_then, wrote}
 use Rattle.zone_dump.proofs.json_text.put_leap.Goals as goal
 
 pub returns : goal.returns

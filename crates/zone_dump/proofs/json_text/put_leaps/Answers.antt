@@ -1,5 +1,5 @@
 use Rattle.zone_dump.specs.JsonValues.{leap_value}
-use Rattle.zone_dump.proofs.JsonPutting.{items_all, puts_then, wrote}
+use Rattle.change_words.proofs.ForCallers.{items_all, puts_then, wrote}
 use Rattle.zone_dump.proofs.json_text.put_leaps.Goals as goal
 
 pub returns : goal.returns

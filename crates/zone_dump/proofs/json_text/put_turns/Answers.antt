@@ -1,5 +1,5 @@
 use Rattle.std.proofs.Common.{FitsSigned, w32, to_z-of_z, rules}
-use Rattle.zone_dump.proofs.JsonPutting.{puts_then, wrote}
+use Rattle.change_words.proofs.ForCallers.{puts_then, wrote}
 use Rattle.zone_dump.proofs.json_text.put_turns.Goals as goal
 
 pub returns : goal.returns

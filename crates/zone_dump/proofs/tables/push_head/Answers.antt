@@ -1,5 +1,6 @@
 use Rattle.std.proofs.lemmas.Result.{on_ok_weaker}
-use Rattle.zone_dump.specs.Tables.{line, counts_text, rule_text, leap_lines, years_text}
+use Rattle.change_words.specs.ChangeLines.{line}
+use Rattle.zone_dump.specs.Tables.{counts_text, rule_text, leap_lines, years_text}
 use Rattle.zone_dump.proofs.TableLaws.{four_pieces}
 use Rattle.zone_dump.proofs.tables.push_head.Goals as goal
 

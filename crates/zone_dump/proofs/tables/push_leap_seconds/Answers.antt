@@ -1,5 +1,6 @@
-use Rattle.zone_dump.specs.Tables.{line, leap_text}
-use Rattle.zone_dump.proofs.TableLaws.{piece_next}
+use Rattle.change_words.specs.ChangeLines.{line}
+use Rattle.zone_dump.specs.Tables.{leap_text}
+use Rattle.change_words.proofs.ForCallers.{piece_next}
 use Rattle.zone_dump.proofs.tables.push_leap_seconds.Goals as goal
 
 pub loop-leap-preserved : goal.loop-leap-preserved

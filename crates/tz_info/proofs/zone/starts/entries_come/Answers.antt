@@ -1,6 +1,6 @@
 use Rattle.std.proofs.Common.{arith, int_le, rules}
 use Rattle.std.proofs.lemmas.List.Sorted.{IsPartitionPoint-from_clause}
-use Rattle.timeline.proofs.ForCallers.{le_is, le_is_not}
+use Rattle.tz_timeline.proofs.ForCallers.{le_is, le_is_not}
 use Rattle.tz_info.specs.declared.zone.leap_second.LeapSecond.{LeapSecond}
 use Rattle.tz_info.proofs.LeapStarts.{parted}
 use Rattle.tz_info.proofs.zone.starts.entries_come.Goals as goal

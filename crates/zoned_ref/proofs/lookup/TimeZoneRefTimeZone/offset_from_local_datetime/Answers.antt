@@ -30,3 +30,7 @@ returns-in-Ambiguous-clause-offsets c =
     first.ensures.seconds last.ensures.seconds
     (in_force_by zone z both.first first.result c.zone.ensures.zone first.ensures.local_type) (in_force_by zone z both.last last.result c.zone.ensures.zone last.ensures.local_type)
     (same_law first.result zone first.ensures.zone) (same_law last.result zone last.ensures.zone) (rw both.is at c.in-Ok.ensures)
+
+pub returns-in-Ambiguous-clause-local_types : goal.returns-in-Ambiguous-clause-local_types
+returns-in-Ambiguous-clause-local_types c =
+    rw (c.new-in-Ambiguous.ensures.local_type, c.new-in-Ambiguous-2.ensures.local_type, ← c.zone.ensures.zone) (rw c.in-Ambiguous.is at c.in-Ok.ensures)

@@ -2,7 +2,7 @@ use Rattle.std.proofs.Common.{◌≡◌, arith, rules, inl, ap, ◌∙◌, ◌-�
 use mir.Val.{SFits}
 use Rattle.std.proofs.lemmas.Int.{ints}
 use Rattle.tz_base.specs.LocalTypes.{LocalType}
-use Rattle.timeline.specs.Counts.{Counts}
+use Rattle.tz_timeline.specs.Counts.{Counts}
 use Rattle.tz_info.specs.Steps.RuleSeconds.{IsAskedFrom}
 use Rattle.tz_info.specs.declared.rule.transition_rule.TransitionRule.TheVariants.{Alternate}
 use Rattle.tz_info.proofs.Candidates.{dst_or_std, std_or_dst}

@@ -12,5 +12,5 @@ returns c =
     let fs = c.ranges.second in
     let low = c.requires.amid.0.1.0 in let high = c.requires.amid.0.1.1 in
     let fb : SFits w64 (c.args.second -ℤ pos 1) = omega (arith, ints) in
-    change_made (AlternateAt a) c.args.second c.type_when.result.now c.type_when-2.result.now c.between.result (rule_type_once a) fs fb
-    (rw c.type_when.ensures (simp to_z-of_z at c.is_dst_amid-before.ensures)) (rw c.type_when-2.ensures (simp to_z-of_z at c.is_dst_amid-after.ensures)) (simp to_z-of_z at c.between.ensures)
+    change_made (AlternateAt a) c.args.second c.type_when.result.now c.type_when-2.result.now c.change_between.result (rule_type_once a) fs fb
+    (rw c.type_when.ensures (simp to_z-of_z at c.is_dst_amid-before.ensures)) (rw c.type_when-2.ensures (simp to_z-of_z at c.is_dst_amid-after.ensures)) (simp to_z-of_z at c.change_between.ensures)

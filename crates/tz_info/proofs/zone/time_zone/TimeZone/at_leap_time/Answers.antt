@@ -3,7 +3,7 @@ use Rattle.std.specs.Borrow.{Bor}
 use Rattle.std.proofs.lemmas.Option.{slice_get_read}
 use Rattle.tz_base.specs.Errors.{number_of}
 use Rattle.tz_base.specs.LocalTypes.{LocalType}
-use Rattle.timeline.proofs.ForCallers.{digits-le}
+use Rattle.tz_timeline.proofs.ForCallers.{digits-le}
 use Rattle.tz_info.specs.Zones.{Zone}
 use Rattle.tz_info.specs.declared.zone.transition.Transition.{Transition}
 use Rattle.tz_info.proofs.PassedTransitions.{ArePassed, at_first, at_last, at_middle, last_passed, none_passed}

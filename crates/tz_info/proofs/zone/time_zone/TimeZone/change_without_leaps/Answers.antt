@@ -13,5 +13,5 @@ pub returns : goal.returns
 returns c =
     let t = c.transition-here.result in
     let ft : SFits w64 t.unix_leap_time = search rules in
-    made c.args.self.now c.args.place t c.listed.result.now c.listed-2.result.now c.between.result c.local_time_types-types.ensures.valid c.requires.leaps c.requires.place c.transition-here.ensures.item
-    (λ e. c.if-here.false (ap (of_z w64) e)) ft (rw c.latest-before.ensures.index at c.listed.ensures) c.listed-2.ensures (simp to_z-of_z at c.between.ensures)
+    made c.args.self.now c.args.place t c.listed.result.now c.listed-2.result.now c.change_between.result c.local_time_types-types.ensures.valid c.requires.leaps c.requires.place c.transition-here.ensures.item
+    (λ e. c.if-here.false (ap (of_z w64) e)) ft (rw c.latest-before.ensures.index at c.listed.ensures) c.listed-2.ensures (simp to_z-of_z at c.change_between.ensures)

@@ -1,7 +1,7 @@
 use Rattle.std.proofs.Common.{arith, ap, length, w64, to_z-of_z, rules}
 use mir.Val.{SFits}
-use Rattle.timeline.specs.Counts.{Counts}
-use Rattle.timeline.proofs.ForCallers.{digits-le}
+use Rattle.tz_timeline.specs.Counts.{Counts}
+use Rattle.tz_timeline.proofs.ForCallers.{digits-le}
 use Rattle.tz_info.proofs.ZoneChanges.{counted_segment}
 use Rattle.tz_info.proofs.zone.time_zone.TimeZone.come_at.Goals as goal
 

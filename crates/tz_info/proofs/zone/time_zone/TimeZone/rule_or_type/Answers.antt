@@ -1,5 +1,5 @@
 use Rattle.std.proofs.Common.{ap}
-use Rattle.timeline.specs.Counts.{Counts}
+use Rattle.tz_timeline.specs.Counts.{Counts}
 use Rattle.tz_info.specs.Zones.{Zone}
 use Rattle.tz_info.proofs.zone.time_zone.TimeZone.rule_or_type.Goals as goal
 

@@ -1,5 +1,5 @@
 use Rattle.std.proofs.Common.{arith, length, ◌+◌, ◌*◌, to_z-of_z, ap}
-use Rattle.timeline.proofs.ForCallers.{digits-le, digits-more}
+use Rattle.tz_timeline.proofs.ForCallers.{digits-le, digits-more}
 use Rattle.tz_info.specs.Zones.{Zone}
 use Rattle.tz_info.proofs.WallSegments.{typed_answer, indexes_below}
 use Rattle.tz_info.proofs.zone.time_zone.TimeZone.table_answer.Goals as goal

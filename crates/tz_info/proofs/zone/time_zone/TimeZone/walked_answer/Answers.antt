@@ -2,8 +2,8 @@ use Rattle.std.proofs.Common.{arith, ap, ◌+◌, sym, ◌∙◌, ◌≡◌, len
 use mir.Val.{SFits}
 use Rattle.std.proofs.lemmas.Int.{ints}
 use Rattle.offset_core.specs.WallAnswer.{IsWallAnswer}
-use Rattle.timeline.specs.Counts.{Counts}
-use Rattle.timeline.proofs.ForCallers.{digits-le}
+use Rattle.tz_timeline.specs.Counts.{Counts}
+use Rattle.tz_timeline.proofs.ForCallers.{digits-le}
 use Rattle.tz_info.specs.Steps.Walk.{IsShownIn}
 use Rattle.tz_info.specs.Windows.{IsWindow}
 use Rattle.tz_info.specs.declared.zone.transition.Transition.{Transition}

@@ -1,0 +1,4 @@
+mod LineLaws
+mod JsonPutting
+mod PictureLaws
+pub mod ForCallers

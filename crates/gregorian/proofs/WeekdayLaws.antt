@@ -1,0 +1,34 @@
+-- Weekdays come in turn, and a month's days one after another.
+use Rattle.std.proofs.Common.{◌≡◌, ℕ, ◌+◌, ◌%◌, ◌<◌, arith, ℤ, pos, ◌+ℤ◌, ◌-ℤ◌}
+use Rattle.gregorian.specs.Weekdays.{weekday_of}
+use Rattle.gregorian.specs.Weeks.{IsThursdayOf}
+use Rattle.gregorian.proofs.Floor.{floors}
+use Rattle.gregorian.proofs.YearLaws.{floor_mod_parts}
+
+pub weekday_later : (day : ℤ) (n : ℕ) → weekday_of (day +ℤ pos n) ≡ (weekday_of day + n) % 7
+weekday_later day n =
+    let here = floor_mod_parts (day +ℤ pos 4) 7 (omega arith) in
+    let there = floor_mod_parts (day +ℤ pos n +ℤ pos 4) 7 (omega arith) in
+    omega (arith, floors)
+
+pub weekday_below : (day : ℤ) → weekday_of day < 7
+weekday_below day = (floor_mod_parts (day +ℤ pos 4) 7 (omega arith)).1
+
+-- the Thursday of a week that runs from Monday to Sunday
+pub thursday_at : (day t : ℤ) → t +ℤ pos ((weekday_of day + 6) % 7) ≡ day +ℤ pos 3 → IsThursdayOf day t
+thursday_at day t e =
+    let here = floor_mod_parts (day +ℤ pos 4) 7 (omega arith) in
+    let there = floor_mod_parts (t +ℤ pos 4) 7 (omega arith) in
+    (omega (arith, floors), omega (arith, floors), omega (arith, floors))
+
+-- which each week has, and no other
+pub some_thursday : (day : ℤ) → (t : ℤ) × IsThursdayOf day t
+some_thursday day =
+    let t = day +ℤ pos 3 -ℤ pos ((weekday_of day + 6) % 7) in
+    (t, thursday_at day t (omega (arith, floors)))
+
+pub one_thursday : (day a b : ℤ) → IsThursdayOf day a → IsThursdayOf day b → a ≡ b
+one_thursday day a b h k =
+    let first = floor_mod_parts (a +ℤ pos 4) 7 (omega arith) in
+    let second = floor_mod_parts (b +ℤ pos 4) 7 (omega arith) in
+    omega (arith, floors, h.0, k.0)

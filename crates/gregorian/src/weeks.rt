@@ -1,0 +1,25 @@
+//! Weeks from Monday to Sunday.
+ghost use Rattle.std.specs.Prelude.{◌≡◌, ◌+◌, ◌%◌, ◌<◌, ℤ, pos, ◌+ℤ◌, ◌-ℤ◌};
+ghost use Rattle.gregorian.specs.Year.{IsDay};
+ghost use Rattle.gregorian.specs.Weeks.{IsThursdayOf};
+
+use super::weekday_of;
+
+/// The Thursday of the week, from Monday to Sunday, that the day lies in. Requires: from three days
+/// before it to three days after it, days of the years of an `i32`.
+pub fn thursday_of_week(day: i64) -> i64
+    requires first { IsDay (day -ℤ pos 3) }
+    requires last { IsDay (day +ℤ pos 3) }
+    ensures value { IsThursdayOf day result }
+    ensures bound { IsDay result }
+{
+    let from_monday = (weekday_of(day) + 6) % 7;
+    day - from_monday as i64 + 3
+}
+
+/// Each day lies in one week: there is one Thursday from three days before it to three days after
+/// it.
+pub fn weeks_law()
+    ensures found { (day : ℤ) → (thursday : ℤ) × IsThursdayOf day thursday }
+    ensures once { (day a b : ℤ) → IsThursdayOf day a → IsThursdayOf day b → a ≡ b }
+{}

@@ -1,4 +1,0 @@
--- Lemmas for the crates above.
-pub use Rattle.timeline.proofs.DigitLaws.{digits-le, digits-more}
-pub use Rattle.timeline.proofs.Prefixes.{filter_first, count_first, count_least, mapped_at, rises, le_true, le_false, le_is, le_is_not, lt_true, lt_is, lt_false}
-pub use Rattle.timeline.proofs.SearchSteps.{first_come, times_ordered}

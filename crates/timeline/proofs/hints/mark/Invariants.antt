@@ -1,9 +1,0 @@
-use Rattle.std.proofs.Common.{◌≡◌, length, map}
-use Rattle.timeline.specs.Steps.Hints.{AreMarked}
-use Rattle.timeline.proofs.hints.mark.Given as goal
-
-abbrev pub invariant-loop-place : goal.invariant-loop-place
-invariant-loop-place g l = record {
-  marked : AreMarked (map g.T.Timed.time l.items) l.first l.shift l.place l.places;
-  count : length l.places ≡ length l.fn.places;
-}

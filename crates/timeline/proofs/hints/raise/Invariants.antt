@@ -1,5 +1,0 @@
-use Rattle.timeline.proofs.HintLaws.{Raising}
-use Rattle.timeline.proofs.hints.raise.Given as goal
-
-abbrev pub invariant-loop-i : goal.invariant-loop-i
-invariant-loop-i l = Raising l.fn.numbers l.numbers l.most l.greatest l.i

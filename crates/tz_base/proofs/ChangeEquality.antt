@@ -1,0 +1,44 @@
+-- Types of local time, and changes of the clocks, are equal by `==` exactly where they are equal.
+use Rattle.std.proofs.Common.{rules, ℤ, int_eq, ◌≡◌, ◌↔◌, IsTrue, refl, ap, Bool, true, false, ◌&&◌}
+use Rattle.tz_base.specs.LocalTypes.{LocalType}
+use Rattle.tz_base.specs.contracts.local_time_type.LocalTimeTypePartialEq.TheImpl.{eq-value as type_eq}
+use Rattle.tz_base.specs.declared.change.Change.{Change}
+
+abbrev pub IsExact : {X : Type 0} → (X → X → Bool) → Type 0
+IsExact {X} E = (a b : X) → IsTrue (E a b) ↔ (a ≡ b)
+
+pub and_left : (x y : Bool) → IsTrue (x && y) → IsTrue x
+and_left true y h = refl
+and_left false y h = cc
+
+pub and_right : (x y : Bool) → IsTrue (x && y) → IsTrue y
+and_right true y h = h
+and_right false y h = cc
+
+pub and_both : (x y : Bool) → IsTrue x → IsTrue y → IsTrue (x && y)
+and_both x y h k = rw (h, k) refl
+
+pub type_exact : IsExact type_eq.it
+type_exact a b = search rules
+
+second_exact : IsExact int_eq
+second_exact a b = search rules
+
+abbrev the_change : ℤ → LocalType → LocalType → Change
+the_change at before after = record { at = at; before = before; after = after }
+
+same_change : (u v : ℤ) (r s t w : LocalType) → u ≡ v → r ≡ s → t ≡ w → the_change u r t ≡ the_change v s w
+same_change u v r s t w a b c = cc
+
+pub change_exact : (a b : Change) → IsTrue (int_eq a.at b.at && (type_eq.it a.before b.before && type_eq.it a.after b.after)) ↔ (a ≡ b)
+change_exact a b = (
+  λ h.
+      let r = and_right (int_eq a.at b.at) _ h in
+      same_change a.at b.at a.before b.before a.after b.after
+      ((second_exact a.at b.at).0 (and_left (int_eq a.at b.at) _ h))
+      ((type_exact a.before b.before).0 (and_left (type_eq.it a.before b.before) _ r))
+      ((type_exact a.after b.after).0 (and_right (type_eq.it a.before b.before) _ r)),
+  λ e.
+      and_both (int_eq a.at b.at) _ ((second_exact a.at b.at).1 (ap (λ (x : Change). x.at) e))
+      (and_both (type_eq.it a.before b.before) _ ((type_exact a.before b.before).1 (ap (λ (x : Change). x.before) e)) ((type_exact a.after b.after).1 (ap (λ (x : Change). x.after) e))),
+)

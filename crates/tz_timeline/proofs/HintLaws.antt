@@ -1,0 +1,231 @@
+-- What hints say of a search.
+use Rattle.std.proofs.Common.{◌≡◌, ℕ, zero, suc, ℤ, ◌+◌, ◌-◌, ◌*◌, ◌/◌, ◌^◌, ◌<◌, ◌≤◌, arith, refl, ap, ◌∙◌, sym, pos, nat_abs, List, length, ◌+ℤ◌, ◌-ℤ◌, ◌≤ℤ◌, ◌<ℤ◌, inl, inr, negsuc, set, max, replicate, ◌≢◌, ◌⊎◌, div-mul-le_self, div-lt_iff_lt-mul, lt-suc_self, mul-le-mul_right}
+use Rattle.std.specs.Prelude.{slice_index}
+use Rattle.std.specs.Ordering.{ord_max, nat_cmp}
+use Rattle.std.proofs.Math.Pow.{shr_mono}
+use Rattle.std.proofs.lemmas.Bool.{cases_eq, cases_lt}
+use Rattle.std.proofs.lemmas.Grind.{get_or-set_at}
+use Rattle.std.proofs.lemmas.List.{get_or-set_other, length-set}
+use Rattle.std.proofs.lemmas.Nat.{pow_pos}
+use Rattle.std.proofs.lemmas.Int.{ints}
+use Rattle.tz_timeline.specs.Steps.Hints.{AreFilled, AreHints, AreMarked, AreRaised, AreRaisedUntil, IsHinted, IsLastBefore, stretch_of}
+use Rattle.tz_timeline.specs.Search.{AreOrdered, time_at}
+use Rattle.tz_timeline.specs.Steps.Search.{AreEnds, IsNear}
+use Rattle.tz_timeline.specs.declared.hints.Hints.{Hints}
+use Rattle.tz_timeline.specs.declared.hints.Near.{Near}
+use Rattle.tz_timeline.specs.declared.timeline.Ends.{Ends}
+use Rattle.tz_timeline.proofs.SearchSteps.{not_before}
+
+-- the seconds of a stretch
+pub from_stretch : (n m : ℕ) → n / m * m ≤ n
+from_stretch n m = div-mul-le_self n m
+
+pub before_next : (n m : ℕ) → 0 < m → n < suc (n / m) * m
+before_next n m h = (div-lt_iff_lt-mul h).0 (lt-suc_self (n / m))
+
+-- the latest item is one of those of the hint
+pub near_hinted : (times : List ℤ) (v : ℤ) (hints : Hints) (ends : Ends) (seconds : ℕ) (near : Near) → AreOrdered times → length times < 2 ^ 64 → 0 < length times → AreEnds times ends → AreHints times hints
+    → ends.first ≤ℤ v → pos seconds ≡ v -ℤ ends.first → 0 < 2 ^ hints.shift → IsHinted hints.places.items (seconds / 2 ^ hints.shift) near → IsNear times v near
+near_hinted times v hints ends seconds near ordered fits some are h from is positive hinted =
+    let m : ℕ = 2 ^ hints.shift in
+    let b : ℕ = seconds / m in
+    let w = hinted.within in
+    let first = are.first some in
+    let low = h.places b (omega arith) in
+    let high = h.places (suc b) w in
+    let rising = h.rising b w in
+    let p = hinted.first in
+    let q = hinted.last in
+    let lw = low.within in
+    let hw = high.within in
+    record {
+      ordered = ordered;
+      some = omega arith;
+      within = omega arith;
+      fits = omega arith;
+      come = elim (cases_lt 0 near.first) [
+        | inl l ↦ let c = low.before (omega arith) in let f = from_stretch seconds m in rw p (omega (arith, ints))
+        | inr g ↦ let z : near.first ≡ 0 = omega arith in rw z (omega (arith, ints))
+      ];
+      behind = λ k l n. let c = high.behind k (omega arith) n in let f = before_next seconds m positive in omega (arith, ints);
+    }
+
+-- how many seconds one time comes after another
+size_of : (z : ℤ) → pos 0 ≤ℤ z → pos (nat_abs z) ≡ z
+size_of (pos n) h = refl
+size_of (negsuc n) h = absurd (omega (arith, ints))
+
+size_of_rise : (first time : ℤ) → first ≤ℤ time → pos (nat_abs (time -ℤ first)) ≡ time -ℤ first
+size_of_rise first time h = size_of (time -ℤ first) (omega (arith, ints))
+
+pub seconds_are : (first time : ℤ) (seconds : ℕ) → pos seconds ≡ time -ℤ first → nat_abs (time -ℤ first) ≡ seconds
+seconds_are first time seconds e = ap nat_abs (sym e)
+
+-- no stretch lies behind that of the last item
+pub stretch_most : (first time last : ℤ) (span shift : ℕ) → first ≤ℤ time → time ≤ℤ last → pos span ≡ last -ℤ first → stretch_of first time shift ≤ span / 2 ^ shift
+stretch_most first time last span shift h k e =
+    let size = size_of_rise first time h in
+    shr_mono {a = nat_abs (time -ℤ first)} {b = span} shift (omega (arith, ints))
+
+-- no item comes before the first, and none lies in a stretch behind that of the last
+pub first_least : (times : List ℤ) (first : ℤ) (k : ℕ) → AreOrdered times → first ≡ time_at times 0 → k < length times → first ≤ℤ time_at times k
+first_least times first k ordered from l = let low = not_before times 0 k ordered (omega arith) l in omega (arith, ints)
+
+pub slots : (times : List ℤ) (first : ℤ) (span shift k : ℕ) → AreOrdered times → first ≡ time_at times 0 → pos span ≡ time_at times (length times - 1) -ℤ first → k < length times → stretch_of first (time_at times k) shift ≤ span / 2 ^ shift
+slots times first span shift k ordered from is l =
+    let high = not_before times k (length times - 1) ordered (omega arith) (omega arith) in
+    stretch_most first (time_at times k) (time_at times (length times - 1)) span shift (first_least times first k ordered from l) high is
+
+-- the last item noted up to a stretch is the last one before it
+pub last_before : (times : List ℤ) (first : ℤ) (shift : ℕ) (marked raised : List ℕ) (most b : ℕ) → 0 < 2 ^ shift → ((k : ℕ) → k < length times → first ≤ℤ time_at times k)
+    → ((k : ℕ) → k < length times → suc (stretch_of first (time_at times k) shift) < length marked) → 0 < length times
+    → AreMarked times first shift (length times) marked → AreRaised marked raised most → b < length marked → IsLastBefore times (first +ℤ pos (b * 2 ^ shift)) (slice_index raised b)
+last_before times first shift marked raised most b positive from room some m r h =
+    let m2 : ℕ = 2 ^ shift in
+    let raised_to = r.some b h in
+    let j : ℕ = raised_to.0 in
+    let j_le = raised_to.1 in
+    let same = raised_to.2 in
+    let item = m.of_item j (omega arith) in
+    record {
+      within = elim item [
+        | inl z ↦ omega arith
+        | inr i ↦ let l = i.0 in omega arith
+      ];
+      before = λ l. elim item [
+        | inl z ↦ absurd (omega arith)
+        | inr i ↦
+            let below = i.0 in
+            let at = from (slice_index marked j) below in
+            let next = before_next (nat_abs (time_at times (slice_index marked j) -ℤ first)) m2 positive in
+            rw same (early (time_at times (slice_index marked j)) first m2 (stretch_of first (time_at times (slice_index marked j)) shift) j b at next i.1 j_le)
+      ];
+      behind = λ k l n.
+          let noted = m.latest k n in
+          let to = room k n in
+          elim (cases_lt (stretch_of first (time_at times k) shift) b) [
+            | inl lt ↦ let a = r.above b (suc (stretch_of first (time_at times k) shift)) h lt in absurd (omega arith)
+            | inr ge ↦ late (time_at times k) first m2 b (from k n) (from_stretch (nat_abs (time_at times k -ℤ first)) m2) (omega arith)
+          ];
+    } where
+      early : (time first : ℤ) (m s j b : ℕ) → first ≤ℤ time → nat_abs (time -ℤ first) < suc s * m → suc s ≡ j → j ≤ b → time <ℤ (first +ℤ pos (b * m))
+      early time first m s j b h lt e le = let size = size_of_rise first time h in let most : suc s ≤ b = omega arith in let more = mul-le-mul_right m most in omega (arith, ints)
+
+      late : (time first : ℤ) (m b : ℕ) → first ≤ℤ time → nat_abs (time -ℤ first) / m * m ≤ nat_abs (time -ℤ first) → b ≤ nat_abs (time -ℤ first) / m → (first +ℤ pos (b * m)) ≤ℤ time
+      late time first m b h le ge = let size = size_of_rise first time h in let more = mul-le-mul_right m ge in omega (arith, ints)
+
+-- nothing is noted in zeros
+pub zeros : (n b : ℕ) → slice_index (replicate n 0) b ≡ 0
+zeros zero b = refl
+zeros (suc n) zero = refl
+zeros (suc n) (suc b) = zeros n b
+
+-- one item more is noted
+pub marked_more : (times : List ℤ) (first : ℤ) (shift n stretch : ℕ) (places : List ℕ) → AreMarked times first shift n places → stretch ≡ stretch_of first (time_at times n) shift → stretch + 1 < length places → AreMarked times first shift (n + 1) (set places (stretch + 1) n)
+marked_more times first shift n stretch places m e h =
+    let long = length-set places (stretch + 1) n in
+    record {
+      of_item = λ b l. elim (cases_eq b (stretch + 1)) [
+        | inl same ↦
+            let here = get_or-set_at places (stretch + 1) b n 0 same h in
+            inr (omega arith, rw here (omega arith))
+        | inr other ↦ let here = get_or-set_other places (stretch + 1) b n 0 other in elim (m.of_item b (omega arith)) [
+          | inl z ↦ inl (here ∙ z)
+          | inr i ↦ let below = i.0 in inr (omega arith, rw here i.1)
+        ]
+      ];
+      latest = λ k l. let slot : ℕ = suc (stretch_of first (time_at times k) shift) in elim (cases_eq slot (stretch + 1)) [
+        | inl same ↦ let here = get_or-set_at places (stretch + 1) slot n 0 same h in omega arith
+        | inr other ↦ let here = get_or-set_other places (stretch + 1) slot n 0 other in elim (cases_lt k n) [
+          | inl m2 ↦ let old = m.latest k m2 in omega arith
+          | inr g ↦ let is : k ≡ n = omega arith in absurd (other (rw is (omega arith)))
+        ]
+      ];
+    }
+
+-- the first n numbers are raised, the greatest of them is known, and the others are as they were
+pub record Raising (before after : List ℕ) (most greatest n : ℕ) : Type 0 where
+  pub raised : AreRaisedUntil before after most n
+  pub rest : (b : ℕ) → n ≤ b → slice_index after b ≡ slice_index before b
+  pub up_to : (j : ℕ) → j < n → slice_index before j ≤ greatest
+  pub is : ((n ≡ 0) × (greatest ≡ 0)) ⊎ ((0 < n) × (greatest ≡ slice_index after (n - 1)))
+
+max_is : (a b : ℕ) → ord_max nat_cmp a b ≡ max a b
+max_is a b = elim (cases_lt b a) [
+  | inl h ↦ grind (arith, h)
+  | inr h ↦ grind (arith, h)
+]
+
+pub raising_more : (before after : List ℕ) (most most_after greatest n here : ℕ) → Raising before after most greatest n → n < length before → here ≡ ord_max nat_cmp greatest (slice_index after n) → most_after ≡ ord_max nat_cmp most (here - greatest) → Raising before (set after n here) most_after here (n + 1)
+raising_more before after most most_after greatest n here r h is_here is_most =
+    let same_here = r.rest n (omega arith) in
+    let e : here ≡ max greatest (slice_index before n) = is_here ∙ max_is greatest (slice_index after n) ∙ ap (max greatest) same_here in
+    let m : most_after ≡ max most (here - greatest) = is_most ∙ max_is most (here - greatest) in
+    let c = r.raised.count in
+    let long = length-set after n here in
+    let at : (b : ℕ) → b ≡ n → slice_index (set after n here) b ≡ here = λ b same. get_or-set_at after n b here 0 same (omega arith) in
+    let other : (b : ℕ) → b ≢ n → slice_index (set after n here) b ≡ slice_index after b = λ b differs. get_or-set_other after n b here 0 differs in
+    record {
+      raised = record {
+        count = omega arith;
+        above = λ b j l m. elim (cases_eq b n) [
+          | inl same ↦ let a = at b same in elim (cases_lt j n) [
+            | inl k ↦ let u = r.up_to j k in omega arith
+            | inr g ↦ let is : j ≡ n = omega arith in rw is (omega arith)
+          ]
+          | inr differs ↦ let a = other b differs in let u = r.raised.above b j (omega arith) m in omega arith
+        ];
+        some = λ b l. elim (cases_eq b n) [
+          | inl same ↦ let a = at b same in elim (cases_lt (slice_index before n) greatest) [
+            | inl k ↦ elim r.is [
+              | inl z ↦ let zero_is = z.1 in absurd (omega arith)
+              | inr g ↦ let s = r.raised.some (n - 1) (let p = g.0 in omega arith) in let q = s.1 in let w = s.2 in let v = g.1 in (s.0, omega arith, omega arith)
+            ]
+            | inr k ↦ (n, omega arith, omega arith)
+          ]
+          | inr differs ↦ let a = other b differs in let s = r.raised.some b (omega arith) in (s.0, s.1, a ∙ s.2)
+        ];
+        steps = λ b l. elim (cases_eq (suc b) n) [
+          | inl same ↦
+              let a = at (suc b) same in
+              let below = other b (λ i. absurd (omega arith)) in
+              elim r.is [
+                | inl z ↦ let zero_is = z.0 in absurd (omega arith)
+                | inr g ↦ let v = g.1 in let p : n - 1 ≡ b = omega arith in let w = rw p at v in omega arith
+              ]
+          | inr differs ↦
+              let a = other (suc b) differs in
+              let below = other b (λ i. absurd (omega arith)) in
+              let s = r.raised.steps b (omega arith) in
+              omega arith
+        ];
+      };
+      rest = λ b l. other b (λ i. absurd (omega arith)) ∙ r.rest b (omega arith);
+      up_to = λ j l. elim (cases_lt j n) [
+        | inl k ↦ let u = r.up_to j k in omega arith
+        | inr g ↦ let is : j ≡ n = omega arith in rw is (omega arith)
+      ];
+      is = inr (omega arith, let i : n + 1 - 1 ≡ n = omega arith in rw i (sym (at n refl)));
+    }
+
+-- the hints at items, by the places that were filled in
+pub hints_made : (times : List ℤ) (hints : Hints) (first : ℤ) (span most : ℕ) (before : List ℕ) → AreOrdered times → 4 ≤ length times → hints.shift < 64 → first ≡ time_at times 0 → pos span ≡ time_at times (length times - 1) -ℤ first
+    → length before ≡ span / 2 ^ hints.shift + 2 → AreFilled times first hints.shift before hints.places.items most → 2 * (most + 1) ≤ length times → AreHints times hints
+hints_made times hints first span most before ordered many shift from is long filled narrow =
+    let r = filled.are_raised in
+    let c = r.count in
+    let d = filled.count in
+    record {
+      shift = shift;
+      rising = λ b h.
+          let s = r.some b (omega arith) in
+          let a = r.above (suc b) s.0 (omega arith) (let j = s.1 in omega arith) in
+          let e = s.2 in
+          omega arith;
+      places = λ b h. rw (← from) (last_before times first hints.shift filled.marked hints.places.items most b (pow_pos hints.shift)
+          (λ k l. first_least times first k ordered from l)
+          (λ k l. let s = slots times first span hints.shift k ordered from is l in omega arith)
+          (omega arith) filled.are_marked r (omega arith));
+      some = λ h. many;
+      narrow = λ b h. let s = r.steps b (omega arith) in omega arith;
+    }

@@ -1,0 +1,64 @@
+use Rattle.std.proofs.Common.{arith, map, length, ◌∙◌, ◌+◌, ◌-◌, ◌/◌, ◌^◌, ◌≡◌, ap, pos, ◌-ℤ◌, drop, replicate, to_z-of_z, rules, w64}
+use mir.Val.{SFits}
+use Rattle.std.proofs.lemmas.List.{length-map, length-replicate, take-append-le, take_all}
+use Rattle.tz_timeline.specs.Search.{time_at}
+use Rattle.tz_timeline.proofs.HintLaws.{first_least, hints_made, slots, zeros}
+use Rattle.tz_timeline.proofs.SearchSteps.{time_read}
+use Rattle.tz_timeline.proofs.hints.Hints.new.Given.{Over}
+use Rattle.tz_timeline.proofs.hints.Hints.new.Goals as goal
+use Rattle.tz_timeline.proofs.hints.Hints.new.Goals.{After-deref_mut}
+
+-- the first item's time, and the span
+first_is : (g : Over) (c : After-deref_mut g) → c.second-first.result ≡ time_at (map g.T.Timed.time c.args.items.now) 0
+first_is g c = c.second-first.ensures ∙ time_read g.T.Timed.time c.args.items.now 0 c.index-items-0.result (omega arith) c.index-items-0.is
+
+span_is : (g : Over) (c : After-deref_mut g) → pos c.seconds_between-span.result ≡ time_at (map g.T.Timed.time c.args.items.now) (length (map g.T.Timed.time c.args.items.now) - 1) -ℤ c.second-first.result
+span_is g c =
+    let fs : SFits w64 c.second.result = search rules in
+    let ff : SFits w64 c.second-first.result = search rules in
+    let long = length-map c.args.items.now g.T.Timed.time in
+    let last = c.second.ensures ∙ time_read g.T.Timed.time c.args.items.now (length c.args.items.now - 1) c.index-items-count.result (omega arith) c.index-items-count.is in
+    let between = simp to_z-of_z at c.seconds_between-span.ensures in
+    rw (long, ← last) between
+
+zeros_are : (g : Over) (c : After-deref_mut g) → c.deref_mut.result.now ≡ replicate (c.seconds_between-span.result / 2 ^ c.shift_for-shift.result + 2) 0
+zeros_are g c = c.deref_mut.ensures.value ∙ c.in_ok-places.ensures.items_if_clones_equal (λ y e. e)
+
+pub fill-most-requires-clause-first : goal.fill-most-requires-clause-first
+fill-most-requires-clause-first g c = λ k h.
+    let ff : SFits w64 c.second-first.result = search rules in
+    let long = length-map c.args.items.now g.T.Timed.time in
+    simp to_z-of_z (first_least _ c.second-first.result k c.requires (first_is g c) (omega arith))
+
+pub fill-most-requires-clause-room : goal.fill-most-requires-clause-room
+fill-most-requires-clause-room g c = λ k h.
+    let ff : SFits w64 c.second-first.result = search rules in
+    let long = length-map c.args.items.now g.T.Timed.time in
+    let slot = slots (map g.T.Timed.time c.args.items.now) c.second-first.result c.seconds_between-span.result c.shift_for-shift.result k c.requires (first_is g c) (span_is g c) (omega arith) in
+    let count = ap length (zeros_are g c) ∙ length-replicate (c.seconds_between-span.result / 2 ^ c.shift_for-shift.result + 2) 0 in
+    simp to_z-of_z (omega arith)
+
+pub fill-most-requires-clause-none : goal.fill-most-requires-clause-none
+fill-most-requires-clause-none g c = λ b. rw (zeros_are g c) (zeros _ b)
+
+pub returns : goal.returns
+returns g c =
+    let at = (goal.at.returns g c).After-deref_mut in
+    let ff : SFits w64 c.second-first.result = search rules in
+    let long = length-map c.args.items.now g.T.Timed.time in
+    let count = ap length (zeros_are g at) ∙ length-replicate (c.seconds_between-span.result / 2 ^ c.shift_for-shift.result + 2) 0 in
+    let filled = simp to_z-of_z at c.fill-most.ensures in
+    let raised = filled.are_raised.count in
+    let marked = filled.count in
+    let size = c.in_ok-places.ensures.len in
+    let written = take-append-le c.in_ok-places.places.len c.fill-most.new.places (drop (length c.fill-most.new.places) c.in_ok-places.places.items) (omega arith) ∙ take_all c.in_ok-places.places.len c.fill-most.new.places (omega arith) in
+    hints_made _ _ c.second-first.result c.seconds_between-span.result c.fill-most.result c.deref_mut.result.now c.requires (omega arith) c.shift_for-shift.ensures.shift (first_is g at) (span_is g at) count (rw written filled) (omega arith)
+
+pub seconds_between-span-requires : goal.seconds_between-span-requires
+seconds_between-span-requires g c =
+    let ff : SFits w64 c.second-first.result = search rules in
+    let fs : SFits w64 c.second.result = search rules in
+    let long = length-map c.args.items.now g.T.Timed.time in
+    let first = c.second-first.ensures ∙ time_read g.T.Timed.time c.args.items.now 0 c.index-items-0.result (omega arith) c.index-items-0.is in
+    let last = c.second.ensures ∙ time_read g.T.Timed.time c.args.items.now (length c.args.items.now - 1) c.index-items-count.result (omega arith) c.index-items-count.is in
+    simp to_z-of_z (rw last (first_least _ c.second-first.result (length c.args.items.now - 1) c.requires first (omega arith)))

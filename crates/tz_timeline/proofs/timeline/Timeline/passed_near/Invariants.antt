@@ -1,0 +1,15 @@
+use Rattle.std.proofs.Common.{ℕ, ◌≡◌, ◌+◌, ◌-◌, ◌≤◌, length, map}
+use Rattle.tz_timeline.specs.Digits.{digits}
+use Rattle.tz_timeline.specs.Steps.Search.{IsNear}
+use Rattle.tz_timeline.proofs.timeline.Timeline.passed_near.Given as goal
+
+abbrev pub invariant-loop-left : goal.invariant-loop-left
+invariant-loop-left g l = record {
+  near : IsNear (map g.T.Timed.time l.self) l.second l.left;
+  looks : ℕ;
+  most : looks + digits (l.left.count - 1) + 1 ≤ digits (length l.self);
+  counts : l.probes ≡ g.T.Timed.counted l.fn.probes looks;
+}
+
+abbrev pub decreases-loop-left : goal.decreases-loop-left
+decreases-loop-left g l = l.left.count - 1

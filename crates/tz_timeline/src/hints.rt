@@ -1,0 +1,153 @@
+//! Hints at the places of items that come in order of time.
+//!
+//! The time from the first item on is cut into stretches of equal length, one for each item or for
+//! two of them, and of each stretch a hint says which item is the last one before it. The latest item at a
+//! second of a stretch is then the one of its hint, or one of the few up to that of the next hint.
+
+ghost use Rattle.std.specs.Prelude.{◌≡◌, ◌+◌, ◌*◌, ◌/◌, ◌^◌, ◌<◌, ◌≤◌, ◌≤ℤ◌, ◌-ℤ◌, pos, suc, length, map, List, ℤ, ℕ, slice_index, MatchOption, MatchResult, ⊤};
+ghost use Rattle.tz_timeline.specs.Steps.Hints.{AreFilled, AreHints, AreMarked, AreRaised, AreRising, IsHinted, stretch_of};
+ghost use Rattle.tz_timeline.specs.Search.{AreOrdered, time_at};
+
+use crate::timeline::Timed;
+use std::alloc::{AllocError, Global};
+use std::cmp::max;
+
+// The place of the last item before each stretch, or of the first item where none comes before it.
+// There are no hints where they would leave more than half of the items between two of them, or
+// where there are fewer than five items.
+#[derive(Drop)]
+pub(crate) struct Hints {
+    places: Vec<u32>,
+    // A stretch has two to this power seconds.
+    shift: u32,
+}
+
+// Neighbouring items, one at least, of which one is the latest.
+#[derive(Clone, Copy)]
+pub(crate) struct Near {
+    pub(crate) first: usize,
+    pub(crate) count: usize,
+}
+
+impl Hints {
+    // No hints, which take no memory.
+    pub(crate) fn none(alloc: Global) -> Hints
+        ensures { (times : List ℤ) → AreHints times result }
+    {
+        Hints {
+            places: Vec::new(alloc),
+            shift: 0,
+        }
+    }
+
+    // Hints at those items.
+    pub(crate) fn new<T: Timed>(alloc: Global, items: &[T]) -> Result<Hints, AllocError>
+        requires { AreOrdered (map T.time items.now) }
+        ensures { MatchResult result (λ h. AreHints (map T.time items.now) h) (λ _. ⊤) }
+    {
+        let count = items.len();
+        if count < 5 || count > 0xffff_ffff {
+            return Ok(Hints::none(alloc));
+        }
+        let first = items[0].second();
+        let span = seconds_between(first, items[count - 1].second());
+        let shift = shift_for(span, count as u64);
+        let mut places = vec![in alloc; 0; (span >> shift) as usize + 2]?;
+        let most = fill(&mut places, items, first, shift);
+        if 2 * (most as usize + 1) > count {
+            return Ok(Hints::none(alloc));
+        }
+        Ok(Hints { places, shift })
+    }
+
+    // The items among which the latest one is at so many seconds after the first item, if there is
+    // a hint.
+    #[inline(always)]
+    pub(crate) fn near(&self, seconds: u64) -> Option<Near>
+        requires shift { self.now.shift < 64 }
+        requires rising { AreRising self.now.places.items }
+        ensures { MatchOption result ⊤
+            (λ near. IsHinted self.now.places.items (seconds / 2 ^ self.now.shift) near) }
+    {
+        let stretch = (seconds >> self.shift) as usize;
+        let first = *self.places.get(stretch)? as usize;
+        let last = *self.places.get(stretch + 1)? as usize;
+        Some(Near {
+            first,
+            count: last + 1 - first,
+        })
+    }
+}
+
+// How many seconds the second one comes after the first.
+#[inline(always)]
+pub(crate) fn seconds_between(first: i64, second: i64) -> u64
+    requires { first ≤ℤ second }
+    ensures { pos result ≡ second -ℤ first }
+{
+    (second as i128 - first as i128) as u64
+}
+
+// The least power of two by which the span has at most so many stretches.
+fn shift_for(span: u64, most: u64) -> u32
+    ensures shift { result < 64 }
+    ensures stretches { span / 2 ^ result ≤ most + 1 }
+{
+    for shift in 0..63 {
+        if span >> shift <= most {
+            return shift;
+        }
+    }
+    63
+}
+
+// Fills in the places, where there are only zeros, and gives the most by which one is greater than
+// the one before it.
+fn fill<T: Timed>(places: &mut [u32], items: &[T], first: i64, shift: u32) -> u32
+    requires shift { shift < 64 }
+    requires ordered { AreOrdered (map T.time items.now) }
+    requires first { (k : ℕ) → k < length items.now → first ≤ℤ time_at (map T.time items.now) k }
+    requires room { (k : ℕ) → k < length items.now → suc (stretch_of first
+        (time_at (map T.time items.now) k) shift) < length places.old }
+    requires none { (b : ℕ) → slice_index places.old b ≡ 0 }
+    requires few { length items.now < 2 ^ 32 }
+    ensures { AreFilled (map T.time items.now) first shift places.old places.new result }
+{
+    mark(places, items, first, shift);
+    raise(places)
+}
+
+// Notes the place of each item after its stretch. Where several lie in one stretch, the last of
+// them stays.
+fn mark<T: Timed>(places: &mut [u32], items: &[T], first: i64, shift: u32)
+    requires shift { shift < 64 }
+    requires ordered { AreOrdered (map T.time items.now) }
+    requires first { (k : ℕ) → k < length items.now → first ≤ℤ time_at (map T.time items.now) k }
+    requires room { (k : ℕ) → k < length items.now → suc (stretch_of first
+        (time_at (map T.time items.now) k) shift) < length places.old }
+    requires none { (b : ℕ) → slice_index places.old b ≡ 0 }
+    requires few { length items.now < 2 ^ 32 }
+    ensures marked { AreMarked (map T.time items.now) first shift (length items.now) places.new }
+    ensures length { length places.new ≡ length places.old }
+{
+    for (place, item) in items.iter().enumerate() {
+        let stretch = seconds_between(first, item.second()) >> shift;
+        places[stretch as usize + 1] = place as u32;
+    }
+}
+
+// Raises each number to the greatest up to it, and gives the most by which one is greater than the
+// one before it.
+fn raise(numbers: &mut [u32]) -> u32
+    ensures { AreRaised numbers.old numbers.new result }
+{
+    let mut greatest = 0;
+    let mut most = 0;
+    for i in 0..numbers.len() {
+        let here = max(greatest, numbers[i]);
+        most = max(most, here - greatest);
+        numbers[i] = here;
+        greatest = here;
+    }
+    most
+}

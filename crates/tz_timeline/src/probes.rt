@@ -1,0 +1,101 @@
+//! Counts of what a lookup looks at.
+
+ghost use Rattle.std.specs.Prelude.{◌≡◌, ◌+◌, ◌↔◌, IsTrue};
+ghost use Rattle.tz_timeline.specs.Counts.{HasRoom, HasRoomFor};
+
+use std::marker::Model;
+
+/// How often lookups looked at a transition, how often they asked a rule, and how often they looked
+/// at a piece of an index.
+#[derive(Debug, Drop)]
+pub struct Probes {
+    transition_reads: u128,
+    questions: u128,
+    index_reads: u128,
+}
+
+impl Model for Probes {
+    ghost use Rattle.tz_timeline.specs.Counts.{Counts};
+
+    ghost Value = { Counts };
+
+    ghost view = { λ p. record {
+      reads = p.transition_reads;
+      rule_questions = p.questions;
+      piece_reads = p.index_reads;
+    } };
+}
+
+impl Probes {
+    // What each count is below where a lookup may start.
+    const ROOM: u128 = 1 << 120;
+
+    /// Counts of 0.
+    #[inline(always)]
+    pub fn new() -> Probes
+        ensures { result ≡ record { reads = 0; rule_questions = 0; piece_reads = 0 } }
+    {
+        Probes {
+            transition_reads: 0,
+            questions: 0,
+            index_reads: 0,
+        }
+    }
+
+    /// How often a transition was looked at.
+    pub fn reads(&self) -> u128
+        ensures { result ≡ self.now.reads }
+    {
+        self.transition_reads
+    }
+
+    /// How often a rule was asked for the type at an instant.
+    pub fn rule_questions(&self) -> u128
+        ensures { result ≡ self.now.rule_questions }
+    {
+        self.questions
+    }
+
+    /// How often a piece of an index was looked at.
+    pub fn piece_reads(&self) -> u128
+        ensures { result ≡ self.now.piece_reads }
+    {
+        self.index_reads
+    }
+
+    /// Whether a counted lookup may start: each count is below 2^120.
+    pub fn has_room(&self) -> bool
+        ensures { IsTrue result ↔ HasRoom self.now }
+    {
+        self.transition_reads < Self::ROOM
+            && self.questions < Self::ROOM
+            && self.index_reads < Self::ROOM
+    }
+
+    /// Counts a look at a transition. It makes none: whoever looks calls this.
+    #[inline(always)]
+    pub fn count_read(&mut self)
+        requires { HasRoomFor 1 self.old.reads }
+        ensures { self.new ≡ record self.old { reads = self.old.reads + 1 } }
+    {
+        self.transition_reads += 1;
+    }
+
+    /// Counts a look at a piece of an index.
+    #[inline(always)]
+    pub fn count_piece_read(&mut self)
+        requires { HasRoomFor 1 self.old.piece_reads }
+        ensures { self.new ≡ record self.old { piece_reads = self.old.piece_reads + 1 } }
+    {
+        self.index_reads += 1;
+    }
+
+    /// Counts a question to a rule.
+    #[inline(always)]
+    pub fn count_question(&mut self)
+        requires { HasRoomFor 1 self.old.rule_questions }
+        ensures { self.new ≡ record self.old { rule_questions = self.old.rule_questions + 1 } }
+    {
+        self.questions += 1;
+    }
+}

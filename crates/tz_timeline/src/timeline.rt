@@ -1,0 +1,299 @@
+//! Items that come in order of time, and the search for the latest one. Both calls that are made for
+//! lookups, `read` and `passed`, count each look at an item; `items` gives all of them uncounted.
+//!
+//! The times of the first and the last item are kept beside them, and so are hints at the places of
+//! the others. A search compares with these two first, and where one of them decides, that counts
+//! as a look at its item. Hints are no items.
+
+ghost use Rattle.std.specs.Prelude.{◌≡◌, ◌+◌, ◌-◌, ◌*◌, ◌/◌, ◌<◌, ◌≤◌, [], length, map, option_map, slice_index_or, MatchResult, ℕ, ⊤};
+ghost use Rattle.tz_timeline.specs.Counts.{Counts, HasRoomFor};
+ghost use Rattle.tz_timeline.specs.Digits.{digits};
+ghost use Rattle.tz_timeline.specs.Search.{AreCounted, AreOrdered, ArePassed, IsLastOf};
+ghost use Rattle.tz_timeline.specs.Steps.Search.{AreEnds, IsLeft, IsNear};
+
+use crate::hints::{Hints, Near, seconds_between};
+use crate::probes::Probes;
+use std::alloc::{AllocError, Global};
+use std::marker::Model;
+
+/// What comes at a second.
+pub trait Timed: Drop {
+    ghost use Rattle.std.specs.Prelude.{ℤ};
+
+    // when it comes
+    ghost time: { Self → ℤ };
+
+    // counts with so many looks more
+    ghost counted: { Counts → ℕ → Counts };
+
+    // how many looks there were
+    ghost looks: { Counts → ℕ };
+
+    /// The second at which it comes.
+    fn second(&self) -> i64
+        ensures { result ≡ time self.now };
+
+    /// Counts a look at one.
+    fn count_look(probes: &mut Probes)
+        requires { HasRoomFor 1 (looks probes.old) }
+        ensures { probes.new ≡ counted probes.old 1 };
+
+    ghost counts_up: { (c : Counts) (j k : ℕ) → counted (counted c j) k ≡ counted c (j + k) };
+
+    ghost counts_none: { (c : Counts) → counted c 0 ≡ c };
+
+    ghost counts_looks: { (c : Counts) (k : ℕ) → looks (counted c k) ≡ looks c + k };
+}
+
+/// Items that come in order of time.
+#[derive(Drop)]
+pub struct Timeline<T: Timed> {
+    items: Vec<T>,
+    ends: Ends,
+    hints: Hints,
+}
+
+// The times of the first and the last item, or 0 where there is none.
+#[derive(Clone, Copy)]
+struct Ends {
+    first: i64,
+    last: i64,
+}
+
+/// How many items have come, and the last of them.
+#[derive(Drop)]
+pub struct Passed<'a, T> {
+    pub count: usize,
+    pub latest: Option<&'a T>,
+}
+
+// What a search by halves has left: the items before `first` have come, the last of which is
+// `latest`, and those after the `count` ones from there on have not.
+#[derive(Clone, Copy)]
+struct Left<'a, T> {
+    first: usize,
+    count: usize,
+    latest: Option<&'a T>,
+}
+
+impl<T: Timed> Model for Timeline<T> {
+    ghost use Rattle.std.specs.Prelude.{List, map};
+    ghost use Rattle.tz_timeline.specs.Steps.Hints.{AreHints};
+    ghost use Rattle.tz_timeline.specs.Search.{AreOrdered};
+    ghost use Rattle.tz_timeline.specs.Steps.Search.{AreEnds};
+
+    ghost Value = { List T };
+
+    ghost view = { λ t. t.items.items };
+
+    ghost invariant = { λ t. AreOrdered (map T.time t.items.items)
+        × AreEnds (map T.time t.items.items) t.ends
+        × AreHints (map T.time t.items.items) t.hints };
+}
+
+impl<T: Timed> Timeline<T> {
+    /// Those items, which come in order of time: none before one that stands earlier.
+    ///
+    /// # Errors
+    ///
+    /// [`AllocError`] if there is no memory for the hints.
+    pub fn new(alloc: Global, items: Vec<T>) -> Result<Timeline<T>, AllocError>
+        requires { AreOrdered (map T.time items.items) }
+        ensures { MatchResult result (λ t. t ≡ items.items) (λ _. ⊤) }
+    {
+        let hints = Hints::new(alloc, &items)?;
+        let ends = ends_of(&items);
+        Ok(Timeline { items, ends, hints })
+    }
+
+    /// No items, which take no memory.
+    pub fn none(alloc: Global) -> Timeline<T>
+        ensures { result ≡ [] }
+    {
+        Timeline {
+            items: Vec::new(alloc),
+            ends: Ends { first: 0, last: 0 },
+            hints: Hints::none(alloc),
+        }
+    }
+
+    /// How many items there are.
+    #[inline(always)]
+    pub fn len(&self) -> usize
+        ensures count { result ≡ length self.now }
+        ensures ordered { AreOrdered (map T.time self.now) }
+    {
+        self.items.len()
+    }
+
+    /// All of them, to be compared or printed. No look is counted.
+    pub fn items(&self) -> &[T]
+        ensures { result.now ≡ self.now }
+    {
+        &self.items
+    }
+
+    /// The item at that place, which counts as one look.
+    #[inline(always)]
+    pub fn read(&self, place: usize, probes: &mut Probes) -> &T
+        requires place { place < length self.now }
+        requires room { HasRoomFor 1 (T.looks probes.old) }
+        ensures item { result.now ≡ slice_index_or self.now place result.now }
+        ensures count { probes.new ≡ T.counted probes.old 1 }
+    {
+        T::count_look(probes);
+        &self.items[place]
+    }
+
+    /// How many items come at or before the second. Where no end decides, the hints say among which
+    /// few items the latest is.
+    #[inline(always)]
+    pub fn passed(&self, second: i64, probes: &mut Probes) -> Passed<'_, T>
+        requires { HasRoomFor (digits (length self.now)) (T.looks probes.old) }
+        ensures passed { ArePassed (map T.time self.now) second result.count }
+        ensures latest { IsLastOf self.now result.count (option_map (λ r. r.now) result.latest) }
+        ensures cost { 0 < length self.now
+            → AreCounted T.counted probes.old probes.new (digits (length self.now)) }
+        ensures free { length self.now ≡ 0 → probes.new ≡ probes.old }
+    {
+        let count = self.len();
+        if count == 0 {
+            return Passed {
+                count,
+                latest: None,
+            };
+        }
+        if self.ends.last <= second {
+            return Passed {
+                count,
+                latest: Some(self.read(count - 1, probes)),
+            };
+        }
+        if second < self.ends.first {
+            T::count_look(probes);
+            return Passed {
+                count: 0,
+                latest: None,
+            };
+        }
+        match self.hints.near(seconds_between(self.ends.first, second)) {
+            Some(near) => self.passed_near(second, near, probes),
+            None => self.passed_by_halves(second, probes),
+        }
+    }
+
+    // The same, where the latest item is one of those.
+    //
+    // Two steps are written out: there the compiler makes of each a choice of two values, and in a
+    // loop a branch, which the processor would guess wrong every other time. More are rarely due.
+    #[inline(always)]
+    fn passed_near(&self, second: i64, near: Near, probes: &mut Probes) -> Passed<'_, T>
+        requires near { IsNear (map T.time self.now) second near }
+        requires narrow { 2 * near.count ≤ length self.now }
+        requires many { 4 ≤ length self.now }
+        requires room { HasRoomFor (digits (length self.now)) (T.looks probes.old) }
+        ensures passed { ArePassed (map T.time self.now) second result.count }
+        ensures latest { IsLastOf self.now result.count (option_map (λ r. r.now) result.latest) }
+        ensures cost { AreCounted T.counted probes.old probes.new (digits (length self.now)) }
+    {
+        let once = self.narrowed(second, near, probes);
+        let mut left = self.narrowed(second, once, probes);
+        while left.count > 1 {
+            left = self.narrowed(second, left, probes);
+        }
+        Passed {
+            count: left.first + 1,
+            latest: Some(self.read(left.first, probes)),
+        }
+    }
+
+    // What is left after a look at the item in the middle.
+    #[inline(always)]
+    fn narrowed(&self, second: i64, left: Near, probes: &mut Probes) -> Near
+        requires near { IsNear (map T.time self.now) second left }
+        requires room { HasRoomFor 1 (T.looks probes.old) }
+        ensures near { IsNear (map T.time self.now) second result }
+        ensures count { result.count ≡ left.count - left.count / 2 }
+        ensures cost { probes.new ≡ T.counted probes.old 1 }
+    {
+        let half = left.count / 2;
+        let middle = left.first + half;
+        let first = if self.read(middle, probes).second() <= second {
+            middle
+        } else {
+            left.first
+        };
+        Near {
+            first,
+            count: left.count - half,
+        }
+    }
+
+    // How many items come at or before the second, by halving all that are between the ends.
+    #[inline(always)]
+    fn passed_by_halves(&self, second: i64, probes: &mut Probes) -> Passed<'_, T>
+        requires left { IsLeft (map T.time self.now) second 0 (length self.now - 1) }
+        requires many { 1 < length self.now }
+        requires room { HasRoomFor (digits (length self.now)) (T.looks probes.old) }
+        ensures passed { ArePassed (map T.time self.now) second result.count }
+        ensures latest { IsLastOf self.now result.count (option_map (λ r. r.now) result.latest) }
+        ensures cost { AreCounted T.counted probes.old probes.new (digits (length self.now)) }
+    {
+        let mut left = Left {
+            first: 0,
+            count: self.len() - 1,
+            latest: None,
+        };
+        while left.count > 0 {
+            left = self.halved(second, left, probes);
+        }
+        Passed {
+            count: left.first,
+            latest: left.latest,
+        }
+    }
+
+    // What is left after a look at the item in the middle.
+    #[inline(always)]
+    fn halved<'a>(&'a self, second: i64, left: Left<'a, T>, probes: &mut Probes) -> Left<'a, T>
+        requires left { IsLeft (map T.time self.now) second left.first (left.first + left.count) }
+        requires latest { IsLastOf self.now left.first (option_map (λ r. r.now) left.latest) }
+        requires some { 0 < left.count }
+        requires room { HasRoomFor 1 (T.looks probes.old) }
+        ensures left { IsLeft (map T.time self.now) second result.first
+            (result.first + result.count) }
+        ensures latest { IsLastOf self.now result.first (option_map (λ r. r.now) result.latest) }
+        ensures count { result.count ≤ left.entry.count / 2 }
+        ensures cost { probes.new ≡ T.counted probes.old 1 }
+    {
+        let half = left.count / 2;
+        let middle = left.first + half;
+        let item = self.read(middle, probes);
+        if item.second() <= second {
+            Left {
+                first: middle + 1,
+                count: left.count - half - 1,
+                latest: Some(item),
+            }
+        } else {
+            Left {
+                first: left.first,
+                count: half,
+                latest: left.latest,
+            }
+        }
+    }
+}
+
+// The times of the first and the last of the items.
+fn ends_of<T: Timed>(items: &[T]) -> Ends
+    ensures { AreEnds (map T.time items.now) result }
+{
+    match (items.first(), items.last()) {
+        (Some(first), Some(last)) => Ends {
+            first: first.second(),
+            last: last.second(),
+        },
+        _ => Ends { first: 0, last: 0 },
+    }
+}

@@ -1,7 +1,0 @@
-use Rattle.std.proofs.Common.{append_assoc}
-use Rattle.zone_dump.specs.PicturePanels.{side_text}
-use Rattle.zone_dump.proofs.picture.panels.put_side.Goals as goal
-
-pub returns : goal.returns
-unfolding side_text
-returns c = simp append_assoc c.write.ensures.bytes

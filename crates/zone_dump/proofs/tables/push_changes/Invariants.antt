@@ -1,6 +1,0 @@
-use Rattle.std.proofs.Common.{◌≡◌, ◌++◌, take, string_bytes}
-use Rattle.zone_dump.specs.Tables.{change_lines}
-use Rattle.zone_dump.proofs.tables.push_changes.Given as goal
-
-abbrev pub invariant-loop-change : goal.invariant-loop-change
-invariant-loop-change l = string_bytes l.out ≡ string_bytes l.fn.out ++ change_lines (take l.change-index l.changes)
