@@ -45,6 +45,7 @@ from io import BytesIO
 from pathlib import Path
 from zoneinfo import ZoneInfo
 
+import dask
 import numpy as np
 from distributed import Client, LocalCluster, WorkerPlugin, as_completed, get_worker
 
@@ -65,6 +66,9 @@ FIRST_DAY, LAST_DAY = np.datetime64("2015-01-01"), np.datetime64("2030-01-01")
 # Shifted local times and instants read in another zone may lie on the days beside.
 DAYS = int((LAST_DAY - FIRST_DAY).astype(int)) + 2
 EPOCH = datetime(1970, 1, 1)
+# A worker in place of one that ended takes longer than Dask's 15 s to start where the processors are
+# busy; after that time a LocalCluster gives its place up.
+WORKER_COMES = "10 minutes"
 STEPS = ["read", "group", "to instants", "to local times", "count", "write"]
 
 
@@ -318,6 +322,7 @@ def clients(given, room):
         with Client(given.scheduler) as client:
             yield client
         return
+    dask.config.set({"distributed.deploy.lost-worker-timeout": WORKER_COMES})
     for workers in given.workers:
         with LocalCluster(
             n_workers=workers,

@@ -20,7 +20,7 @@ from sources import TOP, libraries_below
 
 TEXTS = TOP / "tools/refused"
 # The gate tries them beside its proofs, where they take longer than alone.
-SECONDS = "300"
+SECONDS = "1200"
 # The status of a try for what it refuses to compile.
 REFUSED = 1
 LIBRARIES = sorted({*libraries_below("zoned_ref"), "zoned_ref"})
