@@ -1,19 +1,16 @@
--- Bytes that stand for nothing.
-use Rattle.std.proofs.Common.{arith, Bool, true, false}
+-- Parts of files.
+use Rattle.std.proofs.Common.{◌≡◌, ℕ, ◌+◌, ◌*◌, List, ◌++◌, length, refl, arith, Bool, true, false}
+use Rattle.tz_base.specs.Grammar.{Spells}
+use Rattle.tz_info.specs.FileBlocks.{Parts, block}
 use Rattle.tz_info.specs.FileContents.{IsMark}
-use Rattle.tz_info.specs.FileHeaders.{StandsFor}
-use Rattle.tz_info.specs.declared.file.header.Version.{Version}
-use Rattle.tz_info.specs.declared.file.header.Version.TheVariants.{One, Two, Three}
+use Rattle.tz_info.specs.declared.file.header.Counts.{Counts}
 
-pub no_version_1 : (v : Version) → StandsFor 49 v → ⊥
-no_version_1 One e = absurd (omega (arith, e))
-no_version_1 Two e = absurd (omega (arith, e))
-no_version_1 Three e = absurd (omega (arith, e))
-
-pub no_version_4 : (v : Version) → StandsFor 52 v → ⊥
-no_version_4 One e = absurd (omega (arith, e))
-no_version_4 Two e = absurd (omega (arith, e))
-no_version_4 Three e = absurd (omega (arith, e))
+-- parts of the lengths that the counts announce, end to end, are a block
+pub parts_are : (w : ℕ) (c : Counts) (p : Parts) (rest : List ℕ) → length p.times ≡ c.transitions * w → length p.type_indexes ≡ c.transitions → length p.types ≡ c.types * 6 → length p.designations ≡ c.designations
+    → length p.leap_seconds ≡ c.leap_seconds * (w + 4) → length p.standard_wall ≡ c.standard_wall → length p.ut_local ≡ c.ut_local
+    → Spells (block w c) (p.times ++ (p.type_indexes ++ (p.types ++ (p.designations ++ (p.leap_seconds ++ (p.standard_wall ++ (p.ut_local ++ rest))))))) p rest
+unfolding block
+parts_are w c p rest h i j k l m n = (_, _, (refl, h), (_, _, (refl, i), (_, _, (refl, j), (_, _, (refl, k), (_, _, (refl, l), (_, _, (refl, m), (_, _, (refl, n), (refl, refl))))))))
 
 pub no_flag : (dst : Bool) → IsMark 2 dst → ⊥
 no_flag true e = absurd (omega (arith, e))

@@ -1,101 +1,55 @@
 -- The pieces of Honolulu's file, put together from bytes.
-use Rattle.std.proofs.Common.{◌≡◌, ap, refl, arith, inl, inr, ℕ, ◌<◌, ℤ, ◌<ℤ◌, Bool, false, true, List, [], ◌∷◌, ◌++◌, length, pos, neg_ℤ}
-use Rattle.std.proofs.lemmas.Bool.{false≢true}
+use Rattle.std.proofs.Common.{◌≡◌, refl, arith, inl, inr, ℕ, ◌<◌, ℤ, ◌<ℤ◌, Bool, false, true, List, [], ◌∷◌, ◌++◌, length, pos, neg_ℤ}
 use Rattle.std.proofs.lemmas.Str.{IsUtf8-from_ascii}
 use Rattle.std.proofs.lemmas.Str.Ascii.{IsAscii-cons, IsAscii-nil}
 use Rattle.std.specs.Prelude.{None}
-use Rattle.std.specs.Int.{w32}
+use Rattle.std.specs.Int.{w32, from_be_bytes}
 use Rattle.tz_base.specs.Names.{is_name_byte}
-use Rattle.tz_info.specs.FileBlocks.{IsBlock}
+use Rattle.tz_base.specs.Fronts.{exact_at, optional_tag_at}
+use Rattle.tz_base.specs.Grammar.{Spells, be_u32}
+use Rattle.tz_base.proofs.ForCallers.{lawful, apart}
+use Rattle.tz_info.specs.FileBlocks.{block as a_block}
 use Rattle.tz_info.specs.FileContents.{signed, least_offset, SpellsType, IsMark, SpellTransitions, SpellTypes, IndicatorsAgree}
-use Rattle.tz_info.specs.FileHeaders.{IsHeader, AreCounts, CountsAgree, StandsFor, MayStand, VersionFault}
-use Rattle.tz_info.specs.FilePieces.{HasPieces, PieceFault, first_pieces}
+use Rattle.tz_info.specs.FileHeaders.{magic, tzif, version, version_1, six_counts, header as a_header}
+use Rattle.tz_info.specs.FilePieces.{HasPieces, PieceFault, first_pieces, after_first_block, first_version, later_version, file as a_file}
 use Rattle.tz_info.specs.Footers.{IsFooter}
-use Rattle.tz_info.specs.Pieces.{clock_max}
 use Rattle.tz_info.specs.TzFiles.{IsTzFile}
 use Rattle.tz_info.specs.Zones.{Zone}
 use Rattle.tz_info.specs.declared.file.header.Place.{Place}
-use Rattle.tz_info.specs.declared.file.header.Place.TheVariants.{First, Second}
 use Rattle.tz_info.specs.declared.file.header.Version.{Version}
-use Rattle.tz_info.specs.declared.file.header.Version.TheVariants.{One, Two}
-use Rattle.tz_info.proofs.Decided.{apart}
-use Rattle.tz_info.proofs.FilePieceLaws.{pieces_law}
+use Rattle.tz_info.specs.declared.file.header.Version.TheVariants.{Two}
 use Rattle.pins.specs.Honolulu.{counts, header, short_times, long_times, type_indexes, type_records, designations, indicators, parts, block, pieces, hst_footer, file_with, honolulu_file, short_file}
 use Rattle.pins.specs.Zones.{named, honolulu, honolulu_from, hst10}
-use Rattle.pins.proofs.FileParts.{no_version_1}
-use Rattle.pins.proofs.SpelledPieces.{two_digits, hours, no_sign, is_name_3, letters_3, some_bytes}
+use Rattle.pins.proofs.FileParts.{parts_are}
+use Rattle.pins.proofs.SpelledPieces.{is_name_3, some_bytes}
+use Rattle.pins.proofs.SpelledTexts.{hst_10}
 
 -- ---- headers
-six_counts : (rest : List ℕ) → AreCounts (0 ∷ 0 ∷ 0 ∷ 6 ∷ 0 ∷ 0 ∷ 0 ∷ 6 ∷ 0 ∷ 0 ∷ 0 ∷ 0 ∷ 0 ∷ 0 ∷ 0 ∷ 7 ∷ 0 ∷ 0 ∷ 0 ∷ 6 ∷ 0 ∷ 0 ∷ 0 ∷ 20 ∷ rest) counts rest
-six_counts rest = record {
-  after_ut_local = _;
-  after_standard_wall = _;
-  after_leap_seconds = _;
-  after_transitions = _;
-  after_types = _;
-  ut_local = record { four = 0 ∷ 0 ∷ 0 ∷ 6 ∷ []; whole = refl; size = refl; value = refl };
-  standard_wall = record { four = 0 ∷ 0 ∷ 0 ∷ 6 ∷ []; whole = refl; size = refl; value = refl };
-  leap_seconds = record { four = 0 ∷ 0 ∷ 0 ∷ 0 ∷ []; whole = refl; size = refl; value = refl };
-  transitions = record { four = 0 ∷ 0 ∷ 0 ∷ 7 ∷ []; whole = refl; size = refl; value = refl };
-  types = record { four = 0 ∷ 0 ∷ 0 ∷ 6 ∷ []; whole = refl; size = refl; value = refl };
-  designations = record { four = 0 ∷ 0 ∷ 0 ∷ 20 ∷ []; whole = refl; size = refl; value = refl };
-}
+four_bytes : (a b c d : ℕ) (rest : List ℕ) → Spells be_u32 (a ∷ b ∷ c ∷ d ∷ rest) (from_be_bytes w32 (a ∷ b ∷ c ∷ d ∷ [])) rest
+unfolding be_u32
+four_bytes a b c d rest = (a ∷ b ∷ c ∷ d ∷ [], rest, (refl, refl), (refl, refl))
 
-agree : CountsAgree counts
-agree = record {
-  types = λ e. absurd (omega (arith, e));
-  designations = λ e. absurd (omega (arith, e));
-  ut_local = inr refl;
-  standard_wall = inr refl;
-}
+counted : (rest : List ℕ) → Spells six_counts (0 ∷ 0 ∷ 0 ∷ 6 ∷ 0 ∷ 0 ∷ 0 ∷ 6 ∷ 0 ∷ 0 ∷ 0 ∷ 0 ∷ 0 ∷ 0 ∷ 0 ∷ 7 ∷ 0 ∷ 0 ∷ 0 ∷ 6 ∷ 0 ∷ 0 ∷ 0 ∷ 20 ∷ rest) counts rest
+unfolding six_counts
+counted rest =
+    (_, _, four_bytes 0 0 0 6 _, (_, _, four_bytes 0 0 0 6 _, (_, _, four_bytes 0 0 0 0 _, (_, _, four_bytes 0 0 0 7 _, (_, _, four_bytes 0 0 0 6 _, (_, _, four_bytes 0 0 0 20 _, (refl, refl)))))))
 
-pub is_header : (place : Place) (byte : ℕ) (version : Version) (rest : List ℕ) → StandsFor byte version → MayStand place version
-    → IsHeader place (header byte ++ rest) (record { version = version; counts = counts }) rest
-is_header place byte version rest stands allowed = record {
-  version = byte;
-  unused = 0 ∷ 0 ∷ 0 ∷ 0 ∷ 0 ∷ 0 ∷ 0 ∷ 0 ∷ 0 ∷ 0 ∷ 0 ∷ 0 ∷ 0 ∷ 0 ∷ 0 ∷ [];
-  numbers = _;
-  whole = refl;
-  stands = stands;
-  allowed = allowed;
-  size = refl;
-  counts = six_counts rest;
-  agree = agree;
-}
+pub is_header : (place : Place) (byte : ℕ) (v : Version) (rest : List ℕ) → ((after : List ℕ) → Spells (version place) (byte ∷ after) v after)
+    → Spells (a_header place) (header byte ++ rest) (record { version = v; counts = counts }) rest
+unfolding a_header tzif
+is_header place byte v rest stands =
+    (tt, _, (magic, _, (refl, refl), (refl, refl, refl)), (v, _, stands _, (0 ∷ 0 ∷ 0 ∷ 0 ∷ 0 ∷ 0 ∷ 0 ∷ 0 ∷ 0 ∷ 0 ∷ 0 ∷ 0 ∷ 0 ∷ 0 ∷ 0 ∷ [], _, (refl, refl), (counts, _, counted rest, (refl, refl, refl)))))
 
--- the second version is not the first
-is_one : Version → Bool
-is_one One = true
-is_one _ = false
-
-pub not_one : Two ≡ One → ⊥
-unfolding is_one
-not_one e = false≢true (ap is_one e)
+pub version_2 : (place : Place) (after : List ℕ) → Spells (version place) (50 ∷ after) Two after
+unfolding version
+version_2 place after = inr ((λ e. absurd (omega arith)), inl (after, refl, (refl, refl)))
 
 -- ---- blocks
-pub first_block : (rest : List ℕ) → IsBlock 4 counts (block short_times ++ rest) (parts short_times) rest
-first_block rest = record {
-  whole = refl;
-  times = refl;
-  type_indexes = refl;
-  types = refl;
-  designations = refl;
-  leap_seconds = refl;
-  standard_wall = refl;
-  ut_local = refl;
-}
+pub first_block : (rest : List ℕ) → Spells (a_block 4 counts) (block short_times ++ rest) (parts short_times) rest
+first_block rest = parts_are 4 counts (parts short_times) rest refl refl refl refl refl refl refl
 
-pub second_block : (rest : List ℕ) → IsBlock 8 counts (block long_times ++ rest) (parts long_times) rest
-second_block rest = record {
-  whole = refl;
-  times = refl;
-  type_indexes = refl;
-  types = refl;
-  designations = refl;
-  leap_seconds = refl;
-  standard_wall = refl;
-  ut_local = refl;
-}
+pub second_block : (rest : List ℕ) → Spells (a_block 8 counts) (block long_times ++ rest) (parts long_times) rest
+second_block rest = parts_are 8 counts (parts long_times) rest refl refl refl refl refl refl refl
 
 -- ---- what the second block says
 pub transitions : SpellTransitions 8 long_times type_indexes (honolulu hst10).transitions
@@ -270,18 +224,7 @@ footer = record {
   no_zero = (λ e. absurd (omega (arith, e)), (λ e. absurd (omega (arith, e)), (λ e. absurd (omega (arith, e)), (λ e. absurd (omega (arith, e)), (λ e. absurd (omega (arith, e)), tt)))));
   says = (
     some_bytes _ _,
-    record {
-      name = 72 ∷ 83 ∷ 84 ∷ [];
-      after_name = 49 ∷ 48 ∷ [];
-      name_spelled = letters_3 72 83 84 _ refl refl refl refl (λ e. absurd (omega (arith, e)));
-      offset_spelled = record {
-        is_minus = false;
-        unsigned = _;
-        sign = no_sign _ (λ e. absurd (omega (arith, e))) (λ e. absurd (omega (arith, e)));
-        duration = hours 23 true _ 10 _ (two_digits clock_max 49 48 [] refl refl tt (omega arith)) tt (omega arith);
-      };
-      named = record { allowed = is_name_3 72 83 84 refl refl refl; named = refl; mark = refl };
-    },
+    hst_10,
   );
 }
 
@@ -290,23 +233,8 @@ indicators_agree = λ k a b. absurd (omega (arith, a, b))
 
 -- ---- the whole
 pub file_pieces : HasPieces honolulu_file pieces
-file_pieces = record {
-  header = record { version = Two; counts = counts };
-  after = _;
-  parts = parts short_times;
-  rest = header 50 ++ (block long_times ++ hst_footer);
-  head = is_header First 50 Two (block short_times ++ (header 50 ++ (block long_times ++ hst_footer))) refl tt;
-  block = first_block (header 50 ++ (block long_times ++ hst_footer));
-  tail = record {
-    header = record { version = Two; counts = counts };
-    after = _;
-    parts = parts long_times;
-    footer = hst_footer;
-    head = is_header Second 50 Two (block long_times ++ hst_footer) refl not_one;
-    block = second_block hst_footer;
-    says = refl;
-  };
-}
+unfolding a_file a_header version version_1 six_counts tzif a_block be_u32 after_first_block first_version later_version exact_at optional_tag_at
+file_pieces = (lawful a_file honolulu_file).takes (pieces, []) refl
 
 pub file : IsTzFile honolulu_file (honolulu hst10)
 file = (
@@ -315,37 +243,29 @@ file = (
   record { transitions = transitions; types = types; leaps = refl; indicators = indicators_agree; rule = footer },
 )
 
+short_pieces : HasPieces short_file (first_pieces counts (parts short_times))
+unfolding a_file a_header version version_1 six_counts tzif a_block be_u32 after_first_block first_version later_version exact_at optional_tag_at
+short_pieces = (lawful a_file short_file).takes (first_pieces counts (parts short_times), []) refl
+
 pub of_version_1 : IsTzFile short_file (honolulu_from (neg_ℤ (pos 2_147_483_648)) None)
 of_version_1 = (
   first_pieces counts (parts short_times),
-  record {
-    header = record { version = One; counts = counts };
-    after = _;
-    parts = parts short_times;
-    rest = [];
-    head = is_header First 0 One (block short_times) refl tt;
-    block = first_block [];
-    tail = (refl, refl);
-  },
+  short_pieces,
   record { transitions = short_transitions; types = types; leaps = refl; indicators = indicators_agree; rule = refl },
 )
 
 -- ---- wrong files
--- what is wrong with the header of the second half
-second_header : (byte n : ℕ) → VersionFault Second (byte ∷ []) n → PieceFault (file_with byte) n
-second_header byte n fault =
-    let rest = header byte ++ (block long_times ++ hst_footer) in
-    inr (record { version = Two; counts = counts }, _, is_header First 50 Two (block short_times ++ rest) refl tt, inr (parts short_times, rest, first_block rest, inl (inr (_, refl, inl fault))))
-
 pub other_version : PieceFault (file_with 49) 14
-other_version = second_header 49 14 (inr (no_version_1, refl))
+unfolding a_file a_header version version_1 six_counts tzif a_block be_u32 after_first_block first_version later_version exact_at optional_tag_at
+other_version = (lawful a_file (file_with 49)).fails 14 refl
 
 pub version_1_again : PieceFault (file_with 0) 5
-version_1_again = second_header 0 5 (inl (refl, refl, refl))
+unfolding a_file a_header version version_1 six_counts tzif a_block be_u32 after_first_block first_version later_version exact_at optional_tag_at
+version_1_again = (lawful a_file (file_with 0)).fails 5 refl
 
 pub byte_after : (b : ℕ) → PieceFault (short_file ++ (b ∷ [])) 5
-byte_after b =
-    inr (record { version = One; counts = counts }, _, is_header First 0 One (block short_times ++ (b ∷ [])) refl tt, inr (parts short_times, b ∷ [], first_block (b ∷ []), (some_bytes b [], refl)))
+unfolding a_file a_header version version_1 six_counts tzif a_block be_u32 after_first_block first_version later_version exact_at optional_tag_at
+byte_after b = (lawful a_file (short_file ++ (b ∷ []))).fails 5 refl
 
 pub no_file : (bytes : List ℕ) (n : ℕ) → PieceFault bytes n → (z : Zone) → IsTzFile bytes z → ⊥
-no_file bytes n fault z file = apart (pieces_law bytes) file.0 n file.1 fault
+no_file bytes n fault z whole = apart (lawful a_file bytes) (whole.0, []) n whole.1 fault

@@ -3,9 +3,12 @@
 ghost use Rattle.std.specs.Prelude.{◌≡◌, ℕ, Bool, true, false, [], ◌∷◌, ◌++◌, List, None, pos, neg_ℤ};
 ghost use Rattle.tz_base.specs.LocalTypes.{LocalType};
 ghost use Rattle.tz_info.specs.FileContents.{IsMark, SpellsType, TypeFault, SpellsLeapSecond, IndicatorsAgree, time_of};
-ghost use Rattle.tz_info.specs.FileHeaders.{AreCounts, CountsAgree, IsNumber, StandsFor};
-ghost use Rattle.tz_info.specs.FilePieces.{FilePieces, IsAfterFirstBlock, is_extended};
-ghost use Rattle.tz_info.specs.FileBlocks.{IsBlock, Parts};
+ghost use Rattle.tz_base.specs.Grammar.{Spells, be_u32};
+ghost use Rattle.tz_info.specs.FileHeaders.{version, six_counts, counts_agree};
+ghost use Rattle.tz_info.specs.FilePieces.{FilePieces, after_first_block, is_extended};
+ghost use Rattle.tz_info.specs.FileBlocks.{block, Parts};
+ghost use Rattle.tz_info.specs.declared.file.header.Place.{Place};
+ghost use Rattle.tz_info.specs.declared.file.header.Place.TheVariants.{First};
 ghost use Rattle.tz_info.specs.declared.file.header.Counts.{Counts};
 ghost use Rattle.tz_info.specs.declared.file.header.Version.{Version};
 ghost use Rattle.tz_info.specs.declared.file.header.Version.TheVariants.{One, Two, Three};
@@ -18,18 +21,20 @@ ghost use Rattle.pins.specs.Zones.{hst, hst10};
 /// A 0 byte and the digits 2 and 3 are versions; 1 and 4 are none. Nothing comes after the block of
 /// version 1.
 pub fn versions()
-    ensures one { StandsFor 0 One }
-    ensures two { StandsFor 50 Two }
-    ensures three { StandsFor 51 Three }
-    ensures digit_1 { (v : Version) → ¬ (StandsFor 49 v) }
-    ensures digit_4 { (v : Version) → ¬ (StandsFor 52 v) }
-    ensures nothing { (c : Counts) (p : Parts) (b : ℕ) (rest : List ℕ) (pieces : FilePieces)
-        → ¬ (IsAfterFirstBlock One c p (b ∷ rest) pieces) }
+    ensures one { Spells (version First) (0 ∷ []) One [] }
+    ensures two { (place : Place) → Spells (version place) (50 ∷ []) Two [] }
+    ensures three { (place : Place) → Spells (version place) (51 ∷ []) Three [] }
+    ensures digit_1 { (place : Place) (v : Version) (rest : List ℕ)
+        → ¬ (Spells (version place) (49 ∷ []) v rest) }
+    ensures digit_4 { (place : Place) (v : Version) (rest : List ℕ)
+        → ¬ (Spells (version place) (52 ∷ []) v rest) }
+    ensures nothing { (c : Counts) (p : Parts) (b : ℕ) (bytes rest : List ℕ) (pieces : FilePieces)
+        → ¬ (Spells (after_first_block One c p) (b ∷ bytes) pieces rest) }
 {}
 
 /// A header gives the six counts in this order.
 pub fn counts()
-    ensures order { AreCounts one_to_six (record {
+    ensures order { Spells six_counts one_to_six (record {
       ut_local = 1;
       standard_wall = 2;
       leap_seconds = 3;
@@ -37,16 +42,16 @@ pub fn counts()
       types = 5;
       designations = 6;
     }) [] }
-    ensures high_byte_first { IsNumber (1 ∷ 2 ∷ 3 ∷ 4 ∷ []) 16_909_060 [] }
+    ensures high_byte_first { Spells be_u32 (1 ∷ 2 ∷ 3 ∷ 4 ∷ []) 16_909_060 [] }
 {}
 
 /// There is a type, and a byte of designations; indicators are given for no type, or for each.
 pub fn counts_that_agree()
-    ensures indicators { CountsAgree (of_types 6 6 20) }
-    ensures no_indicators { CountsAgree (of_types 0 6 20) }
-    ensures some_indicators { ¬ (CountsAgree (of_types 5 6 20)) }
-    ensures no_types { ¬ (CountsAgree (of_types 0 0 20)) }
-    ensures no_designations { ¬ (CountsAgree (of_types 6 6 0)) }
+    ensures indicators { counts_agree (of_types 6 6 20) ≡ true }
+    ensures no_indicators { counts_agree (of_types 0 6 20) ≡ true }
+    ensures some_indicators { counts_agree (of_types 5 6 20) ≡ false }
+    ensures no_types { counts_agree (of_types 0 0 20) ≡ false }
+    ensures no_designations { counts_agree (of_types 6 6 0) ≡ false }
 {}
 
 /// The isdst byte is 0 or 1.
@@ -101,14 +106,14 @@ pub fn leap_seconds()
 
 /// A block has its parts in this order: standard/wall indicators come before UT/local ones.
 pub fn parts()
-    ensures order { IsBlock 4 (record {
+    ensures order { Spells (block 4 (record {
       ut_local = 2;
       standard_wall = 1;
       leap_seconds = 0;
       transitions = 0;
       types = 0;
       designations = 1;
-    }) (7 ∷ 8 ∷ 9 ∷ 10 ∷ []) (record {
+    })) (7 ∷ 8 ∷ 9 ∷ 10 ∷ []) (record {
       times = [];
       type_indexes = [];
       types = [];
@@ -121,9 +126,9 @@ pub fn parts()
 
 /// A leap second's record has eight bytes in the first block, and twelve in the second.
 pub fn leap_second_blocks()
-    ensures first { (rest : List ℕ) → IsBlock 4 one_leap_second (short_record ++ rest)
+    ensures first { (rest : List ℕ) → Spells (block 4 one_leap_second) (short_record ++ rest)
         (with_leap_second short_record) rest }
-    ensures second { (rest : List ℕ) → IsBlock 8 one_leap_second (long_record ++ rest)
+    ensures second { (rest : List ℕ) → Spells (block 8 one_leap_second) (long_record ++ rest)
         (with_leap_second long_record) rest }
 {}
 

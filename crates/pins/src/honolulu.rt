@@ -2,9 +2,10 @@
 //! appendix says, these make a zone, and they spell no other.
 
 ghost use Rattle.std.specs.Prelude.{◌≡◌, ℕ, List, [], ◌∷◌, ◌++◌, None, pos, neg_ℤ};
-ghost use Rattle.tz_info.specs.FileBlocks.{IsBlock};
+ghost use Rattle.tz_base.specs.Grammar.{Spells};
+ghost use Rattle.tz_info.specs.FileBlocks.{block as a_block};
 ghost use Rattle.tz_info.specs.FileContents.{SpellTransitions, SpellTypes, IndicatorsAgree};
-ghost use Rattle.tz_info.specs.FileHeaders.{IsHeader};
+ghost use Rattle.tz_info.specs.FileHeaders.{header as a_header};
 ghost use Rattle.tz_info.specs.FilePieces.{HasPieces};
 ghost use Rattle.tz_info.specs.TzFiles.{IsTzFile, IsZoneFault};
 ghost use Rattle.tz_info.specs.Zones.{Zone, IsValid};
@@ -16,17 +17,17 @@ ghost use Rattle.pins.specs.Zones.{honolulu, honolulu_from, hst10};
 /// Both headers are of version 2, and have the same counts.
 pub fn headers()
     ensures first { (rest : List ℕ)
-        → IsHeader First (header 50 ++ rest) (record { version = Two; counts = counts }) rest }
+        → Spells (a_header First) (header 50 ++ rest) (record { version = Two; counts = counts }) rest }
     ensures second { (rest : List ℕ)
-        → IsHeader Second (header 50 ++ rest) (record { version = Two; counts = counts }) rest }
+        → Spells (a_header Second) (header 50 ++ rest) (record { version = Two; counts = counts }) rest }
 {}
 
 /// The blocks differ in their times, of four bytes and of eight.
 pub fn blocks()
     ensures first { (rest : List ℕ)
-        → IsBlock 4 counts (block short_times ++ rest) (parts short_times) rest }
+        → Spells (a_block 4 counts) (block short_times ++ rest) (parts short_times) rest }
     ensures second { (rest : List ℕ)
-        → IsBlock 8 counts (block long_times ++ rest) (parts long_times) rest }
+        → Spells (a_block 8 counts) (block long_times ++ rest) (parts long_times) rest }
 {}
 
 /// The second block and the footer say what the zone is.

@@ -2,9 +2,7 @@
 
 ghost use Rattle.std.specs.Prelude.{◌≡◌, ℕ, [], ◌∷◌, ◌++◌, List, Bool, true, false, pos, neg_ℤ};
 ghost use Rattle.tz_base.specs.Names.{IsName};
-ghost use Rattle.tz_info.specs.Pieces.{time_limit, seconds_of};
-ghost use Rattle.tz_info.specs.TzTexts.{IsTzText};
-ghost use Rattle.tz_info.specs.TzFaults.{IsTextFault};
+ghost use Rattle.tz_info.specs.TzGrammar.{time_limit, seconds_of, IsTzText, IsTextFault};
 ghost use Rattle.tz_info.specs.PosixZones.{IsPosixZone, posix_zone, types_of};
 ghost use Rattle.tz_info.specs.Zones.{Zone, plain_zone};
 ghost use Rattle.pins.specs.NewYork.{new_york_rule, new_york_zone, est, edt};

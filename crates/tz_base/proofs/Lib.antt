@@ -1,5 +1,8 @@
 pub mod NameLaws
 pub mod RunLaws
+pub mod ReadLaws
+pub mod Decided
+pub mod Lawful
 pub mod ErrorEquality
 pub mod ChangeEquality
 pub mod ForCallers

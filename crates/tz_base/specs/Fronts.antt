@@ -1,7 +1,6 @@
 -- What stands at the front of bytes: a value with the bytes after it, or the number of a refusal.
 use Rattle.std.specs.Prelude.{ℕ, ◌+◌, ◌*◌, ◌-◌, nat_eq, nat_lt, nat_le, Bool, true, false, ◌&&◌, if◌then◌else◌, List, [], ◌∷◌, length, take, drop, Result, Ok, Err, ◌≡◌}
 use Rattle.std.specs.List.{starts_with}
-use Rattle.std.specs.Int.{w32, from_be_bytes}
 use Rattle.tz_base.specs.declared.error.Error.{Error}
 use Rattle.tz_base.specs.Errors.{number_of}
 
@@ -18,10 +17,6 @@ Gives view (Err e) front = front ≡ Err (number_of e)
 -- so many bytes
 unfoldable pub exact_at : ℕ → List ℕ → Result (List ℕ × List ℕ) ℕ
 exact_at count bytes = if nat_lt (length bytes) count then Err 7 else Ok (take count bytes, drop count bytes)
-
--- a big-endian number of four bytes
-unfoldable pub be_u32_at : List ℕ → Result (ℕ × List ℕ) ℕ
-be_u32_at bytes = exact_at 4 bytes >>= λ p. Ok (from_be_bytes w32 p.0, p.1)
 
 -- the bytes of a tag
 unfoldable pub tag_at : List ℕ → List ℕ → Result (Unit {0} × List ℕ) ℕ

@@ -2,4 +2,6 @@ pub mod Errors
 pub mod Names
 pub mod LocalTypes
 pub mod Fronts
+pub mod Refusals
+pub mod Grammar
 pub mod Steps

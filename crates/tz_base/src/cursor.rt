@@ -2,7 +2,8 @@
 
 ghost use Rattle.std.specs.Prelude.{◌≡◌, ◌≤◌, ◌<◌, ◌++◌, [], true, false, length, slice_get, slice_index, OnErr, IfOk, IsTrue, ◌↔◌, EachIndex};
 ghost use Rattle.std.specs.Option.{option_copied};
-ghost use Rattle.tz_base.specs.Fronts.{Gives, exact_at, be_u32_at, tag_at, optional_tag_at, int_at, number_within, is_digit, AllDigits};
+ghost use Rattle.tz_base.specs.Grammar.{be_u32, read};
+ghost use Rattle.tz_base.specs.Fronts.{Gives, exact_at, tag_at, optional_tag_at, int_at, number_within, is_digit, AllDigits};
 
 use crate::error::{Error, Expected};
 use std::marker::Model;
@@ -75,9 +76,9 @@ impl<'a> Cursor<'a> {
     /// # Errors
     ///
     /// [`Error::UnexpectedEnd`] if fewer are left.
-    #[tactic(auto, unfolding(crate::specs::Fronts::be_u32_at))]
+    #[tactic(auto, unfolding(crate::specs::Grammar::be_u32))]
     pub fn read_be_u32(&mut self) -> Result<u32, Error>
-        ensures value { Gives (λ n. (n, self.new)) result (be_u32_at self.old) }
+        ensures value { Gives (λ n. (n, self.new)) result (read be_u32 self.old) }
         ensures err { OnErr result (self.new ≡ self.old) }
     {
         let bytes = self.read_exact(4)?;

@@ -9,9 +9,9 @@ use Rattle.tz_info.specs.Steps.ContentReading.{values_below, transition_in, leap
 use Rattle.tz_info.specs.Steps.Below.{all_below}
 use Rattle.tz_info.specs.declared.zone.transition.Transition.{Transition}
 use Rattle.tz_info.specs.declared.zone.leap_second.LeapSecond.{LeapSecond}
-use Rattle.tz_info.proofs.Decided.{Decided, like, said, done, guard}
+use Rattle.tz_base.proofs.ForCallers.{Decided, like, said, done, guard}
 use Rattle.tz_info.proofs.RecordLaws.{first_and_more, first_record, next_record, behind_first, records}
-use Rattle.tz_info.proofs.SizedLaws.{exact_cut}
+use Rattle.tz_base.proofs.ForCallers.{exact_cut}
 
 -- ---- transitions
 -- the first one and the others

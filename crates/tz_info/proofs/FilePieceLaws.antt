@@ -1,43 +1,44 @@
 -- The law of the pieces of a file.
-use Rattle.std.proofs.Common.{◌≡◌, ◌⊎◌, ℕ, arith, refl, sym, subst, List, [], ◌∷◌, Bool, Option, inl, inr}
-use Rattle.tz_info.specs.FileBlocks.{Parts, IsBlock}
-use Rattle.tz_info.specs.FilePieces.{FilePieces, IsSecondHalf, SecondFault, IsAfterFirstBlock, AfterFault, HasPieces, PieceFault, later_pieces, first_pieces}
-use Rattle.tz_info.specs.Steps.FileReading.{later_version_at, after_version, pieces_at}
-use Rattle.tz_info.specs.Steps.FileLists.{HasLengths}
-use Rattle.tz_info.specs.declared.file.header.Place.TheVariants.{First, Second}
+use Rattle.std.proofs.Common.{◌≡◌, ◌⊎◌, ◌∙◌, ℕ, refl, sym, subst, List, [], Bool, Option, inl, inr}
+use Rattle.tz_base.specs.Grammar.{Spells}
+use Rattle.tz_base.proofs.ForCallers.{Decided, said, made, lawful}
+use Rattle.tz_info.specs.FileBlocks.{Parts, block}
+use Rattle.tz_info.specs.FilePieces.{FilePieces, first_version, later_version, after_first_block, file, HasPieces, PieceFault}
+use Rattle.tz_info.specs.Steps.FileLists.{HasLengths, pieces_at}
 use Rattle.tz_info.specs.declared.file.header.Version.{Version}
 use Rattle.tz_info.specs.declared.file.header.Version.TheVariants.{One, Two, Three}
 use Rattle.tz_info.specs.declared.file.header.Counts.{Counts}
-use Rattle.tz_info.proofs.Decided.{Decided, like, said, made, done, refused, and_then}
-use Rattle.tz_info.proofs.HeaderLaws.{header_law}
-use Rattle.tz_info.proofs.BlockLaws.{block_law}
 
-second_law : (bytes : List ℕ) → Decided FilePieces (later_version_at bytes) (IsSecondHalf bytes) (SecondFault bytes)
-unfolding later_version_at
-second_law bytes = said (and_then (header_law Second bytes) (λ h after _. made (λ (p : Parts × List ℕ). later_pieces h p.0 p.1) ((block_law 8 h.counts).reads after)))
-    (λ pieces h. let b = h.3 in record { header = h.0; after = h.1; parts = b.0.0; footer = b.0.1; head = h.2; block = b.1; says = sym b.2 })
-    (λ pieces h. (h.header, h.after, h.head, ((h.parts, h.footer), h.block, sym h.says)))
+-- nothing stands after a file
+after_ends : (v : Version) (c : Counts) (b : Parts) (bytes : List ℕ) (p : FilePieces) (rest : List ℕ) → Spells (after_first_block v c b) bytes p rest → rest ≡ []
+unfolding after_first_block first_version later_version
+after_ends One c b bytes p rest (_, _, inl (none, (_, same)), (_, e)) = sym e ∙ sym same ∙ none
+after_ends One c b bytes p rest (_, _, inr (_, never), _) = absurd never
+after_ends Two c b bytes p rest (_, _, _, (_, _, _, (_, _, f, (_, e)))) = sym e ∙ f.1
+after_ends Three c b bytes p rest (_, _, _, (_, _, _, (_, _, f, (_, e)))) = sym e ∙ f.1
 
-after_law : (v : Version) (c : Counts) (b : Parts) (rest : List ℕ) → Decided FilePieces (after_version v c b rest) (IsAfterFirstBlock v c b rest) (AfterFault v rest)
-after_law One c b [] = like (done (first_pieces c b)) (λ p h. (refl, sym h)) (λ p h. sym h.1) (λ n h. absurd h) (λ n h. absurd (h.0 refl))
-after_law One c b (x ∷ xs) = like (refused 5 (omega arith)) (λ p h. absurd h) (λ p h. let e = h.0 in cc) (λ n h. (λ e. cc, h)) (λ n h. h.1)
-after_law Two c b rest = second_law rest
-after_law Three c b rest = second_law rest
+file_ends : (bytes : List ℕ) (p : FilePieces) (rest : List ℕ) → Spells file bytes p rest → rest ≡ []
+unfolding file
+file_ends bytes p rest (header, _, _, (parts, after, _, h)) = after_ends header.version header.counts parts after p rest h
 
 pub pieces_law : (bytes : List ℕ) → Decided FilePieces (pieces_at bytes) (HasPieces bytes) (PieceFault bytes)
 unfolding pieces_at
-pieces_law bytes = said (and_then (header_law First bytes) (λ h after _. and_then ((block_law 4 h.counts).reads after) (λ parts rest _. after_law h.version h.counts parts rest)))
-    (λ pieces h. let b = h.3 in record { header = h.0; after = h.1; parts = b.0; rest = b.1; head = h.2; block = b.2; tail = b.3 })
-    (λ pieces h. (h.header, h.after, h.head, (h.parts, h.rest, h.block, h.tail)))
+pieces_law bytes = said (made (λ p. p.0) (lawful file bytes))
+    (λ p h. subst (HasPieces bytes) h.2 (subst (Spells file bytes h.0.0) (file_ends bytes h.0.0 h.0.1 h.1) h.1))
+    (λ p h. ((p, []), h, refl))
 
 -- ---- lengths
-of_block : (w : ℕ) (x : Bool) (c : Counts) (bytes : List ℕ) (b : Parts) (rest : List ℕ) (o : Option (List ℕ)) → (w ≡ 4) ⊎ (w ≡ 8) → IsBlock w c bytes b rest → HasLengths (record { extended = x; time_size = w; counts = c; parts = b; footer = o })
-of_block w x c bytes b rest o k h = record { time_size = k; times = h.times; type_indexes = h.type_indexes; types = h.types; leap_seconds = h.leap_seconds }
+of_block : (w : ℕ) (x : Bool) (c : Counts) (bytes : List ℕ) (b : Parts) (rest : List ℕ) (o : Option (List ℕ)) → (w ≡ 4) ⊎ (w ≡ 8) → Spells (block w c) bytes b rest → HasLengths (record { extended = x; time_size = w; counts = c; parts = b; footer = o })
+unfolding block
+of_block w x c bytes b rest o k (_, _, times, (_, _, indexes, (_, _, types, (_, _, _, (_, _, leaps, (_, _, _, (_, _, _, (value, _)))))))) = subst (λ (y : Parts). HasLengths (record { extended = x; time_size = w; counts = c; parts = y; footer = o })) (sym value)
+    (record { time_size = k; times = times.1; type_indexes = indexes.1; types = types.1; leap_seconds = leaps.1 })
 
-by_version : (v : Version) (c : Counts) (b : Parts) (after rest : List ℕ) (p : FilePieces) → IsBlock 4 c after b rest → IsAfterFirstBlock v c b rest p → HasLengths p
-by_version One c b after rest p h t = subst (λ q. HasLengths q) (sym t.1) (of_block 4 _ c after b rest _ (inl refl) h)
-by_version Two c b after rest p h t = subst (λ q. HasLengths q) (sym t.says) (of_block 8 _ t.header.counts t.after t.parts t.footer _ (inr refl) t.block)
-by_version Three c b after rest p h t = subst (λ q. HasLengths q) (sym t.says) (of_block 8 _ t.header.counts t.after t.parts t.footer _ (inr refl) t.block)
+after_lengths : (v : Version) (c : Counts) (b : Parts) (start bytes : List ℕ) (p : FilePieces) (rest : List ℕ) → Spells (block 4 c) start b bytes → Spells (after_first_block v c b) bytes p rest → HasLengths p
+unfolding after_first_block first_version later_version
+after_lengths One c b start bytes p rest h (_, _, _, (value, _)) = subst HasLengths (sym value) (of_block 4 _ c start b bytes _ (inl refl) h)
+after_lengths Two c b start bytes p rest h (header, after, _, (parts, end, k, (_, _, _, (value, _)))) = subst HasLengths (sym value) (of_block 8 _ header.counts after parts end _ (inr refl) k)
+after_lengths Three c b start bytes p rest h (header, after, _, (parts, end, k, (_, _, _, (value, _)))) = subst HasLengths (sym value) (of_block 8 _ header.counts after parts end _ (inr refl) k)
 
 pub has_lengths : (bytes : List ℕ) (p : FilePieces) → HasPieces bytes p → HasLengths p
-has_lengths bytes p h = by_version h.header.version h.header.counts h.parts h.after h.rest p h.block h.tail
+unfolding file
+has_lengths bytes p (header, after, _, (parts, end, h, k)) = after_lengths header.version header.counts parts after end p [] h k

@@ -4,7 +4,7 @@ use Rattle.tz_info.specs.Footers.{SaysRule}
 use Rattle.tz_info.specs.TzFiles.{HasRule, IsTzFile}
 use Rattle.tz_info.specs.Zones.{Zone, IsRuleOrNone}
 use Rattle.tz_info.specs.declared.rule.transition_rule.TransitionRule.{TransitionRule}
-use Rattle.tz_info.proofs.PosixZoneLaws.{text_rule_fits}
+use Rattle.tz_info.proofs.TextFits.{text_rule_fits}
 
 said_rule_fits : (extended : Bool) (text : List ℕ) (rule : Option TransitionRule) → SaysRule extended text rule → IsRuleOrNone rule
 said_rule_fits extended text None says = tt

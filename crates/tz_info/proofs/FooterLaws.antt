@@ -11,17 +11,17 @@ use Rattle.tz_base.specs.Fronts.{Gives}
 use Rattle.tz_base.specs.declared.error.Error.{Error}
 use Rattle.tz_info.specs.FileContents.{HasNoZero}
 use Rattle.tz_info.specs.Steps.ContentReading.{is_zero}
-use Rattle.tz_info.specs.TzTexts.{IsTzText}
-use Rattle.tz_info.specs.TzFaults.{IsTextFault}
-use Rattle.tz_info.specs.Steps.Readings.{text_at}
+use Rattle.tz_info.specs.TzGrammar.{IsTzText, IsTextFault}
+use Rattle.tz_base.specs.Grammar.{read}
+use Rattle.tz_info.specs.TzGrammar.{text as tz_text}
 use Rattle.tz_info.specs.Footers.{IsBetweenNewlines, SaysRule, HasText, IsFooter, FooterFault, Not_utf8, No_newlines, Colon, Zero, In_text}
 use Rattle.tz_info.specs.Steps.FooterReading.{trimmed, is_between_newlines, is_no_text, rule_in, rule_or_none, footer_at}
 use Rattle.tz_info.specs.declared.rule.transition_rule.TransitionRule.{TransitionRule}
-use Rattle.tz_info.proofs.Decided.{Decided, like, said, made, choice, done, refused}
-use Rattle.tz_info.proofs.PieceLaws.{same_byte}
+use Rattle.tz_base.proofs.ForCallers.{Decided, like, said, made, choice, done, refused}
+use Rattle.tz_base.proofs.ForCallers.{same_byte}
 use Rattle.tz_info.proofs.TextLaws.{text_law}
 use Rattle.tz_info.proofs.TrimLaws.{trim_again, trim_is}
-use Rattle.tz_info.proofs.ReadLaws.{false_unless, drop_front}
+use Rattle.tz_base.proofs.ForCallers.{false_unless, drop_front}
 
 -- ---- newlines
 last_of : (b : ℕ) (bs : List ℕ) → (front : List ℕ) × (last : ℕ) × (b ∷ bs ≡ front ++ (last ∷ []))
@@ -67,14 +67,14 @@ no_zero_again [] h = refl
 no_zero_again (b ∷ bs) h = let n = h.0 in let e : (b == 0) ≡ false = grind (arith, nat_tests) in rw e (no_zero_again bs h.1)
 
 -- what the reader of TZ texts answers
-pub rule_given : (extended : Bool) (text rest : List ℕ) (r : Result TransitionRule Error) → Gives (λ rule. (rule, rest)) r (text_at extended text) → Gives (λ rule. rule) r (rule_in extended text)
+pub rule_given : (extended : Bool) (text rest : List ℕ) (r : Result TransitionRule Error) → Gives (λ rule. (rule, rest)) r (read (tz_text extended) text) → Gives (λ rule. rule) r (rule_in extended text)
 unfolding rule_in
 rule_given extended text rest (Ok rule) g = rw g refl
 rule_given extended text rest (Err e) g = rw g refl
 
 pub spelled_law : (extended : Bool) (text : List ℕ) → Decided TransitionRule (rule_in extended text) (IsTzText extended text) (IsTextFault extended text)
 unfolding rule_in
-spelled_law extended text = said (made (λ p. p.0) ((text_law extended).reads text))
+spelled_law extended text = said (made (λ p. p.0) (text_law extended text))
     (λ rule h. subst (IsTzText extended text) h.2 h.1.0)
     (λ rule h. ((rule, []), (h, refl), refl))
 

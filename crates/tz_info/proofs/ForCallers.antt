@@ -2,10 +2,12 @@
 pub use Rattle.tz_info.proofs.TzFileLaws.{fault_or_zone as file_fault_or_zone}
 pub use Rattle.tz_info.proofs.FileZoneLaws.{file_rule_fits}
 pub use Rattle.tz_info.proofs.LeapOrder.{leap_times_answer}
-pub use Rattle.tz_info.proofs.PieceLaws.{run_splits, run_again}
+pub use Rattle.tz_base.proofs.ForCallers.{run_splits, run_again}
 pub use Rattle.tz_info.proofs.PosixLaws.{fault_or_zone as text_fault_or_zone}
 pub use Rattle.tz_info.proofs.PosixZoneLaws.{posix_zone_valid}
 pub use Rattle.tz_timeline.proofs.ForCallers.{le_is, le_true}
 pub use Rattle.tz_info.proofs.RuleLaws.{rule_year}
 pub use Rattle.tz_info.proofs.WallTimes.{wall_decided}
 pub use Rattle.tz_info.proofs.ZoneLaws.{type_once, type_not_refused, type_decided, type_listed}
+pub use Rattle.tz_info.proofs.NamedTypes.{name_from, name_to}
+pub use Rattle.tz_info.proofs.TextFits.{within_from, within_to, rule_day_from, rule_day_to, offset_fits}

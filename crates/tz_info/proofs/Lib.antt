@@ -15,14 +15,7 @@ pub mod TableSearch
 pub mod PassedTransitions
 pub mod Validity
 pub mod ZoneLaws
-pub mod PieceLaws
-pub mod ReadLaws
-pub mod Decided
 pub mod NamedTypes
-pub mod ClockLaws
-pub mod QuoteLaws
-pub mod DayLaws
-pub mod DstOffsetLaws
 pub mod TextLaws
 pub mod PosixLaws
 pub mod TextFits
@@ -46,9 +39,7 @@ pub mod AroundLaws
 pub mod ZoneChanges
 pub mod LeaplessChanges
 pub mod PosixZoneLaws
-pub mod SizedLaws
 pub mod HeaderLaws
-pub mod BlockLaws
 pub mod FilePieceLaws
 pub mod ListLaws
 pub mod RecordLaws

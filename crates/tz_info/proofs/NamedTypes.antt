@@ -1,5 +1,5 @@
 -- The test of a name says whether a type can have it.
-use Rattle.std.proofs.Common.{◌≡◌, ℕ, ℤ, ◌<◌, arith, refl, zero, suc, List, [], ◌∷◌, length, get_or, Bool, true, false, Ok, Err, Result, nat_le, MatchResult, Some}
+use Rattle.std.proofs.Common.{◌≡◌, ℕ, ℤ, ◌<◌, arith, refl, zero, suc, List, [], ◌∷◌, length, get_or, Bool, true, Ok, Err, Result, nat_le, MatchResult, Some}
 use Rattle.std.specs.List.{list_all}
 use Rattle.std.proofs.lemmas.Bool.Decides.{nat_tests}
 use Rattle.tz_base.specs.Names.{is_name_byte, IsName, IsNameOrNone}
@@ -7,7 +7,10 @@ use Rattle.tz_base.specs.LocalTypes.{LocalType, IsUtOffset}
 use Rattle.tz_base.specs.Errors.{number_of}
 use Rattle.tz_base.specs.Fronts.{Gives}
 use Rattle.tz_base.specs.declared.error.Error.{Error}
-use Rattle.tz_info.specs.Steps.Readings.{is_name, named_type_of}
+use Rattle.tz_base.specs.Grammar.{checked}
+use Rattle.tz_base.specs.Refusals.{LocalTimeType as BadType}
+use Rattle.tz_base.proofs.ForCallers.{false_unless}
+use Rattle.tz_info.specs.TzGrammar.{is_name, named_type}
 
 all_are : (p : ℕ → Bool) (xs : List ℕ) → list_all p xs ≡ true → (i : ℕ) → i < length xs → p (get_or xs i 0) ≡ true
 all_are p [] h i l = absurd (omega arith)
@@ -30,10 +33,6 @@ name_to name h =
     let c : nat_le (length name) 7 ≡ true = let k = h.1 in grind (arith, nat_tests) in
     rw (b, c, a) refl
 
-pub named_by : (name : List ℕ) (dst : Bool) (offset : ℤ) (r : Result LocalType Error) → MatchResult r (λ t. IsUtOffset offset × IsNameOrNone (Some name) × (t ≡ record { offset = offset; dst = dst; name = Some name })) (λ e. (number_of e ≡ 3) × ¬ (IsUtOffset offset × IsNameOrNone (Some name))) → IsUtOffset offset → Gives (λ t. t) r (named_type_of name dst offset)
-unfolding named_type_of
+pub named_by : (name : List ℕ) (dst : Bool) (offset : ℤ) (r : Result LocalType Error) → MatchResult r (λ t. IsUtOffset offset × IsNameOrNone (Some name) × (t ≡ named_type name dst offset)) (λ e. (number_of e ≡ 3) × ¬ (IsUtOffset offset × IsNameOrNone (Some name))) → IsUtOffset offset → Gives (λ t. t) r (checked (is_name name) BadType (named_type name dst offset))
 named_by name dst offset (Ok t) h u = let e = name_to name h.1 in rw (e, h.2) refl
-named_by name dst offset (Err e) h u = elim (is_name name) as (λ b. is_name name ≡ b → named_type_of name dst offset ≡ Err (number_of e)) [
-  | true ↦ λ k. absurd (h.1 (u, name_from name k))
-  | false ↦ λ k. rw (k, h.0) refl
-] refl
+named_by name dst offset (Err e) h u = let n = false_unless (is_name name) (λ t. h.1 (u, name_from name t)) in rw (n, h.0) refl

@@ -6,12 +6,11 @@ use Rattle.tz_base.specs.Errors.{number_of}
 use Rattle.tz_base.specs.Fronts.{◌>>=◌}
 use Rattle.tz_base.specs.declared.error.Error.{Error}
 use Rattle.tz_info.specs.Zones.{Zone, plain_zone}
-use Rattle.tz_info.specs.TzFaults.{IsTextFault}
-use Rattle.tz_info.specs.TzTexts.{IsTzText}
+use Rattle.tz_info.specs.TzGrammar.{IsTzText, IsTextFault}
 use Rattle.tz_info.specs.PosixZones.{IsPosixZone, IsPosixFault, posix_zone}
 use Rattle.tz_info.specs.Steps.FooterReading.{trimmed, rule_in}
 use Rattle.tz_info.specs.declared.rule.transition_rule.TransitionRule.{TransitionRule}
-use Rattle.tz_info.proofs.Decided.{Decided, like, made, done, value_once, fault_once, fault_low, apart}
+use Rattle.tz_base.proofs.ForCallers.{Decided, like, made, done, value_once, fault_once, fault_low, apart}
 use Rattle.tz_info.proofs.FooterLaws.{spelled_law}
 use Rattle.tz_info.proofs.TrimLaws.{trim_is, trim_again, trims_both}
 

@@ -1,17 +1,11 @@
 -- What a TZ text gives is a zone whose rule's numbers are in their limits.
-use Rattle.std.proofs.Common.{ℕ, ◌<◌, sym, subst, List, length, Bool, false, Some, None, inl, inr, arith}
-use Rattle.tz_info.specs.RuleTypes.{IsRule}
+use Rattle.std.proofs.Common.{ℕ, ◌<◌, sym, subst, List, length, false, Some, None, inl, inr, arith}
 use Rattle.tz_info.specs.Zones.{Zone, IsValid, IsRuleOrNone}
-use Rattle.tz_info.specs.TzTexts.{IsTzText}
 use Rattle.tz_info.specs.PosixZones.{IsPosixZone, types_of}
 use Rattle.tz_info.specs.declared.rule.transition_rule.TransitionRule.{TransitionRule}
 use Rattle.tz_info.specs.declared.rule.transition_rule.TransitionRule.TheVariants as rules
-use Rattle.tz_info.proofs.TextFits.{alternate_text_fits}
+use Rattle.tz_info.proofs.TextFits.{text_rule_fits}
 use Rattle.tz_info.proofs.ZoneLaws.{zone_of_rule_valid}
-
-pub text_rule_fits : (extended : Bool) (bytes : List ℕ) (rule : TransitionRule) → IsTzText extended bytes rule → IsRule rule
-text_rule_fits extended bytes (rules.Fixed t) h = tt
-text_rule_fits extended bytes (rules.Alternate a) h = let f = alternate_text_fits extended bytes a h in record { within = f.0; start_day = f.1; end_day = f.2 }
 
 has_type : (rule : TransitionRule) → 0 < length (types_of rule)
 has_type (rules.Fixed t) = omega arith

@@ -4,8 +4,8 @@ use Rattle.std.proofs.lemmas.List.{length-append, nil_from_length, length-take, 
 use Rattle.tz_base.specs.Fronts.{◌>>=◌}
 use Rattle.tz_info.specs.FileContents.{AreRecords, HasRecordFault}
 use Rattle.tz_info.specs.Steps.ContentReading.{record_at, values_below}
-use Rattle.tz_info.proofs.Decided.{Decided, like, bind, made, done}
-use Rattle.tz_info.proofs.SizedLaws.{exact_cut}
+use Rattle.tz_base.proofs.ForCallers.{Decided, like, bind, made, done}
+use Rattle.tz_base.proofs.ForCallers.{exact_cut}
 
 -- ---- values at places, from the first one on
 front_step : {X : Type 0} (r : Result X ℕ) (s : Result (List X) ℕ) (t : Result X ℕ) → ((r >>= λ x. s >>= λ xs. Ok (x ∷ xs)) >>= λ xs. t >>= λ y. Ok (xs ++ y ∷ [])) ≡ (r >>= λ x. (s >>= λ xs. t >>= λ y. Ok (xs ++ y ∷ [])) >>= λ xs. Ok (x ∷ xs))

@@ -1,65 +1,102 @@
 -- The numbers of a rule that a TZ text spells are in their limits.
-use Rattle.std.proofs.Common.{◌≡◌, ℕ, ℤ, pos, ◌+ℤ◌, ◌≤ℤ◌, ◌≤◌, arith, sym, subst, List, Bool, true, false, not, inl, inr}
+use Rattle.std.proofs.Common.{◌≡◌, ℕ, ℤ, pos, ◌+ℤ◌, ◌≤ℤ◌, ◌≤◌, arith, sym, subst, List, Bool, true, false, not, inl, inr, int_le}
+use Rattle.std.proofs.lemmas.Bool.Decides.{nat_tests}
 use Rattle.std.proofs.lemmas.Int.{ints}
 use Rattle.offset_core.specs.Offset.{IsWithinDay}
-use Rattle.tz_info.specs.Rules.{Alternate, IsAlternate, IsWithinWeek}
+use Rattle.tz_base.specs.Grammar.{Spells}
+use Rattle.tz_base.specs.LocalTypes.{LocalType}
+use Rattle.tz_info.specs.Rules.{IsWithinWeek, IsAlternateRule}
 use Rattle.tz_info.specs.RuleDays.{IsRuleDay}
-use Rattle.tz_info.specs.Pieces.{seconds_of, time_limit, slash, Optional, Offset, Time, Date, Day, DstOffset}
-use Rattle.tz_info.specs.TzTexts.{IsAlternateText}
+use Rattle.tz_info.specs.RuleTypes.{IsRule}
+use Rattle.tz_info.specs.TzGrammar.{seconds_of, is_within, duration, offset, time_limit, time, optional_time, is_rule_day, rule_day, month_date, julian_date, day_number, date, day, days, next_hour, given_offset, dst_offset, named_type, named, fixed, alternate, rule, text, IsTzText}
 use Rattle.tz_info.specs.declared.rule.day.DayForm.{DayForm}
+use Rattle.tz_info.specs.declared.rule.day.DayForm.TheVariants.{Julian1, Julian0, MonthWeekday}
 use Rattle.tz_info.specs.declared.rule.day.DayTime.{DayTime}
+use Rattle.tz_info.specs.declared.rule.transition_rule.TransitionRule.{TransitionRule}
 
-within_day : (negative : Bool) (h m s : ℕ) → h ≤ 23 → m ≤ 59 → s ≤ 59 → IsWithinDay (seconds_of negative h m s)
-within_day true h m s a b c = (omega (arith, ints), omega (arith, ints))
-within_day false h m s a b c = (omega (arith, ints), omega (arith, ints))
+-- ---- what the tests say
+pub within_from : (limit h m s : ℕ) → is_within limit h m s ≡ true → (h ≤ limit) × (m ≤ 59) × (s ≤ 59)
+within_from limit h m s t = (grind (arith, nat_tests), grind (arith, nat_tests), grind (arith, nat_tests))
 
-within_week : (negative : Bool) (h m s : ℕ) → h ≤ 167 → m ≤ 59 → s ≤ 59 → IsWithinWeek (seconds_of negative h m s)
-within_week true h m s a b c = (omega (arith, ints), omega (arith, ints))
-within_week false h m s a b c = (omega (arith, ints), omega (arith, ints))
+pub within_to : (limit h m s : ℕ) → h ≤ limit → m ≤ 59 → s ≤ 59 → is_within limit h m s ≡ true
+within_to limit h m s a b c = grind (arith, nat_tests)
 
-time_hours : (extended : Bool) (h : ℕ) → h ≤ time_limit extended → h ≤ 167
-time_hours true h l = l
-time_hours false h l = omega arith
+pub rule_day_from : (form : DayForm) → is_rule_day form ≡ true → IsRuleDay form
+rule_day_from (Julian1 n) h = (grind (arith, nat_tests), grind (arith, nat_tests))
+rule_day_from (Julian0 n) h = grind (arith, nat_tests)
+rule_day_from (MonthWeekday m w d) h = (grind (arith, nat_tests), grind (arith, nat_tests), grind (arith, nat_tests), grind (arith, nat_tests), grind (arith, nat_tests))
 
-offset_fits : (bytes : List ℕ) (z : ℤ) (rest : List ℕ) → Offset bytes z rest → IsWithinDay z
-offset_fits bytes z rest o = let d = o.duration in subst IsWithinDay d.value (within_day (not o.is_minus) d.h d.m d.s d.hours d.minutes d.seconds)
+pub rule_day_to : (form : DayForm) → IsRuleDay form → is_rule_day form ≡ true
+rule_day_to (Julian1 n) h = let a = h.0 in let b = h.1 in grind (arith, nat_tests)
+rule_day_to (Julian0 n) h = grind (arith, nat_tests)
+rule_day_to (MonthWeekday m w d) h = let a = h.0 in let b = h.1 in let c = h.2 in let e = h.3 in let f = h.4 in grind (arith, nat_tests)
 
-time_fits : (extended : Bool) (bytes : List ℕ) (z : ℤ) (rest : List ℕ) → Time extended bytes z rest → IsWithinWeek z
-time_fits extended bytes z rest t = let d = t.duration in subst IsWithinWeek d.value (within_week t.is_minus d.h d.m d.s (time_hours extended d.h d.hours) d.minutes d.seconds)
+-- ---- offsets and times
+within_day : (negative : Bool) (h m s : ℕ) → (h ≤ 23) × (m ≤ 59) × (s ≤ 59) → IsWithinDay (seconds_of negative h m s)
+within_day true h m s (a, b, c) = (omega (arith, ints), omega (arith, ints))
+within_day false h m s (a, b, c) = (omega (arith, ints), omega (arith, ints))
 
-optional_time_fits : (extended : Bool) (bytes : List ℕ) (z : ℤ) (rest : List ℕ) → Optional slash (pos 7_200) (Time extended) bytes z rest → IsWithinWeek z
-optional_time_fits extended bytes z rest h = elim h [
-  | inl a ↦ time_fits extended a.0 z rest a.2
-  | inr b ↦ subst IsWithinWeek (sym b.1.0) (omega (arith, ints), omega (arith, ints))
-]
+within_week : (extended negative : Bool) (h m s : ℕ) → (h ≤ time_limit extended) × (m ≤ 59) × (s ≤ 59) → IsWithinWeek (seconds_of negative h m s)
+within_week true true h m s (a, b, c) = (omega (arith, ints), omega (arith, ints))
+within_week true false h m s (a, b, c) = (omega (arith, ints), omega (arith, ints))
+within_week false true h m s (a, b, c) = (omega (arith, ints), omega (arith, ints))
+within_week false false h m s (a, b, c) = (omega (arith, ints), omega (arith, ints))
 
-next_hour_fits : (std z : ℤ) → IsWithinDay std → z ≡ std +ℤ pos 3_600 → z ≤ℤ pos 86_399 → IsWithinDay z
-next_hour_fits std z w e l = let a = w.0 in (omega (arith, ints), omega (arith, ints))
+pub offset_fits : (bytes : List ℕ) (z : ℤ) (rest : List ℕ) → Spells offset bytes z rest → IsWithinDay z
+unfolding offset duration
+offset_fits bytes z rest (is_minus, _, _, ((h, m, s), _, _, (is, value, _))) = subst IsWithinDay (sym value) (within_day (not is_minus) h m s (within_from 23 h m s is))
 
-dst_offset_fits : (std : ℤ) (bytes : List ℕ) (z : ℤ) (rest : List ℕ) → IsWithinDay std → DstOffset std bytes z rest → IsWithinDay z
-dst_offset_fits std bytes z rest w h = elim h [
-  | inl a ↦ next_hour_fits std z w a.2.value a.2.limit
-  | inr b ↦ offset_fits bytes z _ b.1
-]
+time_fits : (extended : Bool) (bytes : List ℕ) (z : ℤ) (rest : List ℕ) → Spells (optional_time extended) bytes z rest → IsWithinWeek z
+unfolding optional_time time duration
+time_fits extended bytes z rest (inl (_, _, (is_minus, _, _, ((h, m, s), _, _, (is, value, _))))) = subst IsWithinWeek (sym value) (within_week extended is_minus h m s (within_from (time_limit extended) h m s is))
+time_fits extended bytes z rest (inr (_, (value, _))) = subst IsWithinWeek (sym value) (omega (arith, ints), omega (arith, ints))
 
-date_fits : (bytes : List ℕ) (form : DayForm) (rest : List ℕ) → Date bytes form rest → IsRuleDay form
-date_fits bytes form rest h = elim h [ inl a ↦ a.2.fits | inr b ↦ elim b.1 [ inl c ↦ c.2.fits | inr d ↦ d.1.fits ] ]
+at_most : (z limit : ℤ) → int_le z limit ≡ true → z ≤ℤ limit
+at_most z limit t = grind (arith, ints)
 
-day_fits : (extended : Bool) (bytes : List ℕ) (d : DayTime) (rest : List ℕ) → Day extended bytes d rest → IsRuleDay d.day × IsWithinWeek d.time
-day_fits extended bytes d rest h = (date_fits bytes d.day h.after_date h.date, optional_time_fits extended h.after_date d.time rest h.time)
+next_hour_fits : (std : ℤ) → IsWithinDay std → (std +ℤ pos 3_600) ≤ℤ pos 86_399 → IsWithinDay (std +ℤ pos 3_600)
+next_hour_fits std w l = let a = w.0 in (omega (arith, ints), omega (arith, ints))
 
--- what a text spells are offsets within a day, times within a week, and days that a rule can have
-pub alternate_text_fits : (extended : Bool) (bytes : List ℕ) (a : Alternate) → IsAlternateText extended bytes a → IsAlternate a × IsRuleDay a.start.day × IsRuleDay a.end.day
-alternate_text_fits extended bytes a h =
-    let std = offset_fits h.after_std_name a.std.offset h.after_std h.std_offset_spelled in
-    let start = day_fits extended h.at_start a.start _ h.start_spelled in
-    let end = day_fits extended h.at_end a.end _ h.end_spelled in (
-      record {
-        std_offset = std;
-        dst_offset = dst_offset_fits a.std.offset h.after_dst_name a.dst.offset h.at_start std h.dst_offset_spelled;
-        start_time = start.1;
-        end_time = end.1;
-      },
-      start.0,
-      end.0,
-    )
+dst_offset_fits : (std : ℤ) (bytes : List ℕ) (z : ℤ) (rest : List ℕ) → IsWithinDay std → Spells (dst_offset std) bytes z rest → IsWithinDay z
+unfolding dst_offset next_hour given_offset
+dst_offset_fits std bytes z rest w (inl (_, _, (is, value, _))) = subst IsWithinDay (sym value) (next_hour_fits std w (at_most (std +ℤ pos 3_600) (pos 86_399) is))
+dst_offset_fits std bytes z rest w (inr (_, (_, here, _, (east, after, o, (_, _, _, (_, _, _, (value, _))))))) = subst IsWithinDay (sym value) (offset_fits here east after o)
+
+-- ---- days
+form_fits : (form : DayForm) (bytes : List ℕ) (x : DayForm) (rest : List ℕ) → Spells (rule_day form) bytes x rest → IsRuleDay x
+unfolding rule_day
+form_fits form bytes x rest (is, value, _) = subst IsRuleDay (sym value) (rule_day_from form is)
+
+date_fits : (bytes : List ℕ) (form : DayForm) (rest : List ℕ) → Spells date bytes form rest → IsRuleDay form
+unfolding date month_date julian_date day_number
+date_fits bytes form rest (inl (_, _, (_, _, _, (_, _, _, (_, _, _, (_, _, _, (_, _, _, r))))))) = form_fits _ _ form rest r
+date_fits bytes form rest (inr (_, inl (_, _, (_, _, _, r)))) = form_fits _ _ form rest r
+date_fits bytes form rest (inr (_, inr (_, (_, _, _, r)))) = form_fits _ _ form rest r
+
+abbrev Fits : DayTime → Type 0
+Fits d = IsRuleDay d.day × IsWithinWeek d.time
+
+day_fits : (extended : Bool) (bytes : List ℕ) (d : DayTime) (rest : List ℕ) → Spells (day extended) bytes d rest → Fits d
+unfolding day
+day_fits extended bytes d rest (form, after, f, (z, end, t, (value, _))) = subst Fits (sym value) (date_fits bytes form after f, time_fits extended after z end t)
+
+-- ---- the whole
+named_fits : (std dst : LocalType) (x y : ℤ) (m n : List ℕ) (d e : Bool) (start end : DayTime) → std ≡ named_type m d x → dst ≡ named_type n e y → IsWithinDay x → IsWithinDay y → Fits start → Fits end → IsAlternateRule (record { std = std; dst = dst; start = start; end = end })
+named_fits std dst x y m n d e start end s t a b p q = record {
+  within = record { std_offset = rw s a; dst_offset = rw t b; start_time = p.1; end_time = q.1 };
+  start_day = p.0;
+  end_day = q.0;
+}
+
+days_fit : (extended : Bool) (bytes : List ℕ) (d : DayTime × DayTime) (rest : List ℕ) → Spells (days extended) bytes d rest → Fits d.0 × Fits d.1
+unfolding days
+days_fit extended bytes d rest (start, _, p, (_, at_end, _, (end, at, q, (value, _)))) = subst (λ (y : DayTime × DayTime). Fits y.0 × Fits y.1) (sym value) (day_fits extended bytes start _ p, day_fits extended at_end end at q)
+
+pub text_rule_fits : (extended : Bool) (bytes : List ℕ) (r : TransitionRule) → IsTzText extended bytes r → IsRule r
+unfolding text rule fixed alternate named
+text_rule_fits extended bytes r (_, _, _, (_, _, _, inl (_, (_, _, _, (value, _))))) = subst IsRule (sym value) tt
+text_rule_fits extended bytes r (_, at_offset, _, (east, after, o, inr (_, (_, at_dst, _, (dst_east, at_days, d, (both, at, ds, (_, _, _, (_, _, s, (_, _, t, (value, _)))))))))) =
+    let std = offset_fits at_offset east after o in
+    let dst = dst_offset_fits east at_dst dst_east at_days std d in
+    let f = days_fit extended at_days both at ds in
+    subst IsRule (sym value) (named_fits _ _ east dst_east _ _ false true both.0 both.1 s.1 t.1 std dst f.0 f.1)

@@ -15,10 +15,10 @@ use Rattle.tz_base.specs.declared.error.Error.TheVariants.{OutOfMemory}
 use Rattle.tz_info.specs.FileContents.{HasNoZero, StandsAt, designation_of, IsMark, offset_in, mark_in, place_in, least_offset, SpellsType, SpellTypes, TypeFault, Other_mark, No_text, Other_type, HasTypeFault}
 use Rattle.tz_info.specs.Steps.ContentReading.{record_at, values_below, is_name_or_none, type_of, mark_of, front_of, text_before_zero, designation_at, type_of_record, with_next_type, type_in, is_zero}
 use Rattle.tz_info.proofs.NamedTypes.{name_from, name_to}
-use Rattle.tz_info.proofs.ReadLaws.{bind_err, drop_front}
+use Rattle.tz_base.proofs.ForCallers.{bind_err, drop_front}
 use Rattle.tz_info.proofs.ListLaws.{first_refusal}
 use Rattle.tz_info.proofs.RecordLaws.{records}
-use Rattle.tz_info.proofs.Decided.{Decided, like, bind, choice, done, refused, guard, by_number}
+use Rattle.tz_base.proofs.ForCallers.{Decided, like, bind, choice, done, refused, guard, by_number}
 
 -- ---- the next 0 byte
 zero_takes : (text : List ℕ) (i n : ℕ) → position_from is_zero i text ≡ Some n → (m : ℕ) × (n ≡ i + m) × (after : List ℕ) × (text ≡ take m text ++ (0 ∷ after)) × HasNoZero (take m text)

@@ -11,19 +11,18 @@ use Rattle.tz_info.specs.declared.zone.transition.Transition.{Transition}
 use Rattle.tz_info.specs.declared.zone.leap_second.LeapSecond.{LeapSecond}
 use Rattle.tz_info.specs.Footers.{FooterFault}
 use Rattle.tz_info.specs.FilePieces.{FilePieces, HasPieces, PieceFault}
-use Rattle.tz_info.specs.Steps.FileReading.{pieces_at}
 use Rattle.tz_info.specs.Steps.ContentReading.{GivesInMemory}
 use Rattle.tz_info.specs.Steps.FooterReading.{footer_of}
-use Rattle.tz_info.specs.Steps.FileLists.{zone_of, HasLengths, with_rule, with_types, lists_in, file_at, Reads}
+use Rattle.tz_info.specs.Steps.FileLists.{zone_of, HasLengths, with_rule, with_types, lists_in, pieces_at, file_at, Reads}
 use Rattle.tz_info.specs.TzFiles.{HasRule, SayZone, IsTzFile, ContentFault, In_type, In_indicators, In_footer, IsFileFault, In_piece, In_contents, Not_valid, IsZoneFault, In_file, No_memory}
 use Rattle.tz_info.specs.declared.file.reader.Lists.{Lists}
 use Rattle.tz_info.specs.declared.rule.transition_rule.TransitionRule.{TransitionRule}
 use Rattle.tz_info.specs.declared.zone.time_zone.TimeZone.{TimeZone}
 use Rattle.tz_info.proofs.ContentLaws.{transitions_law, leap_seconds_law, indicators_law}
-use Rattle.tz_info.proofs.Decided.{Decided, like, bind, made, done, value_once, fault_once as one_fault, fault_low as low, apart, either}
+use Rattle.tz_base.proofs.ForCallers.{Decided, like, bind, made, done, value_once, fault_once as one_fault, fault_low as low, apart, either}
 use Rattle.tz_info.proofs.FilePieceLaws.{pieces_law, has_lengths}
 use Rattle.tz_info.proofs.FooterLaws.{footer_law as footer_bytes_law}
-use Rattle.tz_info.proofs.ReadLaws.{ok_same}
+use Rattle.tz_base.proofs.ForCallers.{ok_same}
 use Rattle.tz_info.proofs.TypeLaws.{types_law}
 
 -- ---- what whole pieces say

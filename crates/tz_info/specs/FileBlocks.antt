@@ -1,6 +1,6 @@
--- The data blocks of a TZif file (RFC 8536 section 3.2).
-use Rattle.std.specs.Prelude.{ℕ, ◌≡◌, ◌+◌, ◌*◌, List, [], ◌∷◌, ◌++◌, length}
-use Rattle.tz_info.specs.FileHeaders.{Short}
+-- The data blocks of a TZif file (RFC 8536 section 3.2). Each line of `block` is a part, in the order in which it stands there.
+use Rattle.std.specs.Prelude.{ℕ, ◌+◌, ◌*◌, List}
+use Rattle.tz_base.specs.Grammar.{Grammar, Nothing, Exact, ◌>>=◌}
 use Rattle.tz_info.specs.declared.file.header.Counts.{Counts}
 use Rattle.tz_info.specs.declared.file.block.Block.{Block}
 
@@ -25,30 +25,22 @@ parts_of b = record {
   ut_local = b.ut_local.now;
 }
 
--- pieces laid end to end, and the rest
-abbrev pub in_order : List (List ℕ) → List ℕ → List ℕ
-in_order [] rest = rest
-in_order (piece ∷ pieces) rest = piece ++ in_order pieces rest
-
--- the bytes begin with the block that the counts announce, whose times have that many bytes each, and go on with the rest
-pub record IsBlock (time_size : ℕ) (c : Counts) (bytes : List ℕ) (p : Parts) (rest : List ℕ) : Type 0 where
-  pub whole : bytes ≡ in_order (p.times ∷ p.type_indexes ∷ p.types ∷ p.designations ∷ p.leap_seconds ∷ p.standard_wall ∷ p.ut_local ∷ []) rest
-  pub times : length p.times ≡ c.transitions * time_size
-  pub type_indexes : length p.type_indexes ≡ c.transitions
-  pub types : length p.types ≡ c.types * 6
-  pub designations : length p.designations ≡ c.designations
-  pub leap_seconds : length p.leap_seconds ≡ c.leap_seconds * (time_size + 4)
-  pub standard_wall : length p.standard_wall ≡ c.standard_wall
-  pub ut_local : length p.ut_local ≡ c.ut_local
-
-abbrev pub total_of : List ℕ → ℕ
-total_of [] = 0
-total_of (n ∷ ns) = n + total_of ns
-
--- how many bytes such a block has
-abbrev pub block_size : ℕ → Counts → ℕ
-block_size time_size c = total_of (c.transitions * time_size ∷ c.transitions ∷ c.types * 6 ∷ c.designations ∷ c.leap_seconds * (time_size + 4) ∷ c.standard_wall ∷ c.ut_local ∷ [])
-
--- 7: there are fewer
-abbrev pub BlockFault : ℕ → Counts → List ℕ → ℕ → Type 0
-BlockFault time_size c = Short (block_size time_size c)
+-- the block that the counts announce, whose times have that many bytes each
+unfoldable pub block : ℕ → Counts → Grammar Parts
+block time_size c = do
+  times ← Exact (c.transitions * time_size)
+  type_indexes ← Exact c.transitions
+  types ← Exact (c.types * 6)
+  designations ← Exact c.designations
+  leap_seconds ← Exact (c.leap_seconds * (time_size + 4))
+  standard_wall ← Exact c.standard_wall
+  ut_local ← Exact c.ut_local
+  Nothing (record {
+    times = times;
+    type_indexes = type_indexes;
+    types = types;
+    designations = designations;
+    leap_seconds = leap_seconds;
+    standard_wall = standard_wall;
+    ut_local = ut_local;
+  })

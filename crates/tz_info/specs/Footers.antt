@@ -3,8 +3,7 @@ use Rattle.std.specs.Prelude.{ℕ, ◌≡◌, ◌≢◌, Bool, List, [], ◌∷�
 use Rattle.std.specs.Str.{IsUtf8}
 use Rattle.tz_info.specs.FileContents.{HasNoZero}
 use Rattle.tz_info.specs.Trims.{IsTrimmed}
-use Rattle.tz_info.specs.TzTexts.{IsTzText}
-use Rattle.tz_info.specs.TzFaults.{IsTextFault}
+use Rattle.tz_info.specs.TzGrammar.{IsTzText, IsTextFault}
 use Rattle.tz_info.specs.declared.rule.transition_rule.TransitionRule.{TransitionRule}
 
 -- a newline in front and a newline at the end; one alone is both

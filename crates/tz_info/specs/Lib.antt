@@ -19,9 +19,7 @@ pub mod Questions
 pub mod Segments
 pub mod WallPieces
 pub mod ZoneEquality
-pub mod Pieces
-pub mod TzTexts
-pub mod TzFaults
+pub mod TzGrammar
 pub mod Trims
 pub mod PosixZones
 pub mod FileHeaders

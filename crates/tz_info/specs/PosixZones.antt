@@ -3,8 +3,7 @@ use Rattle.std.specs.Prelude.{ℕ, pos, ◌≡◌, ◌≢◌, ◌⊎◌, false, 
 use Rattle.tz_base.specs.LocalTypes.{LocalType}
 use Rattle.tz_info.specs.Zones.{Zone, plain_zone, zone_of_rule}
 use Rattle.tz_info.specs.Trims.{IsTrimmed}
-use Rattle.tz_info.specs.TzTexts.{IsTzText}
-use Rattle.tz_info.specs.TzFaults.{IsTextFault}
+use Rattle.tz_info.specs.TzGrammar.{IsTzText, IsTextFault}
 use Rattle.tz_info.specs.declared.rule.transition_rule.TransitionRule.{TransitionRule}
 use Rattle.tz_info.specs.declared.rule.transition_rule.TransitionRule.TheVariants as rules
 

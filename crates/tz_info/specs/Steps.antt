@@ -14,9 +14,8 @@ pub mod Merging
 pub mod Starts
 pub mod Pieces
 pub mod Prepared
-pub mod Readings
+pub mod Spelled
 pub mod RuleSeconds
-pub mod FileReading
 pub mod ContentReading
 pub mod FooterReading
 pub mod FileLists

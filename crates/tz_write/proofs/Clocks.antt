@@ -6,7 +6,10 @@ use Rattle.std.proofs.lemmas.Bool.{both_ways, false≢true}
 use Rattle.std.proofs.lemmas.Bool.Decides.{nat_tests}
 use Rattle.offset_core.specs.Offset.{IsWithinDay}
 use Rattle.tz_base.specs.Fronts.{is_digit, NoneFirst}
-use Rattle.tz_info.specs.Pieces.{Without, Optional, Seconds, MinutesSeconds, HoursMinutesSeconds, Sign, seconds_of, Duration, Offset, TimeSign, time_limit, Time, clock_max, colon, plus, minus}
+use Rattle.tz_base.specs.Grammar.{Spells, Without}
+use Rattle.tz_info.specs.TzGrammar as tz
+use Rattle.tz_info.specs.TzGrammar.{seconds_of, time_limit, clock_max, colon, plus, minus}
+use Rattle.tz_info.proofs.ForCallers.{within_from, within_to}
 use Rattle.tz_info.specs.Rules.{IsWithinWeek}
 use Rattle.tz_write.specs.WrittenTexts.{AreInPairs}
 use Rattle.tz_write.specs.Steps.TextPieces.{pair_text, seconds_text, minutes_text, clock_text_of, clock_text, signed_text, offset_text, time_text, is_positive, is_negative, IsPlainTime, IsTimeOf}
@@ -18,8 +21,9 @@ abbrev pub Stops : List ℕ → Type 0
 Stops rest = NoneFirst is_digit rest × Without colon rest
 
 -- ---- seconds
-pub seconds_spelled : (s : ℕ) (rest : List ℕ) → s ≤ 59 → Stops rest → Seconds (seconds_text s ++ rest) s rest
-seconds_spelled s rest h stops = elim (s == 0) as (λ t. (s == 0) ≡ t → Seconds (cond t [] (pair_text s) ++ rest) s rest) [
+pub seconds_spelled : (s : ℕ) (rest : List ℕ) → s ≤ 59 → Stops rest → Spells tz.seconds (seconds_text s ++ rest) s rest
+unfolding tz.seconds
+seconds_spelled s rest h stops = elim (s == 0) as (λ t. (s == 0) ≡ t → Spells tz.seconds (cond t [] (pair_text s) ++ rest) s rest) [
   | true ↦ λ e. let z : s ≡ 0 = grind (arith, nat_tests) in inr (stops.1, (z, refl))
   | false ↦ λ e. inl (_, refl, pair_spelled clock_max s rest (omega arith) (omega arith) stops.0)
 ] refl
@@ -27,7 +31,8 @@ seconds_spelled s rest h stops = elim (s == 0) as (λ t. (s == 0) ≡ t → Seco
 seconds_stop : (s : ℕ) (rest : List ℕ) → Stops rest → NoneFirst is_digit (seconds_text s ++ rest)
 seconds_stop s rest stops = elim (s == 0) as (λ t. NoneFirst is_digit (cond t [] (pair_text s) ++ rest)) [ true ↦ stops.0 | false ↦ refl ]
 
-seconds_front : (bytes : List ℕ) (s : ℕ) (rest : List ℕ) → AreInPairs bytes → Seconds bytes s rest → Front (seconds_text s) bytes rest
+seconds_front : (bytes : List ℕ) (s : ℕ) (rest : List ℕ) → AreInPairs bytes → Spells tz.seconds bytes s rest → Front (seconds_text s) bytes rest
+unfolding tz.seconds
 seconds_front bytes s rest pairs h = elim (s == 0) as (λ t. (s == 0) ≡ t → Front (cond t [] (pair_text s)) bytes rest) [
   | true ↦ λ e. elim h [
     | inl a ↦ front_any (pair_text s) bytes rest (pair_front clock_max bytes a.0 s rest a.1 pairs a.2)
@@ -49,29 +54,31 @@ seconds_pairs s rest h stops pairs = elim (s == 0) as (λ t. AreInPairs (cond t 
 both_zero : (m s : ℕ) → ((m == 0) && (s == 0)) ≡ true → (m ≡ 0) × (s ≡ 0)
 both_zero m s e = (grind (arith, nat_tests), grind (arith, nat_tests))
 
-pub minutes_spelled : (m s : ℕ) (rest : List ℕ) → m ≤ 59 → s ≤ 59 → Stops rest → Optional colon (0, 0) MinutesSeconds (minutes_text m s ++ rest) (m, s) rest
-minutes_spelled m s rest a b stops = elim ((m == 0) && (s == 0)) as (λ t. ((m == 0) && (s == 0)) ≡ t → Optional colon (0, 0) MinutesSeconds (cond t [] (pair_text m ++ seconds_text s) ++ rest) (m, s) rest) [
+pub minutes_spelled : (m s : ℕ) (rest : List ℕ) → m ≤ 59 → s ≤ 59 → Stops rest → Spells tz.optional_minutes (minutes_text m s ++ rest) (m, s) rest
+unfolding tz.optional_minutes tz.minutes_seconds
+minutes_spelled m s rest a b stops = elim ((m == 0) && (s == 0)) as (λ t. ((m == 0) && (s == 0)) ≡ t → Spells tz.optional_minutes (cond t [] (pair_text m ++ seconds_text s) ++ rest) (m, s) rest) [
   | true ↦ λ e. let z = both_zero m s e in let x = z.0 in let y = z.1 in inr (stops.1, (rw (x, y) refl, refl))
   | false ↦ λ e. inl (
     _,
     refl,
-    record {
-      after = seconds_text s ++ rest;
-      minutes = pair_spelled clock_max m (seconds_text s ++ rest) (omega arith) (omega arith) (seconds_stop s rest stops);
-      seconds = seconds_spelled s rest b stops;
-    },
+    (m, seconds_text s ++ rest, pair_spelled clock_max m (seconds_text s ++ rest) (omega arith) (omega arith) (seconds_stop s rest stops), (s, rest, seconds_spelled s rest b stops, (refl, refl))),
   )
 ] refl
 
 minutes_stop : (m s : ℕ) (rest : List ℕ) → Stops rest → NoneFirst is_digit (minutes_text m s ++ rest)
 minutes_stop m s rest stops = elim ((m == 0) && (s == 0)) as (λ t. NoneFirst is_digit (cond t [] (pair_text m ++ seconds_text s) ++ rest)) [ true ↦ stops.0 | false ↦ refl ]
 
-minutes_given : (bytes after : List ℕ) (m s : ℕ) (rest : List ℕ) → bytes ≡ colon ∷ after → AreInPairs bytes → MinutesSeconds after (m, s) rest → Front (pair_text m ++ seconds_text s) bytes rest
-minutes_given bytes after m s rest e pairs h =
-    let p = pair_front clock_max bytes after m h.after e pairs h.minutes in
-    front_then _ _ bytes h.after rest p (seconds_front h.after s rest (pairs_after _ bytes h.after p pairs) h.seconds)
+minutes_given : (bytes after : List ℕ) (m s : ℕ) (rest : List ℕ) → bytes ≡ colon ∷ after → AreInPairs bytes → Spells tz.minutes_seconds after (m, s) rest → Front (pair_text m ++ seconds_text s) bytes rest
+unfolding tz.minutes_seconds
+minutes_given bytes after m s rest e pairs (x, behind, minutes, (y, end, seconds, (value, same))) =
+    let p = pair_front clock_max bytes after x behind e pairs minutes in
+    let f = front_then _ _ bytes behind end p (seconds_front behind y end (pairs_after _ bytes behind p pairs) seconds) in
+    let l : m ≡ x = ap (λ (t : ℕ × ℕ). t.0) value in
+    let r : s ≡ y = ap (λ (t : ℕ × ℕ). t.1) value in
+    rw (l, r, ← same) f
 
-minutes_front : (bytes : List ℕ) (m s : ℕ) (rest : List ℕ) → AreInPairs bytes → Optional colon (0, 0) MinutesSeconds bytes (m, s) rest → Front (minutes_text m s) bytes rest
+minutes_front : (bytes : List ℕ) (m s : ℕ) (rest : List ℕ) → AreInPairs bytes → Spells tz.optional_minutes bytes (m, s) rest → Front (minutes_text m s) bytes rest
+unfolding tz.optional_minutes
 minutes_front bytes m s rest pairs h = elim ((m == 0) && (s == 0)) as (λ t. ((m == 0) && (s == 0)) ≡ t → Front (cond t [] (pair_text m ++ seconds_text s)) bytes rest) [
   | true ↦ λ e. elim h [
     | inl a ↦ front_any _ bytes rest (minutes_given bytes a.0 m s rest a.1 pairs a.2)
@@ -90,17 +97,18 @@ minutes_pairs m s rest a b stops pairs = elim ((m == 0) && (s == 0)) as (λ t. A
 ]
 
 -- ---- hours, minutes and seconds
-pub hours_spelled : (h m s : ℕ) (rest : List ℕ) → h < 1000 → m ≤ 59 → s ≤ 59 → Stops rest → HoursMinutesSeconds (clock_text_of h m s ++ rest) (h, m, s) rest
-hours_spelled h m s rest l a b stops = rw (append_assoc (decimal h) (minutes_text m s) rest) (record {
-  after = minutes_text m s ++ rest;
-  hours = number_spelled clock_max h (minutes_text m s ++ rest) l (omega arith) (minutes_stop m s rest stops);
-  others = minutes_spelled m s rest a b stops;
-})
+pub hours_spelled : (h m s : ℕ) (rest : List ℕ) → h < 1000 → m ≤ 59 → s ≤ 59 → Stops rest → Spells tz.hours_minutes_seconds (clock_text_of h m s ++ rest) (h, m, s) rest
+unfolding tz.hours_minutes_seconds
+hours_spelled h m s rest l a b stops =
+    rw (append_assoc (decimal h) (minutes_text m s) rest) (h, minutes_text m s ++ rest, number_spelled clock_max h (minutes_text m s ++ rest) l (omega arith) (minutes_stop m s rest stops), ((m, s), rest, minutes_spelled m s rest a b stops, (refl, refl)))
 
-hours_front : (bytes : List ℕ) (h m s : ℕ) (rest : List ℕ) → h < 1000 → AreInPairs bytes → HoursMinutesSeconds bytes (h, m, s) rest → Front (clock_text_of h m s) bytes rest
-hours_front bytes h m s rest l pairs p =
-    let f = number_front clock_max bytes h p.after l p.hours in
-    front_then _ _ bytes p.after rest f (minutes_front p.after m s rest (pairs_after _ bytes p.after f pairs) p.others)
+hours_front : (bytes : List ℕ) (h m s : ℕ) (rest : List ℕ) → h < 1000 → AreInPairs bytes → Spells tz.hours_minutes_seconds bytes (h, m, s) rest → Front (clock_text_of h m s) bytes rest
+unfolding tz.hours_minutes_seconds
+hours_front bytes h m s rest l pairs (x, after, hours, (t, end, others, (value, same))) =
+    let first : h ≡ x = ap (λ (u : ℕ × ℕ × ℕ). u.0) value in
+    let second : (m, s) ≡ t = ap (λ (u : ℕ × ℕ × ℕ). (u.1, u.2)) value in
+    let f = number_front clock_max bytes h after l (rw first hours) in
+    front_then _ _ bytes after rest f (minutes_front after m s rest (pairs_after _ bytes after f pairs) (rw (second, ← same) others))
 
 hours_pairs : (h m s : ℕ) (rest : List ℕ) → h < 1000 → m ≤ 59 → s ≤ 59 → Stops rest → AreInPairs rest → AreInPairs (clock_text_of h m s ++ rest)
 hours_pairs h m s rest l a b stops pairs = rw (append_assoc (decimal h) (minutes_text m s) rest) (pairs_number h (minutes_text m s ++ rest) l (minutes_pairs m s rest a b stops pairs))
@@ -109,20 +117,11 @@ hours_pairs h m s rest l a b stops pairs = rw (append_assoc (decimal h) (minutes
 abbrev signed : Bool → ℕ → ℤ
 signed negative n = cond negative (neg_ℤ (pos n)) (pos n)
 
-pub duration_spelled : (limit : ℕ) (negative : Bool) (n : ℕ) (z : ℤ) (rest : List ℕ) → n / 3600 ≤ limit → limit < 1000 → signed negative n ≡ z → Stops rest → Duration limit negative (clock_text n ++ rest) z rest
-unfolding clock_text
+pub duration_spelled : (limit : ℕ) (negative : Bool) (n : ℕ) (z : ℤ) (rest : List ℕ) → n / 3600 ≤ limit → limit < 1000 → signed negative n ≡ z → Stops rest → Spells (tz.duration limit negative) (clock_text n ++ rest) z rest
+unfolding clock_text tz.duration
 duration_spelled limit negative n z rest l k v stops =
     let e : 3600 * (n / 3600) + 60 * (n / 60 % 60) + n % 60 ≡ n = omega arith in
-    record {
-      h = n / 3600;
-      m = n / 60 % 60;
-      s = n % 60;
-      spelled = hours_spelled (n / 3600) (n / 60 % 60) (n % 60) rest (omega arith) (omega arith) (omega arith) stops;
-      hours = l;
-      minutes = omega arith;
-      seconds = omega arith;
-      value = rw e v;
-    }
+    ((n / 3600, n / 60 % 60, n % 60), rest, hours_spelled (n / 3600) (n / 60 % 60) (n % 60) rest (omega arith) (omega arith) (omega arith) stops, (within_to limit (n / 3600) (n / 60 % 60) (n % 60) l (omega arith) (omega arith), rw e (sym v), refl))
 
 abs_neg : (n : ℕ) → unsigned_abs (neg_ℤ (pos n)) ≡ n
 abs_neg zero = refl
@@ -132,16 +131,16 @@ abs_signed : (negative : Bool) (n : ℕ) → unsigned_abs (signed negative n) �
 abs_signed true n = abs_neg n
 abs_signed false n = refl
 
-pub duration_front : (limit : ℕ) (negative : Bool) (bytes : List ℕ) (z : ℤ) (rest : List ℕ) → limit < 1000 → AreInPairs bytes → Duration limit negative bytes z rest → Front (clock_text (unsigned_abs z)) bytes rest
-unfolding clock_text
-duration_front limit negative bytes z rest l pairs d =
-    let a = d.minutes in let b = d.seconds in let c = d.hours in
-    let f = hours_front bytes d.h d.m d.s rest (omega arith) pairs d.spelled in
-    let n : unsigned_abs z ≡ 3600 * d.h + 60 * d.m + d.s = sym (ap unsigned_abs d.value) ∙ abs_signed negative _ in
-    let x : unsigned_abs z / 3600 ≡ d.h = omega arith in
-    let y : unsigned_abs z / 60 % 60 ≡ d.m = omega arith in
-    let w : unsigned_abs z % 60 ≡ d.s = omega arith in
-    rw (x, y, w) f
+pub duration_front : (limit : ℕ) (negative : Bool) (bytes : List ℕ) (z : ℤ) (rest : List ℕ) → limit < 1000 → AreInPairs bytes → Spells (tz.duration limit negative) bytes z rest → Front (clock_text (unsigned_abs z)) bytes rest
+unfolding clock_text tz.duration
+duration_front limit negative bytes z rest l pairs ((h, m, s), after, spelled, (test, value, same)) =
+    let (c, a, b) = within_from limit h m s test in
+    let f = hours_front bytes h m s after (omega arith) pairs spelled in
+    let n : unsigned_abs z ≡ 3600 * h + 60 * m + s = ap unsigned_abs value ∙ abs_signed negative _ in
+    let x : unsigned_abs z / 3600 ≡ h = omega arith in
+    let y : unsigned_abs z / 60 % 60 ≡ m = omega arith in
+    let w : unsigned_abs z % 60 ≡ s = omega arith in
+    rw (x, y, w, ← same) f
 
 pub clock_pairs : (n : ℕ) (rest : List ℕ) → n / 3600 < 1000 → Stops rest → AreInPairs rest → AreInPairs (clock_text n ++ rest)
 unfolding clock_text
@@ -160,7 +159,8 @@ clock_without t n rest h l = let f = clock_first n rest l in let m = digit_least
 abbrev SignRead : List ℕ → Bool → List ℕ → Type 0
 SignRead bytes negative unsigned = ((bytes ≡ plus ∷ unsigned) × (negative ≡ false)) ⊎ (((bytes ≡ minus ∷ unsigned) × (negative ≡ true)) ⊎ ((bytes ≡ unsigned) × (negative ≡ false)))
 
-sign_read : (bytes : List ℕ) (negative : Bool) (unsigned : List ℕ) → Sign bytes negative unsigned → SignRead bytes negative unsigned
+sign_read : (bytes : List ℕ) (negative : Bool) (unsigned : List ℕ) → Spells tz.sign bytes negative unsigned → SignRead bytes negative unsigned
+unfolding tz.sign
 sign_read bytes negative unsigned h = elim h [
   | inl a ↦ inl (a.1 ∙ ap (λ (z : List ℕ). plus ∷ z) a.2.1, a.2.0)
   | inr b ↦ elim b.1 [
@@ -169,7 +169,8 @@ sign_read bytes negative unsigned h = elim h [
   ]
 ]
 
-time_sign_read : (extended : Bool) (bytes : List ℕ) (negative : Bool) (unsigned : List ℕ) → TimeSign extended bytes negative unsigned → SignRead bytes negative unsigned
+time_sign_read : (extended : Bool) (bytes : List ℕ) (negative : Bool) (unsigned : List ℕ) → Spells (tz.time_sign extended) bytes negative unsigned → SignRead bytes negative unsigned
+unfolding tz.time_sign
 time_sign_read true bytes negative unsigned h = sign_read bytes negative unsigned h
 time_sign_read false bytes negative unsigned h = inr (inr (h.1, h.0))
 
@@ -197,7 +198,8 @@ signed_front false negative n bytes unsigned rest h f need = elim h [
   ]
 ]
 
-signed_spelled : (negative : Bool) (n : ℕ) (rest : List ℕ) → n / 3600 < 1000 → Sign (signed_text negative n ++ rest) negative (clock_text n ++ rest)
+signed_spelled : (negative : Bool) (n : ℕ) (rest : List ℕ) → n / 3600 < 1000 → Spells tz.sign (signed_text negative n ++ rest) negative (clock_text n ++ rest)
+unfolding tz.sign
 signed_spelled true n rest l = inr ((λ e. absurd (omega arith)), inl (clock_text n ++ rest, refl, (refl, refl)))
 signed_spelled false n rest l = inr (clock_without plus n rest (omega arith) l, inr (clock_without minus n rest (omega arith) l, (refl, refl)))
 
@@ -215,14 +217,10 @@ pub offset_hours : (east : ℤ) → IsWithinDay east → unsigned_abs east / 360
 offset_hours (pos n) h = let a = h.1 in let b : n < 86400 = omega (arith, ints) in omega arith
 offset_hours (negsuc n) h = let a = h.0 in let b : suc n < 86400 = omega (arith, ints) in omega arith
 
-pub offset_spelled : (east : ℤ) (rest : List ℕ) → IsWithinDay east → Stops rest → Offset (offset_text east ++ rest) east rest
-unfolding offset_text
-offset_spelled east rest h stops = let l = offset_hours east h in record {
-  is_minus = is_positive east;
-  unsigned = clock_text (unsigned_abs east) ++ rest;
-  sign = signed_spelled (is_positive east) (unsigned_abs east) rest (omega arith);
-  duration = duration_spelled 23 (not (is_positive east)) (unsigned_abs east) east rest l (omega arith) (offset_value east) stops;
-}
+pub offset_spelled : (east : ℤ) (rest : List ℕ) → IsWithinDay east → Stops rest → Spells tz.offset (offset_text east ++ rest) east rest
+unfolding offset_text tz.offset
+offset_spelled east rest h stops = let l = offset_hours east h in
+    (is_positive east, clock_text (unsigned_abs east) ++ rest, signed_spelled (is_positive east) (unsigned_abs east) rest (omega arith), duration_spelled 23 (not (is_positive east)) (unsigned_abs east) east rest l (omega arith) (offset_value east) stops)
 
 needs_minus : (is_minus : Bool) (h m s : ℕ) (east : ℤ) → seconds_of (not is_minus) h m s ≡ east → is_positive east ≡ true → is_minus ≡ true
 needs_minus true h m s east v e = refl
@@ -232,14 +230,14 @@ needs_minus false h m s east v e = absurd (west _ (subst (λ (z : ℤ). is_posit
     west zero e = false≢true e
     west (suc n) e = false≢true e
 
-pub offset_front : (bytes : List ℕ) (east : ℤ) (rest : List ℕ) → AreInPairs bytes → Offset bytes east rest → Front (offset_text east) bytes rest
-unfolding offset_text
-offset_front bytes east rest pairs o =
-    let s = sign_read bytes o.is_minus o.unsigned o.sign in
-    let d = o.duration in
-    signed_front (is_positive east) o.is_minus (unsigned_abs east) bytes o.unsigned rest s
-    (duration_front 23 (not o.is_minus) o.unsigned east rest (omega arith) (unsigned_pairs bytes o.is_minus o.unsigned s pairs) d)
-    (needs_minus o.is_minus d.h d.m d.s east d.value)
+pub offset_front : (bytes : List ℕ) (east : ℤ) (rest : List ℕ) → AreInPairs bytes → Spells tz.offset bytes east rest → Front (offset_text east) bytes rest
+unfolding offset_text tz.offset tz.duration
+offset_front bytes east rest pairs (is_minus, unsigned, sign, d) =
+    let s = sign_read bytes is_minus unsigned sign in
+    let ((x, y, z), _, _, (_, value, _)) = d in
+    signed_front (is_positive east) is_minus (unsigned_abs east) bytes unsigned rest s
+    (duration_front 23 (not is_minus) unsigned east rest (omega arith) (unsigned_pairs bytes is_minus unsigned s pairs) d)
+    (needs_minus is_minus x y z east (sym value))
 
 pub offset_pairs : (east : ℤ) (rest : List ℕ) → IsWithinDay east → Stops rest → AreInPairs rest → AreInPairs (offset_text east ++ rest)
 unfolding offset_text
@@ -254,13 +252,6 @@ offset_first (negsuc n) rest h =
     let a = h.0 in let b : suc n < 86400 = omega (arith, ints) in
     let f = clock_first (suc n) rest (omega arith) in (f.0, f.1, f.2, digit_most f.0 f.3)
 
-within_day : (negative : Bool) (h m s : ℕ) → h ≤ 23 → m ≤ 59 → s ≤ 59 → IsWithinDay (seconds_of negative h m s)
-within_day true h m s a b c = (omega (arith, ints), omega (arith, ints))
-within_day false h m s a b c = (omega (arith, ints), omega (arith, ints))
-
-pub offset_fits : (bytes : List ℕ) (east : ℤ) (rest : List ℕ) → Offset bytes east rest → IsWithinDay east
-offset_fits bytes east rest o = let d = o.duration in subst IsWithinDay d.value (within_day (not o.is_minus) d.h d.m d.s d.hours d.minutes d.seconds)
-
 -- ---- times of day
 time_value : (time : ℤ) → signed (is_negative time) (unsigned_abs time) ≡ time
 time_value (pos zero) = refl
@@ -271,34 +262,27 @@ pub time_hours : (time : ℤ) → IsWithinWeek time → unsigned_abs time / 3600
 time_hours (pos n) h = let a = h.1 in let b : n < 604800 = omega (arith, ints) in omega arith
 time_hours (negsuc n) h = let a = h.0 in let b : suc n < 604800 = omega (arith, ints) in omega arith
 
-extended_time_spelled : (time : ℤ) (rest : List ℕ) → IsWithinWeek time → Stops rest → Time true (time_text time ++ rest) time rest
-unfolding time_text
-extended_time_spelled time rest h stops = let l = time_hours time h in record {
-  is_minus = is_negative time;
-  unsigned = clock_text (unsigned_abs time) ++ rest;
-  sign = signed_spelled (is_negative time) (unsigned_abs time) rest (omega arith);
-  duration = duration_spelled 167 (is_negative time) (unsigned_abs time) time rest l (omega arith) (time_value time) stops;
-}
+extended_time_spelled : (time : ℤ) (rest : List ℕ) → IsWithinWeek time → Stops rest → Spells (tz.time true) (time_text time ++ rest) time rest
+unfolding time_text tz.time tz.time_sign
+extended_time_spelled time rest h stops = let l = time_hours time h in
+    (is_negative time, clock_text (unsigned_abs time) ++ rest, signed_spelled (is_negative time) (unsigned_abs time) rest (omega arith), duration_spelled 167 (is_negative time) (unsigned_abs time) time rest l (omega arith) (time_value time) stops)
 
-plain_time_spelled : (time : ℤ) (rest : List ℕ) → IsPlainTime time → Stops rest → Time false (time_text time ++ rest) time rest
-unfolding time_text
-plain_time_spelled (pos n) rest h stops = let a = h.1 in let b : n < 90_000 = omega (arith, ints) in record {
-  is_minus = false;
-  unsigned = clock_text n ++ rest;
-  sign = (refl, refl);
-  duration = duration_spelled 24 false n (pos n) rest (omega arith) (omega arith) refl stops;
-}
+plain_time_spelled : (time : ℤ) (rest : List ℕ) → IsPlainTime time → Stops rest → Spells (tz.time false) (time_text time ++ rest) time rest
+unfolding time_text tz.time tz.time_sign
+plain_time_spelled (pos n) rest h stops = let a = h.1 in let b : n < 90_000 = omega (arith, ints) in
+    (false, clock_text n ++ rest, (refl, refl), duration_spelled 24 false n (pos n) rest (omega arith) (omega arith) refl stops)
 plain_time_spelled (negsuc n) rest h stops = let a = h.0 in absurd (omega (arith, ints))
 
-pub time_spelled : (extended : Bool) (time : ℤ) (rest : List ℕ) → IsTimeOf extended time → Stops rest → Time extended (time_text time ++ rest) time rest
+pub time_spelled : (extended : Bool) (time : ℤ) (rest : List ℕ) → IsTimeOf extended time → Stops rest → Spells (tz.time extended) (time_text time ++ rest) time rest
 time_spelled true time rest h stops = extended_time_spelled time rest h stops
 time_spelled false time rest h stops = plain_time_spelled time rest h stops
 
 -- a text without extensions has no other times
-pub time_plain : (bytes : List ℕ) (time : ℤ) (rest : List ℕ) → Time false bytes time rest → IsPlainTime time
-time_plain bytes time rest t =
-    let d = t.duration in let a = d.hours in let b = d.minutes in let c = d.seconds in
-    subst IsPlainTime d.value (subst (λ (x : Bool). IsPlainTime (seconds_of x d.h d.m d.s)) (sym t.sign.0) (omega (arith, ints), omega (arith, ints)))
+pub time_plain : (bytes : List ℕ) (time : ℤ) (rest : List ℕ) → Spells (tz.time false) bytes time rest → IsPlainTime time
+unfolding tz.time tz.time_sign tz.duration
+time_plain bytes time rest (is_minus, _, sign, ((h, m, s), _, _, (test, value, _))) =
+    let (a, b, c) = within_from 24 h m s test in
+    subst IsPlainTime (sym value) (subst (λ (x : Bool). IsPlainTime (seconds_of x h m s)) (sym sign.0) (omega (arith, ints), omega (arith, ints)))
 
 time_minus : (is_minus : Bool) (h m s : ℕ) (time : ℤ) → seconds_of is_minus h m s ≡ time → is_negative time ≡ true → is_minus ≡ true
 time_minus true h m s time v e = refl
@@ -308,14 +292,14 @@ limit_small : (extended : Bool) → time_limit extended < 1000
 limit_small true = omega arith
 limit_small false = omega arith
 
-pub time_front : (extended : Bool) (bytes : List ℕ) (time : ℤ) (rest : List ℕ) → AreInPairs bytes → Time extended bytes time rest → Front (time_text time) bytes rest
-unfolding time_text
-time_front extended bytes time rest pairs t =
-    let s = time_sign_read extended bytes t.is_minus t.unsigned t.sign in
-    let d = t.duration in
-    signed_front (is_negative time) t.is_minus (unsigned_abs time) bytes t.unsigned rest s
-    (duration_front (time_limit extended) t.is_minus t.unsigned time rest (limit_small extended) (unsigned_pairs bytes t.is_minus t.unsigned s pairs) d)
-    (time_minus t.is_minus d.h d.m d.s time d.value)
+pub time_front : (extended : Bool) (bytes : List ℕ) (time : ℤ) (rest : List ℕ) → AreInPairs bytes → Spells (tz.time extended) bytes time rest → Front (time_text time) bytes rest
+unfolding time_text tz.time tz.duration
+time_front extended bytes time rest pairs (is_minus, unsigned, sign, d) =
+    let s = time_sign_read extended bytes is_minus unsigned sign in
+    let ((x, y, z), _, _, (_, value, _)) = d in
+    signed_front (is_negative time) is_minus (unsigned_abs time) bytes unsigned rest s
+    (duration_front (time_limit extended) is_minus unsigned time rest (limit_small extended) (unsigned_pairs bytes is_minus unsigned s pairs) d)
+    (time_minus is_minus x y z time (sym value))
 
 pub time_pairs : (time : ℤ) (rest : List ℕ) → IsWithinWeek time → Stops rest → AreInPairs rest → AreInPairs (time_text time ++ rest)
 unfolding time_text

@@ -1,5 +1,5 @@
 -- The texts of days and of the times after them, and of the offset of daylight saving time.
-use Rattle.std.proofs.Common.{◌≡◌, ℕ, zero, suc, ℤ, pos, negsuc, ◌+ℤ◌, ◌<◌, ◌≤◌, arith, refl, ap, ◌∙◌, sym, subst, List, [], ◌∷◌, ◌++◌, append_assoc, Bool, true, false, inl, inr, ◌⊎◌, cond}
+use Rattle.std.proofs.Common.{◌≡◌, ℕ, zero, suc, ℤ, pos, negsuc, ◌+ℤ◌, ◌<◌, ◌≤◌, arith, refl, ap, ◌∙◌, sym, subst, List, [], ◌∷◌, ◌++◌, append_assoc, Bool, true, false, inl, inr, ◌⊎◌, ◌≢◌, cond, int_le}
 use Rattle.std.specs.Fmt.{decimal}
 use Rattle.std.specs.Ordering.{int_eq}
 use Rattle.std.proofs.lemmas.Int.{ints}
@@ -7,7 +7,10 @@ use Rattle.std.proofs.lemmas.Bool.{both_ways}
 use Rattle.std.proofs.lemmas.Bool.Decides.{Decides-int_eq}
 use Rattle.offset_core.specs.Offset.{IsWithinDay}
 use Rattle.tz_base.specs.Fronts.{is_digit, NoneFirst}
-use Rattle.tz_info.specs.Pieces.{Without, Number, Optional, Time, Date, Day, DstOffset, date_max, day_max, comma, dot, slash, letter_J, letter_M}
+use Rattle.tz_base.specs.Grammar.{Spells, Without, IsNumber}
+use Rattle.tz_info.specs.TzGrammar as tz
+use Rattle.tz_info.specs.TzGrammar.{date_max, day_max, comma, dot, slash, letter_J, letter_M}
+use Rattle.tz_info.proofs.ForCallers.{rule_day_from, rule_day_to}
 use Rattle.tz_info.specs.RuleDays.{IsRuleDay}
 use Rattle.tz_info.specs.Rules.{IsWithinWeek}
 use Rattle.tz_info.specs.declared.rule.day.DayForm.{DayForm}
@@ -17,7 +20,7 @@ use Rattle.tz_write.specs.WrittenTexts.{AreInPairs}
 use Rattle.tz_write.specs.Steps.TextPieces.{offset_text, time_text, IsPlainTime, IsTimeOf, time_after, date_text, day_text, dst_offset_text}
 use Rattle.tz_write.proofs.Shortest.{Front, front_then, front_cons, front_nothing, front_any, pairs_after}
 use Rattle.tz_write.proofs.Decimals.{number_spelled, number_front, pairs_number, first_digit, digit_most}
-use Rattle.tz_write.proofs.Clocks.{Stops, time_spelled, time_plain, time_front, time_pairs, offset_spelled, offset_front, offset_pairs, clock_without}
+use Rattle.tz_write.proofs.Clocks.{Stops, time_spelled, time_plain, time_front, time_pairs, offset_spelled, offset_front, offset_pairs, offset_first, clock_without}
 
 -- what may stand after an offset or a day: nothing, or a comma
 abbrev pub IsEndOrComma : List ℕ → Type 0
@@ -39,11 +42,12 @@ no_slash rest h = elim h [
 no_letters : (t n : ℕ) (rest : List ℕ) → 57 < t → n < 1000 → Without t (decimal n ++ rest)
 no_letters t n rest h l = let f = first_digit n l in let m = digit_most f.0 f.3 in rw f.2 (λ e. absurd (omega arith))
 
-pub date_spelled : (form : DayForm) (rest : List ℕ) → IsRuleDay form → NoneFirst is_digit rest → Date (date_text form ++ rest) form rest
+pub date_spelled : (form : DayForm) (rest : List ℕ) → IsRuleDay form → NoneFirst is_digit rest → Spells tz.date (date_text form ++ rest) form rest
+unfolding tz.date tz.month_date tz.julian_date tz.day_number tz.rule_day
 date_spelled (Julian1 n) rest h none = let l = h.1 in
-    inr ((λ e. absurd (omega arith)), inl (decimal n ++ rest, refl, record { n = n; spelled = number_spelled day_max n rest (omega arith) (omega arith) none; value = refl; fits = h }))
+    inr ((λ e. absurd (omega arith)), inl (decimal n ++ rest, refl, (n, rest, number_spelled day_max n rest (omega arith) (omega arith) none, (rule_day_to (Julian1 n) h, refl, refl))))
 date_spelled (Julian0 n) rest h none =
-    inr (no_letters letter_M n rest (omega arith) (omega arith), inr (no_letters letter_J n rest (omega arith) (omega arith), record { n = n; spelled = number_spelled day_max n rest (omega arith) (omega arith) none; value = refl; fits = h }))
+    inr (no_letters letter_M n rest (omega arith) (omega arith), inr (no_letters letter_J n rest (omega arith) (omega arith), (n, rest, number_spelled day_max n rest (omega arith) (omega arith) none, (rule_day_to (Julian0 n) h, refl, refl))))
 date_spelled (MonthWeekday m w d) rest h none =
     let a = h.1 in let b = h.3 in let c = h.4 in
     let at_weekday = decimal d ++ rest in
@@ -54,22 +58,31 @@ date_spelled (MonthWeekday m w d) rest h none =
     inl (
       (decimal m ++ (dot ∷ decimal w ++ (dot ∷ decimal d))) ++ rest,
       refl,
-      rw f (record {
-        month = m;
-        week = w;
-        weekday = d;
-        at_week = at_week;
-        at_weekday = at_weekday;
-        month_spelled = number_spelled date_max m (dot ∷ at_week) (omega arith) (omega arith) refl;
-        week_spelled = number_spelled date_max w (dot ∷ at_weekday) (omega arith) (omega arith) refl;
-        weekday_spelled = number_spelled date_max d rest (omega arith) (omega arith) none;
-        value = refl;
-        fits = h;
-      }),
+      rw f (
+        m,
+        dot ∷ at_week,
+        number_spelled date_max m (dot ∷ at_week) (omega arith) (omega arith) refl,
+        (
+          tt,
+          at_week,
+          refl,
+          (
+            w,
+            dot ∷ at_weekday,
+            number_spelled date_max w (dot ∷ at_weekday) (omega arith) (omega arith) refl,
+            (
+              tt,
+              at_weekday,
+              refl,
+              (d, rest, number_spelled date_max d rest (omega arith) (omega arith) none, (rule_day_to (MonthWeekday m w d) h, refl, refl)),
+            ),
+          ),
+        ),
+      ),
     )
 
-month_front : (bytes : List ℕ) (form : DayForm) (rest : List ℕ) (m w d : ℕ) (at_week at_weekday : List ℕ) → form ≡ MonthWeekday m w d → IsRuleDay (MonthWeekday m w d) → Number date_max bytes m (dot ∷ at_week) → Number date_max at_week w (dot ∷ at_weekday) → Number date_max at_weekday d rest → Front (decimal m ++ (dot ∷ decimal w ++ (dot ∷ decimal d))) bytes rest
-month_front bytes form rest m w d at_week at_weekday v h x y z =
+month_front : (bytes : List ℕ) (rest : List ℕ) (m w d : ℕ) (at_week at_weekday : List ℕ) → IsRuleDay (MonthWeekday m w d) → IsNumber date_max bytes m (dot ∷ at_week) → IsNumber date_max at_week w (dot ∷ at_weekday) → IsNumber date_max at_weekday d rest → Front (decimal m ++ (dot ∷ decimal w ++ (dot ∷ decimal d))) bytes rest
+month_front bytes rest m w d at_week at_weekday h x y z =
     let a = h.1 in let b = h.3 in let c = h.4 in
     let f = number_front date_max bytes m (dot ∷ at_week) (omega arith) x in
     let g = number_front date_max at_week w (dot ∷ at_weekday) (omega arith) y in
@@ -78,19 +91,16 @@ month_front bytes form rest m w d at_week at_weekday v h x y z =
     let weeks = front_then (decimal w) (dot ∷ decimal d) at_week (dot ∷ at_weekday) rest g last in
     front_then (decimal m) (dot ∷ decimal w ++ (dot ∷ decimal d)) bytes (dot ∷ at_week) rest f (front_cons dot (decimal w ++ (dot ∷ decimal d)) (dot ∷ at_week) at_week rest refl weeks)
 
-pub date_front : (bytes : List ℕ) (form : DayForm) (rest : List ℕ) → Date bytes form rest → Front (date_text form) bytes rest
-date_front bytes form rest h = elim h [
-  | inl a ↦ let p = a.2 in let fits = subst IsRuleDay p.value p.fits in
-      subst (λ (x : DayForm). Front (date_text x) bytes rest) (sym p.value)
-      (front_cons letter_M _ bytes a.0 rest a.1 (month_front a.0 form rest p.month p.week p.weekday p.at_week p.at_weekday p.value fits p.month_spelled p.week_spelled p.weekday_spelled))
-  | inr b ↦ elim b.1 [
-    | inl c ↦ let p = c.2 in let fits = subst IsRuleDay p.value p.fits in let l = fits.1 in
-        subst (λ (x : DayForm). Front (date_text x) bytes rest) (sym p.value)
-        (front_cons letter_J (decimal p.n) bytes c.0 rest c.1 (number_front day_max c.0 p.n rest (omega arith) p.spelled))
-    | inr d ↦ let p = d.1 in let fits : p.n ≤ 365 = subst IsRuleDay p.value p.fits in
-        subst (λ (x : DayForm). Front (date_text x) bytes rest) (sym p.value) (number_front day_max bytes p.n rest (omega arith) p.spelled)
-  ]
-]
+pub date_front : (bytes : List ℕ) (form : DayForm) (rest : List ℕ) → Spells tz.date bytes form rest → Front (date_text form) bytes rest
+unfolding tz.date tz.month_date tz.julian_date tz.day_number tz.rule_day
+date_front bytes form rest (inl (after, is, (m, x, month, (_, at_week, first, (w, y, week, (_, at_weekday, second, (d, end, weekday, (test, value, same)))))))) =
+    let fits = rule_day_from (MonthWeekday m w d) test in
+    rw (value, ← same) (front_cons letter_M _ bytes after end is (month_front after end m w d at_week at_weekday fits (rw (← first) month) (rw (← second) week) weekday))
+date_front bytes form rest (inr (_, inl (after, is, (n, end, number, (test, value, same))))) =
+    let fits = rule_day_from (Julian1 n) test in let l = fits.1 in
+    rw (value, ← same) (front_cons letter_J (decimal n) bytes after end is (number_front day_max after n end (omega arith) number))
+date_front bytes form rest (inr (_, inr (_, (n, end, number, (test, value, same))))) =
+    let fits : n ≤ 365 = rule_day_from (Julian0 n) test in rw (value, ← same) (number_front day_max bytes n end (omega arith) number)
 
 pub date_pairs : (form : DayForm) (rest : List ℕ) → IsRuleDay form → AreInPairs rest → AreInPairs (date_text form ++ rest)
 date_pairs (Julian1 n) rest h pairs = let l = h.1 in ((λ e. absurd (omega arith)), pairs_number n rest (omega arith) pairs)
@@ -106,8 +116,9 @@ date_pairs (MonthWeekday m w d) rest h pairs =
 is_two : (time : ℤ) → int_eq time (pos 7_200) ≡ true → time ≡ pos 7_200
 is_two time e = (Decides-int_eq time (pos 7_200)).0 e
 
-after_spelled : (extended : Bool) (time : ℤ) (rest : List ℕ) → IsTimeOf extended time → IsEndOrComma rest → Optional slash (pos 7_200) (Time extended) (time_after time ++ rest) time rest
-after_spelled extended time rest h c = elim (int_eq time (pos 7_200)) as (λ t. int_eq time (pos 7_200) ≡ t → Optional slash (pos 7_200) (Time extended) (cond t [] (slash ∷ time_text time) ++ rest) time rest) [
+after_spelled : (extended : Bool) (time : ℤ) (rest : List ℕ) → IsTimeOf extended time → IsEndOrComma rest → Spells (tz.optional_time extended) (time_after time ++ rest) time rest
+unfolding tz.optional_time
+after_spelled extended time rest h c = elim (int_eq time (pos 7_200)) as (λ t. int_eq time (pos 7_200) ≡ t → Spells (tz.optional_time extended) (cond t [] (slash ∷ time_text time) ++ rest) time rest) [
   | true ↦ λ e. inr (no_slash rest c, (is_two time e, refl))
   | false ↦ λ e. inl (time_text time ++ rest, refl, time_spelled extended time rest h (stops rest c))
 ] refl
@@ -115,10 +126,11 @@ after_spelled extended time rest h c = elim (int_eq time (pos 7_200)) as (λ t. 
 after_stops : (time : ℤ) (rest : List ℕ) → IsEndOrComma rest → NoneFirst is_digit (time_after time ++ rest)
 after_stops time rest c = elim (int_eq time (pos 7_200)) as (λ t. NoneFirst is_digit (cond t [] (slash ∷ time_text time) ++ rest)) [ true ↦ (stops rest c).0 | false ↦ refl ]
 
-after_given : (extended : Bool) (bytes after : List ℕ) (time : ℤ) (rest : List ℕ) → bytes ≡ slash ∷ after → AreInPairs bytes → Time extended after time rest → Front (slash ∷ time_text time) bytes rest
+after_given : (extended : Bool) (bytes after : List ℕ) (time : ℤ) (rest : List ℕ) → bytes ≡ slash ∷ after → AreInPairs bytes → Spells (tz.time extended) after time rest → Front (slash ∷ time_text time) bytes rest
 after_given extended bytes after time rest e pairs h = front_cons slash (time_text time) bytes after rest e (time_front extended after time rest (subst AreInPairs e pairs).1 h)
 
-after_front : (extended : Bool) (bytes : List ℕ) (time : ℤ) (rest : List ℕ) → AreInPairs bytes → Optional slash (pos 7_200) (Time extended) bytes time rest → Front (time_after time) bytes rest
+after_front : (extended : Bool) (bytes : List ℕ) (time : ℤ) (rest : List ℕ) → AreInPairs bytes → Spells (tz.optional_time extended) bytes time rest → Front (time_after time) bytes rest
+unfolding tz.optional_time
 after_front extended bytes time rest pairs h = elim (int_eq time (pos 7_200)) as (λ t. int_eq time (pos 7_200) ≡ t → Front (cond t [] (slash ∷ time_text time)) bytes rest) [
   | true ↦ λ e. elim h [
     | inl a ↦ front_any (slash ∷ time_text time) bytes rest (after_given extended bytes a.0 time rest a.1 pairs a.2)
@@ -136,30 +148,30 @@ after_pairs time rest h c pairs = elim (int_eq time (pos 7_200)) as (λ t. AreIn
   | false ↦ ((λ e. absurd (omega arith)), time_pairs time rest h (stops rest c) pairs)
 ]
 
-after_plain : (bytes : List ℕ) (time : ℤ) (rest : List ℕ) → Optional slash (pos 7_200) (Time false) bytes time rest → IsPlainTime time
+after_plain : (bytes : List ℕ) (time : ℤ) (rest : List ℕ) → Spells (tz.optional_time false) bytes time rest → IsPlainTime time
+unfolding tz.optional_time
 after_plain bytes time rest h = elim h [
   | inl a ↦ time_plain a.0 time rest a.2
   | inr b ↦ subst IsPlainTime (sym b.1.0) (omega (arith, ints), omega (arith, ints))
 ]
 
 -- ---- days
-pub day_spelled : (extended : Bool) (d : DayTime) (rest : List ℕ) → IsRuleDay d.day → IsTimeOf extended d.time → IsEndOrComma rest → Day extended (day_text d ++ rest) d rest
-day_spelled extended d rest h t c = rw (append_assoc (date_text d.day) (time_after d.time) rest) (record {
-  after_date = time_after d.time ++ rest;
-  date = date_spelled d.day (time_after d.time ++ rest) h (after_stops d.time rest c);
-  time = after_spelled extended d.time rest t c;
-})
+pub day_spelled : (extended : Bool) (d : DayTime) (rest : List ℕ) → IsRuleDay d.day → IsTimeOf extended d.time → IsEndOrComma rest → Spells (tz.day extended) (day_text d ++ rest) d rest
+unfolding tz.day
+day_spelled extended d rest h t c = rw (append_assoc (date_text d.day) (time_after d.time) rest) (d.day, time_after d.time ++ rest, date_spelled d.day (time_after d.time ++ rest) h (after_stops d.time rest c), (d.time, rest, after_spelled extended d.time rest t c, (refl, refl)))
 
-pub day_front : (extended : Bool) (bytes : List ℕ) (d : DayTime) (rest : List ℕ) → AreInPairs bytes → Day extended bytes d rest → Front (day_text d) bytes rest
-day_front extended bytes d rest pairs h =
-    let f = date_front bytes d.day h.after_date h.date in
-    front_then (date_text d.day) (time_after d.time) bytes h.after_date rest f (after_front extended h.after_date d.time rest (pairs_after _ bytes h.after_date f pairs) h.time)
+pub day_front : (extended : Bool) (bytes : List ℕ) (d : DayTime) (rest : List ℕ) → AreInPairs bytes → Spells (tz.day extended) bytes d rest → Front (day_text d) bytes rest
+unfolding tz.day
+day_front extended bytes d rest pairs (form, after, date, (at, end, time, (value, same))) =
+    let f = date_front bytes form after date in
+    rw (value, ← same) (front_then (date_text form) (time_after at) bytes after end f (after_front extended after at end (pairs_after _ bytes after f pairs) time))
 
 pub day_pairs : (d : DayTime) (rest : List ℕ) → IsRuleDay d.day → IsWithinWeek d.time → IsEndOrComma rest → AreInPairs rest → AreInPairs (day_text d ++ rest)
 day_pairs d rest h t c pairs = rw (append_assoc (date_text d.day) (time_after d.time) rest) (date_pairs d.day (time_after d.time ++ rest) h (after_pairs d.time rest t c pairs))
 
-pub day_plain : (bytes : List ℕ) (d : DayTime) (rest : List ℕ) → Day false bytes d rest → IsPlainTime d.time
-day_plain bytes d rest h = after_plain h.after_date d.time rest h.time
+pub day_plain : (bytes : List ℕ) (d : DayTime) (rest : List ℕ) → Spells (tz.day false) bytes d rest → IsPlainTime d.time
+unfolding tz.day
+day_plain bytes d rest (_, after, _, (at, end, time, (value, _))) = rw value (after_plain after at end time)
 
 -- ---- the offset of daylight saving time
 no_comma : (east : ℤ) (rest : List ℕ) → IsWithinDay east → Without comma (offset_text east ++ rest)
@@ -168,21 +180,36 @@ no_comma (pos zero) rest h = clock_without comma 0 rest (omega arith) (omega ari
 no_comma (pos (suc n)) rest h = λ e. absurd (omega arith)
 no_comma (negsuc n) rest h = let a = h.0 in let b : suc n < 86400 = omega (arith, ints) in clock_without comma (suc n) rest (omega arith) (omega arith)
 
-pub dst_offset_spelled : (std dst : ℤ) (rest : List ℕ) → IsWithinDay dst → DstOffset std (dst_offset_text std dst ++ (comma ∷ rest)) dst rest
-dst_offset_spelled std dst rest h = elim (int_eq dst (std +ℤ pos 3_600)) as (λ t. int_eq dst (std +ℤ pos 3_600) ≡ t → DstOffset std (cond t [] (offset_text dst) ++ (comma ∷ rest)) dst rest) [
-  | true ↦ λ e. let l = h.1 in inl (rest, refl, record { value = (Decides-int_eq dst _).0 e; limit = omega (arith, ints); whole = refl })
-  | false ↦ λ e. inr (no_comma dst (comma ∷ rest) h, offset_spelled dst (comma ∷ rest) h (refl, λ x. absurd (omega arith)))
+next_within : (std dst : ℤ) → dst ≡ std +ℤ pos 3_600 → IsWithinDay dst → int_le (std +ℤ pos 3_600) (pos 86_399) ≡ true
+next_within std dst v h = let l = h.1 in grind (arith, ints)
+
+some_offset : (east : ℤ) (rest : List ℕ) → IsWithinDay east → offset_text east ++ rest ≢ []
+some_offset east rest h = let f = offset_first east rest h in λ e. let k = f.2 in cc
+
+pub dst_offset_spelled : (std dst : ℤ) (rest : List ℕ) → IsWithinDay dst → Spells (tz.dst_offset std) (dst_offset_text std dst ++ (comma ∷ rest)) dst rest
+unfolding tz.dst_offset tz.next_hour tz.given_offset tz.more
+dst_offset_spelled std dst rest h = elim (int_eq dst (std +ℤ pos 3_600)) as (λ t. int_eq dst (std +ℤ pos 3_600) ≡ t → Spells (tz.dst_offset std) (cond t [] (offset_text dst) ++ (comma ∷ rest)) dst rest) [
+  | true ↦ λ e. let v = (Decides-int_eq dst _).0 e in inl (rest, refl, (next_within std dst v h, v, refl))
+  | false ↦ λ e. inr (no_comma dst (comma ∷ rest) h, (tt, _, inr (some_offset dst (comma ∷ rest) h, (refl, refl)), (dst, comma ∷ rest, offset_spelled dst (comma ∷ rest) h (refl, λ x. absurd (omega arith)), (tt, _, inr ((λ e. cc), (refl, refl)), (tt, rest, refl, (refl, refl))))))
 ] refl
 
-pub dst_offset_front : (std : ℤ) (bytes : List ℕ) (dst : ℤ) (rest : List ℕ) → AreInPairs bytes → DstOffset std bytes dst rest → Front (dst_offset_text std dst) bytes (comma ∷ rest)
+given_front : (bytes : List ℕ) (dst : ℤ) (rest : List ℕ) → AreInPairs bytes → Spells tz.given_offset bytes dst rest → Front (offset_text dst) bytes (comma ∷ rest)
+unfolding tz.given_offset tz.more
+given_front bytes dst rest pairs (_, _, inl (_, never), _) = absurd never
+given_front bytes dst rest pairs (_, start, inr (_, (_, at)), (east, after, offset, (_, _, inl (_, never), _))) = absurd never
+given_front bytes dst rest pairs (_, start, inr (_, (_, at)), (east, after, offset, (_, behind, inr (_, (_, here)), (_, end, is, (value, same))))) =
+    rw (value, ← same, ← is, ← here, at) (offset_front start east after (subst AreInPairs at pairs) offset)
+
+pub dst_offset_front : (std : ℤ) (bytes : List ℕ) (dst : ℤ) (rest : List ℕ) → AreInPairs bytes → Spells (tz.dst_offset std) bytes dst rest → Front (dst_offset_text std dst) bytes (comma ∷ rest)
+unfolding tz.dst_offset tz.next_hour
 dst_offset_front std bytes dst rest pairs h = elim (int_eq dst (std +ℤ pos 3_600)) as (λ t. int_eq dst (std +ℤ pos 3_600) ≡ t → Front (cond t [] (offset_text dst)) bytes (comma ∷ rest)) [
   | true ↦ λ e. elim h [
-    | inl a ↦ front_nothing bytes (comma ∷ rest) (a.1 ∙ ap (λ (z : List ℕ). comma ∷ z) a.2.whole)
-    | inr b ↦ front_any (offset_text dst) bytes (comma ∷ rest) (offset_front bytes dst (comma ∷ rest) pairs b.1)
+    | inl a ↦ front_nothing bytes (comma ∷ rest) (a.1 ∙ ap (λ (z : List ℕ). comma ∷ z) a.2.2)
+    | inr b ↦ front_any (offset_text dst) bytes (comma ∷ rest) (given_front bytes dst rest pairs b.1)
   ]
   | false ↦ λ e. elim h [
-    | inl a ↦ absurd (both_ways _ e ((Decides-int_eq dst _).1 a.2.value))
-    | inr b ↦ offset_front bytes dst (comma ∷ rest) pairs b.1
+    | inl a ↦ absurd (both_ways _ e ((Decides-int_eq dst _).1 a.2.1))
+    | inr b ↦ given_front bytes dst rest pairs b.1
   ]
 ] refl
 

@@ -5,7 +5,8 @@ use Rattle.std.proofs.lemmas.Fmt.{decimal_digit, decimal_step}
 use Rattle.std.proofs.lemmas.Bool.{cases_lt, both_ways}
 use Rattle.std.proofs.lemmas.Bool.Decides.{nat_tests}
 use Rattle.tz_base.specs.Fronts.{is_digit, value_from, AllDigits, NoneFirst}
-use Rattle.tz_info.specs.Pieces.{Number, colon}
+use Rattle.tz_base.specs.Grammar.{IsNumber}
+use Rattle.tz_info.specs.TzGrammar.{colon}
 use Rattle.tz_write.specs.WrittenTexts.{AreInPairs, TwoDigits}
 use Rattle.tz_write.specs.Steps.TextPieces.{pair_text}
 use Rattle.tz_write.proofs.Shortest.{Best, Front, front_cons}
@@ -49,11 +50,11 @@ spelled n h = elim (cases_lt n 10) [
   ]
 ]
 
-pub number_spelled : (max n : ℕ) (rest : List ℕ) → n < 1000 → n ≤ max → NoneFirst is_digit rest → Number max (decimal n ++ rest) n rest
+pub number_spelled : (max n : ℕ) (rest : List ℕ) → n < 1000 → n ≤ max → NoneFirst is_digit rest → IsNumber max (decimal n ++ rest) n rest
 number_spelled max n rest h l none = let s = spelled n h in
     record { digits = decimal n; whole = refl; each = s.each; some = s.some; longest = none; value = s.value; limit = l }
 
-pub pair_spelled : (max n : ℕ) (rest : List ℕ) → n < 100 → n ≤ max → NoneFirst is_digit rest → Number max ((48 + n / 10) ∷ (48 + n % 10) ∷ rest) n rest
+pub pair_spelled : (max n : ℕ) (rest : List ℕ) → n < 100 → n ≤ max → NoneFirst is_digit rest → IsNumber max ((48 + n / 10) ∷ (48 + n % 10) ∷ rest) n rest
 pair_spelled max n rest h l none = let s = spells_two n h in
     record { digits = (48 + n / 10) ∷ (48 + n % 10) ∷ []; whole = refl; each = s.each; some = s.some; longest = none; value = s.value; limit = l }
 
@@ -106,7 +107,7 @@ decimal_best n (d ∷ e ∷ []) h each some value = least_two n d e each.0 each.
 decimal_best n (d ∷ e ∷ f ∷ []) h each some value = least_three n d e f each.0 each.1.0 each.1.1.0 value
 decimal_best n (d ∷ e ∷ f ∷ g ∷ ds) h each some value = let l = length_three n h in inr (omega arith)
 
-pub number_front : (max : ℕ) (bytes : List ℕ) (n : ℕ) (rest : List ℕ) → n < 1000 → Number max bytes n rest → Front (decimal n) bytes rest
+pub number_front : (max : ℕ) (bytes : List ℕ) (n : ℕ) (rest : List ℕ) → n < 1000 → IsNumber max bytes n rest → Front (decimal n) bytes rest
 number_front max bytes n rest h p = record { front = p.digits; whole = p.whole; best = decimal_best n p.digits h p.each p.some p.value }
 
 -- two digits and no third are those of the number
@@ -122,7 +123,7 @@ paired (d ∷ e ∷ []) rest n each some none value pair =
     rw (x, y) refl
 paired (d ∷ e ∷ f ∷ ds) rest n each some none value pair = absurd (both_ways _ pair.2 each.1.1.0)
 
-pub pair_front : (max : ℕ) (bytes after : List ℕ) (n : ℕ) (rest : List ℕ) → bytes ≡ colon ∷ after → AreInPairs bytes → Number max after n rest → Front (pair_text n) bytes rest
+pub pair_front : (max : ℕ) (bytes after : List ℕ) (n : ℕ) (rest : List ℕ) → bytes ≡ colon ∷ after → AreInPairs bytes → IsNumber max after n rest → Front (pair_text n) bytes rest
 pair_front max bytes after n rest e pairs p =
     let h : AreInPairs (colon ∷ after) = subst AreInPairs e pairs in
     let d = paired p.digits rest n p.each p.some p.longest p.value (subst TwoDigits p.whole (h.0 refl)) in

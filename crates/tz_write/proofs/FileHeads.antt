@@ -1,10 +1,10 @@
 -- Headers that are written are headers.
-use Rattle.std.proofs.Common.{◌≡◌, ℕ, ◌<◌, ◌^◌, Bool, true, false, List, ◌++◌, refl, ap}
-use Rattle.tz_info.specs.FileHeaders.{AreCounts, CountsAgree, IsHeader, StandsFor, MayStand}
+use Rattle.std.proofs.Common.{◌≡◌, ℕ, ◌<◌, ◌^◌, Bool, true, false, List, ◌∷◌, ◌++◌, refl, arith, inl, inr}
+use Rattle.tz_base.specs.Grammar.{Spells}
+use Rattle.tz_info.specs.FileHeaders.{magic, tzif, version, six_counts, counts_agree, header}
 use Rattle.tz_info.specs.declared.file.header.Place.{Place}
-use Rattle.tz_info.specs.declared.file.header.Place.TheVariants.{First, Second}
 use Rattle.tz_info.specs.declared.file.header.Version.{Version}
-use Rattle.tz_info.specs.declared.file.header.Version.TheVariants.{One, Two, Three}
+use Rattle.tz_info.specs.declared.file.header.Version.TheVariants.{Two, Three}
 use Rattle.tz_info.specs.declared.file.header.Counts.{Counts}
 use Rattle.tz_write.specs.FileBytes.{number_bytes, counts_bytes, version_byte, unused, header_bytes}
 use Rattle.tz_write.proofs.FileNumbers.{number_is}
@@ -18,54 +18,46 @@ pub record CountsFit (c : Counts) : Type 0 where
   pub types : c.types < 2 ^ 32
   pub designations : c.designations < 2 ^ 32
 
-counts_are : (c : Counts) (rest : List ℕ) → CountsFit c → AreCounts (counts_bytes c ++ rest) c rest
-unfolding counts_bytes number_bytes
-counts_are c rest h = record {
-  after_ut_local = _;
-  after_standard_wall = _;
-  after_leap_seconds = _;
-  after_transitions = _;
-  after_types = _;
-  ut_local = number_is c.ut_local (number_bytes c.standard_wall ++ (number_bytes c.leap_seconds ++ (number_bytes c.transitions ++ (number_bytes c.types ++ (number_bytes c.designations ++ rest))))) h.ut_local;
-  standard_wall = number_is c.standard_wall (number_bytes c.leap_seconds ++ (number_bytes c.transitions ++ (number_bytes c.types ++ (number_bytes c.designations ++ rest)))) h.standard_wall;
-  leap_seconds = number_is c.leap_seconds (number_bytes c.transitions ++ (number_bytes c.types ++ (number_bytes c.designations ++ rest))) h.leap_seconds;
-  transitions = number_is c.transitions (number_bytes c.types ++ (number_bytes c.designations ++ rest)) h.transitions;
-  types = number_is c.types (number_bytes c.designations ++ rest) h.types;
-  designations = number_is c.designations rest h.designations;
-}
+counts_are : (c : Counts) (rest : List ℕ) → CountsFit c → Spells six_counts (counts_bytes c ++ rest) c rest
+unfolding counts_bytes number_bytes six_counts
+counts_are c rest h = (
+  c.ut_local,
+  _,
+  number_is c.ut_local (number_bytes c.standard_wall ++ (number_bytes c.leap_seconds ++ (number_bytes c.transitions ++ (number_bytes c.types ++ (number_bytes c.designations ++ rest))))) h.ut_local,
+  (
+    c.standard_wall,
+    _,
+    number_is c.standard_wall (number_bytes c.leap_seconds ++ (number_bytes c.transitions ++ (number_bytes c.types ++ (number_bytes c.designations ++ rest)))) h.standard_wall,
+    (
+      c.leap_seconds,
+      _,
+      number_is c.leap_seconds (number_bytes c.transitions ++ (number_bytes c.types ++ (number_bytes c.designations ++ rest))) h.leap_seconds,
+      (
+        c.transitions,
+        _,
+        number_is c.transitions (number_bytes c.types ++ (number_bytes c.designations ++ rest)) h.transitions,
+        (
+          c.types,
+          _,
+          number_is c.types (number_bytes c.designations ++ rest) h.types,
+          (c.designations, rest, number_is c.designations rest h.designations, (refl, refl)),
+        ),
+      ),
+    ),
+  ),
+)
 
 abbrev pub version_of : Bool → Version
 version_of true = Three
 version_of false = Two
 
-stands : (extended : Bool) → StandsFor (version_byte extended) (version_of extended)
-stands true = refl
-stands false = refl
+version_is : (place : Place) (extended : Bool) (rest : List ℕ) → Spells (version place) (version_byte extended ∷ rest) (version_of extended) rest
+unfolding version
+version_is place true rest = inr ((λ e. absurd (omega arith)), inr ((λ e. absurd (omega arith)), inl (rest, refl, (refl, refl))))
+version_is place false rest = inr ((λ e. absurd (omega arith)), inl (rest, refl, (refl, refl)))
 
-is_one : Version → Bool
-is_one One = true
-is_one _ = false
-
-not_one : (extended : Bool) → version_of extended ≡ One → ⊥
-unfolding is_one
-not_one true e = cc (ap is_one e)
-not_one false e = cc (ap is_one e)
-
-may_stand : (place : Place) (extended : Bool) → MayStand place (version_of extended)
-may_stand First extended = tt
-may_stand Second extended = not_one extended
-
-pub header_is : (place : Place) (extended : Bool) (c : Counts) (rest : List ℕ) → CountsFit c → CountsAgree c
-    → IsHeader place (header_bytes extended c ++ rest) (record { version = version_of extended; counts = c }) rest
-unfolding header_bytes
-header_is place extended c rest fit agree = record {
-  version = version_byte extended;
-  unused = unused;
-  numbers = counts_bytes c ++ rest;
-  whole = refl;
-  stands = stands extended;
-  allowed = may_stand place extended;
-  size = refl;
-  counts = counts_are c rest fit;
-  agree = agree;
-}
+pub header_is : (place : Place) (extended : Bool) (c : Counts) (rest : List ℕ) → CountsFit c → counts_agree c ≡ true
+    → Spells (header place) (header_bytes extended c ++ rest) (record { version = version_of extended; counts = c }) rest
+unfolding header_bytes header tzif
+header_is place extended c rest fit agree =
+    (tt, _, (magic, _, (refl, refl), (refl, refl, refl)), (version_of extended, _, version_is place extended (unused ++ (counts_bytes c ++ rest)), (unused, counts_bytes c ++ rest, (refl, refl), (c, rest, counts_are c rest fit, (agree, refl, refl)))))

@@ -1,19 +1,21 @@
 -- What every file's zone has room for.
-use Rattle.std.proofs.Common.{◌≡◌, ℕ, zero, suc, ◌+◌, ◌*◌, ◌<◌, ◌^◌, Bool, List, [], ◌∷◌, ◌++◌, length, map, Option, Some, None, refl, sym, ap, ◌∙◌, subst, arith}
+use Rattle.std.proofs.Common.{◌≡◌, ℕ, zero, suc, ◌+◌, ◌*◌, ◌<◌, ◌^◌, Bool, List, [], ◌∷◌, ◌++◌, length, map, inl, inr, Option, Some, None, refl, sym, ap, ◌∙◌, subst, arith}
 use Rattle.std.proofs.lemmas.List.{length-append, length-map, get_or_append_left}
 use Rattle.std.proofs.lemmas.List.Elements.{All-nil, All-cons, All-head, All-tail}
 use Rattle.std.specs.Prelude.{All}
 use Rattle.tz_base.specs.LocalTypes.{LocalType}
 use Rattle.tz_base.specs.Names.{IsNameOrNone}
-use Rattle.tz_info.specs.FileBlocks.{Parts, IsBlock, in_order}
+use Rattle.tz_base.specs.Grammar.{Spells, be_u32}
+use Rattle.tz_info.specs.FileBlocks.{Parts, block}
 use Rattle.tz_info.specs.FileContents.{AreRecords, SpellsLeapSecond, StandsAt, designation_of, place_in, SpellsType, SpellTypes}
-use Rattle.tz_info.specs.FileHeaders.{magic, IsNumber, AreCounts, IsHeader}
-use Rattle.tz_info.specs.FilePieces.{FilePieces, HasPieces, IsSecondHalf, IsAfterFirstBlock}
+use Rattle.tz_info.specs.FileHeaders.{tzif, version, version_1, six_counts, header}
+use Rattle.tz_info.specs.FilePieces.{FilePieces, HasPieces, first_version, later_version, after_first_block, file}
 use Rattle.tz_info.specs.TzFiles.{IsTzFile, HasRule}
 use Rattle.tz_info.specs.Zones.{Zone}
 use Rattle.tz_info.specs.declared.file.header.Counts.{Counts}
 use Rattle.tz_info.specs.declared.file.header.Header.{Header}
 use Rattle.tz_info.specs.declared.file.header.Place.{Place}
+use Rattle.tz_info.specs.declared.file.header.Place.TheVariants.{First, Second}
 use Rattle.tz_info.specs.declared.file.header.Version.{Version}
 use Rattle.tz_info.specs.declared.file.header.Version.TheVariants.{One, Two, Three}
 use Rattle.tz_info.specs.declared.rule.transition_rule.TransitionRule.{TransitionRule}
@@ -35,49 +37,65 @@ front : (a b : List ℕ) → Bytes (a ++ b) → Bytes a
 front a b h = λ k d l. subst IsByte (get_or_append_left a b d k l) (h k d (omega (arith, length-append a b)))
 
 -- ---- counts
-number_fits : (bytes : List ℕ) (n : ℕ) (rest : List ℕ) → IsNumber bytes n rest → Bytes bytes → (n < 2 ^ 32) × Bytes rest
-number_fits bytes n rest h b =
-    let whole = subst Bytes h.whole b in
-    let four = front h.four rest whole in
-    let size = h.size in
-    let a = four 0 0 (omega arith) in let b = four 1 0 (omega arith) in let c = four 2 0 (omega arith) in let d = four 3 0 (omega arith) in
-    (omega (arith, a, b, c, d, h.value), behind h.four rest whole)
+number_fits : (bytes : List ℕ) (n : ℕ) (rest : List ℕ) → Spells be_u32 bytes n rest → Bytes bytes → (n < 2 ^ 32) × Bytes rest
+unfolding be_u32
+number_fits bytes n rest (four, after, (is, size), (value, same)) b =
+    let whole = subst Bytes is b in
+    let all = front four after whole in
+    let w = all 0 0 (omega arith) in let x = all 1 0 (omega arith) in let y = all 2 0 (omega arith) in let z = all 3 0 (omega arith) in
+    (omega (arith, w, x, y, z, value), subst Bytes same (behind four after whole))
 
 record Fit (c : Counts) : Type 0 where
   pub leap_seconds : c.leap_seconds < 2 ^ 32
   pub transitions : c.transitions < 2 ^ 32
   pub types : c.types < 2 ^ 32
 
-counts_fit : (bytes : List ℕ) (c : Counts) (rest : List ℕ) → AreCounts bytes c rest → Bytes bytes → Fit c × Bytes rest
-counts_fit bytes c rest h b =
-    let p = number_fits bytes c.ut_local h.after_ut_local h.ut_local b in
-    let q = number_fits h.after_ut_local c.standard_wall h.after_standard_wall h.standard_wall p.1 in
-    let l = number_fits h.after_standard_wall c.leap_seconds h.after_leap_seconds h.leap_seconds q.1 in
-    let t = number_fits h.after_leap_seconds c.transitions h.after_transitions h.transitions l.1 in
-    let y = number_fits h.after_transitions c.types h.after_types h.types t.1 in
-    let d = number_fits h.after_types c.designations rest h.designations y.1 in
-    (record { leap_seconds = l.0; transitions = t.0; types = y.0 }, d.1)
+counts_fit : (bytes : List ℕ) (c : Counts) (rest : List ℕ) → Spells six_counts bytes c rest → Bytes bytes → Fit c × Bytes rest
+unfolding six_counts
+counts_fit bytes c rest (ut, r, h, (wall, s, i, (leaps, t, j, (transitions, u, k, (types, v, l, (designations, w, m, (value, same))))))) b =
+    let p = number_fits bytes ut r h b in
+    let q = number_fits r wall s i p.1 in
+    let x = number_fits s leaps t j q.1 in
+    let y = number_fits t transitions u k x.1 in
+    let z = number_fits u types v l y.1 in
+    let d = number_fits v designations w m z.1 in
+    (rw value (record { leap_seconds = x.0; transitions = y.0; types = z.0 }), subst Bytes same d.1)
 
-header_fits : (place : Place) (bytes : List ℕ) (header : Header) (rest : List ℕ) → IsHeader place bytes header rest → Bytes bytes → Fit header.counts × Bytes rest
-header_fits place bytes header rest h b =
-    let whole = subst Bytes h.whole b in
-    let after_magic = behind magic (h.version ∷ (h.unused ++ h.numbers)) whole in
-    let after_version = All-tail IsByte h.version (h.unused ++ h.numbers) after_magic in
-    counts_fit h.numbers header.counts rest h.counts (behind h.unused h.numbers after_version)
+version_1_fits : (place : Place) (bytes : List ℕ) (v : Version) (rest : List ℕ) → Spells (version_1 place) bytes v rest → Bytes bytes → Bytes rest
+unfolding version_1
+version_1_fits First bytes v rest h b = subst Bytes h.1 b
+version_1_fits Second bytes v rest never b = absurd never
+
+version_fits : (place : Place) (bytes : List ℕ) (v : Version) (rest : List ℕ) → Spells (version place) bytes v rest → Bytes bytes → Bytes rest
+unfolding version
+version_fits place bytes v rest (inl (after, is, h)) b = version_1_fits place after v rest h (All-tail IsByte 0 after (subst Bytes is b))
+version_fits place bytes v rest (inr (_, inl (after, is, (_, same)))) b = subst Bytes same (All-tail IsByte 50 after (subst Bytes is b))
+version_fits place bytes v rest (inr (_, inr (_, inl (after, is, (_, same))))) b = subst Bytes same (All-tail IsByte 51 after (subst Bytes is b))
+version_fits place bytes v rest (inr (_, inr (_, inr (_, (_, _, _, never))))) b = absurd never
+
+header_fits : (place : Place) (bytes : List ℕ) (h : Header) (rest : List ℕ) → Spells (header place) bytes h rest → Bytes bytes → Fit h.counts × Bytes rest
+unfolding header tzif
+header_fits place bytes h rest (_, at_version, (four, after, (is, _), (_, _, same)), (v, at_unused, stands, (unused, at_counts, (whole, _), (c, end, counts, (_, value, last))))) b =
+    let after_magic = subst Bytes same (behind four after (subst Bytes is b)) in
+    let after_version = version_fits place at_version v at_unused stands after_magic in
+    let f = counts_fit at_counts c end counts (behind unused at_counts (subst Bytes whole after_version)) in
+    (rw value f.0, subst Bytes last f.1)
 
 -- ---- blocks
-block_fits : (time_size : ℕ) (c : Counts) (bytes : List ℕ) (p : Parts) (rest : List ℕ) → IsBlock time_size c bytes p rest → Bytes bytes → Bytes p.type_indexes × Bytes p.types × Bytes rest
-block_fits time_size c bytes p rest h b =
-    let whole = subst Bytes h.whole b in
-    let at_indexes = behind p.times (in_order (p.type_indexes ∷ p.types ∷ p.designations ∷ p.leap_seconds ∷ p.standard_wall ∷ p.ut_local ∷ []) rest) whole in
-    let at_types = behind p.type_indexes (in_order (p.types ∷ p.designations ∷ p.leap_seconds ∷ p.standard_wall ∷ p.ut_local ∷ []) rest) at_indexes in
-    let at_designations = behind p.types (in_order (p.designations ∷ p.leap_seconds ∷ p.standard_wall ∷ p.ut_local ∷ []) rest) at_types in
-    let at_leaps = behind p.designations (in_order (p.leap_seconds ∷ p.standard_wall ∷ p.ut_local ∷ []) rest) at_designations in
-    let at_standard = behind p.leap_seconds (in_order (p.standard_wall ∷ p.ut_local ∷ []) rest) at_leaps in (
-      front p.type_indexes (in_order (p.types ∷ p.designations ∷ p.leap_seconds ∷ p.standard_wall ∷ p.ut_local ∷ []) rest) at_indexes,
-      front p.types (in_order (p.designations ∷ p.leap_seconds ∷ p.standard_wall ∷ p.ut_local ∷ []) rest) at_types,
-      behind p.ut_local rest (behind p.standard_wall (in_order (p.ut_local ∷ []) rest) at_standard),
-    )
+block_fits : (time_size : ℕ) (c : Counts) (bytes : List ℕ) (p : Parts) (rest : List ℕ) → Spells (block time_size c) bytes p rest → Bytes bytes → Bytes p.type_indexes × Bytes p.types × Bytes rest
+unfolding block
+block_fits time_size c bytes p rest (times, r, h, (indexes, s, i, (types, t, j, (names, u, k, (leaps, v, l, (wall, w, m, (ut, x, n, (value, same)))))))) b =
+    let at_indexes = subst Bytes i.0 (behind times r (subst Bytes h.0 b)) in
+    let at_types = subst Bytes j.0 (behind indexes s at_indexes) in
+    let at_designations = subst Bytes k.0 (behind types t at_types) in
+    let at_leaps = subst Bytes l.0 (behind names u at_designations) in
+    let at_standard = subst Bytes m.0 (behind leaps v at_leaps) in
+    let at_ut = subst Bytes n.0 (behind wall w at_standard) in
+    (rw value (front indexes s at_indexes), rw value (front types t at_types), subst Bytes same (behind ut x at_ut))
+
+block_lengths : (time_size : ℕ) (c : Counts) (bytes : List ℕ) (p : Parts) (rest : List ℕ) → Spells (block time_size c) bytes p rest → (length p.type_indexes ≡ c.transitions) × (length p.types ≡ c.types * 6) × (length p.leap_seconds ≡ c.leap_seconds * (time_size + 4))
+unfolding block
+block_lengths time_size c bytes p rest (_, _, _, (_, _, i, (_, _, j, (_, _, _, (_, _, l, (_, _, _, (_, _, _, (value, _)))))))) = (rw value i.1, rw value j.1, rw value l.1)
 
 -- ---- pieces
 record Limits (p : FilePieces) : Type 0 where
@@ -88,23 +106,27 @@ record Limits (p : FilePieces) : Type 0 where
   pub types : length p.parts.types ≡ p.counts.types * 6
   pub leap_seconds : length p.parts.leap_seconds ≡ p.counts.leap_seconds * (p.time_size + 4)
 
-second_limits : (bytes : List ℕ) (p : FilePieces) → IsSecondHalf bytes p → Bytes bytes → Limits p
-second_limits bytes p h b =
-    let head = header_fits _ bytes h.header h.after h.head b in
-    let block = block_fits 8 h.header.counts h.after h.parts h.footer h.block head.1 in
-    subst Limits (sym h.says) (record { fit = head.0; indexes = block.0; type_bytes = block.1; type_indexes = h.block.type_indexes; types = h.block.types; leap_seconds = h.block.leap_seconds })
+-- the limits of a block and its counts
+of_block : (extended : Bool) (time_size : ℕ) (c : Counts) (bytes : List ℕ) (p : Parts) (rest : List ℕ) (footer : Option (List ℕ)) → Fit c → Spells (block time_size c) bytes p rest → Bytes bytes → Limits (record { extended = extended; time_size = time_size; counts = c; parts = p; footer = footer })
+of_block extended time_size c bytes p rest footer fit h b =
+    let f = block_fits time_size c bytes p rest h b in let l = block_lengths time_size c bytes p rest h in
+    record { fit = fit; indexes = f.0; type_bytes = f.1; type_indexes = l.0; types = l.1; leap_seconds = l.2 }
 
-after_limits : (v : Version) (c : Counts) (parts : Parts) (rest : List ℕ) (p : FilePieces) → IsAfterFirstBlock v c parts rest p → Bytes rest → Fit c → Bytes parts.type_indexes → Bytes parts.types
-    → length parts.type_indexes ≡ c.transitions → length parts.types ≡ c.types * 6 → length parts.leap_seconds ≡ c.leap_seconds * 8 → Limits p
-after_limits One c parts rest p h b fit indexes y i t l = subst Limits (sym h.1) (record { fit = fit; indexes = indexes; type_bytes = y; type_indexes = i; types = t; leap_seconds = l })
-after_limits Two c parts rest p h b fit indexes y i t l = second_limits rest p h b
-after_limits Three c parts rest p h b fit indexes y i t l = second_limits rest p h b
+later_limits : (bytes : List ℕ) (p : FilePieces) (rest : List ℕ) → Spells later_version bytes p rest → Bytes bytes → Limits p
+unfolding later_version
+later_limits bytes p rest (h, after, head, (parts, end, h_block, (_, _, _, (value, _)))) b =
+    let f = header_fits Second bytes h after head b in rw value (of_block _ 8 h.counts after parts end _ f.0 h_block f.1)
+
+after_limits : (v : Version) (c : Counts) (start : List ℕ) (parts : Parts) (bytes : List ℕ) (p : FilePieces) (rest : List ℕ) → Spells (after_first_block v c parts) bytes p rest → Fit c → Spells (block 4 c) start parts bytes → Bytes start → Limits p
+unfolding after_first_block first_version
+after_limits One c start parts bytes p rest (_, _, _, (value, _)) fit h b = rw value (of_block _ 4 c start parts bytes _ fit h b)
+after_limits Two c start parts bytes p rest h fit first b = later_limits bytes p rest h (block_fits 4 c start parts bytes first b).2
+after_limits Three c start parts bytes p rest h fit first b = later_limits bytes p rest h (block_fits 4 c start parts bytes first b).2
 
 pieces_limits : (bytes : List ℕ) (p : FilePieces) → HasPieces bytes p → Bytes bytes → Limits p
-pieces_limits bytes p h b =
-    let head = header_fits _ bytes h.header h.after h.head b in
-    let block = block_fits 4 h.header.counts h.after h.parts h.rest h.block head.1 in
-    after_limits h.header.version h.header.counts h.parts h.rest p h.tail block.2 head.0 block.0 block.1 h.block.type_indexes h.block.types h.block.leap_seconds
+unfolding file
+pieces_limits bytes p (h, after, head, (parts, end, first, tail)) b =
+    let f = header_fits First bytes h after head b in after_limits h.version h.counts after parts end p [] tail f.0 first f.1
 
 -- ---- lists
 records_length : {X : Type 0} (size : ℕ) (Spells : List ℕ → X → Type 0) (part : List ℕ) (xs : List X) → AreRecords size Spells part xs → length part ≡ length xs * size

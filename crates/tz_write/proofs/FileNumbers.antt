@@ -1,18 +1,18 @@
 -- Numbers that are written spell themselves.
-use Rattle.std.proofs.Common.{◌≡◌, ℕ, ℤ, ◌<◌, ◌^◌, List, ◌++◌, length, refl, ap, ◌∙◌, arith}
+use Rattle.std.proofs.Common.{◌≡◌, ℕ, ℤ, ◌<◌, ◌^◌, List, ◌++◌, length, refl, ap, sym, ◌∙◌, arith}
 use Rattle.std.proofs.Math.Facts.{Fits-of_z}
 use Rattle.std.proofs.lemmas.Int.{to_z-of_z}
 use Rattle.std.proofs.lemmas.Nat.{from_be_bytes-to_be_bytes_4, from_be_bytes-to_be_bytes_8}
 use Rattle.std.specs.Int.{w32, w64, cast_signed, cast_unsigned}
 use Rattle.std.specs.Prelude.{FitsSigned}
 use Rattle.tz_info.specs.FileContents.{signed}
-use Rattle.tz_info.specs.FileHeaders.{IsNumber}
+use Rattle.tz_base.specs.Grammar.{Spells, be_u32}
 use Rattle.tz_write.specs.FileBytes.{number_bytes, signed_bytes}
 
 -- a count
-pub number_is : (n : ℕ) (rest : List ℕ) → n < 2 ^ 32 → IsNumber (number_bytes n ++ rest) n rest
-unfolding number_bytes
-number_is n rest h = record { four = number_bytes n; whole = refl; size = refl; value = from_be_bytes-to_be_bytes_4 n h }
+pub number_is : (n : ℕ) (rest : List ℕ) → n < 2 ^ 32 → Spells be_u32 (number_bytes n ++ rest) n rest
+unfolding number_bytes be_u32
+number_is n rest h = (number_bytes n, rest, (refl, refl), (sym (from_be_bytes-to_be_bytes_4 n h), refl))
 
 -- numbers in two's complement
 pub size_32 : (z : ℤ) → length (signed_bytes w32 z) ≡ 4

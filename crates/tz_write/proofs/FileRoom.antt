@@ -1,5 +1,5 @@
 -- How much room designations take: each text that is put in has bytes of its own in any others that have the texts.
-use Rattle.std.proofs.Common.{◌≡◌, ℕ, ◌+◌, ◌<◌, ◌≤◌, Bool, true, false, cond, nat_lt, not, ◌==◌, ◌&&◌, List, [], ◌∷◌, ◌++◌, length, get_or, append_assoc, refl, sym, ap, ◌∙◌, subst, arith, ◌⊎◌, inl, inr}
+use Rattle.std.proofs.Common.{◌≡◌, ℕ, ◌+◌, ◌<◌, ◌≤◌, Bool, true, false, cond, nat_lt, not, ◌==◌, ◌&&◌, List, [], ◌∷◌, ◌++◌, length, get_or, append_assoc, refl, sym, ap, ◌∙◌, arith, ◌⊎◌, inl, inr}
 use Rattle.std.proofs.lemmas.Bool.{cases_lt}
 use Rattle.std.proofs.lemmas.Bool.Decides.{nat_tests}
 use Rattle.std.proofs.lemmas.List.{length-append}
@@ -11,7 +11,7 @@ use Rattle.tz_info.specs.FileContents.{HasNoZero}
 use Rattle.tz_write.specs.FileDesignations.{text_of, place_of}
 use Rattle.tz_write.specs.Steps.FileLayouts.{with_text, ends, with_text_of, with_texts, before_last}
 use Rattle.tz_write.proofs.FileMeetings.{Stands, Ends, Meeting, In_front, Behind, Is_end, Has_end, meet}
-use Rattle.tz_write.proofs.FileNames.{less, not_less, less_again, same_again, ends_of, ends_again, place_kept, In, in_longer, put_in, end_in}
+use Rattle.tz_write.proofs.FileNames.{less, not_less, same_again, ends_of, ends_again, In, in_longer, put_in}
 
 -- what is left of other bytes when the texts that stand in the designations are cut out of them: the texts that are to come, of
 -- at most that size or at the end of the last one, still stand there

@@ -1,5 +1,5 @@
 -- The file that is written spells the zone.
-use Rattle.std.proofs.Common.{◌≡◌, ◌≢◌, ℕ, ◌<◌, ◌≤◌, Bool, true, false, List, [], ◌∷◌, ◌++◌, length, get_or, refl, ◌∙◌, arith, inl}
+use Rattle.std.proofs.Common.{◌≡◌, ◌≢◌, ℕ, ◌<◌, ◌≤◌, Bool, true, false, List, [], ◌∷◌, ◌++◌, length, get_or, refl, ◌∙◌, arith, ◌+◌, ◌*◌, ◌==◌, not}
 use Rattle.std.proofs.lemmas.Bool.Decides.{nat_tests}
 use Rattle.std.proofs.lemmas.Str.{IsUtf8-from_ascii}
 use Rattle.std.proofs.lemmas.Str.Ascii.{IsAscii-from_all}
@@ -7,10 +7,11 @@ use Rattle.std.proofs.lemmas.List.Elements.{All-head, All-tail, All-weaker, All-
 use Rattle.std.specs.Char.{is_ascii_whitespace}
 use Rattle.std.specs.Prelude.{All, Option}
 use Rattle.tz_base.specs.LocalTypes.{LocalType}
-use Rattle.tz_info.specs.FileBlocks.{Parts, IsBlock}
+use Rattle.tz_base.specs.Grammar.{Spells}
+use Rattle.tz_info.specs.FileBlocks.{Parts, block}
 use Rattle.tz_info.specs.FileContents.{HasNoZero}
-use Rattle.tz_info.specs.FileHeaders.{CountsAgree}
-use Rattle.tz_info.specs.FilePieces.{FilePieces, later_pieces, is_extended, HasPieces, IsSecondHalf, IsAfterFirstBlock}
+use Rattle.tz_info.specs.FileHeaders.{counts_agree}
+use Rattle.tz_info.specs.FilePieces.{FilePieces, later_pieces, is_extended, later_version, after_first_block, file, HasPieces}
 use Rattle.tz_info.specs.Footers.{IsFooter, SaysRule}
 use Rattle.tz_info.specs.Trims.{BeginsBare, EndsBare}
 use Rattle.tz_info.specs.TzFiles.{IsTzFile, SayZone}
@@ -87,9 +88,6 @@ least_fit = record {
   designations = omega arith;
 }
 
-least_agree : CountsAgree least_counts
-least_agree = record { types = λ e. absurd (omega arith); designations = λ e. absurd (omega arith); ut_local = inl refl; standard_wall = inl refl }
-
 least_parts : Parts
 least_parts = record {
   times = [];
@@ -101,18 +99,15 @@ least_parts = record {
   ut_local = [];
 }
 
-first_block : (rest : List ℕ) → IsBlock 4 least_counts (least_block ++ rest) least_parts rest
+-- parts of the lengths that the counts announce, end to end, are a block
+block_is : (w : ℕ) (c : Counts) (p : Parts) (rest : List ℕ) → length p.times ≡ c.transitions * w → length p.type_indexes ≡ c.transitions → length p.types ≡ c.types * 6 → length p.designations ≡ c.designations
+    → length p.leap_seconds ≡ c.leap_seconds * (w + 4) → length p.standard_wall ≡ c.standard_wall → length p.ut_local ≡ c.ut_local → Spells (block w c) (block_bytes p rest) p rest
+unfolding block
+block_is w c p rest h i j k l m n = (_, _, (refl, h), (_, _, (refl, i), (_, _, (refl, j), (_, _, (refl, k), (_, _, (refl, l), (_, _, (refl, m), (_, _, (refl, n), (refl, refl))))))))
+
+first_block : (rest : List ℕ) → Spells (block 4 least_counts) (least_block ++ rest) least_parts rest
 unfolding least_parts
-first_block rest = record {
-  whole = refl;
-  times = refl;
-  type_indexes = refl;
-  types = refl;
-  designations = refl;
-  leap_seconds = refl;
-  standard_wall = refl;
-  ut_local = refl;
-}
+first_block rest = block_is 4 least_counts least_parts rest refl refl refl refl refl refl refl
 
 -- ---- the second half
 zone_fit : (d : List ℕ) (z : Zone) → length d ≤ 263 → HasCounts z → CountsFit (zone_counts d z)
@@ -129,52 +124,48 @@ some_designations : (types : List LocalType) (d : List ℕ) → 0 < length types
 some_designations [] d some places e = omega (arith, some)
 some_designations (t ∷ ts) d some places e = let p = (places 0 t some).stands in omega (arith, p, e)
 
-zone_agree : (d : List ℕ) (z : Zone) → 0 < length z.types → HavePlaces d z.types → CountsAgree (zone_counts d z)
-zone_agree d z some places = record { types = λ e. absurd (omega arith); designations = some_designations z.types d some places; ut_local = inl refl; standard_wall = inl refl }
+not_zero : (n : ℕ) → n ≢ 0 → not (n == 0) ≡ true
+not_zero n h = grind (arith, nat_tests)
 
-second_block : (d : List ℕ) (z : Zone) (rest : List ℕ) → IsBlock 8 (zone_counts d z) (block_bytes (zone_parts d z) rest) (zone_parts d z) rest
-second_block d z rest = record {
-  whole = refl;
-  times = size_of_records 8 time_bytes z.transitions (λ t. size_64 t.unix_leap_time);
-  type_indexes = size_of_records 1 index_bytes z.transitions (λ t. refl) ∙ omega arith;
-  types = size_of_records 6 (type_bytes d) z.types (type_size d);
-  designations = refl;
-  leap_seconds = size_of_records 12 leap_bytes z.leaps leap_size;
-  standard_wall = refl;
-  ut_local = refl;
-}
+zone_agree : (d : List ℕ) (z : Zone) → 0 < length z.types → HavePlaces d z.types → counts_agree (zone_counts d z) ≡ true
+zone_agree d z some places = rw (not_zero (length z.types) (λ e. absurd (omega arith)), not_zero (length d) (some_designations z.types d some places)) refl
+
+second_block : (d : List ℕ) (z : Zone) (rest : List ℕ) → Spells (block 8 (zone_counts d z)) (block_bytes (zone_parts d z) rest) (zone_parts d z) rest
+second_block d z rest = block_is 8 (zone_counts d z) (zone_parts d z) rest
+    (size_of_records 8 time_bytes z.transitions (λ t. size_64 t.unix_leap_time))
+    (size_of_records 1 index_bytes z.transitions (λ t. refl) ∙ omega arith)
+    (size_of_records 6 (type_bytes d) z.types (type_size d))
+    refl
+    (size_of_records 12 leap_bytes z.leaps leap_size)
+    refl
+    refl
 
 pieces_of : Bool → List ℕ → List ℕ → Zone → FilePieces
 pieces_of extended text d z = later_pieces (record { version = version_of extended; counts = zone_counts d z }) (zone_parts d z) (footer_bytes text)
 
-second_is : (extended : Bool) (text d : List ℕ) (z : Zone) → length d ≤ 263 → HasCounts z → 0 < length z.types → HavePlaces d z.types → IsSecondHalf (second_half extended text d z) (pieces_of extended text d z)
-unfolding second_half pieces_of
-second_is extended text d z size counts some places = record {
-  header = record { version = version_of extended; counts = zone_counts d z };
-  after = block_bytes (zone_parts d z) (footer_bytes text);
-  parts = zone_parts d z;
-  footer = footer_bytes text;
-  head = header_is Second extended (zone_counts d z) (block_bytes (zone_parts d z) (footer_bytes text)) (zone_fit d z size counts) (zone_agree d z some places);
-  block = second_block d z (footer_bytes text);
-  says = refl;
-}
+second_is : (extended : Bool) (text d : List ℕ) (z : Zone) → length d ≤ 263 → HasCounts z → 0 < length z.types → HavePlaces d z.types → Spells later_version (second_half extended text d z) (pieces_of extended text d z) []
+unfolding second_half pieces_of later_version
+second_is extended text d z size counts some places = (
+  record { version = version_of extended; counts = zone_counts d z },
+  block_bytes (zone_parts d z) (footer_bytes text),
+  header_is Second extended (zone_counts d z) (block_bytes (zone_parts d z) (footer_bytes text)) (zone_fit d z size counts) (zone_agree d z some places),
+  (zone_parts d z, footer_bytes text, second_block d z (footer_bytes text), (footer_bytes text, [], (refl, refl), (refl, refl))),
+)
 
-after_is : (extended : Bool) (c : Counts) (p : Parts) (rest : List ℕ) (pieces : FilePieces) → IsSecondHalf rest pieces → IsAfterFirstBlock (version_of extended) c p rest pieces
+after_is : (extended : Bool) (c : Counts) (p : Parts) (rest : List ℕ) (pieces : FilePieces) → Spells later_version rest pieces [] → Spells (after_first_block (version_of extended) c p) rest pieces []
+unfolding after_first_block
 after_is true c p rest pieces h = h
 after_is false c p rest pieces h = h
 
 -- ---- the whole
 file_pieces : (extended : Bool) (text d : List ℕ) (z : Zone) → length d ≤ 263 → HasCounts z → 0 < length z.types → HavePlaces d z.types → HasPieces (file_bytes extended text d z) (pieces_of extended text d z)
-unfolding file_bytes first_half header_bytes counts_bytes number_bytes
-file_pieces extended text d z size counts some places = record {
-  header = record { version = version_of extended; counts = least_counts };
-  after = least_block ++ second_half extended text d z;
-  parts = least_parts;
-  rest = second_half extended text d z;
-  head = header_is First extended least_counts (least_block ++ second_half extended text d z) least_fit least_agree;
-  block = first_block (second_half extended text d z);
-  tail = after_is extended least_counts least_parts (second_half extended text d z) (pieces_of extended text d z) (second_is extended text d z size counts some places);
-}
+unfolding file_bytes first_half header_bytes counts_bytes number_bytes file
+file_pieces extended text d z size counts some places = (
+  record { version = version_of extended; counts = least_counts },
+  least_block ++ second_half extended text d z,
+  header_is First extended least_counts (least_block ++ second_half extended text d z) least_fit refl,
+  (least_parts, second_half extended text d z, first_block (second_half extended text d z), after_is extended least_counts least_parts (second_half extended text d z) (pieces_of extended text d z) (second_is extended text d z size counts some places)),
+)
 
 extended_is : (extended : Bool) → is_extended (version_of extended) ≡ extended
 extended_is true = refl

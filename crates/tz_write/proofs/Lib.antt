@@ -4,6 +4,7 @@ mod Clocks
 mod NameTexts
 mod DayTexts
 mod RuleTexts
+mod TextParts
 mod WrittenLaws
 mod TextBytes
 mod ZoneTexts

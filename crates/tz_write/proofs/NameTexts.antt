@@ -5,7 +5,9 @@ use Rattle.std.proofs.lemmas.Bool.{and_parts, and_from, both_ways}
 use Rattle.std.proofs.lemmas.Bool.Decides.{nat_tests}
 use Rattle.tz_base.specs.Names.{is_name_byte, IsName}
 use Rattle.tz_base.specs.Fronts.{AllOf, NoneFirst}
-use Rattle.tz_info.specs.Pieces.{Without, Name, is_letter, is_not_greater, less, greater, colon}
+use Rattle.tz_base.specs.Grammar.{Spells, Without}
+use Rattle.tz_info.specs.TzGrammar as tz
+use Rattle.tz_info.specs.TzGrammar.{is_letter, is_not_greater, less, greater, colon}
 use Rattle.tz_write.specs.WrittenTexts.{AreInPairs}
 use Rattle.tz_write.specs.Steps.TextPieces.{name_text}
 use Rattle.tz_write.proofs.Shortest.{Front, front_cons}
@@ -39,24 +41,30 @@ not_less : (bs rest : List ℕ) → 0 < length bs → AllOf is_letter bs → Wit
 not_less [] rest some h = absurd (omega arith)
 not_less (b ∷ bs) rest some h = let l = letter_least b h.0 in λ e. absurd (omega arith)
 
-pub name_spelled : (name rest : List ℕ) → IsName name → NoneFirst is_letter rest → Name (name_text name ++ rest) name rest
-name_spelled name rest h none = elim (list_all is_letter name) as (λ t. list_all is_letter name ≡ t → Name (cond t name (less ∷ name ++ (greater ∷ [])) ++ rest) name rest) [
+pub name_spelled : (name rest : List ℕ) → IsName name → NoneFirst is_letter rest → Spells tz.name (name_text name ++ rest) name rest
+unfolding tz.name tz.quoted
+name_spelled name rest h none = elim (list_all is_letter name) as (λ t. list_all is_letter name ≡ t → Spells tz.name (cond t name (less ∷ name ++ (greater ∷ [])) ++ rest) name rest) [
   | true ↦ λ e. let each = all_from is_letter name e in let l = h.0 in inr (not_less name rest (omega arith) each, record { whole = refl; each = each; longest = none })
-  | false ↦ λ e. inl ((name ++ (greater ∷ [])) ++ rest, refl, record { whole = append_assoc name (greater ∷ []) rest; first = none_greater name (name_bytes name h) })
+  | false ↦ λ e. inl ((name ++ (greater ∷ [])) ++ rest, refl, (name, greater ∷ rest, record { whole = append_assoc name (greater ∷ []) rest; each = none_greater name (name_bytes name h); longest = refl }, (tt, rest, refl, (refl, refl))))
 ] refl
 
-pub name_front : (bytes name rest : List ℕ) → Name bytes name rest → Front (name_text name) bytes rest
+quoted_whole : (bytes name rest : List ℕ) → Spells tz.quoted bytes name rest → bytes ≡ (name ++ (greater ∷ [])) ++ rest
+unfolding tz.quoted
+quoted_whole bytes name rest (text, after, run, (_, end, close, (value, same))) = rw (value, ← same) (run.whole ∙ ap (λ (r : List ℕ). text ++ r) close ∙ sym (append_assoc text (greater ∷ []) end))
+
+pub name_front : (bytes name rest : List ℕ) → Spells tz.name bytes name rest → Front (name_text name) bytes rest
+unfolding tz.name tz.quoted
 name_front bytes name rest h = elim (list_all is_letter name) as (λ t. list_all is_letter name ≡ t → Front (cond t name (less ∷ name ++ (greater ∷ []))) bytes rest) [
   | true ↦ λ e. elim h [
     | inl a ↦ let l = length-append name (greater ∷ []) in record {
       front = less ∷ name ++ (greater ∷ []);
-      whole = a.1 ∙ ap (λ (z : List ℕ). less ∷ z) (a.2.whole ∙ sym (append_assoc name (greater ∷ []) rest));
+      whole = a.1 ∙ ap (λ (z : List ℕ). less ∷ z) (quoted_whole a.0 name rest a.2);
       best = inr (omega arith);
     }
     | inr b ↦ record { front = name; whole = b.1.whole; best = inl refl }
   ]
   | false ↦ λ e. elim h [
-    | inl a ↦ front_cons less (name ++ (greater ∷ [])) bytes a.0 rest a.1 (record { front = name ++ (greater ∷ []); whole = a.2.whole ∙ sym (append_assoc name (greater ∷ []) rest); best = inl refl })
+    | inl a ↦ front_cons less (name ++ (greater ∷ [])) bytes a.0 rest a.1 (record { front = name ++ (greater ∷ []); whole = quoted_whole a.0 name rest a.2; best = inl refl })
     | inr b ↦ absurd (both_ways (list_all is_letter name) e (all_to is_letter name b.1.each))
   ]
 ] refl

@@ -1,5 +1,5 @@
 -- The text of a rule: it spells the rule, and each other one is longer.
-use Rattle.std.proofs.Common.{◌≡◌, ℕ, ℤ, pos, ◌+ℤ◌, ◌<◌, ◌≤◌, arith, refl, ap, ◌∙◌, sym, subst, List, [], ◌∷◌, ◌++◌, append_assoc, Bool, true, false, not, inl, inr, cond, Some}
+use Rattle.std.proofs.Common.{◌≡◌, ℕ, ℤ, pos, ◌+ℤ◌, ◌<◌, ◌≤◌, arith, refl, ap, ◌∙◌, sym, subst, List, [], ◌∷◌, ◌++◌, append_assoc, Bool, true, false, not, inl, inr, cond, Some, IsTrue, ◌↔◌}
 use Rattle.std.proofs.lemmas.List.{append-nil}
 use Rattle.std.proofs.lemmas.Bool.Decides.{nat_tests}
 use Rattle.std.proofs.lemmas.Bool.{both_ways}
@@ -8,16 +8,19 @@ use Rattle.offset_core.specs.Offset.{IsWithinDay}
 use Rattle.tz_base.specs.Fronts.{is_digit, NoneFirst}
 use Rattle.tz_base.specs.LocalTypes.{LocalType}
 use Rattle.tz_base.specs.Names.{IsName}
-use Rattle.tz_info.specs.Pieces.{Name, Offset, Day, comma, is_letter}
+use Rattle.tz_base.specs.Grammar.{Spells}
+use Rattle.tz_info.specs.TzGrammar as tz
+use Rattle.tz_info.specs.TzGrammar.{comma, is_letter, IsTzText}
+use Rattle.tz_info.proofs.ForCallers.{offset_fits}
 use Rattle.tz_info.specs.Rules.{Alternate, IsAlternateRule}
 use Rattle.tz_info.specs.RuleTypes.{IsRule}
-use Rattle.tz_info.specs.TzTexts.{IsFixedText, IsAlternateText, IsTzText}
 use Rattle.tz_info.specs.declared.rule.transition_rule.TransitionRule.{TransitionRule}
 use Rattle.tz_info.specs.declared.rule.transition_rule.TransitionRule.TheVariants as rules
-use Rattle.tz_write.specs.WrittenTexts.{AreInPairs, IsWrittenText}
+use Rattle.tz_write.specs.WrittenTexts.{AreInPairs, IsUnspelled, IsWrittenText}
 use Rattle.tz_write.specs.Steps.TextPieces.{offset_text, name_text, day_text, dst_offset_text, name_or_none, name_of, type_text, alternate_text, text_of, IsTimeOf, IsNamedType, CanBeSpelled, AreTimesOf}
 use Rattle.tz_write.proofs.Shortest.{Best, Front, front_then, front_cons, pairs_after}
-use Rattle.tz_write.proofs.Clocks.{Stops, offset_spelled, offset_front, offset_pairs, offset_first, offset_fits}
+use Rattle.tz_write.proofs.Clocks.{Stops, offset_spelled, offset_front, offset_pairs, offset_first}
+use Rattle.tz_write.proofs.TextParts.{IsFixedText, IsAlternateText, parts_of, fixed_text, alternate_text_is}
 use Rattle.tz_write.proofs.NameTexts.{name_spelled, name_front, name_pairs, name_first}
 use Rattle.tz_write.proofs.DayTexts.{IsEndOrComma, stops, day_spelled, day_front, day_pairs, day_plain, dst_offset_spelled, dst_offset_front, dst_offset_pairs}
 
@@ -38,14 +41,14 @@ not_digit : (b : ℕ) → 58 < b → is_digit b ≡ false
 not_digit b h = grind (arith, nat_tests)
 
 -- ---- a type's name and offset
-type_spelled : (t : LocalType) (name rest : List ℕ) → t.name ≡ Some name → IsName name → IsWithinDay t.offset → Stops rest → Name (type_text t ++ rest) name (offset_text t.offset ++ rest) × Offset (offset_text t.offset ++ rest) t.offset rest
+type_spelled : (t : LocalType) (name rest : List ℕ) → t.name ≡ Some name → IsName name → IsWithinDay t.offset → Stops rest → Spells tz.name (type_text t ++ rest) name (offset_text t.offset ++ rest) × Spells tz.offset (offset_text t.offset ++ rest) t.offset rest
 type_spelled t name rest e h w stops =
     let n : name_of t ≡ name = ap name_or_none e in (
       rw (append_assoc (name_text (name_of t)) (offset_text t.offset) rest, n) (name_spelled name (offset_text t.offset ++ rest) h (offset_ends_name t.offset rest w)),
       offset_spelled t.offset rest w stops,
     )
 
-type_front : (t : LocalType) (name bytes middle rest : List ℕ) → t.name ≡ Some name → AreInPairs bytes → Name bytes name middle → Offset middle t.offset rest → Front (type_text t) bytes rest
+type_front : (t : LocalType) (name bytes middle rest : List ℕ) → t.name ≡ Some name → AreInPairs bytes → Spells tz.name bytes name middle → Spells tz.offset middle t.offset rest → Front (type_text t) bytes rest
 type_front t name bytes middle rest e pairs n o =
     let x : name_of t ≡ name = ap name_or_none e in
     let f = name_front bytes name middle n in
@@ -66,7 +69,7 @@ fixed_spelled t h w =
     record {
       name = h.0;
       after_name = offset_text t.offset ++ [];
-      name_spelled = subst (λ (z : List ℕ). Name z h.0 (offset_text t.offset ++ [])) (append-nil (type_text t)) s.0;
+      name_spelled = subst (λ (z : List ℕ). Spells tz.name z h.0 (offset_text t.offset ++ [])) (append-nil (type_text t)) s.0;
       offset_spelled = s.1;
       named = h.1;
     }
@@ -111,7 +114,7 @@ alternate_spelled extended a h s d start end =
       dst_name_spelled = rw n (name_spelled d.0 (from_offset a) d.1.allowed (dst_ends_name a.std.offset a.dst.offset (days_of a) h.within.dst_offset));
       dst_offset_spelled = dst_offset_spelled a.std.offset a.dst.offset (days_of a) h.within.dst_offset;
       start_spelled = day_spelled extended a.start (comma ∷ day_text a.end) h.start_day start (inr (day_text a.end, refl));
-      end_spelled = subst (λ (z : List ℕ). Day extended z a.end []) (append-nil (day_text a.end)) (day_spelled extended a.end [] h.end_day end end_or_nothing);
+      end_spelled = subst (λ (z : List ℕ). Spells (tz.day extended) z a.end []) (append-nil (day_text a.end)) (day_spelled extended a.end [] h.end_day end end_or_nothing);
       std_named = s.1;
       dst_named = d.1;
     }
@@ -148,12 +151,12 @@ alternate_pairs a h s d =
 
 -- ---- rules
 pub rule_spelled : (extended : Bool) (rule : TransitionRule) → IsRule rule → CanBeSpelled rule → AreTimesOf extended rule → IsTzText extended (text_of rule) rule
-rule_spelled extended (rules.Fixed t) fits h times = fixed_spelled t h.0 h.1
-rule_spelled extended (rules.Alternate a) fits h times = alternate_spelled extended a fits h.0 h.1 times.0 times.1
+rule_spelled extended (rules.Fixed t) fits h times = fixed_text extended (type_text t) t (fixed_spelled t h.0 h.1)
+rule_spelled extended (rules.Alternate a) fits h times = alternate_text_is extended (alternate_text a) a (alternate_spelled extended a fits h.0 h.1 times.0 times.1)
 
 pub rule_best : (extended : Bool) (bytes : List ℕ) (rule : TransitionRule) → AreInPairs bytes → IsTzText extended bytes rule → Best (text_of rule) bytes
-rule_best extended bytes (rules.Fixed t) pairs h = fixed_front bytes t pairs h
-rule_best extended bytes (rules.Alternate a) pairs h = alternate_front extended bytes a pairs h
+rule_best extended bytes (rules.Fixed t) pairs h = fixed_front bytes t pairs (parts_of extended bytes (rules.Fixed t) h)
+rule_best extended bytes (rules.Alternate a) pairs h = alternate_front extended bytes a pairs (parts_of extended bytes (rules.Alternate a) h)
 
 pub rule_pairs : (rule : TransitionRule) → IsRule rule → CanBeSpelled rule → AreInPairs (text_of rule)
 rule_pairs (rules.Fixed t) fits h = fixed_pairs t h.0 h.1
@@ -162,12 +165,15 @@ rule_pairs (rules.Alternate a) fits h = alternate_pairs a fits h.0 h.1
 -- what a text without extensions spells has times that need none
 pub rule_plain : (bytes : List ℕ) (rule : TransitionRule) → IsTzText false bytes rule → AreTimesOf false rule
 rule_plain bytes (rules.Fixed t) h = tt
-rule_plain bytes (rules.Alternate a) h = (day_plain h.at_start a.start (comma ∷ h.at_end) h.start_spelled, day_plain h.at_end a.end [] h.end_spelled)
+rule_plain bytes (rules.Alternate a) spelled = let h = parts_of false bytes (rules.Alternate a) spelled in (day_plain h.at_start a.start (comma ∷ h.at_end) h.start_spelled, day_plain h.at_end a.end [] h.end_spelled)
 
 -- what a text spells can be spelled
 pub rule_named : (extended : Bool) (bytes : List ℕ) (rule : TransitionRule) → IsTzText extended bytes rule → CanBeSpelled rule
-rule_named extended bytes (rules.Fixed t) h = ((h.name, h.named), offset_fits h.after_name t.offset [] h.offset_spelled)
-rule_named extended bytes (rules.Alternate a) h = ((h.std_name, h.std_named), (h.dst_name, h.dst_named))
+rule_named extended bytes (rules.Fixed t) spelled = let h = parts_of extended bytes (rules.Fixed t) spelled in ((h.name, h.named), offset_fits h.after_name t.offset [] h.offset_spelled)
+rule_named extended bytes (rules.Alternate a) spelled = let h = parts_of extended bytes (rules.Alternate a) spelled in ((h.std_name, h.std_named), (h.dst_name, h.dst_named))
+
+pub unspelled : (rule : TransitionRule) (b : Bool) → IsTrue b ↔ CanBeSpelled rule → b ≡ false → IsUnspelled rule
+unspelled rule b answer none = λ extended bytes h. let spelled = answer.1 (rule_named extended bytes rule h) in cc
 
 pub times_extended : (rule : TransitionRule) → IsRule rule → AreTimesOf true rule
 times_extended (rules.Fixed t) fits = tt

@@ -10,7 +10,7 @@ use Rattle.offset_core.specs.Offset.{IsWithinDay}
 use Rattle.tz_base.specs.Fronts.{is_digit, AllOf, AllDigits}
 use Rattle.tz_base.specs.LocalTypes.{LocalType}
 use Rattle.tz_base.specs.Names.{is_name_byte, IsName}
-use Rattle.tz_info.specs.Pieces.{comma, dot, slash, colon, less, greater, is_letter}
+use Rattle.tz_info.specs.TzGrammar.{comma, dot, slash, colon, less, greater, is_letter}
 use Rattle.tz_info.specs.RuleDays.{IsRuleDay}
 use Rattle.tz_info.specs.Rules.{Alternate, IsAlternateRule, IsWithinWeek}
 use Rattle.tz_info.specs.RuleTypes.{IsRule}

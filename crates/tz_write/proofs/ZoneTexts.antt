@@ -1,5 +1,5 @@
 -- The text of a zone: it gives the zone, and each other one is longer.
-use Rattle.std.proofs.Common.{◌≡◌, ◌≢◌, ℕ, ◌<◌, arith, ap, ◌∙◌, sym, subst, List, [], ◌∷◌, ◌++◌, length, length-append, true, false, inl, inr, ◌⊎◌, Option, Some, None, Result, Ok, Err, OnErr}
+use Rattle.std.proofs.Common.{◌≡◌, ◌≢◌, ℕ, ◌<◌, arith, ap, ◌∙◌, sym, subst, List, [], ◌∷◌, ◌++◌, length, length-append, Bool, true, false, IsTrue, ◌↔◌, inl, inr, ◌⊎◌, Option, Some, None, Result, Ok, Err, OnErr}
 use Rattle.std.specs.Char.{is_ascii_whitespace}
 use Rattle.std.proofs.lemmas.List.{append-nil}
 use Rattle.std.proofs.lemmas.Bool.Decides.{nat_tests}
@@ -8,15 +8,15 @@ use Rattle.tz_base.specs.LocalTypes.{LocalType}
 use Rattle.tz_info.specs.PosixZones.{types_of, posix_zone, IsPosixZone}
 use Rattle.tz_info.specs.RuleTypes.{IsRule}
 use Rattle.tz_info.specs.Trims.{IsSpace, IsTrimmed}
-use Rattle.tz_info.specs.TzTexts.{IsTzText}
+use Rattle.tz_info.specs.TzGrammar.{IsTzText}
 use Rattle.tz_info.specs.Zones.{Zone, zone_of_rule}
 use Rattle.tz_info.specs.declared.rule.transition_rule.TransitionRule.{TransitionRule}
 use Rattle.tz_info.specs.declared.zone.leap_second.LeapSecond.{LeapSecond}
 use Rattle.tz_info.specs.declared.zone.transition.Transition.{Transition}
-use Rattle.tz_write.specs.WrittenTexts.{TwoDigits, AreInPairs, IsWrittenZone}
+use Rattle.tz_write.specs.WrittenTexts.{TwoDigits, AreInPairs, IsNoPosixZone, IsWrittenZone}
 use Rattle.tz_write.specs.Steps.TextPieces.{text_of, CanBeSpelled, HasZoneText}
 use Rattle.tz_write.proofs.Shortest.{Best, pairs_rest}
-use Rattle.tz_write.proofs.RuleTexts.{rule_spelled, rule_best, rule_pairs}
+use Rattle.tz_write.proofs.RuleTexts.{rule_spelled, rule_best, rule_pairs, rule_named, rule_plain}
 use Rattle.tz_write.proofs.TextBytes.{text_are, text_first, trimmed_text}
 
 -- ---- white space at the ends
@@ -98,6 +98,11 @@ written_zone types rule fits h =
           let s = spells_rule other types rule gives in
           best_of_trimmed (text_of rule) other s.0 s.1 (rule_best false s.0 rule (trimmed_pairs other s.0 s.1 pairs) s.2);
     }
+
+pub no_zone_text : (types : List LocalType) (rule : TransitionRule) (b : Bool) → IsTrue b ↔ HasZoneText types rule → b ≡ false → IsNoPosixZone (zone_of_rule types (Some rule))
+no_zone_text types rule b answer none = λ text gives.
+    let s = spells_rule text types rule gives in
+    let has = answer.1 (s.3, (rule_named false s.0 rule s.2, rule_plain s.0 rule s.2)) in cc
 
 -- ---- transitions and leap seconds
 pub zone_is : (z : Zone) (types : List LocalType) (rule : Option TransitionRule) → (z.transitions ≡ []) × (z.leaps ≡ []) → types ≡ z.types → rule ≡ z.rule → zone_of_rule types rule ≡ z

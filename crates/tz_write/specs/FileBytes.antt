@@ -4,7 +4,7 @@ use Rattle.std.specs.Prelude.{ℕ, ℤ, Bool, if◌then◌else◌, List, [], ◌
 use Rattle.std.specs.Int.{Width, w32, w64, to_be_bytes, cast_unsigned}
 use Rattle.std.specs.List.{flat_map}
 use Rattle.tz_base.specs.LocalTypes.{LocalType}
-use Rattle.tz_info.specs.FileBlocks.{Parts, in_order}
+use Rattle.tz_info.specs.FileBlocks.{Parts}
 use Rattle.tz_info.specs.FileHeaders.{magic}
 use Rattle.tz_info.specs.Zones.{Zone}
 use Rattle.tz_info.specs.declared.file.header.Counts.{Counts}
@@ -92,7 +92,11 @@ zone_parts designations z = record {
   ut_local = [];
 }
 
--- parts laid end to end
+-- parts laid end to end, and the rest
+abbrev pub in_order : List (List ℕ) → List ℕ → List ℕ
+in_order [] rest = rest
+in_order (part ∷ parts) rest = part ++ in_order parts rest
+
 abbrev pub block_bytes : Parts → List ℕ → List ℕ
 block_bytes p rest = in_order (p.times ∷ p.type_indexes ∷ p.types ∷ p.designations ∷ p.leap_seconds ∷ p.standard_wall ∷ p.ut_local ∷ []) rest
 

@@ -2,9 +2,8 @@
 -- has the extensions).
 use Rattle.std.specs.Prelude.{ℕ, ◌≡◌, ◌<◌, ◌⊎◌, Bool, true, false, List, [], ◌∷◌, length}
 use Rattle.tz_base.specs.Fronts.{is_digit, NoneFirst}
-use Rattle.tz_info.specs.Pieces.{colon}
 use Rattle.tz_info.specs.PosixZones.{IsPosixZone}
-use Rattle.tz_info.specs.TzTexts.{IsTzText}
+use Rattle.tz_info.specs.TzGrammar.{colon, IsTzText}
 use Rattle.tz_info.specs.Zones.{Zone}
 use Rattle.tz_info.specs.declared.rule.transition_rule.TransitionRule.{TransitionRule}
 

@@ -6,7 +6,7 @@ ghost use Rattle.tz_base.specs.Names.{IsName};
 ghost use Rattle.tz_info.specs.RuleTypes.{IsRule};
 ghost use Rattle.tz_info.specs.Rules.{IsAlternateRule};
 ghost use Rattle.offset_core.specs.Offset.{IsWithinDay};
-ghost use Rattle.tz_info.specs.TzTexts.{IsTzText};
+ghost use Rattle.tz_info.specs.TzGrammar.{IsTzText};
 ghost use Rattle.tz_write.specs.WrittenTexts.{IsWrittenText, IsUnspelled};
 ghost use Rattle.tz_write.specs.Steps.TextPieces.{name_text, name_of, type_text, days_text, alternate_text, text_of, IsNamedType, IsPlainTime, CanBeSpelled, AreTimesOf, HasPlainText};
 

@@ -71,7 +71,7 @@ time_takes text rest l e =
     let word = small_integer_takes (first_word text) y.0 y.1 in
     let are = numbers_takes 5 (other_words text) numbers.0.0 numbers.0.1 numbers.1 in
     let time = such_time (first_word text) are.0 y.0 numbers.0.0 shown.0 word.0 word.1 are.2 shown.1 in
-    let whole = (run_splits is_no_space text).0 ∙ ap (λ r. first_word text ++ r) are.1 ∙ sym (append_assoc (first_word text) are.0 numbers.0.1) in
+    let whole = (run_splits is_no_space text).whole ∙ ap (λ r. first_word text ++ r) are.1 ∙ sym (append_assoc (first_word text) are.0 numbers.0.1) in
     subst (λ (p : Reading × List ℕ). (time : List ℕ) × (text ≡ time ++ p.1) × IsLocalTime time p.0.s × (p.0.f ≡ 0)) parts (first_word text ++ are.0, whole, time.0, time.1)
 
 pub time_again : (time rest : List ℕ) (local : ℤ) → IsLocalTime time local → NoneFirst is_no_space rest → local_time_at (time ++ rest) ≡ Some (record { s = local; f = 0 }, rest)
@@ -181,7 +181,7 @@ show_takes line text query e h =
     let are = number_takes (other_words text) nanos.0.0 nanos.0.1 [] nanos.0.1 nanos.1 (no_numbers nanos.0.1) in
     let others = are.1 ∙ ap (λ r. are.0 ++ r) (end_is nanos.0.1 p.0) ∙ append-nil are.0 in
     let word = integer_takes (first_word text) seconds.0 seconds.1 in
-    let stamp : IsTimestamp text seconds.0 nanos.0.0 = record { first = first_word text; others = other_words text; whole = (run_splits is_no_space text).0; seconds_spelled = word.0; seconds_fit = word.1; nanos_spelled = subst (λ o. AreNumbers o (nanos.0.0 ∷ [])) (sym others) are.2 } in
+    let stamp : IsTimestamp text seconds.0 nanos.0.0 = record { first = first_word text; others = other_words text; whole = (run_splits is_no_space text).whole; seconds_spelled = word.0; seconds_fit = word.1; nanos_spelled = subst (λ o. AreNumbers o (nanos.0.0 ∷ [])) (sym others) are.2 } in
     subst (Asks line) (some_once p.1) (text, e, stamp)
 
 pub question_takes : (line : List ℕ) (query : Query) → question_at line ≡ Some query → Asks line query

@@ -188,7 +188,7 @@ number_takes text n later numbers rest h more =
     let parts = some_once number.2 in
     let same : number.0 ≡ n = ap (λ p. p.0) parts in
     let begun = behind_takes (codes " ") text words.0 words.1 in
-    let whole = (run_splits is_no_space words.0).0 in (
+    let whole = (run_splits is_no_space words.0).whole in (
       codes " " ++ digits ++ more.0,
       begun ∙ ap (λ w. codes " " ++ w) (whole ∙ ap (λ r. digits ++ r) (ap (λ p. p.1) parts ∙ more.1) ∙ sym (append_assoc digits more.0 rest)),
       (digits, more.0, refl, subst (IsNatural digits) same t.0, omega (arith, same, t.1), more.2),

@@ -47,9 +47,9 @@ pub use Rattle.tz_info.specs.Segments
 pub use Rattle.tz_info.specs.WallPieces
 pub use Rattle.tz_info.specs.ZoneEquality
 pub use Rattle.tz_base.specs.Fronts
-pub use Rattle.tz_info.specs.Pieces
-pub use Rattle.tz_info.specs.TzTexts
-pub use Rattle.tz_info.specs.TzFaults
+pub use Rattle.tz_base.specs.Refusals
+pub use Rattle.tz_base.specs.Grammar
+pub use Rattle.tz_info.specs.TzGrammar
 pub use Rattle.tz_info.specs.Trims
 pub use Rattle.tz_info.specs.PosixZones
 pub use Rattle.tz_info.specs.FileHeaders

@@ -7,9 +7,9 @@ use Rattle.tz_base.specs.declared.error.Error.{Error}
 use Rattle.tz_base.specs.declared.error.Error.TheVariants.{OutOfMemory}
 use Rattle.tz_info.specs.Zones.{Zone}
 use Rattle.tz_info.specs.FileBlocks.{parts_of}
-use Rattle.tz_info.specs.FilePieces.{FilePieces}
+use Rattle.tz_info.specs.FilePieces.{FilePieces, file}
 use Rattle.tz_info.specs.Steps.ContentReading.{values_below, transition_in, leap_second_in, type_in, indicators_of}
-use Rattle.tz_info.specs.Steps.FileReading.{pieces_at}
+use Rattle.tz_base.specs.Grammar.{read}
 use Rattle.tz_info.specs.Steps.FooterReading.{footer_of}
 use Rattle.tz_info.specs.declared.rule.transition_rule.TransitionRule.{TransitionRule}
 use Rattle.tz_info.specs.declared.file.reader.Pieces.{Pieces}
@@ -50,7 +50,10 @@ with_types p types = do
 unfoldable pub lists_in : FilePieces → Result Zone ℕ
 lists_in p = values_below p.counts.types (type_in p.parts.designations p.parts.types) >>= λ types. with_types p types
 
--- the lists of a file
+-- the pieces of a file, and its lists
+unfoldable pub pieces_at : List ℕ → Result FilePieces ℕ
+pieces_at bytes = read file bytes >>= λ p. Ok p.0
+
 unfoldable pub file_at : List ℕ → Result Zone ℕ
 file_at bytes = pieces_at bytes >>= lists_in
 

@@ -6,7 +6,8 @@ use Rattle.std.specs.Str.{is_utf8}
 use Rattle.std.specs.Char.{is_ascii_whitespace}
 use Rattle.tz_base.specs.Fronts.{◌>>=◌}
 use Rattle.tz_info.specs.Steps.ContentReading.{is_zero}
-use Rattle.tz_info.specs.Steps.Readings.{text_at}
+use Rattle.tz_base.specs.Grammar.{read}
+use Rattle.tz_info.specs.TzGrammar.{text}
 use Rattle.tz_info.specs.declared.rule.transition_rule.TransitionRule.{TransitionRule}
 
 abbrev pub trimmed_front : List ℕ → List ℕ
@@ -33,7 +34,7 @@ is_no_text text = (slice_index text 0 == 58) || list_any is_zero text
 
 -- the rule of a TZ text, which goes to the end
 unfoldable pub rule_in : Bool → List ℕ → Result TransitionRule ℕ
-rule_in extended text = text_at extended text >>= λ p. Ok p.0
+rule_in extended bytes = read (text extended) bytes >>= λ p. Ok p.0
 
 abbrev pub rule_or_none : Bool → List ℕ → Result (Option TransitionRule) ℕ
 rule_or_none extended [] = Ok None

@@ -2,8 +2,8 @@
 
 ghost use Rattle.std.specs.Prelude.{◌≡◌, ◌≤◌};
 ghost use Rattle.tz_base.specs.Fronts.{Gives};
-ghost use Rattle.tz_info.specs.FileBlocks.{parts_of};
-ghost use Rattle.tz_info.specs.Steps.FileReading.{block_at};
+ghost use Rattle.tz_base.specs.Grammar.{read};
+ghost use Rattle.tz_info.specs.FileBlocks.{parts_of, block};
 
 use crate::file::header::Counts;
 use tz_base::{Cursor, Error};
@@ -22,7 +22,7 @@ pub struct Block<'a> {
 
 /// The block that the counts announce, whose times have that many bytes each. No product wraps:
 /// each is below 2^36.
-#[tactic(auto, unfolding(crate::specs::Steps::FileReading::block_at))]
+#[tactic(auto, unfolding(crate::specs::FileBlocks::block))]
 pub fn read_block<'a>(
     cursor: &mut Cursor<'a>,
     counts: &Counts,
@@ -30,7 +30,7 @@ pub fn read_block<'a>(
 ) -> Result<Block<'a>, Error>
     requires { time_size ≤ 8 }
     ensures { Gives (λ b. (parts_of b, cursor.new)) result
-        (block_at time_size counts.now cursor.old) }
+        (read (block time_size counts.now) cursor.old) }
 {
     Ok(Block {
         times: cursor.read_exact(counts.transitions as usize * time_size)?,

@@ -5,8 +5,8 @@ ghost use Rattle.std.specs.Result.{IsErrAnd};
 ghost use Rattle.tz_base.specs.Fronts.{Gives};
 ghost use Rattle.tz_base.specs.declared.error.Error.TheVariants.{InvalidTzFile};
 ghost use Rattle.tz_base.specs.declared.error.Expected.TheVariants.{TZifAtFrontOfHeader};
-ghost use Rattle.tz_info.specs.FileHeaders.{HasOtherMagic};
-ghost use Rattle.tz_info.specs.Steps.FileReading.{magic_at, version_of, version_at, counts_at, counts_agree, header_at};
+ghost use Rattle.tz_base.specs.Grammar.{read};
+ghost use Rattle.tz_info.specs.FileHeaders.{HasOtherMagic, tzif, version_1, version, six_counts, counts_agree, header};
 
 use tz_base::{Cursor, Error, Expected};
 
@@ -46,9 +46,9 @@ pub struct Header {
     pub counts: Counts,
 }
 
-#[tactic(auto, unfolding(crate::specs::Steps::FileReading::header_at))]
+#[tactic(auto, unfolding(crate::specs::FileHeaders::header))]
 pub fn read_header(cursor: &mut Cursor<'_>, place: Place) -> Result<Header, Error>
-    ensures header { Gives (λ h. (h, cursor.new)) result (header_at place cursor.old) }
+    ensures header { Gives (λ h. (h, cursor.new)) result (read (header place) cursor.old) }
     ensures magic { HasOtherMagic cursor.old
         → IsErrAnd result (λ e. e ≡ InvalidTzFile TZifAtFrontOfHeader) }
 {
@@ -62,9 +62,9 @@ pub fn read_header(cursor: &mut Cursor<'_>, place: Place) -> Result<Header, Erro
     Ok(Header { version, counts })
 }
 
-#[tactic(auto, unfolding(crate::specs::Steps::FileReading::magic_at))]
+#[tactic(auto, unfolding(crate::specs::FileHeaders::tzif))]
 fn read_magic(cursor: &mut Cursor<'_>) -> Result<(), Error>
-    ensures rest { Gives (λ _. cursor.new) result (magic_at cursor.old) }
+    ensures rest { Gives (λ unit. (unit, cursor.new)) result (read tzif cursor.old) }
     ensures magic { HasOtherMagic cursor.old
         → IsErrAnd result (λ e. e ≡ InvalidTzFile TZifAtFrontOfHeader) }
 {
@@ -75,29 +75,36 @@ fn read_magic(cursor: &mut Cursor<'_>) -> Result<(), Error>
     Ok(())
 }
 
-#[tactic(auto, unfolding(crate::specs::Steps::FileReading::version_at))]
+#[tactic(auto, unfolding(crate::specs::FileHeaders::version))]
 fn read_version(cursor: &mut Cursor<'_>, place: Place) -> Result<Version, Error>
-    ensures { Gives (λ v. (v, cursor.new)) result (version_at place cursor.old) }
+    ensures { Gives (λ v. (v, cursor.new)) result (read (version place) cursor.old) }
 {
-    let front = cursor.read_exact(1)?;
-    version_of(front[0], place)
-}
-
-fn version_of(byte: u8, place: Place) -> Result<Version, Error>
-    ensures { Gives (λ v. v) result (version_of place byte) }
-{
-    match (byte, place) {
-        (0, Place::First) => Ok(Version::One),
-        (0, Place::Second) => Err(Error::InvalidTzFile(Expected::Version2Or3InSecondHeader)),
-        (b'2', _) => Ok(Version::Two),
-        (b'3', _) => Ok(Version::Three),
-        _ => Err(Error::UnsupportedTzFile(Expected::Version1To3)),
+    if cursor.read_optional_tag(b"\0") {
+        version_1(cursor, place)
+    } else if cursor.read_optional_tag(b"2") {
+        Ok(Version::Two)
+    } else if cursor.read_optional_tag(b"3") {
+        Ok(Version::Three)
+    } else {
+        let _other = cursor.read_exact(1)?;
+        Err(Error::UnsupportedTzFile(Expected::Version1To3))
     }
 }
 
-#[tactic(auto, unfolding(crate::specs::Steps::FileReading::counts_at))]
+// A second header is there from version 2 on.
+#[tactic(auto, unfolding(crate::specs::FileHeaders::version_1))]
+fn version_1(cursor: &Cursor<'_>, place: Place) -> Result<Version, Error>
+    ensures { Gives (λ v. (v, cursor.now)) result (read (version_1 place) cursor.now) }
+{
+    match place {
+        Place::First => Ok(Version::One),
+        Place::Second => Err(Error::InvalidTzFile(Expected::Version2Or3InSecondHeader)),
+    }
+}
+
+#[tactic(auto, unfolding(crate::specs::FileHeaders::six_counts))]
 fn read_counts(cursor: &mut Cursor<'_>) -> Result<Counts, Error>
-    ensures { Gives (λ c. (c, cursor.new)) result (counts_at cursor.old) }
+    ensures { Gives (λ c. (c, cursor.new)) result (read six_counts cursor.old) }
 {
     Ok(Counts {
         ut_local: cursor.read_be_u32()?,

@@ -1,6 +1,6 @@
 //! A file from its first byte to its last: its pieces, and the lists that they spell.
 
-ghost use Rattle.std.specs.Prelude.{◌≡◌, ◌⊎◌, IfOk, IfErr, MatchResult, option_map};
+ghost use Rattle.std.specs.Prelude.{[], ◌≡◌, ◌⊎◌, IfOk, IfErr, MatchResult, option_map};
 ghost use Rattle.std.specs.Result.{IsErrAnd};
 ghost use Rattle.tz_base.specs.Errors.{IsTimeZoneError, number_of};
 ghost use Rattle.tz_base.specs.Fronts.{Gives};
@@ -8,12 +8,12 @@ ghost use Rattle.tz_base.specs.declared.error.Error.TheVariants.{InvalidTzFile, 
 ghost use Rattle.tz_base.specs.declared.error.Expected.TheVariants.{TZifAtFrontOfHeader};
 ghost use Rattle.tz_info.specs.Zones.{Zone, IsValid};
 ghost use Rattle.tz_info.specs.FileBlocks.{parts_of};
-ghost use Rattle.tz_info.specs.Steps.FileReading.{first_version_in, later_version_at, after_version, pieces_at};
+ghost use Rattle.tz_base.specs.Grammar.{read};
 ghost use Rattle.tz_info.specs.Steps.ContentReading.{GivesInMemory};
 ghost use Rattle.tz_info.specs.Steps.FooterReading.{footer_of};
-ghost use Rattle.tz_info.specs.Steps.FileLists.{pieces_of, zone_of, lists_in, with_types, with_rule, HasLengths, Reads};
+ghost use Rattle.tz_info.specs.Steps.FileLists.{pieces_of, pieces_at, zone_of, lists_in, with_types, with_rule, HasLengths, Reads};
 ghost use Rattle.tz_info.specs.FileHeaders.{HasOtherMagic};
-ghost use Rattle.tz_info.specs.FilePieces.{FilePieces, HasPieces, is_extended};
+ghost use Rattle.tz_info.specs.FilePieces.{FilePieces, HasPieces, is_extended, first_version, later_version, after_first_block};
 ghost use Rattle.tz_info.specs.TzFiles.{IsTzFile, IsZoneFault};
 
 use crate::file::block::{Block, read_block};
@@ -92,7 +92,7 @@ struct Pieces<'a> {
     footer: Option<&'a [u8]>,
 }
 
-#[tactic(auto, unfolding(crate::specs::Steps::FileReading::pieces_at))]
+#[tactic(auto, unfolding(crate::specs::FilePieces::file, crate::specs::Steps::FileLists::pieces_at))]
 fn read_pieces(bytes: &[u8]) -> Result<Pieces<'_>, Error>
     ensures pieces { Gives pieces_of result (pieces_at bytes.now) }
     ensures magic { HasOtherMagic bytes.now
@@ -104,13 +104,14 @@ fn read_pieces(bytes: &[u8]) -> Result<Pieces<'_>, Error>
     after_first_block(&mut cursor, header, block)
 }
 
+#[tactic(auto, unfolding(crate::specs::FilePieces::after_first_block))]
 fn after_first_block<'a>(
     cursor: &mut Cursor<'a>,
     header: Header,
     block: Block<'a>,
 ) -> Result<Pieces<'a>, Error>
-    ensures { Gives pieces_of result
-        (after_version header.version header.counts (parts_of block.entry) cursor.old) }
+    ensures { Gives (λ p. (pieces_of p, [])) result
+        (read (after_first_block header.version header.counts (parts_of block.entry)) cursor.old) }
 {
     match header.version {
         Version::One => first_version(cursor, header.counts, block),
@@ -119,12 +120,14 @@ fn after_first_block<'a>(
 }
 
 // In version 1 the first block says all, and nothing follows it.
+#[tactic(auto, unfolding(crate::specs::FilePieces::first_version))]
 fn first_version<'a>(
     cursor: &Cursor<'a>,
     counts: Counts,
     block: Block<'a>,
 ) -> Result<Pieces<'a>, Error>
-    ensures { Gives pieces_of result (first_version_in counts (parts_of block.entry) cursor.now) }
+    ensures { Gives (λ p. (pieces_of p, [])) result
+        (read (first_version counts (parts_of block.entry)) cursor.now) }
 {
     if !cursor.is_empty() {
         return Err(Error::InvalidTzFile(Expected::NothingAfterBlockOfVersion1));
@@ -139,9 +142,9 @@ fn first_version<'a>(
 }
 
 // From version 2 on the second block says all, with the footer, which is the rest.
-#[tactic(auto, unfolding(crate::specs::Steps::FileReading::later_version_at))]
+#[tactic(auto, unfolding(crate::specs::FilePieces::later_version))]
 fn later_version<'a>(cursor: &mut Cursor<'a>) -> Result<Pieces<'a>, Error>
-    ensures { Gives pieces_of result (later_version_at cursor.old) }
+    ensures { Gives (λ p. (pieces_of p, [])) result (read later_version cursor.old) }
 {
     let header = read_header(cursor, Place::Second)?;
     let block = read_block(cursor, &header.counts, 8)?;

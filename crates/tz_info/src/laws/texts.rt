@@ -2,8 +2,7 @@
 //! proved; never called.
 
 ghost use Rattle.std.specs.Prelude.{◌≡◌, ◌≤◌, List, ℕ, Bool};
-ghost use Rattle.tz_info.specs.TzTexts.{IsTzText};
-ghost use Rattle.tz_info.specs.TzFaults.{IsTextFault};
+ghost use Rattle.tz_info.specs.TzGrammar.{IsTzText, IsTextFault};
 ghost use Rattle.tz_info.specs.PosixZones.{IsPosixZone, IsPosixFault};
 ghost use Rattle.tz_info.specs.Zones.{Zone, IsValid, IsRuleOrNone};
 ghost use Rattle.tz_info.specs.declared.rule.transition_rule.TransitionRule.{TransitionRule as Rule};

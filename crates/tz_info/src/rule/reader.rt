@@ -4,9 +4,8 @@ ghost use Rattle.std.specs.Prelude.{◌≡◌, List, ℕ, IfOk, IfErr};
 ghost use Rattle.std.specs.Result.{IsOkAnd};
 ghost use Rattle.tz_base.specs.Errors.{number_of};
 ghost use Rattle.tz_base.specs.Fronts.{Gives};
-ghost use Rattle.tz_info.specs.Steps.Readings.{text_at};
-ghost use Rattle.tz_info.specs.TzTexts.{IsTzText};
-ghost use Rattle.tz_info.specs.TzFaults.{IsTextFault};
+ghost use Rattle.tz_base.specs.Grammar.{read};
+ghost use Rattle.tz_info.specs.TzGrammar.{text, IsTzText, IsTextFault};
 ghost use Rattle.tz_info.specs.declared.rule.transition_rule.TransitionRule.{TransitionRule as Rule};
 
 mod clock;
@@ -47,7 +46,8 @@ impl TransitionRule {
 
 // The rule that the bytes spell.
 pub(crate) fn read_all(bytes: &[u8], extended: bool) -> Result<TransitionRule, Error>
-    ensures { (rest : List ℕ) × Gives (λ rule. (rule, rest)) result (text_at extended bytes.now) }
+    ensures { (rest : List ℕ) × Gives (λ rule. (rule, rest)) result
+        (read (text extended) bytes.now) }
 {
     let mut cursor = Cursor::new(bytes);
     let spelled = read_text(extended, &mut cursor)?;

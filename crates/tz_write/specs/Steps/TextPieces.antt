@@ -4,10 +4,10 @@ use Rattle.std.specs.Int.RustNames.{unsigned_abs}
 use Rattle.std.specs.Ordering.{int_eq}
 use Rattle.std.specs.List.{list_all}
 use Rattle.tz_base.specs.LocalTypes.{LocalType}
-use Rattle.tz_info.specs.Pieces.{comma, minus, dot, slash, colon, less, greater, letter_J, letter_M, is_letter}
+use Rattle.tz_base.specs.Names.{IsName}
+use Rattle.tz_info.specs.TzGrammar.{comma, minus, dot, slash, colon, less, greater, letter_J, letter_M, is_letter}
 use Rattle.tz_info.specs.Rules.{Alternate, IsWithinWeek}
 use Rattle.offset_core.specs.Offset.{IsWithinDay}
-use Rattle.tz_info.specs.TzTexts.{IsNamed}
 use Rattle.tz_info.specs.PosixZones.{types_of}
 use Rattle.tz_info.specs.declared.rule.day.DayForm.{DayForm}
 use Rattle.tz_info.specs.declared.rule.day.DayForm.TheVariants.{Julian1, Julian0, MonthWeekday}
@@ -109,6 +109,12 @@ alternate_text a = type_text a.std ++ (name_text (name_of a.dst) ++ (dst_offset_
 abbrev pub text_of : TransitionRule → List ℕ
 text_of (rules.Fixed t) = type_text t
 text_of (rules.Alternate a) = alternate_text a
+
+-- the type has that name, which is one that a type can have, and that mark
+pub record IsNamed (name : List ℕ) (dst : Bool) (t : LocalType) : Type 0 where
+  pub allowed : IsName name
+  pub named : t.name ≡ Some name
+  pub mark : t.dst ≡ dst
 
 -- the type has a name that a text can spell, and that mark
 abbrev pub IsNamedType : Bool → LocalType → Type 0

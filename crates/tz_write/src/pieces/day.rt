@@ -2,7 +2,7 @@
 
 ghost use Rattle.std.specs.Prelude.{◌≡◌, ◌∷◌, ◌++◌, pos, OnOk, string_bytes};
 ghost use Rattle.std.specs.Fmt.{decimal};
-ghost use Rattle.tz_info.specs.Pieces.{comma};
+ghost use Rattle.tz_info.specs.TzGrammar.{comma};
 ghost use Rattle.tz_info.specs.declared.rule.day.DayForm.TheVariants.{Julian1, MonthWeekday};
 ghost use Rattle.tz_write.specs.Steps.TextPieces.{date_text, time_after};
 

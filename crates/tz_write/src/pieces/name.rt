@@ -3,7 +3,7 @@
 ghost use Rattle.std.specs.Prelude.{◌≡◌, ◌++◌, OnOk, IsTrue, MatchOption, Some, None, string_bytes};
 ghost use Rattle.std.specs.List.{list_all};
 ghost use Rattle.tz_base.specs.Names.{IsName};
-ghost use Rattle.tz_info.specs.Pieces.{is_letter};
+ghost use Rattle.tz_info.specs.TzGrammar.{is_letter};
 ghost use Rattle.tz_write.specs.Steps.TextPieces.{name_text};
 
 use crate::pieces::clock::push_byte;

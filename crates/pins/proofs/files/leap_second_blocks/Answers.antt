@@ -1,26 +1,10 @@
 use Rattle.std.proofs.Common.{refl}
+use Rattle.pins.specs.Files.{one_leap_second, short_record, long_record, with_leap_second}
+use Rattle.pins.proofs.FileParts.{parts_are}
 use Rattle.pins.proofs.files.leap_second_blocks.Goals as goal
 
 pub returns : goal.returns
 returns c = record {
-  first = λ rest. record {
-    whole = refl;
-    times = refl;
-    type_indexes = refl;
-    types = refl;
-    designations = refl;
-    leap_seconds = refl;
-    standard_wall = refl;
-    ut_local = refl;
-  };
-  second = λ rest. record {
-    whole = refl;
-    times = refl;
-    type_indexes = refl;
-    types = refl;
-    designations = refl;
-    leap_seconds = refl;
-    standard_wall = refl;
-    ut_local = refl;
-  };
+  first = λ rest. parts_are 4 one_leap_second (with_leap_second short_record) rest refl refl refl refl refl refl refl;
+  second = λ rest. parts_are 8 one_leap_second (with_leap_second long_record) rest refl refl refl refl refl refl refl;
 }

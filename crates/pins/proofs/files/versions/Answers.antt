@@ -1,14 +1,18 @@
-use Rattle.std.proofs.Common.{refl}
-use Rattle.pins.proofs.FileParts.{no_version_1, no_version_4}
-use Rattle.pins.proofs.SpelledPieces.{some_bytes}
+use Rattle.std.proofs.Common.{refl, [], ◌∷◌}
+use Rattle.tz_base.specs.Fronts.{exact_at, optional_tag_at}
+use Rattle.tz_base.proofs.ForCallers.{lawful, apart}
+use Rattle.tz_info.specs.FileHeaders.{version, version_1}
+use Rattle.tz_info.specs.FilePieces.{after_first_block, first_version}
+use Rattle.tz_info.specs.declared.file.header.Place.TheVariants.{First}
 use Rattle.pins.proofs.files.versions.Goals as goal
 
 pub returns : goal.returns
+unfolding version version_1 after_first_block first_version exact_at optional_tag_at
 returns c = record {
-  one = refl;
-  two = refl;
-  three = refl;
-  digit_1 = no_version_1;
-  digit_4 = no_version_4;
-  nothing = λ counts parts b rest pieces h. some_bytes b rest h.0;
+  one = (lawful (version First) (0 ∷ [])).takes (_, _) refl;
+  two = λ place. (lawful (version place) (50 ∷ [])).takes (_, _) refl;
+  three = λ place. (lawful (version place) (51 ∷ [])).takes (_, _) refl;
+  digit_1 = λ place v rest h. apart (lawful (version place) (49 ∷ [])) (v, rest) 14 h ((lawful (version place) (49 ∷ [])).fails 14 refl);
+  digit_4 = λ place v rest h. apart (lawful (version place) (52 ∷ [])) (v, rest) 14 h ((lawful (version place) (52 ∷ [])).fails 14 refl);
+  nothing = λ counts parts b bytes rest pieces h. apart (lawful (first_version counts parts) (b ∷ bytes)) (pieces, rest) 5 h ((lawful (first_version counts parts) (b ∷ bytes)).fails 5 refl);
 }

@@ -3,8 +3,10 @@
 ghost use Rattle.std.specs.Prelude.{◌≡◌, ◌≤◌, ◌<ℤ◌, ◌≤ℤ◌, pos, neg_ℤ, not, Ok, IfOk};
 ghost use Rattle.offset_core.specs.Offset.{IsWithinDay};
 ghost use Rattle.tz_base.specs.Fronts.{Gives};
+ghost use Rattle.tz_base.specs.Grammar.{read, checked};
+ghost use Rattle.tz_base.specs.Refusals.{InvalidTzString};
 ghost use Rattle.tz_info.specs.Rules.{IsWithinWeek};
-ghost use Rattle.tz_info.specs.Steps.Readings.{sign_at, seconds_at, minutes_seconds_at, others_at, hours_minutes_seconds_at, seconds_within, duration_at, offset_at, time_sign_at, time_at, optional_time_at};
+ghost use Rattle.tz_info.specs.TzGrammar.{sign, seconds, minutes_seconds, optional_minutes, hours_minutes_seconds, is_within, seconds_of, duration, offset, time_sign, time, optional_time};
 
 use tz_base::{Cursor, Error, Expected};
 
@@ -12,9 +14,9 @@ use tz_base::{Cursor, Error, Expected};
 const CLOCK_MAX: u32 = i32::MAX as u32;
 
 // An offset, in seconds east of UTC. The text counts west.
-#[tactic(auto, unfolding(crate::specs::Steps::Readings::offset_at))]
+#[tactic(auto, unfolding(crate::specs::TzGrammar::offset))]
 pub(super) fn read_offset(cursor: &mut Cursor<'_>) -> Result<i32, Error>
-    ensures value { Gives (λ z. (z, cursor.new)) result (offset_at cursor.old) }
+    ensures value { Gives (λ z. (z, cursor.new)) result (read offset cursor.old) }
     ensures bound { IfOk result (λ z. IsWithinDay z) }
 {
     let is_minus = read_sign(cursor);
@@ -22,9 +24,9 @@ pub(super) fn read_offset(cursor: &mut Cursor<'_>) -> Result<i32, Error>
 }
 
 // A `/` and a time of day, in seconds after midnight, or nothing for two o'clock.
-#[tactic(auto, unfolding(crate::specs::Steps::Readings::optional_time_at))]
+#[tactic(auto, unfolding(crate::specs::TzGrammar::optional_time))]
 pub(super) fn read_optional_time(extended: bool, cursor: &mut Cursor<'_>) -> Result<i32, Error>
-    ensures value { Gives (λ z. (z, cursor.new)) result (optional_time_at extended cursor.old) }
+    ensures value { Gives (λ z. (z, cursor.new)) result (read (optional_time extended) cursor.old) }
     ensures bound { IfOk result (λ z. IsWithinWeek z) }
 {
     if cursor.read_optional_tag(b"/") {
@@ -34,26 +36,26 @@ pub(super) fn read_optional_time(extended: bool, cursor: &mut Cursor<'_>) -> Res
     }
 }
 
-#[tactic(auto, unfolding(crate::specs::Steps::Readings::time_at))]
+#[tactic(auto, unfolding(crate::specs::TzGrammar::time))]
 fn read_time(extended: bool, cursor: &mut Cursor<'_>) -> Result<i32, Error>
-    ensures value { Gives (λ z. (z, cursor.new)) result (time_at extended cursor.old) }
+    ensures value { Gives (λ z. (z, cursor.new)) result (read (time extended) cursor.old) }
     ensures bound { IfOk result (λ z. IsWithinWeek z) }
 {
     let is_minus = read_time_sign(extended, cursor);
     read_duration(if extended { 167 } else { 24 }, is_minus, cursor)
 }
 
-#[tactic(auto, unfolding(crate::specs::Steps::Readings::time_sign_at))]
+#[tactic(auto, unfolding(crate::specs::TzGrammar::time_sign))]
 fn read_time_sign(extended: bool, cursor: &mut Cursor<'_>) -> bool
-    ensures { time_sign_at extended cursor.old ≡ Ok (result, cursor.new) }
+    ensures { read (time_sign extended) cursor.old ≡ Ok (result, cursor.new) }
 {
     if extended { read_sign(cursor) } else { false }
 }
 
 // Whether a minus stands there. A plus may stand there too.
-#[tactic(auto, unfolding(crate::specs::Steps::Readings::sign_at))]
+#[tactic(auto, unfolding(crate::specs::TzGrammar::sign))]
 fn read_sign(cursor: &mut Cursor<'_>) -> bool
-    ensures { sign_at cursor.old ≡ Ok (result, cursor.new) }
+    ensures { read sign cursor.old ≡ Ok (result, cursor.new) }
 {
     if cursor.read_optional_tag(b"+") {
         false
@@ -62,10 +64,10 @@ fn read_sign(cursor: &mut Cursor<'_>) -> bool
     }
 }
 
-#[tactic(auto, unfolding(crate::specs::Steps::Readings::duration_at))]
+#[tactic(auto, unfolding(crate::specs::TzGrammar::duration))]
 fn read_duration(limit: u32, negative: bool, cursor: &mut Cursor<'_>) -> Result<i32, Error>
     requires { limit ≤ 167 }
-    ensures value { Gives (λ z. (z, cursor.new)) result (duration_at limit negative cursor.old) }
+    ensures value { Gives (λ z. (z, cursor.new)) result (read (duration limit negative) cursor.old) }
     ensures day { limit ≤ 23 → IfOk result (λ z. IsWithinDay z) }
     ensures week { IfOk result (λ z. IsWithinWeek z) }
 {
@@ -74,19 +76,19 @@ fn read_duration(limit: u32, negative: bool, cursor: &mut Cursor<'_>) -> Result<
 }
 
 // Hours, minutes and seconds; 0 for what is left out.
-#[tactic(auto, unfolding(crate::specs::Steps::Readings::hours_minutes_seconds_at))]
+#[tactic(auto, unfolding(crate::specs::TzGrammar::hours_minutes_seconds))]
 fn read_hours_minutes_seconds(cursor: &mut Cursor<'_>) -> Result<(u32, u32, u32), Error>
     ensures { Gives (λ t. ((t.0, t.1, t.2), cursor.new)) result
-        (hours_minutes_seconds_at cursor.old) }
+        (read hours_minutes_seconds cursor.old) }
 {
     let h = cursor.read_int(CLOCK_MAX)?;
-    let (m, s) = read_others(cursor)?;
+    let (m, s) = read_optional_minutes(cursor)?;
     Ok((h, m, s))
 }
 
-#[tactic(auto, unfolding(crate::specs::Steps::Readings::others_at))]
-fn read_others(cursor: &mut Cursor<'_>) -> Result<(u32, u32), Error>
-    ensures { Gives (λ t. ((t.0, t.1), cursor.new)) result (others_at cursor.old) }
+#[tactic(auto, unfolding(crate::specs::TzGrammar::optional_minutes))]
+fn read_optional_minutes(cursor: &mut Cursor<'_>) -> Result<(u32, u32), Error>
+    ensures { Gives (λ t. ((t.0, t.1), cursor.new)) result (read optional_minutes cursor.old) }
 {
     if cursor.read_optional_tag(b":") {
         read_minutes_seconds(cursor)
@@ -95,18 +97,18 @@ fn read_others(cursor: &mut Cursor<'_>) -> Result<(u32, u32), Error>
     }
 }
 
-#[tactic(auto, unfolding(crate::specs::Steps::Readings::minutes_seconds_at))]
+#[tactic(auto, unfolding(crate::specs::TzGrammar::minutes_seconds))]
 fn read_minutes_seconds(cursor: &mut Cursor<'_>) -> Result<(u32, u32), Error>
-    ensures { Gives (λ t. ((t.0, t.1), cursor.new)) result (minutes_seconds_at cursor.old) }
+    ensures { Gives (λ t. ((t.0, t.1), cursor.new)) result (read minutes_seconds cursor.old) }
 {
     let m = cursor.read_int(CLOCK_MAX)?;
     let s = read_seconds(cursor)?;
     Ok((m, s))
 }
 
-#[tactic(auto, unfolding(crate::specs::Steps::Readings::seconds_at))]
+#[tactic(auto, unfolding(crate::specs::TzGrammar::seconds))]
 fn read_seconds(cursor: &mut Cursor<'_>) -> Result<u32, Error>
-    ensures { Gives (λ s. (s, cursor.new)) result (seconds_at cursor.old) }
+    ensures { Gives (λ s. (s, cursor.new)) result (read seconds cursor.old) }
 {
     if cursor.read_optional_tag(b":") {
         cursor.read_int(CLOCK_MAX)
@@ -116,10 +118,10 @@ fn read_seconds(cursor: &mut Cursor<'_>) -> Result<u32, Error>
 }
 
 // The signed seconds of so many hours, up to the limit, minutes and seconds, up to 59.
-#[tactic(auto, unfolding(crate::specs::Steps::Readings::seconds_within))]
 fn seconds_of(limit: u32, negative: bool, h: u32, m: u32, s: u32) -> Result<i32, Error>
     requires { limit ≤ 167 }
-    ensures value { Gives (λ z. z) result (seconds_within limit negative h m s) }
+    ensures value { Gives (λ z. z) result
+        (checked (is_within limit h m s) InvalidTzString (seconds_of negative h m s)) }
     ensures day { limit ≤ 23 → IfOk result (λ z. IsWithinDay z) }
     ensures week { IfOk result (λ z. IsWithinWeek z) }
 {

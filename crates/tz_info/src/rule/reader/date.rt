@@ -2,8 +2,10 @@
 
 ghost use Rattle.std.specs.Prelude.{◌≡◌, IfOk};
 ghost use Rattle.tz_base.specs.Fronts.{Gives, int_at};
+ghost use Rattle.tz_base.specs.Grammar.{read};
 ghost use Rattle.tz_info.specs.Rules.{IsWithinWeek};
-ghost use Rattle.tz_info.specs.Steps.Readings.{date_at, month_date_at, julian_date_at, day_number_at, day_at, day_time_of};
+ghost use Rattle.tz_info.specs.TzGrammar.{date, month_date, julian_date, day_number, day};
+ghost use Rattle.tz_info.specs.Steps.Spelled.{day_time_of};
 
 use crate::rule::day::RuleDay;
 use crate::rule::reader::clock::read_optional_time;
@@ -16,9 +18,9 @@ const DATE_MAX: u32 = u8::MAX as u32;
 const DAY_MAX: u32 = u16::MAX as u32;
 
 // A date, and its time of day, in seconds after midnight.
-#[tactic(auto, unfolding(crate::specs::Steps::Readings::day_at))]
+#[tactic(auto, unfolding(crate::specs::TzGrammar::day))]
 pub(super) fn read_day(extended: bool, cursor: &mut Cursor<'_>) -> Result<(RuleDay, i32), Error>
-    ensures value { Gives (λ d. (day_time_of d, cursor.new)) result (day_at extended cursor.old) }
+    ensures value { Gives (λ d. (day_time_of d, cursor.new)) result (read (day extended) cursor.old) }
     ensures bound { IfOk result (λ d. IsWithinWeek d.1) }
 {
     let date = read_date(cursor)?;
@@ -26,9 +28,9 @@ pub(super) fn read_day(extended: bool, cursor: &mut Cursor<'_>) -> Result<(RuleD
     Ok((date, time))
 }
 
-#[tactic(auto, unfolding(crate::specs::Steps::Readings::date_at))]
+#[tactic(auto, unfolding(crate::specs::TzGrammar::date))]
 fn read_date(cursor: &mut Cursor<'_>) -> Result<RuleDay, Error>
-    ensures { Gives (λ d. (d, cursor.new)) result (date_at cursor.old) }
+    ensures { Gives (λ d. (d, cursor.new)) result (read date cursor.old) }
 {
     if cursor.read_optional_tag(b"M") {
         read_month_date(cursor)
@@ -40,9 +42,9 @@ fn read_date(cursor: &mut Cursor<'_>) -> Result<RuleDay, Error>
 }
 
 // `month.week.weekday`, after the `M`.
-#[tactic(auto, unfolding(crate::specs::Steps::Readings::month_date_at, crate::specs::Steps::Readings::rule_day_of))]
+#[tactic(auto, unfolding(crate::specs::TzGrammar::month_date, crate::specs::TzGrammar::rule_day))]
 fn read_month_date(cursor: &mut Cursor<'_>) -> Result<RuleDay, Error>
-    ensures { Gives (λ d. (d, cursor.new)) result (month_date_at cursor.old) }
+    ensures { Gives (λ d. (d, cursor.new)) result (read month_date cursor.old) }
 {
     let month = read_byte(cursor)?;
     cursor.read_tag(b".")?;
@@ -59,17 +61,17 @@ fn read_byte(cursor: &mut Cursor<'_>) -> Result<u8, Error>
 }
 
 // The number after the `J`.
-#[tactic(auto, unfolding(crate::specs::Steps::Readings::julian_date_at, crate::specs::Steps::Readings::rule_day_of))]
+#[tactic(auto, unfolding(crate::specs::TzGrammar::julian_date, crate::specs::TzGrammar::rule_day))]
 fn read_julian_date(cursor: &mut Cursor<'_>) -> Result<RuleDay, Error>
-    ensures { Gives (λ d. (d, cursor.new)) result (julian_date_at cursor.old) }
+    ensures { Gives (λ d. (d, cursor.new)) result (read julian_date cursor.old) }
 {
     let n = cursor.read_int(DAY_MAX)?;
     RuleDay::julian_1(n as u16)
 }
 
-#[tactic(auto, unfolding(crate::specs::Steps::Readings::day_number_at, crate::specs::Steps::Readings::rule_day_of))]
+#[tactic(auto, unfolding(crate::specs::TzGrammar::day_number, crate::specs::TzGrammar::rule_day))]
 fn read_day_number(cursor: &mut Cursor<'_>) -> Result<RuleDay, Error>
-    ensures { Gives (λ d. (d, cursor.new)) result (day_number_at cursor.old) }
+    ensures { Gives (λ d. (d, cursor.new)) result (read day_number cursor.old) }
 {
     let n = cursor.read_int(DAY_MAX)?;
     RuleDay::julian_0(n as u16)

@@ -2,15 +2,15 @@
 
 ghost use Rattle.std.specs.Prelude.{◌≡◌, ◌==◌};
 ghost use Rattle.tz_base.specs.Fronts.{Gives, run_of, after_run};
-ghost use Rattle.tz_info.specs.Pieces.{greater, is_letter, is_not_greater};
-ghost use Rattle.tz_info.specs.Steps.Readings.{name_at, quoted_at};
+ghost use Rattle.tz_base.specs.Grammar.{read};
+ghost use Rattle.tz_info.specs.TzGrammar.{greater, is_letter, is_not_greater, name, quoted};
 
 use tz_base::{Cursor, Error};
 
 // A name as the text gives it, which need not be one that a type can have.
-#[tactic(auto, unfolding(crate::specs::Steps::Readings::name_at, crate::specs::Steps::Readings::letters_at))]
+#[tactic(auto, unfolding(crate::specs::TzGrammar::name))]
 pub(super) fn read_name<'a>(cursor: &mut Cursor<'a>) -> Result<&'a [u8], Error>
-    ensures { Gives (λ name. (name.now, cursor.new)) result (name_at cursor.old) }
+    ensures { Gives (λ name. (name.now, cursor.new)) result (read name cursor.old) }
 {
     if cursor.read_optional_tag(b"<") {
         read_quoted(cursor)
@@ -20,9 +20,9 @@ pub(super) fn read_name<'a>(cursor: &mut Cursor<'a>) -> Result<&'a [u8], Error>
 }
 
 // What stands before the `>`, which is taken too.
-#[tactic(auto, unfolding(crate::specs::Steps::Readings::quoted_at))]
+#[tactic(auto, unfolding(crate::specs::TzGrammar::quoted))]
 fn read_quoted<'a>(cursor: &mut Cursor<'a>) -> Result<&'a [u8], Error>
-    ensures { Gives (λ name. (name.now, cursor.new)) result (quoted_at cursor.old) }
+    ensures { Gives (λ name. (name.now, cursor.new)) result (read quoted cursor.old) }
 {
     let name = read_until_greater(cursor);
     cursor.read_tag(b">")?;

@@ -1,10 +1,13 @@
 //! The whole of a TZ text.
 
-ghost use Rattle.std.specs.Prelude.{◌≡◌, IfOk};
+ghost use Rattle.std.specs.Prelude.{◌≡◌, IfOk, int_le, pos, ◌+ℤ◌};
 ghost use Rattle.offset_core.specs.Offset.{IsWithinDay};
 ghost use Rattle.tz_base.specs.Fronts.{Gives};
+ghost use Rattle.tz_base.specs.Grammar.{read, checked, is_end};
+ghost use Rattle.tz_base.specs.Refusals.{InvalidTzString, LocalTimeType as BadType};
 ghost use Rattle.tz_info.specs.Rules.{IsWithinWeek};
-ghost use Rattle.tz_info.specs.Steps.Readings.{is_end, more_at, end_at, next_hour_of, given_offset_at, dst_offset_at, named_type_of, fixed_at, alternate_at, days_at, named_types_of, rule_at, text_at, day_time_of, alternate_of, rule_of, IsSpelled};
+ghost use Rattle.tz_info.specs.TzGrammar.{more, end, given_offset, dst_offset, is_name, named_type, fixed, alternate, days, rule, text};
+ghost use Rattle.tz_info.specs.Steps.Spelled.{day_time_of, alternate_of, rule_of, IsSpelled};
 
 use crate::rule::alternate::AlternateTime;
 use crate::rule::day::RuleDay;
@@ -37,10 +40,10 @@ pub(super) fn rule_of(spelled: Spelled) -> TransitionRule
 }
 
 // What all bytes of the cursor spell.
-#[tactic(auto, unfolding(crate::specs::Steps::Readings::text_at))]
+#[tactic(auto, unfolding(crate::specs::TzGrammar::text))]
 pub(super) fn read_text(extended: bool, cursor: &mut Cursor<'_>) -> Result<Spelled, Error>
     ensures value { Gives (λ spelled. (rule_of spelled, cursor.new)) result
-        (text_at extended cursor.old) }
+        (read (text extended) cursor.old) }
     ensures limits { IfOk result (λ spelled. IsSpelled spelled) }
 {
     let name = read_name(cursor)?;
@@ -48,7 +51,7 @@ pub(super) fn read_text(extended: bool, cursor: &mut Cursor<'_>) -> Result<Spell
     read_rule(extended, name, offset, cursor)
 }
 
-#[tactic(auto, unfolding(crate::specs::Steps::Readings::rule_at))]
+#[tactic(auto, unfolding(crate::specs::TzGrammar::rule))]
 fn read_rule(
     extended: bool,
     name: &[u8],
@@ -57,7 +60,7 @@ fn read_rule(
 ) -> Result<Spelled, Error>
     requires { IsWithinDay offset }
     ensures value { Gives (λ spelled. (rule_of spelled, cursor.new)) result
-        (rule_at extended name.now offset cursor.old) }
+        (read (rule extended name.now offset) cursor.old) }
     ensures limits { IfOk result (λ spelled. IsSpelled spelled) }
 {
     if is_at_end(cursor) {
@@ -67,18 +70,18 @@ fn read_rule(
     }
 }
 
-#[tactic(auto, unfolding(crate::specs::Steps::Readings::fixed_at))]
+#[tactic(auto, unfolding(crate::specs::TzGrammar::fixed, crate::specs::TzGrammar::named))]
 fn read_fixed(name: &[u8], offset: i32, cursor: &mut Cursor<'_>) -> Result<Spelled, Error>
     requires { IsWithinDay offset }
     ensures value { Gives (λ spelled. (rule_of spelled, cursor.new)) result
-        (fixed_at name.now offset cursor.old) }
+        (read (fixed name.now offset) cursor.old) }
     ensures limits { IfOk result (λ spelled. IsSpelled spelled) }
 {
     Ok(Spelled::Fixed(named_type(name, false, offset)?))
 }
 
 // What follows the offset of standard time. The names are looked at last.
-#[tactic(auto, unfolding(crate::specs::Steps::Readings::alternate_at))]
+#[tactic(auto, unfolding(crate::specs::TzGrammar::alternate, crate::specs::TzGrammar::named))]
 fn read_alternate(
     extended: bool,
     name: &[u8],
@@ -87,25 +90,26 @@ fn read_alternate(
 ) -> Result<Spelled, Error>
     requires { IsWithinDay offset }
     ensures value { Gives (λ spelled. (rule_of spelled, cursor.new)) result
-        (alternate_at extended name.now offset cursor.old) }
+        (read (alternate extended name.now offset) cursor.old) }
     ensures limits { IfOk result (λ spelled. IsSpelled spelled) }
 {
     let dst_name = read_name(cursor)?;
     let dst_offset = read_dst_offset(offset, cursor)?;
     let (start, end) = read_days(extended, cursor)?;
     expect_end(cursor)?;
-    let (std, dst) = named_types(name, offset, dst_name, dst_offset)?;
+    let std = named_type(name, false, offset)?;
+    let dst = named_type(dst_name, true, dst_offset)?;
     Ok(Spelled::Alternate(std, dst, start, end))
 }
 
 // The days when daylight saving time starts and ends, with their times.
-#[tactic(auto, unfolding(crate::specs::Steps::Readings::days_at))]
+#[tactic(auto, unfolding(crate::specs::TzGrammar::days))]
 fn read_days(
     extended: bool,
     cursor: &mut Cursor<'_>,
 ) -> Result<((RuleDay, i32), (RuleDay, i32)), Error>
     ensures value { Gives (λ days. ((day_time_of days.0, day_time_of days.1), cursor.new)) result
-        (days_at extended cursor.old) }
+        (read (days extended) cursor.old) }
     ensures bound { IfOk result (λ days. IsWithinWeek days.0.1 × IsWithinWeek days.1.1) }
 {
     let start = read_day(extended, cursor)?;
@@ -116,10 +120,10 @@ fn read_days(
 
 // The offset of daylight saving time, an hour more than that of standard time if none is given,
 // and the comma after it.
-#[tactic(auto, unfolding(crate::specs::Steps::Readings::dst_offset_at))]
+#[tactic(auto, unfolding(crate::specs::TzGrammar::dst_offset, crate::specs::TzGrammar::next_hour))]
 fn read_dst_offset(std: i32, cursor: &mut Cursor<'_>) -> Result<i32, Error>
     requires { IsWithinDay std }
-    ensures value { Gives (λ z. (z, cursor.new)) result (dst_offset_at std cursor.old) }
+    ensures value { Gives (λ z. (z, cursor.new)) result (read (dst_offset std) cursor.old) }
     ensures bound { IfOk result (λ z. IsWithinDay z) }
 {
     if cursor.read_optional_tag(b",") {
@@ -129,9 +133,9 @@ fn read_dst_offset(std: i32, cursor: &mut Cursor<'_>) -> Result<i32, Error>
     }
 }
 
-#[tactic(auto, unfolding(crate::specs::Steps::Readings::given_offset_at))]
+#[tactic(auto, unfolding(crate::specs::TzGrammar::given_offset))]
 fn read_given_offset(cursor: &mut Cursor<'_>) -> Result<i32, Error>
-    ensures value { Gives (λ z. (z, cursor.new)) result (given_offset_at cursor.old) }
+    ensures value { Gives (λ z. (z, cursor.new)) result (read given_offset cursor.old) }
     ensures bound { IfOk result (λ z. IsWithinDay z) }
 {
     expect_more(cursor)?;
@@ -141,10 +145,10 @@ fn read_given_offset(cursor: &mut Cursor<'_>) -> Result<i32, Error>
     Ok(offset)
 }
 
-#[tactic(auto, unfolding(crate::specs::Steps::Readings::next_hour_of))]
 fn next_hour(std: i32) -> Result<i32, Error>
     requires { IsWithinDay std }
-    ensures value { Gives (λ z. z) result (next_hour_of std) }
+    ensures value { Gives (λ z. z) result (checked (int_le (std +ℤ pos 3_600) (pos 86_399))
+        InvalidTzString (std +ℤ pos 3_600)) }
     ensures bound { IfOk result (λ z. IsWithinDay z) }
 {
     let offset = std + 3_600;
@@ -154,30 +158,11 @@ fn next_hour(std: i32) -> Result<i32, Error>
     Ok(offset)
 }
 
-// The types of standard time and of daylight saving time.
-#[tactic(auto, unfolding(crate::specs::Steps::Readings::named_types_of))]
-fn named_types(
-    std_name: &[u8],
-    std_offset: i32,
-    dst_name: &[u8],
-    dst_offset: i32,
-) -> Result<(LocalTimeType, LocalTimeType), Error>
-    requires std { IsWithinDay std_offset }
-    requires dst { IsWithinDay dst_offset }
-    ensures value { Gives (λ types. (types.0, types.1)) result
-        (named_types_of std_name.now std_offset dst_name.now dst_offset) }
-    ensures offsets { IfOk result
-        (λ types. IsWithinDay types.0.offset × IsWithinDay types.1.offset) }
-{
-    let std = named_type(std_name, false, std_offset)?;
-    let dst = named_type(dst_name, true, dst_offset)?;
-    Ok((std, dst))
-}
-
 // The type of that name, if a type can have it.
 fn named_type(name: &[u8], dst: bool, offset: i32) -> Result<LocalTimeType, Error>
     requires { IsWithinDay offset }
-    ensures value { Gives (λ t. t) result (named_type_of name.now dst offset) }
+    ensures value { Gives (λ t. t) result (checked (is_name name.now) BadType
+        (named_type name.now dst offset)) }
     ensures offset { IfOk result (λ t. IsWithinDay t.offset) }
 {
     LocalTimeType::new(offset, dst, Some(name))
@@ -202,9 +187,9 @@ fn alternate(
     }
 }
 
-#[tactic(auto, unfolding(crate::specs::Steps::Readings::more_at))]
+#[tactic(auto, unfolding(crate::specs::TzGrammar::more))]
 fn expect_more(cursor: &Cursor<'_>) -> Result<(), Error>
-    ensures { Gives (λ unit. (unit, cursor.now)) result (more_at cursor.now) }
+    ensures { Gives (λ unit. (unit, cursor.now)) result (read more cursor.now) }
 {
     if is_at_end(cursor) {
         Err(Error::UnsupportedTzString(Expected::DaysWhenDaylightSavingTimeStartsAndEnds))
@@ -213,9 +198,9 @@ fn expect_more(cursor: &Cursor<'_>) -> Result<(), Error>
     }
 }
 
-#[tactic(auto, unfolding(crate::specs::Steps::Readings::end_at))]
+#[tactic(auto, unfolding(crate::specs::TzGrammar::end))]
 fn expect_end(cursor: &Cursor<'_>) -> Result<(), Error>
-    ensures { Gives (λ unit. (unit, cursor.now)) result (end_at cursor.now) }
+    ensures { Gives (λ unit. (unit, cursor.now)) result (read end cursor.now) }
 {
     if is_at_end(cursor) {
         Ok(())

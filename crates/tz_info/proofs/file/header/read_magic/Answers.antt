@@ -1,12 +1,13 @@
 use Rattle.std.proofs.Common.{◌∙◌, sym, arith}
 use Rattle.std.proofs.lemmas.Bool.{not-false}
-use Rattle.tz_info.specs.Steps.FileReading.{is_magic}
+use Rattle.tz_base.specs.Grammar.{Exact}
+use Rattle.tz_base.proofs.ForCallers.{lawful}
+use Rattle.tz_info.specs.FileHeaders.{is_magic}
 use Rattle.tz_info.proofs.HeaderLaws.{not_magic}
-use Rattle.tz_info.proofs.SizedLaws.{exact_law}
 use Rattle.tz_info.proofs.file.header.read_magic.Goals as goal
 
 pub returns-in_err-front-clause-magic : goal.returns-in_err-front-clause-magic
-returns-in_err-front-clause-magic c = λ h. absurd (omega (arith, h.0, (((exact_law 4).law.reads c.args.cursor.now).fails _ c.in_err-front.ensures.value).1))
+returns-in_err-front-clause-magic c = λ h. absurd (omega (arith, h.0, ((lawful (Exact 4) c.args.cursor.now).fails _ c.in_err-front.ensures.value).0))
 
 pub returns-clause-magic : goal.returns-clause-magic
 returns-clause-magic c =

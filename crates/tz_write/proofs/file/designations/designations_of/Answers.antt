@@ -1,4 +1,4 @@
-use Rattle.std.proofs.Common.{◌≡◌, ◌∙◌, [], subst, sym}
+use Rattle.std.proofs.Common.{◌∙◌, [], subst, sym}
 use Rattle.std.proofs.lemmas.Bool.{false≢true}
 use Rattle.tz_write.specs.Steps.FileLayouts.{HavePlaces, laid}
 use Rattle.tz_write.proofs.FileLayouts.{laid_in_order, laid_if_any}

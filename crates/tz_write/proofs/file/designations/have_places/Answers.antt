@@ -1,4 +1,4 @@
-use Rattle.std.proofs.Common.{rules, ◌≡◌, arith, true, take, length, subst, refl, ◌≤◌}
+use Rattle.std.proofs.Common.{rules, ◌≡◌, arith, true, take, subst, refl}
 use Rattle.std.proofs.lemmas.List.{take_all}
 use Rattle.std.proofs.lemmas.List.Elements.{All-more}
 use Rattle.tz_write.specs.Steps.FileLayouts.{HasPlace, HavePlaces}

@@ -1,5 +1,3 @@
-use Rattle.std.proofs.Common.{subst}
-use Rattle.tz_write.specs.FileDesignations.{AreNamesIn}
 use Rattle.tz_write.proofs.file.writer.room_for.Goals as goal
 
 pub returns-in_default : goal.returns-in_default

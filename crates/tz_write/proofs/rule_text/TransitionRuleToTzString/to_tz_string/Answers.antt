@@ -1,7 +1,7 @@
 use Rattle.std.proofs.Common.{◌≡◌, List, ℕ, true, false, not, subst, sym, rules}
 use Rattle.tz_write.specs.WrittenTexts.{IsWrittenText}
 use Rattle.tz_write.specs.Steps.TextPieces.{text_of, AreTimesOf}
-use Rattle.tz_write.proofs.RuleTexts.{rule_spelled, times_extended, written}
+use Rattle.tz_write.proofs.RuleTexts.{rule_spelled, times_extended, unspelled, written}
 use Rattle.tz_write.proofs.ZoneTexts.{on_err}
 use Rattle.tz_write.proofs.rule_text.TransitionRuleToTzString.to_tz_string.Goals as goal
 
@@ -18,3 +18,6 @@ returns-in_err-text-clause-memory c =
     let fits = c.can_be_spelled.ensures.rule in
     let spelled = rule_spelled true rule fits (c.can_be_spelled.ensures.answer.0 (search rules)) (times_extended rule fits) in
     on_err c.from_residual.result _ (true, text_of rule, spelled)
+
+pub returns-then-not-can_be_spelled-clause-written : goal.returns-then-not-can_be_spelled-clause-written
+returns-then-not-can_be_spelled-clause-written c = unspelled c.args.self.now c.can_be_spelled.result c.can_be_spelled.ensures.answer (search rules)

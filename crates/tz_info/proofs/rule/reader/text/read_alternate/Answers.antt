@@ -1,19 +1,19 @@
 use Rattle.std.proofs.Common.{refl, rules, to_z-of_z, w32}
 use mir.Val.{SFits}
-use Rattle.tz_info.specs.Steps.Readings.{alternate_at}
+use Rattle.tz_info.specs.TzGrammar.{alternate, named}
 use Rattle.tz_info.proofs.rule.reader.text.read_alternate.Goals as goal
 
 pub returns-clause-value : goal.returns-clause-value
-unfolding alternate_at
+unfolding alternate named
 returns-clause-value c =
     let fits = c.ranges.offset in
     let fits_dst : SFits w32 c.in_ok-dst_offset.dst_offset = search rules in
     let offset = simp to_z-of_z at c.in_ok-dst_offset.ensures.value in
-    let types = simp to_z-of_z at c.in_ok-std.ensures.value in
-    rw (c.in_ok-dst_name.ensures, offset, c.in_ok-start.ensures.value, c.in_ok-expect_end.ensures, types) refl
+    let std = simp to_z-of_z at c.in_ok-std.ensures.value in
+    let dst = simp to_z-of_z at c.in_ok-dst.ensures.value in
+    rw (c.in_ok-dst_name.ensures, offset, c.in_ok-start.ensures.value, c.in_ok-expect_end.ensures, std, dst) refl
 
 pub returns-clause-limits : goal.returns-clause-limits
 returns-clause-limits c =
-    let types = c.in_ok-std.ensures.offsets in
     let days = c.in_ok-start.ensures.bound in
-    (types.0, types.1, days.0, days.1)
+    (c.in_ok-std.ensures.offset, c.in_ok-dst.ensures.offset, days.0, days.1)

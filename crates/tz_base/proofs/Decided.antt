@@ -3,7 +3,7 @@
 use Rattle.std.proofs.Common.{◌≡◌, ℕ, ◌≤◌, arith, List, Bool, true, false, cond, Ok, Err, Result, refl, sym, ap, ◌∙◌, inl, inr, ◌⊎◌}
 use Rattle.std.specs.Bool.{Decides}
 use Rattle.tz_base.specs.Fronts.{◌>>=◌}
-use Rattle.tz_info.proofs.ReadLaws.{bind_ok, bind_err, ok_same, err_same}
+use Rattle.tz_base.proofs.ReadLaws.{bind_ok, bind_err, ok_same, err_same}
 
 -- a value is read if and only if it is meant, and a number is that of the refusal if and only if its fault stands. The number
 -- is one of the first sixteen: that of running out of memory is none of them

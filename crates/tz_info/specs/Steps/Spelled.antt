@@ -1,0 +1,28 @@
+-- What the reader of a TZ text hands from one function to the next: the rule of it, and its limits.
+use Rattle.std.specs.Prelude.{ℤ}
+use Rattle.offset_core.specs.Offset.{IsWithinDay}
+use Rattle.tz_base.specs.LocalTypes.{LocalType}
+use Rattle.tz_info.specs.Rules.{Alternate, IsWithinWeek}
+use Rattle.tz_info.specs.declared.rule.day.DayForm.{DayForm}
+use Rattle.tz_info.specs.declared.rule.day.DayTime.{DayTime}
+use Rattle.tz_info.specs.declared.rule.reader.text.Spelled.{Spelled}
+use Rattle.tz_info.specs.declared.rule.reader.text.Spelled.TheVariants as spelled
+use Rattle.tz_info.specs.declared.rule.transition_rule.TransitionRule.{TransitionRule}
+use Rattle.tz_info.specs.declared.rule.transition_rule.TransitionRule.TheVariants as rules
+
+-- a day with its time, and the rule of two types and two such days
+abbrev pub day_time_of : DayForm × ℤ → DayTime
+day_time_of d = record { day = d.0; time = d.1 }
+
+abbrev pub alternate_of : LocalType → LocalType → DayForm × ℤ → DayForm × ℤ → Alternate
+alternate_of std dst start end = record { std = std; dst = dst; start = day_time_of start; end = day_time_of end }
+
+-- the rule that was spelled
+abbrev pub rule_of : Spelled → TransitionRule
+rule_of (spelled.Fixed t) = rules.Fixed t
+rule_of (spelled.Alternate std dst start end) = rules.Alternate (alternate_of std dst start end)
+
+-- and the limits that its offsets and times were read within
+abbrev pub IsSpelled : Spelled → Type 0
+IsSpelled (spelled.Fixed t) = Unit {0}
+IsSpelled (spelled.Alternate std dst start end) = IsWithinDay std.offset × IsWithinDay dst.offset × IsWithinWeek start.1 × IsWithinWeek end.1

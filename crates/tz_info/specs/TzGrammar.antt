@@ -1,0 +1,250 @@
+-- TZ texts, stdoffset[dst[offset],start[/time],end[/time]] (POSIX.1 section 8.3, "TZ"), with the extensions of RFC 8536
+-- section 3.3.1 where `extended` holds. Each line is a piece of the text, in the order in which it stands there.
+use Rattle.std.specs.Prelude.{ℕ, ℤ, pos, neg_ℤ, ◌+ℤ◌, ◌+◌, ◌*◌, ◌==◌, nat_le, int_le, Bool, true, false, not, ◌&&◌, ◌||◌, if◌then◌else◌, List, [], length, Some}
+use Rattle.std.specs.List.{list_all}
+use Rattle.tz_base.specs.Names.{is_name_byte}
+use Rattle.tz_base.specs.LocalTypes.{LocalType}
+use Rattle.tz_base.specs.Grammar.{Grammar, Nothing, Marked, Optional, Ended, End, Byte, Run, Number, Check, ◌>>=◌, ◌>>◌, Spells, HasFault}
+use Rattle.tz_base.specs.Grammar as grammar
+use Rattle.tz_base.specs.Refusals as refused
+use Rattle.tz_info.specs.declared.rule.day.DayForm.{DayForm}
+use Rattle.tz_info.specs.declared.rule.day.DayForm.TheVariants.{Julian1, Julian0, MonthWeekday}
+use Rattle.tz_info.specs.declared.rule.day.DayTime.{DayTime}
+use Rattle.tz_info.specs.declared.rule.transition_rule.TransitionRule.{TransitionRule}
+use Rattle.tz_info.specs.declared.rule.transition_rule.TransitionRule.TheVariants.{Fixed, Alternate}
+
+-- ---- bytes of ASCII
+abbrev pub plus : ℕ
+plus = 43
+
+abbrev pub comma : ℕ
+comma = 44
+
+abbrev pub minus : ℕ
+minus = 45
+
+abbrev pub dot : ℕ
+dot = 46
+
+abbrev pub slash : ℕ
+slash = 47
+
+abbrev pub colon : ℕ
+colon = 58
+
+abbrev pub less : ℕ
+less = 60
+
+abbrev pub greater : ℕ
+greater = 62
+
+abbrev pub letter_J : ℕ
+letter_J = 74
+
+abbrev pub letter_M : ℕ
+letter_M = 77
+
+abbrev pub is_letter : ℕ → Bool
+is_letter b = (nat_le 65 b && nat_le b 90) || (nat_le 97 b && nat_le b 122)
+
+abbrev pub is_not_greater : ℕ → Bool
+is_not_greater b = not (b == greater)
+
+-- ---- offsets and times: hh[:mm[:ss]]
+-- the limits of the numbers of times, of dates `Mm.w.d` and of day numbers, before their own
+abbrev pub clock_max : ℕ
+clock_max = 2_147_483_647
+
+abbrev pub date_max : ℕ
+date_max = 255
+
+abbrev pub day_max : ℕ
+day_max = 65535
+
+-- seconds left out are 0
+unfoldable pub seconds : Grammar ℕ
+seconds = Optional colon 0 (Number clock_max)
+
+unfoldable pub minutes_seconds : Grammar (ℕ × ℕ)
+minutes_seconds = do
+  m ← Number clock_max
+  s ← seconds
+  Nothing (m, s)
+
+-- minutes left out are 0, and then no seconds come
+unfoldable pub optional_minutes : Grammar (ℕ × ℕ)
+optional_minutes = Optional colon (0, 0) minutes_seconds
+
+unfoldable pub hours_minutes_seconds : Grammar (ℕ × ℕ × ℕ)
+hours_minutes_seconds = do
+  h ← Number clock_max
+  (m, s) ← optional_minutes
+  Nothing (h, m, s)
+
+-- whether a minus stands there; a plus says the same as no sign
+unfoldable pub sign : Grammar Bool
+sign = Marked plus (Nothing false) (Marked minus (Nothing true) (Nothing false))
+
+abbrev pub seconds_of : Bool → ℕ → ℕ → ℕ → ℤ
+seconds_of negative h m s = if negative then neg_ℤ (pos (3600 * h + 60 * m + s)) else pos (3600 * h + 60 * m + s)
+
+abbrev pub is_within : ℕ → ℕ → ℕ → ℕ → Bool
+is_within limit h m s = nat_le h limit && nat_le m 59 && nat_le s 59
+
+-- seconds of a duration without its sign: hours up to the limit, minutes and seconds up to 59
+unfoldable pub duration : ℕ → Bool → Grammar ℤ
+duration limit negative = do
+  (h, m, s) ← hours_minutes_seconds
+  Check (is_within limit h m s) refused.InvalidTzString (seconds_of negative h m s)
+
+-- an offset, in seconds east of UTC: a text counts west, and so a minus leads east; its hours go to 23 (POSIX allows 24)
+unfoldable pub offset : Grammar ℤ
+offset = do
+  is_minus ← sign
+  duration 23 (not is_minus)
+
+-- with the extensions a time of day has a sign and hours up to 167, else no sign and hours up to 24
+unfoldable pub time_sign : Bool → Grammar Bool
+time_sign true = sign
+time_sign false = Nothing false
+
+abbrev pub time_limit : Bool → ℕ
+time_limit extended = if extended then 167 else 24
+
+-- a time of day, in seconds after midnight
+unfoldable pub time : Bool → Grammar ℤ
+time extended = do
+  is_minus ← time_sign extended
+  duration (time_limit extended) is_minus
+
+-- ---- names
+-- after `<`: the bytes up to the first `>`
+unfoldable pub quoted : Grammar (List ℕ)
+quoted = do
+  text ← Run is_not_greater
+  Byte greater
+  Nothing text
+
+-- or the longest run of letters
+unfoldable pub name : Grammar (List ℕ)
+name = Marked less quoted (Run is_letter)
+
+-- ---- dates
+abbrev pub is_rule_day : DayForm → Bool
+is_rule_day (Julian1 n) = nat_le 1 n && nat_le n 365
+is_rule_day (Julian0 n) = nat_le n 365
+is_rule_day (MonthWeekday month week weekday) = nat_le 1 month && nat_le month 12 && nat_le 1 week && nat_le week 5 && nat_le weekday 6
+
+unfoldable pub rule_day : DayForm → Grammar DayForm
+rule_day form = Check (is_rule_day form) refused.TransitionRule form
+
+-- after `M`: month, week and weekday
+unfoldable pub month_date : Grammar DayForm
+month_date = do
+  month ← Number date_max
+  Byte dot
+  week ← Number date_max
+  Byte dot
+  weekday ← Number date_max
+  rule_day (MonthWeekday month week weekday)
+
+-- after `J`: the day of a common year
+unfoldable pub julian_date : Grammar DayForm
+julian_date = do
+  n ← Number day_max
+  rule_day (Julian1 n)
+
+-- the days after 1 January
+unfoldable pub day_number : Grammar DayForm
+day_number = do
+  n ← Number day_max
+  rule_day (Julian0 n)
+
+unfoldable pub date : Grammar DayForm
+date = Marked letter_M month_date (Marked letter_J julian_date day_number)
+
+-- the time is 2 o'clock where it is left out
+unfoldable pub optional_time : Bool → Grammar ℤ
+optional_time extended = Optional slash (pos 7_200) (time extended)
+
+unfoldable pub day : Bool → Grammar DayTime
+day extended = do
+  form ← date
+  time ← optional_time extended
+  Nothing (record { day = form; time = time })
+
+unfoldable pub days : Bool → Grammar (DayTime × DayTime)
+days extended = do
+  start ← day extended
+  Byte comma
+  end ← day extended
+  Nothing (start, end)
+
+-- ---- the offset of daylight saving time, and the comma after it
+-- left out, it is an hour more than that of standard time, which must still be less than a day
+unfoldable pub next_hour : ℤ → Grammar ℤ
+next_hour std = Check (int_le (std +ℤ pos 3_600) (pos 86_399)) refused.InvalidTzString (std +ℤ pos 3_600)
+
+-- a text that ends before the days is none that is supported
+unfoldable pub more : Grammar (Unit {0})
+more = grammar.Some refused.UnsupportedTzString
+
+unfoldable pub given_offset : Grammar ℤ
+given_offset = do
+  more
+  east ← offset
+  more
+  Byte comma
+  Nothing east
+
+unfoldable pub dst_offset : ℤ → Grammar ℤ
+dst_offset std = Marked comma (next_hour std) given_offset
+
+-- ---- the whole
+-- three to seven letters, digits, `+` or `-`
+abbrev pub is_name : List ℕ → Bool
+is_name text = nat_le 3 (length text) && nat_le (length text) 7 && list_all is_name_byte text
+
+abbrev pub named_type : List ℕ → Bool → ℤ → LocalType
+named_type text dst offset = record { offset = offset; dst = dst; name = Some text }
+
+-- the type of that name, if a type can have it
+unfoldable pub named : List ℕ → Bool → ℤ → Grammar LocalType
+named text dst offset = Check (is_name text) refused.LocalTimeType (named_type text dst offset)
+
+unfoldable pub end : Grammar (Unit {0})
+end = End refused.InvalidTzString
+
+-- one type
+unfoldable pub fixed : List ℕ → ℤ → Grammar TransitionRule
+fixed std_name std_offset = do
+  std ← named std_name false std_offset
+  Nothing (Fixed std)
+
+-- two types that take turns; their names are judged last
+unfoldable pub alternate : Bool → List ℕ → ℤ → Grammar TransitionRule
+alternate extended std_name std_offset = do
+  dst_name ← name
+  dst_offset ← dst_offset std_offset
+  (start, stop) ← days extended
+  end
+  std ← named std_name false std_offset
+  dst ← named dst_name true dst_offset
+  Nothing (Alternate (record { std = std; dst = dst; start = start; end = stop }))
+
+unfoldable pub rule : Bool → List ℕ → ℤ → Grammar TransitionRule
+rule extended std_name std_offset = Ended (fixed std_name std_offset) (alternate extended std_name std_offset)
+
+unfoldable pub text : Bool → Grammar TransitionRule
+text extended = do
+  std_name ← name
+  std_offset ← offset
+  rule extended std_name std_offset
+
+-- the bytes are a TZ text, with extensions or without, that spells the rule
+abbrev pub IsTzText : Bool → List ℕ → TransitionRule → Type 0
+IsTzText extended bytes rule = Spells (text extended) bytes rule []
+
+-- what is wrong with a TZ text, by the number of the error
+abbrev pub IsTextFault : Bool → List ℕ → ℕ → Type 0
+IsTextFault extended bytes n = HasFault (text extended) bytes n
