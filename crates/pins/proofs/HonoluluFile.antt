@@ -4,6 +4,9 @@ use Rattle.std.proofs.lemmas.Str.{IsUtf8-from_ascii}
 use Rattle.std.proofs.lemmas.Str.Ascii.{IsAscii-cons, IsAscii-nil}
 use Rattle.std.specs.Prelude.{None}
 use Rattle.std.specs.Int.{w32, from_be_bytes}
+use Rattle.tz_base.specs.declared.error.Error.{Error}
+use Rattle.tz_base.specs.declared.error.Error.TheVariants.{InvalidTzFile, UnsupportedTzFile}
+use Rattle.tz_base.specs.declared.error.Expected.TheVariants.{NothingAfterBlockOfVersion1, Version1To3, Version2Or3InSecondHeader}
 use Rattle.tz_base.specs.Names.{is_name_byte}
 use Rattle.tz_base.specs.Fronts.{exact_at, optional_tag_at}
 use Rattle.tz_base.specs.Grammar.{Spells, be_u32}
@@ -255,17 +258,17 @@ of_version_1 = (
 )
 
 -- ---- wrong files
-pub other_version : PieceFault (file_with 49) 14
+pub other_version : PieceFault (file_with 49) (UnsupportedTzFile Version1To3)
 unfolding a_file a_header version version_1 six_counts tzif a_block be_u32 after_first_block first_version later_version exact_at optional_tag_at
-other_version = (lawful a_file (file_with 49)).fails 14 refl
+other_version = (lawful a_file (file_with 49)).fails (UnsupportedTzFile Version1To3) refl
 
-pub version_1_again : PieceFault (file_with 0) 5
+pub version_1_again : PieceFault (file_with 0) (InvalidTzFile Version2Or3InSecondHeader)
 unfolding a_file a_header version version_1 six_counts tzif a_block be_u32 after_first_block first_version later_version exact_at optional_tag_at
-version_1_again = (lawful a_file (file_with 0)).fails 5 refl
+version_1_again = (lawful a_file (file_with 0)).fails (InvalidTzFile Version2Or3InSecondHeader) refl
 
-pub byte_after : (b : ℕ) → PieceFault (short_file ++ (b ∷ [])) 5
+pub byte_after : (b : ℕ) → PieceFault (short_file ++ (b ∷ [])) (InvalidTzFile NothingAfterBlockOfVersion1)
 unfolding a_file a_header version version_1 six_counts tzif a_block be_u32 after_first_block first_version later_version exact_at optional_tag_at
-byte_after b = (lawful a_file (short_file ++ (b ∷ []))).fails 5 refl
+byte_after b = (lawful a_file (short_file ++ (b ∷ []))).fails (InvalidTzFile NothingAfterBlockOfVersion1) refl
 
-pub no_file : (bytes : List ℕ) (n : ℕ) → PieceFault bytes n → (z : Zone) → IsTzFile bytes z → ⊥
-no_file bytes n fault z whole = apart (lawful a_file bytes) (whole.0, []) n whole.1 fault
+pub no_file : (bytes : List ℕ) (e : Error) → PieceFault bytes e → (z : Zone) → IsTzFile bytes z → ⊥
+no_file bytes e fault z whole = apart (lawful a_file bytes) (whole.0, []) e whole.1 fault

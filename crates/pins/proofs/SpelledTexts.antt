@@ -3,6 +3,9 @@ use Rattle.std.proofs.Common.{◌≡◌, refl, ℕ, Bool, true, false, List, [],
 use Rattle.tz_base.specs.Fronts.{int_at, tag_at, optional_tag_at}
 use Rattle.tz_base.specs.Grammar.{read}
 use Rattle.tz_base.proofs.ForCallers.{lawful}
+use Rattle.tz_base.specs.declared.error.Error.{Error}
+use Rattle.tz_base.specs.declared.error.Error.TheVariants.{InvalidTzString, LocalTimeType, ParseInt, TransitionRule, UnsupportedTzString}
+use Rattle.tz_base.specs.declared.error.Expected.TheVariants.{DayFromJ1ToJ365, DaysWhenDaylightSavingTimeStartsAndEnds, Digit, HoursMinutesAndSecondsWithinTheirLimits, NameOfThreeToSevenBytes}
 use Rattle.tz_info.specs.TzGrammar.{name, quoted, seconds, minutes_seconds, optional_minutes, hours_minutes_seconds, sign, duration, offset, time_sign, time, rule_day, month_date, julian_date, day_number, date, optional_time, day, days, next_hour, more, given_offset, dst_offset, named, end, fixed, alternate, rule, text, IsTzText, IsTextFault}
 use Rattle.tz_info.specs.declared.rule.transition_rule.TransitionRule.{TransitionRule}
 use Rattle.tz_info.specs.declared.rule.transition_rule.TransitionRule.TheVariants as rules
@@ -13,7 +16,7 @@ use Rattle.pins.specs.Texts.{new_york_text, no_days, foo_23, foo_23_rule, foo_24
 spelled : (extended : Bool) (bytes : List ℕ) (r : TransitionRule) → read (text extended) bytes ≡ Ok (r, []) → IsTzText extended bytes r
 spelled extended bytes r = (lawful (text extended) bytes).takes (r, [])
 
-faulty : (extended : Bool) (bytes : List ℕ) (n : ℕ) → read (text extended) bytes ≡ Err n → IsTextFault extended bytes n
+faulty : (extended : Bool) (bytes : List ℕ) (e : Error) → read (text extended) bytes ≡ Err e → IsTextFault extended bytes e
 faulty extended bytes = (lawful (text extended) bytes).fails
 
 pub new_york : (extended : Bool) → IsTzText extended new_york_text new_york_rule
@@ -48,29 +51,29 @@ pub minus_5_spelled : (extended : Bool) → IsTzText extended foo_minus_5 foo_ah
 unfolding name quoted seconds minutes_seconds optional_minutes hours_minutes_seconds sign duration offset time_sign time rule_day month_date julian_date day_number date optional_time day days next_hour more given_offset dst_offset named end fixed alternate rule text int_at tag_at optional_tag_at
 minus_5_spelled extended = spelled extended foo_minus_5 foo_ahead refl
 
-pub ends_early : IsTextFault false no_days 15
+pub ends_early : IsTextFault false no_days (UnsupportedTzString DaysWhenDaylightSavingTimeStartsAndEnds)
 unfolding name quoted seconds minutes_seconds optional_minutes hours_minutes_seconds sign duration offset time_sign time rule_day month_date julian_date day_number date optional_time day days next_hour more given_offset dst_offset named end fixed alternate rule text int_at tag_at optional_tag_at
-ends_early = faulty false no_days 15 refl
+ends_early = faulty false no_days (UnsupportedTzString DaysWhenDaylightSavingTimeStartsAndEnds) refl
 
-pub over_23 : (extended : Bool) → IsTextFault extended foo_24 6
+pub over_23 : (extended : Bool) → IsTextFault extended foo_24 (InvalidTzString HoursMinutesAndSecondsWithinTheirLimits)
 unfolding name quoted seconds minutes_seconds optional_minutes hours_minutes_seconds sign duration offset time_sign time rule_day month_date julian_date day_number date optional_time day days next_hour more given_offset dst_offset named end fixed alternate rule text int_at tag_at optional_tag_at
-over_23 extended = faulty extended foo_24 6 refl
+over_23 extended = faulty extended foo_24 (InvalidTzString HoursMinutesAndSecondsWithinTheirLimits) refl
 
-pub minute_60 : (extended : Bool) → IsTextFault extended foo_5_60 6
+pub minute_60 : (extended : Bool) → IsTextFault extended foo_5_60 (InvalidTzString HoursMinutesAndSecondsWithinTheirLimits)
 unfolding name quoted seconds minutes_seconds optional_minutes hours_minutes_seconds sign duration offset time_sign time rule_day month_date julian_date day_number date optional_time day days next_hour more given_offset dst_offset named end fixed alternate rule text int_at tag_at optional_tag_at
-minute_60 extended = faulty extended foo_5_60 6 refl
+minute_60 extended = faulty extended foo_5_60 (InvalidTzString HoursMinutesAndSecondsWithinTheirLimits) refl
 
-pub no_digit : (extended : Bool) → IsTextFault extended foo 10
+pub no_digit : (extended : Bool) → IsTextFault extended foo (ParseInt Digit)
 unfolding name quoted seconds minutes_seconds optional_minutes hours_minutes_seconds sign duration offset time_sign time rule_day month_date julian_date day_number date optional_time day days next_hour more given_offset dst_offset named end fixed alternate rule text int_at tag_at optional_tag_at
-no_digit extended = faulty extended foo 10 refl
+no_digit extended = faulty extended foo (ParseInt Digit) refl
 
-pub two_letters : (extended : Bool) → IsTextFault extended fo_5 3
+pub two_letters : (extended : Bool) → IsTextFault extended fo_5 (LocalTimeType NameOfThreeToSevenBytes)
 unfolding name quoted seconds minutes_seconds optional_minutes hours_minutes_seconds sign duration offset time_sign time rule_day month_date julian_date day_number date optional_time day days next_hour more given_offset dst_offset named end fixed alternate rule text int_at tag_at optional_tag_at
-two_letters extended = faulty extended fo_5 3 refl
+two_letters extended = faulty extended fo_5 (LocalTimeType NameOfThreeToSevenBytes) refl
 
-pub date_0 : (extended : Bool) → IsTextFault extended day_0 13
+pub date_0 : (extended : Bool) → IsTextFault extended day_0 (TransitionRule DayFromJ1ToJ365)
 unfolding name quoted seconds minutes_seconds optional_minutes hours_minutes_seconds sign duration offset time_sign time rule_day month_date julian_date day_number date optional_time day days next_hour more given_offset dst_offset named end fixed alternate rule text int_at tag_at optional_tag_at
-date_0 extended = faulty extended day_0 13 refl
+date_0 extended = faulty extended day_0 (TransitionRule DayFromJ1ToJ365) refl
 
 -- `HST10`
 pub hst_10 : IsTzText false (72 ∷ 83 ∷ 84 ∷ 49 ∷ 48 ∷ []) (rules.Fixed hst)

@@ -2,6 +2,8 @@
 
 ghost use Rattle.std.specs.Prelude.{◌≡◌, ℕ, Bool, true, false, [], ◌∷◌, ◌++◌, List, None, pos, neg_ℤ};
 ghost use Rattle.tz_base.specs.LocalTypes.{LocalType};
+ghost use Rattle.tz_base.specs.declared.error.Error.TheVariants.{InvalidTzFile, LocalTimeType};
+ghost use Rattle.tz_base.specs.declared.error.Expected.TheVariants.{OffsetAboveI32Min, TzTextInFooter, ZeroOrOneAsIsDst};
 ghost use Rattle.tz_info.specs.FileContents.{IsMark, SpellsType, TypeFault, SpellsLeapSecond, IndicatorsAgree, time_of};
 ghost use Rattle.tz_base.specs.Grammar.{Spells, be_u32};
 ghost use Rattle.tz_info.specs.FileHeaders.{version, six_counts, counts_agree};
@@ -85,8 +87,10 @@ pub fn types()
 /// Of a type's record the isdst byte is judged before the offset, of which only the least number of
 /// 32 bits is a fault.
 pub fn type_faults()
-    ensures flag { TypeFault designations (128 ∷ 0 ∷ 0 ∷ 0 ∷ 2 ∷ 0 ∷ []) 5 }
-    ensures not_offset { ¬ (TypeFault designations (128 ∷ 0 ∷ 0 ∷ 0 ∷ 2 ∷ 0 ∷ []) 3) }
+    ensures flag { TypeFault designations (128 ∷ 0 ∷ 0 ∷ 0 ∷ 2 ∷ 0 ∷ [])
+        (InvalidTzFile ZeroOrOneAsIsDst) }
+    ensures not_offset { ¬ (TypeFault designations (128 ∷ 0 ∷ 0 ∷ 0 ∷ 2 ∷ 0 ∷ [])
+        (LocalTimeType OffsetAboveI32Min)) }
 {}
 
 /// Honolulu's footer, `HST10` between newlines, says a rule of one type. One newline alone says
@@ -94,7 +98,7 @@ pub fn type_faults()
 pub fn footers()
     ensures hst { IsFooter false hst_footer hst10 }
     ensures none { IsFooter false (10 ∷ []) None }
-    ensures colon { FooterFault false (10 ∷ 58 ∷ 10 ∷ []) 5 }
+    ensures colon { FooterFault false (10 ∷ 58 ∷ 10 ∷ []) (InvalidTzFile TzTextInFooter) }
 {}
 
 /// A leap second's record: its time, and the correction from then on. 1972-06-30 23:59:60 was the

@@ -3,6 +3,8 @@
 
 ghost use Rattle.std.specs.Prelude.{◌≡◌, ℕ, List, [], ◌∷◌, ◌++◌, None, pos, neg_ℤ};
 ghost use Rattle.tz_base.specs.Grammar.{Spells};
+ghost use Rattle.tz_base.specs.declared.error.Error.TheVariants.{InvalidTzFile, UnsupportedTzFile};
+ghost use Rattle.tz_base.specs.declared.error.Expected.TheVariants.{NothingAfterBlockOfVersion1, Version1To3, Version2Or3InSecondHeader};
 ghost use Rattle.tz_info.specs.FileBlocks.{block as a_block};
 ghost use Rattle.tz_info.specs.FileContents.{SpellTransitions, SpellTypes, IndicatorsAgree};
 ghost use Rattle.tz_info.specs.FileHeaders.{header as a_header};
@@ -54,13 +56,14 @@ pub fn file()
 pub fn version_1()
     ensures spells { IsTzFile short_file (honolulu_from (neg_ℤ (pos 2_147_483_648)) None) }
     ensures byte_after { (b : ℕ) (z : Zone) → ¬ (IsTzFile (short_file ++ (b ∷ [])) z) }
-    ensures byte_after_fault { (b : ℕ) → IsZoneFault (short_file ++ (b ∷ [])) 5 }
+    ensures byte_after_fault { (b : ℕ) → IsZoneFault (short_file ++ (b ∷ []))
+        (InvalidTzFile NothingAfterBlockOfVersion1) }
 {}
 
 /// With a second header of version 1, or with the digit 1 in its place, the bytes are no file.
 pub fn second_versions()
     ensures version_1 { (z : Zone) → ¬ (IsTzFile (file_with 0) z) }
-    ensures version_1_fault { IsZoneFault (file_with 0) 5 }
+    ensures version_1_fault { IsZoneFault (file_with 0) (InvalidTzFile Version2Or3InSecondHeader) }
     ensures digit_1 { (z : Zone) → ¬ (IsTzFile (file_with 49) z) }
-    ensures digit_1_fault { IsZoneFault (file_with 49) 14 }
+    ensures digit_1_fault { IsZoneFault (file_with 49) (UnsupportedTzFile Version1To3) }
 {}

@@ -2,6 +2,8 @@
 
 ghost use Rattle.std.specs.Prelude.{◌≡◌, ℕ, [], ◌∷◌, ◌++◌, List, Bool, true, false, pos, neg_ℤ};
 ghost use Rattle.tz_base.specs.Names.{IsName};
+ghost use Rattle.tz_base.specs.declared.error.Error.TheVariants.{InvalidTzString, LocalTimeType, ParseInt, TransitionRule, UnsupportedTzString};
+ghost use Rattle.tz_base.specs.declared.error.Expected.TheVariants.{DayFromJ1ToJ365, DaysWhenDaylightSavingTimeStartsAndEnds, Digit, HoursMinutesAndSecondsWithinTheirLimits, NameOfThreeToSevenBytes};
 ghost use Rattle.tz_info.specs.TzGrammar.{time_limit, seconds_of, IsTzText, IsTextFault};
 ghost use Rattle.tz_info.specs.PosixZones.{IsPosixZone, posix_zone, types_of};
 ghost use Rattle.tz_info.specs.Zones.{Zone, plain_zone};
@@ -59,22 +61,27 @@ pub fn extensions()
 
 /// `EST5EDT` ends where the days should come, and gives no zone.
 pub fn faults()
-    ensures ends { IsTextFault false no_days 15 }
+    ensures ends { IsTextFault false no_days
+        (UnsupportedTzString DaysWhenDaylightSavingTimeStartsAndEnds) }
     ensures none { (zone : Zone) → ¬ (IsPosixZone no_days zone) }
 {}
 
 /// A minute is below 60, an offset has a digit, a name three letters, and the first date of a year
 /// is `J1`.
 pub fn fault_numbers()
-    ensures minute_60 { (extended : Bool) → IsTextFault extended foo_5_60 6 }
-    ensures no_digit { (extended : Bool) → IsTextFault extended foo 10 }
-    ensures two_letters { (extended : Bool) → IsTextFault extended fo_5 3 }
-    ensures date_0 { (extended : Bool) → IsTextFault extended day_0 13 }
+    ensures minute_60 { (extended : Bool) → IsTextFault extended foo_5_60
+        (InvalidTzString HoursMinutesAndSecondsWithinTheirLimits) }
+    ensures no_digit { (extended : Bool) → IsTextFault extended foo (ParseInt Digit) }
+    ensures two_letters { (extended : Bool) → IsTextFault extended fo_5
+        (LocalTimeType NameOfThreeToSevenBytes) }
+    ensures date_0 { (extended : Bool) → IsTextFault extended day_0
+        (TransitionRule DayFromJ1ToJ365) }
 {}
 
 /// The hours of an offset go to 23, and not to 24 as POSIX.1 allows.
 pub fn limits()
     ensures hours_23 { (extended : Bool) → IsTzText extended foo_23 foo_23_rule }
-    ensures hours_24 { (extended : Bool) → IsTextFault extended foo_24 6 }
+    ensures hours_24 { (extended : Bool) → IsTextFault extended foo_24
+        (InvalidTzString HoursMinutesAndSecondsWithinTheirLimits) }
     ensures none { (zone : Zone) → ¬ (IsPosixZone foo_24 zone) }
 {}

@@ -1,48 +1,48 @@
--- What a grammar reads is what it spells, or the number of its fault.
+-- What a grammar reads is what it spells, or the error of its fault.
 use Rattle.std.proofs.Common.{◌≡◌, ℕ, ◌<◌, ◌≤◌, arith, refl, ap, sym, subst, List, [], ◌∷◌, ◌++◌, length, take, drop, ◌∙◌, Bool, true, false, cond, nat_lt, nat_le, Ok, Result, inl, inr, ◌⊎◌, ◌≢◌, ◌==◌, ◌&&◌}
 use Rattle.std.proofs.lemmas.Bool.Decides.{nat_tests, Decides-ltb}
 use Rattle.std.proofs.lemmas.List.{length-append, length-take, take-append-drop}
 use Rattle.std.proofs.Math.Seq.{take-append_seam}
 use Rattle.std.specs.Bool.{Decides}
 use Rattle.tz_base.specs.Fronts.{is_digit, run_of, after_run, value_from, number_within, int_at, exact_at, tag_at, optional_tag_at, AllOf, NoneFirst}
-use Rattle.tz_base.specs.Refusals.{Refusal, LocalTimeType, InvalidTzFile, InvalidTzString, UnexpectedEnd, MissingTag, ParseInt, TransitionRule, UnsupportedTzFile, UnsupportedTzString, Utf8, number}
+use Rattle.tz_base.specs.Errors.{number_of}
+use Rattle.tz_base.specs.Refusals.{Refusal, LocalTimeType, InvalidTzFile, InvalidTzString, TransitionRule, UnsupportedTzFile, UnsupportedTzString, error}
+use Rattle.tz_base.specs.declared.error.Error.{Error}
+use Rattle.tz_base.specs.declared.error.Error.TheVariants.{UnexpectedEnd, MissingTag, ParseInt}
+use Rattle.tz_base.specs.declared.error.Expected.TheVariants.{MoreBytes, Tag, OtherBytes, Digit, NumberWithinItsLimit}
 use Rattle.tz_base.specs.Grammar.{Grammar, Nothing, Then, Marked, Ended, Byte, Run, Number, Exact, Rest, Refused, Check, Without, IsRun, IsNumber, NumberFault, ByteFault, Spells, HasFault, read, is_end}
 use Rattle.tz_base.proofs.Decided.{Decided, like, said, made, choice, guard, done, refused, and_then}
 use Rattle.tz_base.proofs.ReadLaws.{at_least, drop_front}
 
 -- reading gives P, or the fault F
-abbrev Reads : {X : Type 0} → (List ℕ → Result (X × List ℕ) ℕ) → (List ℕ → X → List ℕ → Type 0) → (List ℕ → ℕ → Type 0) → Type 0
+abbrev Reads : {X : Type 0} → (List ℕ → Result (X × List ℕ) Error) → (List ℕ → X → List ℕ → Type 0) → (List ℕ → Error → Type 0) → Type 0
 Reads {X} at P F = (bytes : List ℕ) → Decided (X × List ℕ) (at bytes) (λ p. P bytes p.0 p.1) (F bytes)
 
--- what the grammar reads is what it spells, or the number of its fault
+-- what the grammar reads is what it spells, or the error of its fault
 abbrev pub Lawful : {X : Type 0} → Grammar X → Type 0
 Lawful g = Reads (read g) (Spells g) (HasFault g)
 
 pub same_pair : {X Y : Type 0} (a b : X) (c d : Y) → a ≡ b → c ≡ d → ◌≡◌ {A = X × Y} (a, c) (b, d)
 same_pair a b c d p q = cc
 
-low : (refusal : Refusal) → number refusal ≤ 16
-low LocalTimeType = omega arith
-low InvalidTzFile = omega arith
-low InvalidTzString = omega arith
-low UnexpectedEnd = omega arith
-low MissingTag = omega arith
-low ParseInt = omega arith
-low TransitionRule = omega arith
-low UnsupportedTzFile = omega arith
-low UnsupportedTzString = omega arith
-low Utf8 = omega arith
+low : (refusal : Refusal) → number_of (error refusal) ≤ 16
+low (LocalTimeType x) = omega arith
+low (InvalidTzFile x) = omega arith
+low (InvalidTzString x) = omega arith
+low (TransitionRule x) = omega arith
+low (UnsupportedTzFile x) = omega arith
+low (UnsupportedTzString x) = omega arith
 
 -- ---- no bytes
-nothing_read : {X : Type 0} (v : X) → Reads (λ bytes. Ok (v, bytes)) (λ bytes x rest. (x ≡ v) × (bytes ≡ rest)) (λ bytes n. ⊥)
+nothing_read : {X : Type 0} (v : X) → Reads (λ bytes. Ok (v, bytes)) (λ bytes x rest. (x ≡ v) × (bytes ≡ rest)) (λ bytes e. ⊥)
 nothing_read v bytes = said (done (v, bytes)) (λ p h. (sym (ap (λ q. q.0) h), ap (λ q. q.1) h)) (λ p h. same_pair _ _ _ _ (sym h.0) h.1)
 
 check_read : {X : Type 0} (test : Bool) (refusal : Refusal) (v : X) → Lawful (Check test refusal v)
 check_read true refusal v bytes = like (nothing_read v bytes) (λ p h. (refl, h.0, h.1)) (λ p h. (h.1, h.2)) (λ n h. absurd h) (λ n h. let e = h.0 in cc)
-check_read false refusal v bytes = like (refused (number refusal) (low refusal)) (λ p h. absurd h) (λ p h. let e = h.0 in cc) (λ n h. (refl, h)) (λ n h. h.1)
+check_read false refusal v bytes = like (refused (error refusal) (low refusal)) (λ p h. absurd h) (λ p h. let e = h.0 in cc) (λ n h. (refl, h)) (λ n h. h.1)
 
 refused_read : {X : Type 0} (refusal : Refusal) → Lawful (Refused {X = X} refusal)
-refused_read refusal bytes = like (refused (number refusal) (low refusal)) (λ p h. absurd h) (λ p h. absurd h) (λ n h. h) (λ n h. h)
+refused_read refusal bytes = like (refused (error refusal) (low refusal)) (λ p h. absurd h) (λ p h. absurd h) (λ n h. h) (λ n h. h)
 
 -- ---- a byte
 pub same_byte : (tag b : ℕ) → Decides ((tag == b) && true) (b ≡ tag)
@@ -64,7 +64,7 @@ none_marked : (tag : ℕ) (M N : List ℕ → Type 0) → Mark tag M N [] → N 
 none_marked tag M N (inl k) = let e = k.1 in cc
 none_marked tag M N (inr k) = k.1
 
-marked_is : {X : Type 0} (a b : List ℕ → Result (X × List ℕ) ℕ) (t : Bool) (after bytes : List ℕ) → let mark : Bool × List ℕ = cond t (true, after) (false, bytes) in cond mark.0 (a mark.1) (b mark.1) ≡ cond t (a after) (b bytes)
+marked_is : {X : Type 0} (a b : List ℕ → Result (X × List ℕ) Error) (t : Bool) (after bytes : List ℕ) → let mark : Bool × List ℕ = cond t (true, after) (false, bytes) in cond mark.0 (a mark.1) (b mark.1) ≡ cond t (a after) (b bytes)
 marked_is a b true after bytes = refl
 marked_is a b false after bytes = refl
 
@@ -84,8 +84,8 @@ marked_read tag g h lg lh (c ∷ cs) = rw (marked_is (read g) (read h) ((tag == 
 -- the byte that must come
 byte_read : (tag : ℕ) → Reads (tag_at (tag ∷ [])) (λ bytes x rest. bytes ≡ tag ∷ rest) (ByteFault tag)
 unfolding tag_at
-byte_read tag [] = said (refused 7 (omega arith)) (λ p h. absurd h) (λ p h. cc)
-byte_read tag (b ∷ bs) = let some : nat_lt (length (b ∷ bs)) 1 ≡ false = grind (arith, nat_tests) in rw some (said (guard (tt, bs) 8 (omega arith) (same_byte tag b))
+byte_read tag [] = said (refused (UnexpectedEnd Tag) (omega arith)) (λ p h. absurd h) (λ p h. cc)
+byte_read tag (b ∷ bs) = let some : nat_lt (length (b ∷ bs)) 1 ≡ false = grind (arith, nat_tests) in rw some (said (guard (tt, bs) (MissingTag OtherBytes) (omega arith) (same_byte tag b))
     (λ p h. let byte = h.0 in let rest : bs ≡ p.1 = ap (λ (q : Unit {0} × List ℕ). q.1) h.1 in cc)
     (λ p h. let byte : b ≡ tag = cc in let rest : bs ≡ p.1 = cc in (byte, ap (λ (r : List ℕ). (tt, r)) rest)))
 
@@ -107,7 +107,7 @@ run_again p [] [] h k = (refl, refl)
 run_again p [] (b ∷ bs) h k = (rw k refl, rw k refl)
 run_again p (d ∷ ds) rest h k = let e = run_again p ds rest h.1 k in let t = h.0 in (rw t (ap (λ xs. d ∷ xs) e.0), rw t e.1)
 
-run_read : (p : ℕ → Bool) → Reads (λ bytes. Ok (run_of p bytes, after_run p bytes)) (IsRun p) (λ bytes n. ⊥)
+run_read : (p : ℕ → Bool) → Reads (λ bytes. Ok (run_of p bytes, after_run p bytes)) (IsRun p) (λ bytes e. ⊥)
 run_read p bytes = said (done (run_of p bytes, after_run p bytes))
     (λ q h. subst (λ (r : List ℕ × List ℕ). IsRun p bytes r.0 r.1) h (run_splits p bytes))
     (λ q h. let e = run_again p q.0 q.1 h.each h.longest in rw h.whole (same_pair _ _ _ _ e.0 e.1))
@@ -118,7 +118,7 @@ exact_cut n bytes some rest whole size = rw (whole, ← size) (take-append_seam 
 
 exact_read : (n : ℕ) → Lawful (Exact n)
 unfolding exact_at
-exact_read n bytes = like (choice (Decides-ltb (length bytes) n) (refused 7 (omega arith)) (done (take n bytes, drop n bytes)))
+exact_read n bytes = like (choice (Decides-ltb (length bytes) n) (refused (UnexpectedEnd MoreBytes) (omega arith)) (done (take n bytes, drop n bytes)))
     (λ p h. elim h [
       | inl k ↦ absurd k.1
       | inr k ↦ subst (λ (q : List ℕ × List ℕ). (bytes ≡ q.0 ++ q.1) × (length q.0 ≡ n)) k.1 (sym (take-append-drop n bytes), omega (arith, length-take n bytes, at_least k.0))
@@ -131,13 +131,13 @@ rest_read : Lawful Rest
 rest_read bytes = said (done (bytes, [])) (λ p h. (sym (ap (λ q. q.0) h), sym (ap (λ q. q.1) h))) (λ p h. same_pair _ _ _ _ (sym h.0) (sym h.1))
 
 -- ---- a number
-within_law : (max : ℕ) (ds : List ℕ) → Decided ℕ (number_within max ds) (λ n. (0 < length ds) × (value_from 0 ds ≡ n) × (n ≤ max)) (λ n. (n ≡ 10) × ((length ds ≡ 0) ⊎ (max < value_from 0 ds)))
-within_law max [] = like (refused 10 (omega arith)) (λ n h. absurd h) (λ n h. absurd (omega (arith, h.0))) (λ n h. (h, inl refl)) (λ n h. h.0)
-within_law max (d ∷ ds) = like (choice (below max (value_from 0 (d ∷ ds))) (done (value_from 0 (d ∷ ds))) (refused 10 (omega arith)))
+within_law : (max : ℕ) (ds : List ℕ) → Decided ℕ (number_within max ds) (λ n. (0 < length ds) × (value_from 0 ds ≡ n) × (n ≤ max)) (λ e. ((length ds ≡ 0) × (e ≡ ParseInt Digit)) ⊎ ((0 < length ds) × (max < value_from 0 ds) × (e ≡ ParseInt NumberWithinItsLimit)))
+within_law max [] = like (refused (ParseInt Digit) (omega arith)) (λ n h. absurd h) (λ n h. absurd (omega (arith, h.0))) (λ e h. inl (refl, h)) (λ e h. elim h [ inl k ↦ k.1 | inr k ↦ absurd (omega (arith, k.0)) ])
+within_law max (d ∷ ds) = like (choice (below max (value_from 0 (d ∷ ds))) (done (value_from 0 (d ∷ ds))) (refused (ParseInt NumberWithinItsLimit) (omega arith)))
     (λ n h. elim h [ inl k ↦ (omega arith, k.1, rw (← k.1) k.0) | inr k ↦ absurd k.1 ])
     (λ n h. inl (rw h.1 h.2, h.1))
-    (λ n h. elim h [ inl k ↦ absurd k.1 | inr k ↦ (k.1, inr (at_least (λ l. k.0 (omega arith)))) ])
-    (λ n h. inr (λ l. elim h.1 [ inl none ↦ absurd (omega arith) | inr above ↦ absurd (omega arith) ], h.0))
+    (λ e h. elim h [ inl k ↦ absurd k.1 | inr k ↦ inr (omega arith, at_least (λ l. k.0 (omega arith)), k.1) ])
+    (λ e h. elim h [ inl k ↦ absurd (omega (arith, k.0)) | inr k ↦ inr ((λ l. absurd (omega (arith, l, k.1))), k.2) ])
   where
     below : (max n : ℕ) → Decides (nat_le n max) (n ≤ max)
     below max n = (λ t. grind (arith, nat_tests), λ l. grind (arith, nat_tests))
@@ -147,8 +147,8 @@ unfolding int_at
 number_read max bytes = like (and_then {b = λ ds rest. _} (run_read is_digit bytes) (λ ds rest _. made (λ n. (n, rest)) (within_law max ds)))
     (λ p h. let w = h.3.1 in subst (λ (q : ℕ × List ℕ). IsNumber max bytes q.0 q.1) h.3.2 (record { digits = h.0; whole = h.2.whole; each = h.2.each; some = w.0; longest = h.2.longest; value = w.1; limit = w.2 }))
     (λ p h. (h.digits, p.1, record { whole = h.whole; each = h.each; longest = h.longest }, (p.0, (h.some, h.value, h.limit), refl)))
-    (λ n h. elim h [ inl none ↦ absurd none | inr k ↦ record { number = k.3.0; digits = k.0; rest = k.1; whole = k.2.whole; each = k.2.each; longest = k.2.longest; fault = k.3.1 } ])
-    (λ n h. inr (h.digits, h.rest, record { whole = h.whole; each = h.each; longest = h.longest }, (h.number, h.fault)))
+    (λ e h. elim h [ inl none ↦ absurd none | inr k ↦ record { digits = k.0; rest = k.1; whole = k.2.whole; each = k.2.each; longest = k.2.longest; fault = k.3 } ])
+    (λ e h. inr (h.digits, h.rest, record { whole = h.whole; each = h.each; longest = h.longest }, h.fault))
 
 -- ---- every grammar
 pub lawful : {X : Type 0} (g : Grammar X) → Lawful g

@@ -1,6 +1,9 @@
 -- Longest runs, and what digits stand for.
 use Rattle.std.proofs.Common.{◌≡◌, ℕ, suc, ◌+◌, ◌-◌, ◌*◌, ◌<◌, ◌≤◌, arith, refl, ap, sym, List, [], ◌∷◌, ◌++◌, length, get_or, drop, drop-cons, add-one, Bool, true, false, Ok, Err, Result}
 use Rattle.std.proofs.lemmas.Bool.Decides.{nat_tests}
+use Rattle.tz_base.specs.declared.error.Error.{Error}
+use Rattle.tz_base.specs.declared.error.Error.TheVariants.{ParseInt}
+use Rattle.tz_base.specs.declared.error.Expected.TheVariants.{NumberWithinItsLimit}
 use Rattle.tz_base.specs.Fronts.{is_digit, run_of, after_run, value_from, number_within, int_at, ◌>>=◌, AllOf}
 
 pub next_value : (ds : List ℕ) (i n : ℕ) → i < length ds → value_from n (drop i ds) ≡ value_from (10 * n + (get_or ds i 0 - 48)) (drop (i + 1) ds)
@@ -11,7 +14,7 @@ pub value_grows : (n : ℕ) (ds : List ℕ) → n ≤ value_from n ds
 value_grows n [] = omega arith
 value_grows n (d ∷ ds) = let h = value_grows (10 * n + (d - 48)) ds in omega arith
 
-pub above_is : (max : ℕ) (ds : List ℕ) → 0 < length ds → max < value_from 0 ds → number_within max ds ≡ Err 10
+pub above_is : (max : ℕ) (ds : List ℕ) → 0 < length ds → max < value_from 0 ds → number_within max ds ≡ Err (ParseInt NumberWithinItsLimit)
 above_is max [] s h = absurd (omega arith)
 above_is max (d ∷ ds) s h = grind (arith, nat_tests)
 
@@ -28,7 +31,7 @@ pub all_of : (p : ℕ → Bool) (bs : List ℕ) → ((k : ℕ) → k < length bs
 all_of p [] h = tt
 all_of p (b ∷ bs) h = (h 0 (omega arith), all_of p bs (λ k l. h (suc k) (omega arith)))
 
-pub int_at_is : (max : ℕ) (bytes ds rest : List ℕ) (r : Result ℕ ℕ) → ds ++ rest ≡ bytes → ((k : ℕ) → k < length ds → is_digit (get_or ds k 0) ≡ true) → (0 < length rest → is_digit (get_or rest 0 0) ≡ false) → number_within max ds ≡ r → int_at max bytes ≡ (r >>= λ n. Ok (n, rest))
+pub int_at_is : (max : ℕ) (bytes ds rest : List ℕ) (r : Result ℕ Error) → ds ++ rest ≡ bytes → ((k : ℕ) → k < length ds → is_digit (get_or ds k 0) ≡ true) → (0 < length rest → is_digit (get_or rest 0 0) ≡ false) → number_within max ds ≡ r → int_at max bytes ≡ (r >>= λ n. Ok (n, rest))
 unfolding int_at
 int_at_is max bytes ds rest r e passes stops h =
     let runs = run_is is_digit ds rest passes stops in

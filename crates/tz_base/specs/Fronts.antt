@@ -1,28 +1,29 @@
--- What stands at the front of bytes: a value with the bytes after it, or the number of a refusal.
+-- What is at the front of bytes: a value with the bytes after it, or an error.
 use Rattle.std.specs.Prelude.{ℕ, ◌+◌, ◌*◌, ◌-◌, nat_eq, nat_lt, nat_le, Bool, true, false, ◌&&◌, if◌then◌else◌, List, [], ◌∷◌, length, take, drop, Result, Ok, Err, ◌≡◌}
 use Rattle.std.specs.List.{starts_with}
 use Rattle.tz_base.specs.declared.error.Error.{Error}
-use Rattle.tz_base.specs.Errors.{number_of}
+use Rattle.tz_base.specs.declared.error.Error.TheVariants.{UnexpectedEnd, MissingTag, ParseInt}
+use Rattle.tz_base.specs.declared.error.Expected.TheVariants.{MoreBytes, Tag, OtherBytes, Digit, NumberWithinItsLimit}
 
 infixl 10 ◌>>=◌
-abbrev pub ◌>>=◌ : {A B : Type 0} → Result A ℕ → (A → Result B ℕ) → Result B ℕ
+abbrev pub ◌>>=◌ : {A B : Type 0} → Result A Error → (A → Result B Error) → Result B Error
 (Ok x) >>= f = f x
-(Err n) >>= f = Err n
+(Err e) >>= f = Err e
 
 -- what a call returned, seen by `view`, is what stands there
-abbrev pub Gives : {X Y : Type 0} → (X → Y) → Result X Error → Result Y ℕ → Type 0
+abbrev pub Gives : {X Y : Type 0} → (X → Y) → Result X Error → Result Y Error → Type 0
 Gives view (Ok x) front = front ≡ Ok (view x)
-Gives view (Err e) front = front ≡ Err (number_of e)
+Gives view (Err e) front = front ≡ Err e
 
 -- so many bytes
-unfoldable pub exact_at : ℕ → List ℕ → Result (List ℕ × List ℕ) ℕ
-exact_at count bytes = if nat_lt (length bytes) count then Err 7 else Ok (take count bytes, drop count bytes)
+unfoldable pub exact_at : ℕ → List ℕ → Result (List ℕ × List ℕ) Error
+exact_at count bytes = if nat_lt (length bytes) count then Err (UnexpectedEnd MoreBytes) else Ok (take count bytes, drop count bytes)
 
 -- the bytes of a tag
-unfoldable pub tag_at : List ℕ → List ℕ → Result (Unit {0} × List ℕ) ℕ
+unfoldable pub tag_at : List ℕ → List ℕ → Result (Unit {0} × List ℕ) Error
 tag_at tag bytes =
-    if nat_lt (length bytes) (length tag) then Err 7 else
-    (if starts_with nat_eq bytes tag then Ok (tt, drop (length tag) bytes) else Err 8)
+    if nat_lt (length bytes) (length tag) then Err (UnexpectedEnd Tag) else
+    (if starts_with nat_eq bytes tag then Ok (tt, drop (length tag) bytes) else Err (MissingTag OtherBytes))
 
 -- whether the tag stands there, and the bytes after it if so
 unfoldable pub optional_tag_at : List ℕ → List ℕ → Bool × List ℕ
@@ -60,10 +61,10 @@ value_from n [] = n
 value_from n (d ∷ ds) = value_from (10 * n + (d - 48)) ds
 
 -- what digits stand for, if there are any and it is not above the limit
-abbrev pub number_within : ℕ → List ℕ → Result ℕ ℕ
-number_within max [] = Err 10
-number_within max (d ∷ ds) = if nat_le (value_from 0 (d ∷ ds)) max then Ok (value_from 0 (d ∷ ds)) else Err 10
+abbrev pub number_within : ℕ → List ℕ → Result ℕ Error
+number_within max [] = Err (ParseInt Digit)
+number_within max (d ∷ ds) = if nat_le (value_from 0 (d ∷ ds)) max then Ok (value_from 0 (d ∷ ds)) else Err (ParseInt NumberWithinItsLimit)
 
 -- the number that the longest run of digits stands for
-unfoldable pub int_at : ℕ → List ℕ → Result (ℕ × List ℕ) ℕ
+unfoldable pub int_at : ℕ → List ℕ → Result (ℕ × List ℕ) Error
 int_at max bytes = number_within max (run_of is_digit bytes) >>= λ n. Ok (n, after_run is_digit bytes)

@@ -1,20 +1,23 @@
--- Grammars. One value says three things of bytes: which values their front spells, which fault stands there where it spells
--- none, and what a reader reads. `lawful` (proofs/Lawful) proves for every grammar that what is read is what is spelled, and
--- that a refusal is the number of the fault.
+-- Grammars. One value says three things of bytes: which value their front spells, with which error they are rejected if it
+-- spells none, and what a reader reads. `lawful` (proofs/Lawful) proves for every grammar that what is read is what is
+-- spelled, and that an error is the one of the first fault.
 use Rattle.std.specs.Prelude.{ℕ, ◌≡◌, ◌≢◌, ◌<◌, ◌≤◌, ◌⊎◌, Bool, true, false, if◌then◌else◌, List, [], ◌∷◌, ◌++◌, length, Result, Ok, Err}
 use Rattle.std.specs.Int.{w32, from_be_bytes}
 use Rattle.tz_base.specs.Fronts.{is_digit, value_from, AllOf, NoneFirst, AllDigits, optional_tag_at, tag_at, int_at, exact_at, run_of, after_run}
 use Rattle.tz_base.specs.Fronts as fronts
-use Rattle.tz_base.specs.Refusals.{Refusal, UnexpectedEnd, MissingTag, ParseInt, number}
+use Rattle.tz_base.specs.Refusals.{Refusal, error}
+use Rattle.tz_base.specs.declared.error.Error.{Error}
+use Rattle.tz_base.specs.declared.error.Error.TheVariants.{UnexpectedEnd, MissingTag, ParseInt}
+use Rattle.tz_base.specs.declared.error.Expected.TheVariants.{MoreBytes, Tag, OtherBytes, Digit, NumberWithinItsLimit}
 
 pub data Grammar : Type 0 → Type 1 where
-  -- no bytes, which stand for that value
+  -- no bytes, which spell that value
   Nothing : {X : Type 0} → X → Grammar X
   -- one grammar, and after it the one that its value names
   Then : {X Y : Type 0} → Grammar X → (X → Grammar Y) → Grammar Y
-  -- where the byte stands in front, the first grammar after it; where it does not, the second
+  -- the byte and then the first grammar, or, if another byte or none is there, the second
   Marked : {X : Type 0} → ℕ → Grammar X → Grammar X → Grammar X
-  -- where no bytes are left, the first; where some are, the second
+  -- the first if no bytes are left, the second if some are
   Ended : {X : Type 0} → Grammar X → Grammar X → Grammar X
   -- the byte that must come
   Byte : ℕ → Grammar (Unit {0})
@@ -26,9 +29,9 @@ pub data Grammar : Type 0 → Type 1 where
   Exact : ℕ → Grammar (List ℕ)
   -- all bytes that are left
   Rest : Grammar (List ℕ)
-  -- no value, whatever stands there
+  -- no value, whatever bytes are left
   Refused : {X : Type 0} → Refusal → Grammar X
-  -- no bytes, which stand for that value where the test holds, and are refused so where it does not
+  -- no bytes, which spell that value if the test holds, and are rejected with that error if it does not
   Check : {X : Type 0} → Bool → Refusal → X → Grammar X
 
 infixl 10 ◌>>=◌
@@ -39,7 +42,7 @@ infixl 10 ◌>>◌
 abbrev pub ◌>>◌ : {X Y : Type 0} → Grammar X → Grammar Y → Grammar Y
 g >> h = Then g (λ _. h)
 
--- the byte and the grammar after it, or nothing, which stands for that value
+-- the byte and the grammar after it, or nothing, which spells that value
 abbrev pub Optional : {X : Type 0} → ℕ → X → Grammar X → Grammar X
 Optional tag v g = Marked tag g (Nothing v)
 
@@ -83,44 +86,42 @@ Spells Rest bytes some rest = (some ≡ bytes) × (rest ≡ [])
 Spells (Refused refusal) bytes x rest = ⊥
 Spells (Check test refusal v) bytes x rest = (test ≡ true) × (x ≡ v) × (bytes ≡ rest)
 
--- ---- its faults: the first parts are spelled, and at the next one stands what the number says
--- 7 where the bytes end, 8 where another one stands
-abbrev pub ByteFault : ℕ → List ℕ → ℕ → Type 0
-ByteFault tag [] n = n ≡ number UnexpectedEnd
-ByteFault tag (b ∷ bs) n = (b ≢ tag) × (n ≡ number MissingTag)
+-- ---- its faults: the first parts are spelled, and the next one is rejected with the error
+abbrev pub ByteFault : ℕ → List ℕ → Error → Type 0
+ByteFault tag [] e = e ≡ UnexpectedEnd Tag
+ByteFault tag (b ∷ bs) e = (b ≢ tag) × (e ≡ MissingTag OtherBytes)
 
 -- no digit, or a number above its limit
-pub record NumberFault (max : ℕ) (bytes : List ℕ) (n : ℕ) : Type 0 where
-  pub number : n ≡ number ParseInt
+pub record NumberFault (max : ℕ) (bytes : List ℕ) (e : Error) : Type 0 where
   pub digits : List ℕ
   pub rest : List ℕ
   pub whole : bytes ≡ digits ++ rest
   pub each : AllDigits digits
   pub longest : NoneFirst is_digit rest
-  pub fault : (length digits ≡ 0) ⊎ (max < value_from 0 digits)
+  pub fault : ((length digits ≡ 0) × (e ≡ ParseInt Digit)) ⊎ ((0 < length digits) × (max < value_from 0 digits) × (e ≡ ParseInt NumberWithinItsLimit))
 
-abbrev pub HasFault : {X : Type 0} → Grammar X → List ℕ → ℕ → Type 0
-HasFault (Nothing v) bytes n = ⊥
-HasFault (Then {X = X} g f) bytes n = HasFault g bytes n ⊎ ((x : X) × (after : List ℕ) × Spells g bytes x after × HasFault (f x) after n)
-HasFault (Marked tag g h) bytes n = ((after : List ℕ) × (bytes ≡ tag ∷ after) × HasFault g after n) ⊎ (Without tag bytes × HasFault h bytes n)
-HasFault (Ended g h) bytes n = ((bytes ≡ []) × HasFault g bytes n) ⊎ ((bytes ≢ []) × HasFault h bytes n)
-HasFault (Byte tag) bytes n = ByteFault tag bytes n
-HasFault (Run p) bytes n = ⊥
-HasFault (Number max) bytes n = NumberFault max bytes n
-HasFault (Exact count) bytes n = (length bytes < count) × (n ≡ number UnexpectedEnd)
-HasFault Rest bytes n = ⊥
-HasFault (Refused refusal) bytes n = n ≡ number refusal
-HasFault (Check test refusal v) bytes n = (test ≡ false) × (n ≡ number refusal)
+abbrev pub HasFault : {X : Type 0} → Grammar X → List ℕ → Error → Type 0
+HasFault (Nothing v) bytes e = ⊥
+HasFault (Then {X = X} g f) bytes e = HasFault g bytes e ⊎ ((x : X) × (after : List ℕ) × Spells g bytes x after × HasFault (f x) after e)
+HasFault (Marked tag g h) bytes e = ((after : List ℕ) × (bytes ≡ tag ∷ after) × HasFault g after e) ⊎ (Without tag bytes × HasFault h bytes e)
+HasFault (Ended g h) bytes e = ((bytes ≡ []) × HasFault g bytes e) ⊎ ((bytes ≢ []) × HasFault h bytes e)
+HasFault (Byte tag) bytes e = ByteFault tag bytes e
+HasFault (Run p) bytes e = ⊥
+HasFault (Number max) bytes e = NumberFault max bytes e
+HasFault (Exact count) bytes e = (length bytes < count) × (e ≡ UnexpectedEnd MoreBytes)
+HasFault Rest bytes e = ⊥
+HasFault (Refused refusal) bytes e = e ≡ error refusal
+HasFault (Check test refusal v) bytes e = (test ≡ false) × (e ≡ error refusal)
 
--- ---- what a reader reads: the value with the bytes after it, or the number of the refusal
+-- ---- what a reader reads: the value with the bytes after it, or the error
 abbrev pub is_end : List ℕ → Bool
 is_end [] = true
 is_end (b ∷ bs) = false
 
-abbrev pub checked : {X : Type 0} → Bool → Refusal → X → Result X ℕ
-checked test refusal v = if test then Ok v else Err (number refusal)
+abbrev pub checked : {X : Type 0} → Bool → Refusal → X → Result X Error
+checked test refusal v = if test then Ok v else Err (error refusal)
 
-abbrev pub read : {X : Type 0} → Grammar X → List ℕ → Result (X × List ℕ) ℕ
+abbrev pub read : {X : Type 0} → Grammar X → List ℕ → Result (X × List ℕ) Error
 read (Nothing v) bytes = Ok (v, bytes)
 read (Then g f) bytes = fronts.◌>>=◌ (read g bytes) (λ p. read (f p.0) p.1)
 read (Marked tag g h) bytes = let mark = optional_tag_at (tag ∷ []) bytes in if mark.0 then read g mark.1 else read h mark.1
@@ -130,7 +131,7 @@ read (Run p) bytes = Ok (run_of p bytes, after_run p bytes)
 read (Number max) bytes = int_at max bytes
 read (Exact count) bytes = exact_at count bytes
 read Rest bytes = Ok (bytes, [])
-read (Refused refusal) bytes = Err (number refusal)
+read (Refused refusal) bytes = Err (error refusal)
 read (Check test refusal v) bytes = fronts.◌>>=◌ (checked test refusal v) (λ x. Ok (x, bytes))
 
 -- ---- a big-endian number of four bytes

@@ -1,7 +1,9 @@
 -- Names of local time types: the "time zone designations" of RFC 8536 section 3.2, and the `std` and `dst` of a TZ text
 -- (POSIX.1 section 8.3). Here they are three to seven letters, digits, `+` or `-` of ASCII; RFC 8536 says that they should
 -- have three to six.
-use Rattle.std.specs.Prelude.{ℕ, ◌≡◌, ◌<◌, ◌≤◌, ◌==◌, nat_le, Bool, true, ◌&&◌, ◌||◌, List, Option, Some, None, length, slice_index}
+use Rattle.std.specs.Prelude.{ℕ, ◌≡◌, ◌<◌, ◌≤◌, ◌==◌, nat_le, Bool, true, ◌&&◌, ◌||◌, if◌then◌else◌, List, Option, Some, None, length, slice_index}
+use Rattle.tz_base.specs.declared.error.Expected.{Expected}
+use Rattle.tz_base.specs.declared.error.Expected.TheVariants.{NameOfThreeToSevenBytes, LettersDigitsPlusOrMinusInName}
 
 -- a letter, a digit, a plus or a minus of ASCII
 abbrev pub is_name_byte : ℕ → Bool
@@ -15,3 +17,7 @@ IsName text = (3 ≤ length text) × (length text ≤ 7) × ((i : ℕ) → i < l
 abbrev pub IsNameOrNone : Option (List ℕ) → Type 0
 IsNameOrNone (Some text) = IsName text
 IsNameOrNone None = Unit {0}
+
+-- what is expected of bytes that are no name: another length, or else other bytes
+abbrev pub expected_of_name : List ℕ → Expected
+expected_of_name text = if nat_le 3 (length text) && nat_le (length text) 7 then LettersDigitsPlusOrMinusInName else NameOfThreeToSevenBytes

@@ -1,26 +1,21 @@
--- Why bytes are refused: the variants of `Error` that a reader answers, each with its number.
-use Rattle.std.specs.Prelude.{ℕ}
+-- The errors that a grammar can name: the variants of `Error` that a reader of bytes returns, each with what was expected.
+-- Running out of memory is none of them.
+use Rattle.tz_base.specs.declared.error.Error.{Error}
+use Rattle.tz_base.specs.declared.error.Error.TheVariants as errors
+use Rattle.tz_base.specs.declared.error.Expected.{Expected}
 
 pub data Refusal : Type 0 where
-  LocalTimeType : Refusal
-  InvalidTzFile : Refusal
-  InvalidTzString : Refusal
-  UnexpectedEnd : Refusal
-  MissingTag : Refusal
-  ParseInt : Refusal
-  TransitionRule : Refusal
-  UnsupportedTzFile : Refusal
-  UnsupportedTzString : Refusal
-  Utf8 : Refusal
+  LocalTimeType : Expected → Refusal
+  InvalidTzFile : Expected → Refusal
+  InvalidTzString : Expected → Refusal
+  TransitionRule : Expected → Refusal
+  UnsupportedTzFile : Expected → Refusal
+  UnsupportedTzString : Expected → Refusal
 
-abbrev pub number : Refusal → ℕ
-number LocalTimeType = 3
-number InvalidTzFile = 5
-number InvalidTzString = 6
-number UnexpectedEnd = 7
-number MissingTag = 8
-number ParseInt = 10
-number TransitionRule = 13
-number UnsupportedTzFile = 14
-number UnsupportedTzString = 15
-number Utf8 = 16
+abbrev pub error : Refusal → Error
+error (LocalTimeType x) = errors.LocalTimeType x
+error (InvalidTzFile x) = errors.InvalidTzFile x
+error (InvalidTzString x) = errors.InvalidTzString x
+error (TransitionRule x) = errors.TransitionRule x
+error (UnsupportedTzFile x) = errors.UnsupportedTzFile x
+error (UnsupportedTzString x) = errors.UnsupportedTzString x

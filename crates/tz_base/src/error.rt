@@ -45,7 +45,7 @@ pub enum Expected {
     /// A name within the designations.
     NameWithinDesignations,
     /// A 0 byte after a name.
-    ZeroByteBehindName,
+    ZeroByteAfterName,
     /// An offset above i32::MIN.
     OffsetAboveI32Min,
     /// A name of three to seven bytes.
@@ -77,15 +77,23 @@ pub enum Expected {
     /// Days when daylight saving time starts and ends.
     DaysWhenDaylightSavingTimeStartsAndEnds,
     /// Nothing after the text.
-    NothingBehindText,
+    NothingAfterText,
     /// A leap time of 64 bits.
     LeapTimeOf64Bits,
     /// A leap time above i64::MIN.
     LeapTimeAboveI64Min,
     /// A Unix time of 64 bits.
     UnixTimeOf64Bits,
-    /// Lists that make a zone.
-    ListsOfZone,
+    /// At least one local time type.
+    AtLeastOneLocalTimeType,
+    /// Type indexes within the local time types.
+    TypeIndexesWithinTypes,
+    /// Transition times that rise.
+    TransitionTimesThatRise,
+    /// Leap seconds that can follow one another.
+    LeapSecondsInOrder,
+    /// A rule that agrees with the last transition.
+    RuleThatAgreesWithLastTransition,
 }
 
 impl Expected {
@@ -108,7 +116,7 @@ impl Expected {
             Expected::NothingAfterBlockOfVersion1 => "nothing after a block of version 1",
             Expected::ZeroOrOneAsIsDst => "0 or 1 as a type's isdst",
             Expected::NameWithinDesignations => "a name within the designations",
-            Expected::ZeroByteBehindName => "a 0 byte behind a name",
+            Expected::ZeroByteAfterName => "a 0 byte after a name",
             Expected::OffsetAboveI32Min => "an offset above i32::MIN",
             Expected::NameOfThreeToSevenBytes => "a name of three to seven bytes",
             Expected::LettersDigitsPlusOrMinusInName => "letters, digits, + or - in a name",
@@ -127,11 +135,16 @@ impl Expected {
                 "an offset of daylight saving time within a day",
             Expected::DaysWhenDaylightSavingTimeStartsAndEnds =>
                 "days when daylight saving time starts and ends",
-            Expected::NothingBehindText => "nothing behind the text",
+            Expected::NothingAfterText => "nothing after the text",
             Expected::LeapTimeOf64Bits => "a leap time of 64 bits",
             Expected::LeapTimeAboveI64Min => "a leap time above i64::MIN",
             Expected::UnixTimeOf64Bits => "a Unix time of 64 bits",
-            Expected::ListsOfZone => "lists that make a zone",
+            Expected::AtLeastOneLocalTimeType => "at least one local time type",
+            Expected::TypeIndexesWithinTypes => "type indexes within the local time types",
+            Expected::TransitionTimesThatRise => "transition times that rise",
+            Expected::LeapSecondsInOrder => "leap seconds in order",
+            Expected::RuleThatAgreesWithLastTransition =>
+                "a rule that agrees with the last transition",
         }
     }
 }

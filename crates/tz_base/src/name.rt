@@ -4,8 +4,8 @@ ghost use Rattle.std.specs.Prelude.{◌≡◌, ℕ, ◌<◌, ◌≤◌, length, 
 ghost use Rattle.std.specs.Bool.{nat_eq};
 ghost use Rattle.std.specs.Cmp.{partial_equiv_from_equiv};
 ghost use Rattle.std.specs.Cmp.Lexicographic.{pointwise, nat_list_eq_equiv};
-ghost use Rattle.tz_base.specs.Names.{IsName, is_name_byte};
-ghost use Rattle.tz_base.specs.Errors.{IsLocalTimeTypeError};
+ghost use Rattle.tz_base.specs.Names.{IsName, is_name_byte, expected_of_name};
+ghost use Rattle.tz_base.specs.declared.error.Error.TheVariants.{LocalTimeType};
 
 use crate::error::{Error, Expected};
 use std::fmt;
@@ -49,7 +49,7 @@ impl TimeZoneName {
     /// is none of `A` to `Z`, `a` to `z`, `0` to `9`, `+` and `-`.
     pub fn new(name: &[u8]) -> Result<TimeZoneName, Error>
         ensures { MatchResult result (λ n. IsName name.now × (n ≡ name.now))
-            (λ e. IsLocalTimeTypeError e × ¬ (IsName name.now)) }
+            (λ e. (e ≡ LocalTimeType (expected_of_name name.now)) × ¬ (IsName name.now)) }
     {
         let len = name.len();
         if len < 3 || len > 7 {
@@ -107,6 +107,10 @@ impl Eq for TimeZoneName {
 }
 
 impl fmt::Debug for TimeZoneName {
+    ghost use Rattle.std.specs.Prelude.{◌++◌, ◌∷◌, [], Some};
+
+    ghost debug_output = { λ name. Some (34 ∷ (name ++ (34 ∷ []))) };
+
     fn fmt<W: fmt::Write>(&self, f: &mut fmt::Formatter<W>) -> fmt::Result {
         write!(f, "\"{}\"", self.as_str())
     }

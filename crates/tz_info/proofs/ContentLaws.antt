@@ -4,6 +4,8 @@ use Rattle.std.proofs.lemmas.Bool.{and_parts, cases_lt}
 use Rattle.std.proofs.lemmas.Bool.Decides.{nat_tests}
 use Rattle.std.proofs.lemmas.List.{length-take, nil_from_length, take-append-drop}
 use Rattle.std.proofs.Math.ListN.{get_or-eq_default}
+use Rattle.tz_base.specs.declared.error.Error.TheVariants.{InvalidTzFile}
+use Rattle.tz_base.specs.declared.error.Expected.TheVariants.{StandardTimeWhereTimeIsUt}
 use Rattle.tz_info.specs.FileContents.{time_of, SpellTransitions, SpellsLeapSecond, SpellLeapSeconds, IndicatorsAgree}
 use Rattle.tz_info.specs.Steps.ContentReading.{values_below, transition_in, leap_second_of, leap_second_in, pair_agrees, indicators_of}
 use Rattle.tz_info.specs.Steps.Below.{all_below}
@@ -93,8 +95,8 @@ agree_is s u h = λ k a. elim (cases_lt k (length u)) as (λ _. slice_index u k 
   | inr m ↦ let zero_there : get_or u k 0 ≡ 0 = get_or-eq_default u 0 m in λ b. absurd (omega arith)
 ]
 
-pub indicators_law : (s u : List ℕ) → Decided (Unit {0}) (indicators_of s u) (λ _. IndicatorsAgree s u) (λ n. ¬ (IndicatorsAgree s u) × (n ≡ 5))
+pub indicators_law : (s u : List ℕ) → Decided (Unit {0}) (indicators_of s u) (λ _. IndicatorsAgree s u) (λ e. ¬ (IndicatorsAgree s u) × (e ≡ InvalidTzFile StandardTimeWhereTimeIsUt))
 unfolding indicators_of
-indicators_law s u = said (guard tt 5 (omega arith) (agree_is s u, λ h. below_again (length u) (pair_agrees s u) (λ k l. not_both (slice_index s k) (slice_index u k) (h k))))
+indicators_law s u = said (guard tt (InvalidTzFile StandardTimeWhereTimeIsUt) (omega arith) (agree_is s u, λ h. below_again (length u) (pair_agrees s u) (λ k l. not_both (slice_index s k) (slice_index u k) (h k))))
     (λ x h. h.0)
     (λ x h. (h, refl))

@@ -9,6 +9,8 @@ use Rattle.std.specs.List.{list_any, starts_with, ends_with}
 use Rattle.std.specs.Str.{IsUtf8}
 use Rattle.tz_base.specs.Fronts.{Gives}
 use Rattle.tz_base.specs.declared.error.Error.{Error}
+use Rattle.tz_base.specs.declared.error.Error.TheVariants.{InvalidTzFile, Utf8}
+use Rattle.tz_base.specs.declared.error.Expected.TheVariants.{FooterInUtf8, FooterBetweenNewlines, TzTextInFooter}
 use Rattle.tz_info.specs.FileContents.{HasNoZero}
 use Rattle.tz_info.specs.Steps.ContentReading.{is_zero}
 use Rattle.tz_info.specs.TzGrammar.{IsTzText, IsTextFault}
@@ -113,12 +115,12 @@ no_zero : (text : List ℕ) → ¬ (IsNoText text) → HasNoZero text
 no_zero text h = no_zero_is text (false_unless (list_any is_zero text) (λ t. h (inr ((has_zero text).0 t))))
 
 -- ---- the whole
-abbrev ReadFault : Bool → List ℕ → List ℕ → ℕ → Type 0
+abbrev ReadFault : Bool → List ℕ → List ℕ → Error → Type 0
 ReadFault extended bytes text n =
-    (IsUtf8 bytes × ((IsBetweenNewlines bytes × ((IsNoText text × (n ≡ 5)) ⊎ (¬ (IsNoText text) × ((text ≢ []) × IsTextFault extended text n)))) ⊎ (¬ (IsBetweenNewlines bytes) × (n ≡ 5))))
-    ⊎ (¬ (IsUtf8 bytes) × (n ≡ 16))
+    (IsUtf8 bytes × ((IsBetweenNewlines bytes × ((IsNoText text × (n ≡ InvalidTzFile TzTextInFooter)) ⊎ (¬ (IsNoText text) × ((text ≢ []) × IsTextFault extended text n)))) ⊎ (¬ (IsBetweenNewlines bytes) × (n ≡ InvalidTzFile FooterBetweenNewlines))))
+    ⊎ (¬ (IsUtf8 bytes) × (n ≡ Utf8 FooterInUtf8))
 
-fault_is : (extended : Bool) (bytes : List ℕ) (n : ℕ) → ReadFault extended bytes (trimmed bytes) n → FooterFault extended bytes n
+fault_is : (extended : Bool) (bytes : List ℕ) (n : Error) → ReadFault extended bytes (trimmed bytes) n → FooterFault extended bytes n
 fault_is extended bytes n (inr u) = subst (FooterFault extended bytes) (sym u.1) (Not_utf8 u.0)
 fault_is extended bytes n (inl u) = elim u.1 [
   | inr b ↦ subst (FooterFault extended bytes) (sym b.1) (No_newlines u.0 b.0)
@@ -130,23 +132,23 @@ fault_is extended bytes n (inl u) = elim u.1 [
       ]
 ]
 
-in_text : (extended : Bool) (bytes text : List ℕ) (n : ℕ) → HasText bytes text → (IsNoText text × (n ≡ 5)) ⊎ (¬ (IsNoText text) × ((text ≢ []) × IsTextFault extended text n)) → ReadFault extended bytes (trimmed bytes) n
+in_text : (extended : Bool) (bytes text : List ℕ) (n : Error) → HasText bytes text → (IsNoText text × (n ≡ InvalidTzFile TzTextInFooter)) ⊎ (¬ (IsNoText text) × ((text ≢ []) × IsTextFault extended text n)) → ReadFault extended bytes (trimmed bytes) n
 in_text extended bytes text n has fault = rw (trim_again bytes text has.trimmed) (inl (has.utf8, inl (has.newlines, fault)))
 
 is_text : (text : List ℕ) → slice_index text 0 ≢ 58 → HasNoZero text → ¬ (IsNoText text)
 is_text text colon zero h = elim h [ inl c ↦ colon c | inr z ↦ z zero ]
 
-fault_again : (extended : Bool) (bytes : List ℕ) (n : ℕ) → FooterFault extended bytes n → ReadFault extended bytes (trimmed bytes) n
+fault_again : (extended : Bool) (bytes : List ℕ) (n : Error) → FooterFault extended bytes n → ReadFault extended bytes (trimmed bytes) n
 fault_again extended bytes n (Not_utf8 bad) = inr (bad, refl)
 fault_again extended bytes n (No_newlines utf8 bad) = inl (utf8, inr (bad, refl))
-fault_again extended bytes n (Colon text has colon) = in_text extended bytes text 5 has (inl (inl colon, refl))
-fault_again extended bytes n (Zero text has zero) = in_text extended bytes text 5 has (inl (inr zero, refl))
+fault_again extended bytes n (Colon text has colon) = in_text extended bytes text (InvalidTzFile TzTextInFooter) has (inl (inl colon, refl))
+fault_again extended bytes n (Zero text has zero) = in_text extended bytes text (InvalidTzFile TzTextInFooter) has (inl (inr zero, refl))
 fault_again extended bytes n (In_text text m has colon zero some fault) = in_text extended bytes text m has (inr (is_text text colon zero, (some, fault)))
 
 pub footer_law : (extended : Bool) (bytes : List ℕ) → Decided (Option TransitionRule) (footer_at extended bytes) (IsFooter extended bytes) (FooterFault extended bytes)
 unfolding footer_at
 footer_law extended bytes = like
-    (choice (IsUtf8-from_is_utf8 bytes, is_utf8-from_IsUtf8 bytes) (choice (between_is bytes, between_again bytes) (choice (no_text (trimmed bytes)) (refused 5 (omega arith)) (rule_law extended (trimmed bytes))) (refused 5 (omega arith))) (refused 16 (omega arith)))
+    (choice (IsUtf8-from_is_utf8 bytes, is_utf8-from_IsUtf8 bytes) (choice (between_is bytes, between_again bytes) (choice (no_text (trimmed bytes)) (refused (InvalidTzFile TzTextInFooter) (omega arith)) (rule_law extended (trimmed bytes))) (refused (InvalidTzFile FooterBetweenNewlines) (omega arith))) (refused (Utf8 FooterInUtf8) (omega arith)))
     (λ rule h. elim h [
       | inl u ↦ elim u.1 [
         | inl b ↦ elim b.1 [

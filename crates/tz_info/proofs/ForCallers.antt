@@ -1,9 +1,9 @@
 -- Lemmas for the crates above.
-pub use Rattle.tz_info.proofs.TzFileLaws.{fault_or_zone as file_fault_or_zone}
+pub use Rattle.tz_info.proofs.TzFileLaws.{fault_or_zone as file_fault_or_zone, fault_once as file_fault_once}
 pub use Rattle.tz_info.proofs.FileZoneLaws.{file_rule_fits}
 pub use Rattle.tz_info.proofs.LeapOrder.{leap_times_answer}
 pub use Rattle.tz_base.proofs.ForCallers.{run_splits, run_again}
-pub use Rattle.tz_info.proofs.PosixLaws.{fault_or_zone as text_fault_or_zone}
+pub use Rattle.tz_info.proofs.PosixLaws.{fault_or_zone as text_fault_or_zone, one_posix_fault as text_fault_once}
 pub use Rattle.tz_info.proofs.PosixZoneLaws.{posix_zone_valid}
 pub use Rattle.tz_timeline.proofs.ForCallers.{le_is, le_true}
 pub use Rattle.tz_info.proofs.RuleLaws.{rule_year}

@@ -4,9 +4,11 @@ use Rattle.std.proofs.lemmas.Int.{ints}
 use Rattle.std.proofs.lemmas.List.{get_or_default}
 use borrow.Author.Count.{below_more}
 use mir.Val.{SFits}
-use Rattle.tz_timeline.proofs.ForCallers.{filter_first, count_first, count_least, mapped_at, rises, le_true, le_false, lt_true, lt_false}
+use Rattle.tz_timeline.proofs.ForCallers.{filter_first, count_first, count_least, mapped_at, rises, le_true, le_false, le_is, lt_true, lt_false}
+use Rattle.tz_base.proofs.ForCallers.{false_unless}
+use Rattle.tz_base.specs.declared.error.Expected.TheVariants.{UnixTimeOf64Bits}
 use Rattle.tz_info.specs.Lists.{last_else}
-use Rattle.tz_info.specs.Leaps.{IsOneStep, IsNextLeap, AreLeapSeconds, corrections, thresholds, passed_count, correction_before, IsLeapTime, IsLeapTimeRefused}
+use Rattle.tz_info.specs.Leaps.{IsOneStep, IsNextLeap, AreLeapSeconds, corrections, thresholds, passed_count, correction_before, IsLeapTime, IsLeapTimeRefused, least_time, expected_of_leap_time}
 use Rattle.tz_info.specs.declared.zone.leap_second.LeapSecond.{LeapSecond}
 use Rattle.tz_info.proofs.Prefixes.{last_taken}
 
@@ -135,3 +137,7 @@ before_later es k d valid h =
           let g = ap (λ (e : LeapSecond). e.unix_leap_time) (get_or_default es j f d (omega arith)) in
           omega (arith, ints);
     }) (λ _. omega (arith, ints)))
+
+-- a leap time of 64 bits but the least lacks a Unix time only if that leaves 64 bits
+pub above_least : (x : ℤ) → least_time ≤ℤ x → ¬ (x ≡ least_time) → expected_of_leap_time x ≡ UnixTimeOf64Bits
+above_least x low other = rw (false_unless (int_le x least_time) (λ t. let at_most = le_is x least_time t in other (omega (arith, ints)))) refl

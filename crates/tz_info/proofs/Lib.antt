@@ -14,6 +14,7 @@ pub mod LeapOrder
 pub mod TableSearch
 pub mod PassedTransitions
 pub mod Validity
+pub mod ListFaults
 pub mod ZoneLaws
 pub mod NamedTypes
 pub mod TextLaws
@@ -36,6 +37,7 @@ pub mod SeasonAnswers
 pub mod WindowLaws
 pub mod GapLaws
 pub mod AroundLaws
+pub mod AroundEquality
 pub mod ZoneChanges
 pub mod LeaplessChanges
 pub mod PosixZoneLaws
@@ -54,4 +56,5 @@ pub mod WallTimes
 pub mod Equalities
 pub mod SecondTypes
 pub mod ChangeLists
+pub mod ChangeLaws
 pub mod ForCallers

@@ -1,11 +1,12 @@
 -- Values by places.
 use Rattle.std.proofs.Common.{◌≡◌, ℕ, zero, suc, ◌<◌, List, Result, Ok, Err, refl, sym, arith, inl, inr, Bool, true, false}
 use Rattle.std.proofs.lemmas.Bool.{and_parts, and_right, cases_lt}
+use Rattle.tz_base.specs.declared.error.Error.{Error}
 use Rattle.tz_info.specs.Steps.Below.{all_below}
 use Rattle.tz_info.specs.Steps.ContentReading.{values_below}
 
--- the first refusal is that of all
-pub first_refusal : {X : Type 0} (n i : ℕ) (read : ℕ → Result X ℕ) (xs : List X) (e : ℕ) → i < n → values_below i read ≡ Ok xs → read i ≡ Err e → values_below n read ≡ Err e
+-- the first error is that of all
+pub first_refusal : {X : Type 0} (n i : ℕ) (read : ℕ → Result X Error) (xs : List X) (e : Error) → i < n → values_below i read ≡ Ok xs → read i ≡ Err e → values_below n read ≡ Err e
 first_refusal zero i read xs e l p q = absurd (omega arith)
 first_refusal {X = X} (suc n) i read xs e l p q = elim (cases_lt i n) as (λ _. values_below (suc n) read ≡ Err e) [
   | inl h ↦ rw (first_refusal n i read xs e h p q) refl

@@ -14,7 +14,7 @@ use Rattle.tz_base.proofs.ForCallers.{Decided, like, made, done, value_once, fau
 use Rattle.tz_info.proofs.FooterLaws.{spelled_law}
 use Rattle.tz_info.proofs.TrimLaws.{trim_is, trim_again, trims_both}
 
-zone_in : List ℕ → Result Zone ℕ
+zone_in : List ℕ → Result Zone Error
 zone_in [] = Ok (plain_zone (pos 0))
 zone_in (b ∷ bs) = rule_in false (trimmed (b ∷ bs)) >>= λ rule. Ok (posix_zone rule)
 
@@ -34,13 +34,13 @@ posix_law (b ∷ bs) = like (made posix_zone (spelled_law false (trimmed (b ∷ 
 pub one_zone : (text : List ℕ) (y z : Zone) → IsPosixZone text y → IsPosixZone text z → y ≡ z
 one_zone text = value_once (posix_law text)
 
-pub one_posix_fault : (text : List ℕ) (m n : ℕ) → IsPosixFault text m → IsPosixFault text n → m ≡ n
+pub one_posix_fault : (text : List ℕ) (d e : Error) → IsPosixFault text d → IsPosixFault text e → d ≡ e
 one_posix_fault text = fault_once (posix_law text)
 
-pub fault_or_zone : (text : List ℕ) (n : ℕ) (z : Zone) → IsPosixFault text n → IsPosixZone text z → ⊥
-fault_or_zone text n z fault zone = apart (posix_law text) z n zone fault
+pub fault_or_zone : (text : List ℕ) (e : Error) (z : Zone) → IsPosixFault text e → IsPosixZone text z → ⊥
+fault_or_zone text e z fault zone = apart (posix_law text) z e zone fault
 
-pub posix_low : (text : List ℕ) (n : ℕ) → IsPosixFault text n → n ≤ 16
+pub posix_low : (text : List ℕ) (e : Error) → IsPosixFault text e → number_of e ≤ 16
 posix_low text = fault_low (posix_law text)
 
 -- ---- what a reader answers
@@ -51,8 +51,8 @@ not_empty (c ∷ cs) b h e k = cc
 pub zone_of_text : (text trimmed : List ℕ) (rule : TransitionRule) (b : Bool) → b ≡ (length text == 0) → b ≡ false → IsTrimAscii text trimmed → IsTzText false trimmed rule → IsPosixZone text (posix_zone rule)
 zone_of_text text trimmed rule b e some trims spells = inr (record { some = not_empty text b e some; trimmed = trimmed; rule = rule; trims = trims_both text trimmed trims; spells = spells; zone = refl })
 
-pub fault_of_text : (text trimmed : List ℕ) (n : ℕ) (b : Bool) → b ≡ (length text == 0) → b ≡ false → IsTrimAscii text trimmed → IsTextFault false trimmed n → IsPosixFault text n
-fault_of_text text trimmed n b e some trims fault = record { some = not_empty text b e some; trimmed = trimmed; trims = trims_both text trimmed trims; fault = fault }
+pub fault_of_text : (text trimmed : List ℕ) (e : Error) (b : Bool) → b ≡ (length text == 0) → b ≡ false → IsTrimAscii text trimmed → IsTextFault false trimmed e → IsPosixFault text e
+fault_of_text text trimmed e b is some trims fault = record { some = not_empty text b is some; trimmed = trimmed; trims = trims_both text trimmed trims; fault = fault }
 
 -- a zone that is the text's, the only one, unless memory ran out
 pub zone_found : (text : List ℕ) (z : Zone) (r : Result Zone Error) → IsPosixZone text z → MatchResult r (λ y. y ≡ z) (λ e. number_of e ≡ 17) → IfOk r (λ y. IsPosixZone text y)
@@ -68,8 +68,8 @@ pub zone_memory : (text : List ℕ) (z : Zone) (r : Result Zone Error) → IsPos
 zone_memory text z (Ok y) is = tt
 zone_memory text z (Err x) is = λ m. (z, is)
 
-pub refused_memory : (text : List ℕ) (n : ℕ) → IsPosixFault text n → n ≡ 17 → (z : Zone) × IsPosixZone text z
-refused_memory text n fault m = let low = posix_low text n fault in absurd (omega arith)
+pub refused_memory : (text : List ℕ) (e : Error) → IsPosixFault text e → number_of e ≡ 17 → (z : Zone) × IsPosixZone text z
+refused_memory text e fault m = let low = posix_low text e fault in absurd (omega arith)
 
 pub is_empty : (text : List ℕ) (b : Bool) → b ≡ (length text == 0) → b ≡ true → text ≡ []
 is_empty [] b h e = refl

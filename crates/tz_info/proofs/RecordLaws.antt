@@ -2,28 +2,29 @@
 use Rattle.std.proofs.Common.{◌≡◌, ℕ, zero, suc, ◌+◌, ◌*◌, ◌<◌, List, [], ◌∷◌, ◌++◌, append_assoc, length, take, drop, Result, Ok, Err, refl, sym, ap, ◌∙◌, subst, arith, inl, inr, ◌⊎◌}
 use Rattle.std.proofs.lemmas.List.{length-append, nil_from_length, length-take, length-drop, drop-drop, take-append-drop}
 use Rattle.tz_base.specs.Fronts.{◌>>=◌}
+use Rattle.tz_base.specs.declared.error.Error.{Error}
 use Rattle.tz_info.specs.FileContents.{AreRecords, HasRecordFault}
 use Rattle.tz_info.specs.Steps.ContentReading.{record_at, values_below}
 use Rattle.tz_base.proofs.ForCallers.{Decided, like, bind, made, done}
 use Rattle.tz_base.proofs.ForCallers.{exact_cut}
 
 -- ---- values at places, from the first one on
-front_step : {X : Type 0} (r : Result X ℕ) (s : Result (List X) ℕ) (t : Result X ℕ) → ((r >>= λ x. s >>= λ xs. Ok (x ∷ xs)) >>= λ xs. t >>= λ y. Ok (xs ++ y ∷ [])) ≡ (r >>= λ x. (s >>= λ xs. t >>= λ y. Ok (xs ++ y ∷ [])) >>= λ xs. Ok (x ∷ xs))
+front_step : {X : Type 0} (r : Result X Error) (s : Result (List X) Error) (t : Result X Error) → ((r >>= λ x. s >>= λ xs. Ok (x ∷ xs)) >>= λ xs. t >>= λ y. Ok (xs ++ y ∷ [])) ≡ (r >>= λ x. (s >>= λ xs. t >>= λ y. Ok (xs ++ y ∷ [])) >>= λ xs. Ok (x ∷ xs))
 front_step (Err e) s t = refl
 front_step (Ok x) (Err e) t = refl
 front_step (Ok x) (Ok xs) (Err e) = refl
 front_step (Ok x) (Ok xs) (Ok y) = refl
 
-values_front : {X : Type 0} (n : ℕ) (read : ℕ → Result X ℕ) → values_below (suc n) read ≡ (read 0 >>= λ x. values_below n (λ k. read (suc k)) >>= λ xs. Ok (x ∷ xs))
+values_front : {X : Type 0} (n : ℕ) (read : ℕ → Result X Error) → values_below (suc n) read ≡ (read 0 >>= λ x. values_below n (λ k. read (suc k)) >>= λ xs. Ok (x ∷ xs))
 values_front zero read = refl
 values_front (suc n) read = ap (λ v. v >>= λ xs. read (suc n) >>= λ y. Ok (xs ++ y ∷ [])) (values_front n read) ∙ front_step (read 0) (values_below n (λ k. read (suc k))) (read (suc n))
 
-values_same : {X : Type 0} (n : ℕ) (read other : ℕ → Result X ℕ) → ((k : ℕ) → read k ≡ other k) → values_below n read ≡ values_below n other
+values_same : {X : Type 0} (n : ℕ) (read other : ℕ → Result X Error) → ((k : ℕ) → read k ≡ other k) → values_below n read ≡ values_below n other
 values_same zero read other h = refl
 values_same (suc n) read other h = rw (values_same n read other h, h n) refl
 
 -- the first value, and then those of another reading
-pub first_and_more : {X : Type 0} {P : X → Type 0} {F : ℕ → Type 0} {Q : List X → Type 0} {G : ℕ → Type 0} (n : ℕ) (read other : ℕ → Result X ℕ) (first : Result X ℕ) → read 0 ≡ first → ((k : ℕ) → read (suc k) ≡ other k) → Decided X first P F → Decided (List X) (values_below n other) Q G
+pub first_and_more : {X : Type 0} {P : X → Type 0} {F : Error → Type 0} {Q : List X → Type 0} {G : Error → Type 0} (n : ℕ) (read other : ℕ → Result X Error) (first : Result X Error) → read 0 ≡ first → ((k : ℕ) → read (suc k) ≡ other k) → Decided X first P F → Decided (List X) (values_below n other) Q G
     → Decided (List X) (values_below (suc n) read) (λ ys. (x : X) × P x × ((xs : List X) × Q xs × (x ∷ xs ≡ ys))) (λ m. F m ⊎ ((x : X) × P x × G m))
 first_and_more n read other first is next d more = rw (values_front n read, is, values_same n (λ k. read (suc k)) other next) (bind d (λ x _. made (λ xs. x ∷ xs) more))
 
@@ -50,7 +51,7 @@ first_of : {X : Type 0} (n size : ℕ) (Spells : List ℕ → X → Type 0) (par
 first_of n size Spells part [] some l h = let e : suc n * size ≡ size + n * size = omega arith in absurd (omega (arith, ap length h))
 first_of n size Spells part (x ∷ xs) some l h = let cut = exact_cut size part h.0 h.1 h.2 h.3 in (x, rw cut.0 h.4, (xs, rw cut.1 h.5, refl))
 
-first_fault : {X : Type 0} (size : ℕ) (Spells : List ℕ → X → Type 0) (F : List ℕ → ℕ → Type 0) (part : List ℕ) (m : ℕ) (f : HasRecordFault size Spells F part m) (earlier : List X) → AreRecords size Spells f.before earlier → F (take size part) m ⊎ ((x : X) × Spells (take size part) x × HasRecordFault size Spells F (drop size part) m)
+first_fault : {X : Type 0} (size : ℕ) (Spells : List ℕ → X → Type 0) (F : List ℕ → Error → Type 0) (part : List ℕ) (m : Error) (f : HasRecordFault size Spells F part m) (earlier : List X) → AreRecords size Spells f.before earlier → F (take size part) m ⊎ ((x : X) × Spells (take size part) x × HasRecordFault size Spells F (drop size part) m)
 first_fault size Spells F part m f [] none =
     let cut = exact_cut size part f.faulty f.after (f.whole ∙ ap (λ b. b ++ (f.faulty ++ f.after)) none) f.size_is in inl (rw cut.0 f.fault)
 first_fault size Spells F part m f (x ∷ xs) h =
@@ -59,7 +60,7 @@ first_fault size Spells F part m f (x ∷ xs) h =
     inr (x, rw cut.0 h.4, record { before = h.1; faulty = f.faulty; after = f.after; whole = cut.1; earlier = xs; spelled = h.5; size_is = f.size_is; fault = f.fault })
 
 -- each record is read by that law
-pub records : {X : Type 0} {read : List ℕ → Result X ℕ} {Spells : List ℕ → X → Type 0} {F : List ℕ → ℕ → Type 0} (n size : ℕ) (part : List ℕ) → 0 < size → length part ≡ n * size → ((bytes : List ℕ) → length bytes ≡ size → Decided X (read bytes) (Spells bytes) (F bytes)) → Decided (List X) (values_below n (λ k. read (record_at size part k))) (AreRecords size Spells part) (HasRecordFault size Spells F part)
+pub records : {X : Type 0} {read : List ℕ → Result X Error} {Spells : List ℕ → X → Type 0} {F : List ℕ → Error → Type 0} (n size : ℕ) (part : List ℕ) → 0 < size → length part ≡ n * size → ((bytes : List ℕ) → length bytes ≡ size → Decided X (read bytes) (Spells bytes) (F bytes)) → Decided (List X) (values_below n (λ k. read (record_at size part k))) (AreRecords size Spells part) (HasRecordFault size Spells F part)
 records {Spells = Spells} zero size part some l law = like (done [])
     (λ xs h. subst (AreRecords size Spells part) h (nil_from_length part (omega arith)))
     (λ xs h. none_of_none size Spells part xs some (omega arith) h)

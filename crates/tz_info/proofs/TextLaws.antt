@@ -26,14 +26,14 @@ text_law extended bytes = said (lawful (text extended) bytes)
     (λ p h. subst (Spells (text extended) bytes p.0) (sym h.1) h.0)
 
 -- a text with a fault spells no rule, and has no other fault
-pub refused_or_spelled : (extended : Bool) (bytes : List ℕ) (n : ℕ) (r : TransitionRule) → IsTextFault extended bytes n → IsTzText extended bytes r → ⊥
-refused_or_spelled extended bytes n r fault spelled = apart (lawful (text extended) bytes) (r, []) n spelled fault
+pub refused_or_spelled : (extended : Bool) (bytes : List ℕ) (e : Error) (r : TransitionRule) → IsTextFault extended bytes e → IsTzText extended bytes r → ⊥
+refused_or_spelled extended bytes e r fault spelled = apart (lawful (text extended) bytes) (r, []) e spelled fault
 
-pub one_fault : (extended : Bool) (bytes : List ℕ) (m n : ℕ) → IsTextFault extended bytes m → IsTextFault extended bytes n → m ≡ n
+pub one_fault : (extended : Bool) (bytes : List ℕ) (d e : Error) → IsTextFault extended bytes d → IsTextFault extended bytes e → d ≡ e
 one_fault extended bytes = fault_once (lawful (text extended) bytes)
 
--- its number is not that of running out of memory
-pub text_low : (extended : Bool) (bytes : List ℕ) (n : ℕ) → IsTextFault extended bytes n → n ≤ 16
+-- it is not running out of memory
+pub text_low : (extended : Bool) (bytes : List ℕ) (e : Error) → IsTextFault extended bytes e → number_of e ≤ 16
 text_low extended bytes = fault_low (lawful (text extended) bytes)
 
 -- no bytes spell two rules
@@ -49,6 +49,6 @@ pub only_by : (extended : Bool) (bytes rest : List ℕ) (r : Result TransitionRu
 only_by extended bytes rest (Ok y) g rule h = one_rule extended bytes y rule (found_by extended bytes rest (Ok y) g) h
 only_by extended bytes rest (Err e) g rule h = refused_or_spelled extended bytes _ rule ((text_law extended bytes).fails _ g) h
 
-pub fault_by : (extended : Bool) (bytes rest : List ℕ) (r : Result TransitionRule Error) → Gives (λ rule. (rule, rest)) r (read (text extended) bytes) → IfErr r (λ e. IsTextFault extended bytes (number_of e))
+pub fault_by : (extended : Bool) (bytes rest : List ℕ) (r : Result TransitionRule Error) → Gives (λ rule. (rule, rest)) r (read (text extended) bytes) → IfErr r (λ e. IsTextFault extended bytes e)
 fault_by extended bytes rest (Ok y) g = tt
-fault_by extended bytes rest (Err e) g = (text_law extended bytes).fails (number_of e) g
+fault_by extended bytes rest (Err e) g = (text_law extended bytes).fails e g

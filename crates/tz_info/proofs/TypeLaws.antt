@@ -1,24 +1,24 @@
--- Local time types: what is read is spelled, what is spelled is read, and where it is refused its fault stands.
-use Rattle.std.proofs.Common.{◌≡◌, ℕ, ℤ, pos, suc, ◌+◌, ◌*◌, ◌<◌, ◌<ℤ◌, ◌≤ℤ◌, List, [], ◌∷◌, ◌++◌, length, drop, take, Bool, true, false, cond, int_lt, ◌==◌, ◌&&◌, arith, refl, sym, ap, ◌∙◌, subst, Result, Ok, Err, Option, Some, None, ◌⊎◌, inl, inr, MatchResult}
+-- Local time types: what is read is spelled, what is spelled is read, and an error is that of the fault.
+use Rattle.std.proofs.Common.{◌≡◌, ℕ, ℤ, pos, suc, ◌+◌, ◌*◌, ◌<◌, ◌<ℤ◌, ◌≤ℤ◌, List, [], ◌∷◌, ◌++◌, length, drop, take, Bool, true, false, cond, int_lt, nat_lt, ◌==◌, ◌&&◌, arith, refl, sym, ap, ◌∙◌, subst, Result, Ok, Err, Option, Some, None, ◌⊎◌, inl, inr, MatchResult}
 use Rattle.std.proofs.lemmas.Bool.{and_parts}
 use Rattle.std.proofs.lemmas.Bool.Decides.{nat_tests, Decides-and, Decides-eqb, Decides-ltb}
 use Rattle.std.proofs.lemmas.Int.{ints}
 use Rattle.std.proofs.lemmas.List.{take-append-drop, length-take, length-append}
 use Rattle.std.proofs.Math.Seq.{take-append_seam}
 use Rattle.std.specs.List.{position_from}
-use Rattle.tz_base.specs.Errors.{number_of}
-use Rattle.tz_base.specs.LocalTypes.{LocalType, IsUtOffset}
+use Rattle.tz_base.specs.LocalTypes.{LocalType, IsUtOffset, expected_of_type}
 use Rattle.tz_base.specs.Names.{IsNameOrNone}
 use Rattle.tz_base.specs.Fronts.{Gives}
 use Rattle.tz_base.specs.declared.error.Error.{Error}
-use Rattle.tz_base.specs.declared.error.Error.TheVariants.{OutOfMemory}
-use Rattle.tz_info.specs.FileContents.{HasNoZero, StandsAt, designation_of, IsMark, offset_in, mark_in, place_in, least_offset, SpellsType, SpellTypes, TypeFault, Other_mark, No_text, Other_type, HasTypeFault}
+use Rattle.tz_base.specs.declared.error.Error.TheVariants.{InvalidTzFile, LocalTimeType, OutOfMemory}
+use Rattle.tz_base.specs.declared.error.Expected.TheVariants.{ZeroOrOneAsIsDst, NameWithinDesignations, ZeroByteAfterName}
+use Rattle.tz_info.specs.FileContents.{HasNoZero, StandsAt, designation_of, IsMark, offset_in, mark_in, place_in, least_offset, SpellsType, SpellTypes, expected_of_place, TypeFault, Other_mark, No_text, Other_type, HasTypeFault}
 use Rattle.tz_info.specs.Steps.ContentReading.{record_at, values_below, is_name_or_none, type_of, mark_of, front_of, text_before_zero, designation_at, type_of_record, with_next_type, type_in, is_zero}
 use Rattle.tz_info.proofs.NamedTypes.{name_from, name_to}
-use Rattle.tz_base.proofs.ForCallers.{bind_err, drop_front}
+use Rattle.tz_base.proofs.ForCallers.{bind_err, drop_front, false_unless}
 use Rattle.tz_info.proofs.ListLaws.{first_refusal}
 use Rattle.tz_info.proofs.RecordLaws.{records}
-use Rattle.tz_base.proofs.ForCallers.{Decided, like, bind, choice, done, refused, guard, by_number}
+use Rattle.tz_base.proofs.ForCallers.{Decided, like, bind, choice, done, refused, guard, by_error}
 
 -- ---- the next 0 byte
 zero_takes : (text : List ℕ) (i n : ℕ) → position_from is_zero i text ≡ Some n → (m : ℕ) × (n ≡ i + m) × (after : List ℕ) × (text ≡ take m text ++ (0 ∷ after)) × HasNoZero (take m text)
@@ -35,8 +35,8 @@ zero_again (b ∷ bs) after i h = let f : (b == 0) ≡ false = let g = h.0 in gr
     rw f (zero_again bs after (i + 1) h.1 ∙ ap (λ n. Some n) (omega arith))
 
 -- ---- the text at a place
-front_law : (text : List ℕ) (o : Option ℕ) → Decided (List ℕ) (front_of text o) (λ x. (n : ℕ) × (o ≡ Some n) × (take n text ≡ x)) (λ e. (o ≡ None) × (e ≡ 5))
-front_law text None = like (refused 5 (omega arith)) (λ x h. absurd h) (λ x h. let e = h.1 in cc) (λ e h. (refl, h)) (λ e h. h.1)
+front_law : (text : List ℕ) (o : Option ℕ) → Decided (List ℕ) (front_of text o) (λ x. (n : ℕ) × (o ≡ Some n) × (take n text ≡ x)) (λ e. (o ≡ None) × (e ≡ InvalidTzFile ZeroByteAfterName))
+front_law text None = like (refused (InvalidTzFile ZeroByteAfterName) (omega arith)) (λ x h. absurd h) (λ x h. let e = h.1 in cc) (λ e h. (refl, h)) (λ e h. h.1)
 front_law text (Some n) = like (done (take n text)) (λ x h. (n, refl, h)) (λ x h. let same : n ≡ h.0 = let e = h.1 in cc in rw same h.2) (λ e h. absurd h) (λ e h. let f = h.0 in cc)
 
 abbrev Place : List ℕ → ℕ → Option ℕ
@@ -62,12 +62,19 @@ text_again names i x s =
     let behind = length-append x (0 ∷ s.after) in
     (omega (arith, s.at, inside, behind), rw after (zero_again x s.after 0 s.ends ∙ ap (λ n. Some n) (omega arith)), rw after (take-append_seam x (0 ∷ s.after)))
 
-text_law : (names : List ℕ) (i : ℕ) → Decided (List ℕ) (designation_at names i) (StandsAt names i) (λ n. ((text : List ℕ) → ¬ (StandsAt names i text)) × (n ≡ 5))
+-- what is expected of the place, whether it lies within the names or not
+place_inside : (names : List ℕ) (i : ℕ) → i < length names → expected_of_place names i ≡ ZeroByteAfterName
+place_inside names i inside = rw ((Decides-ltb i (length names)).1 inside) refl
+
+place_outside : (names : List ℕ) (i : ℕ) → ¬ (i < length names) → expected_of_place names i ≡ NameWithinDesignations
+place_outside names i outside = rw (false_unless (nat_lt i (length names)) (λ t. outside ((Decides-ltb i (length names)).0 t))) refl
+
+text_law : (names : List ℕ) (i : ℕ) → Decided (List ℕ) (designation_at names i) (StandsAt names i) (λ e. ((text : List ℕ) → ¬ (StandsAt names i text)) × (e ≡ InvalidTzFile (expected_of_place names i)))
 unfolding designation_at text_before_zero
-text_law names i = by_number 5 (choice (Decides-ltb i (length names)) (front_law (drop i names) (Place names i)) (refused 5 (omega arith)))
+text_law names i = by_error (InvalidTzFile (expected_of_place names i)) (choice (Decides-ltb i (length names)) (front_law (drop i names) (Place names i)) (refused (InvalidTzFile NameWithinDesignations) (omega arith)))
     (λ x h. elim h [ inl k ↦ text_takes names i k.1.0 x k.0 k.1.1 k.1.2 | inr k ↦ absurd k.1 ])
     (λ x s. let t = text_again names i x s in inl (t.0, (length x, t.1, t.2)))
-    (λ n h. elim h [ inl k ↦ k.1.1 | inr k ↦ k.1 ])
+    (λ e h. elim h [ inl k ↦ k.1.1 ∙ ap InvalidTzFile (sym (place_inside names i k.0)) | inr k ↦ k.1 ∙ ap InvalidTzFile (sym (place_outside names i k.0)) ])
 
 -- ---- a type
 named_is : (o : Option (List ℕ)) → is_name_or_none o ≡ true → IsNameOrNone o
@@ -82,8 +89,8 @@ mark_again : (b : ℕ) (d : Bool) → IsMark b d → ((b ≡ 0) × (false ≡ d)
 mark_again b true h = inr (λ z. absurd (omega arith), (h, refl))
 mark_again b false h = inl (h, refl)
 
-mark_law : (b : ℕ) → Decided Bool (mark_of b) (IsMark b) (λ n. ((d : Bool) → ¬ (IsMark b d)) × (n ≡ 5))
-mark_law b = by_number 5 (choice (Decides-eqb b 0) (done false) (guard true 5 (omega arith) (Decides-eqb b 1)))
+mark_law : (b : ℕ) → Decided Bool (mark_of b) (IsMark b) (λ e. ((d : Bool) → ¬ (IsMark b d)) × (e ≡ InvalidTzFile ZeroOrOneAsIsDst))
+mark_law b = by_error (InvalidTzFile ZeroOrOneAsIsDst) (choice (Decides-eqb b 0) (done false) (guard true (InvalidTzFile ZeroOrOneAsIsDst) (omega arith) (Decides-eqb b 1)))
     (λ d h. elim h [ inl k ↦ subst (IsMark b) k.1 k.0 | inr k ↦ subst (IsMark b) k.1.1 k.1.0 ])
     (mark_again b)
     (λ n h. elim h [ inl k ↦ absurd k.1 | inr k ↦ k.1.1 ])
@@ -94,29 +101,31 @@ above z h = grind (arith, ints)
 above_again : (z : ℤ) → least_offset <ℤ z → int_lt least_offset z ≡ true
 above_again z h = grind (arith, ints)
 
-abbrev ReadFault : List ℕ → List ℕ → ℕ → Type 0
-ReadFault names bytes n =
-    (((d : Bool) → ¬ (IsMark (mark_in bytes) d)) × (n ≡ 5))
-    ⊎ ((dst : Bool) × IsMark (mark_in bytes) dst × ((((text : List ℕ) → ¬ (StandsAt names (place_in bytes) text)) × (n ≡ 5))
-    ⊎ ((text : List ℕ) × StandsAt names (place_in bytes) text × (¬ ((least_offset <ℤ offset_in bytes) × IsNameOrNone (designation_of text)) × (n ≡ 3)))))
+abbrev ReadFault : List ℕ → List ℕ → Error → Type 0
+ReadFault names bytes e =
+    (((d : Bool) → ¬ (IsMark (mark_in bytes) d)) × (e ≡ InvalidTzFile ZeroOrOneAsIsDst))
+    ⊎ ((dst : Bool) × IsMark (mark_in bytes) dst
+    × ((((text : List ℕ) → ¬ (StandsAt names (place_in bytes) text)) × (e ≡ InvalidTzFile (expected_of_place names (place_in bytes))))
+    ⊎ ((text : List ℕ) × StandsAt names (place_in bytes) text
+    × (¬ ((least_offset <ℤ offset_in bytes) × IsNameOrNone (designation_of text)) × (e ≡ LocalTimeType (expected_of_type (offset_in bytes) (designation_of text)))))))
 
-fault_is : (names bytes : List ℕ) (n : ℕ) → ReadFault names bytes n → TypeFault names bytes n
-fault_is names bytes n (inl m) = subst (λ k. TypeFault names bytes k) (sym m.1) (Other_mark m.0)
-fault_is names bytes n (inr m) = elim m.2 [
+fault_is : (names bytes : List ℕ) (e : Error) → ReadFault names bytes e → TypeFault names bytes e
+fault_is names bytes e (inl m) = subst (λ k. TypeFault names bytes k) (sym m.1) (Other_mark m.0)
+fault_is names bytes e (inr m) = elim m.2 [
   | inl t ↦ subst (λ k. TypeFault names bytes k) (sym t.1) (No_text m.0 m.1 t.0)
   | inr t ↦ subst (λ k. TypeFault names bytes k) (sym t.2.1) (Other_type m.0 t.0 m.1 t.1 t.2.0)
 ]
 
-fault_again : (names bytes : List ℕ) (n : ℕ) → TypeFault names bytes n → ReadFault names bytes n
-fault_again names bytes n (Other_mark none) = inl (none, refl)
-fault_again names bytes n (No_text dst mark none) = inr (dst, mark, inl (none, refl))
-fault_again names bytes n (Other_type dst text mark stands bad) = inr (dst, mark, inr (text, stands, (bad, refl)))
+fault_again : (names bytes : List ℕ) (e : Error) → TypeFault names bytes e → ReadFault names bytes e
+fault_again names bytes e (Other_mark none) = inl (none, refl)
+fault_again names bytes e (No_text dst mark none) = inr (dst, mark, inl (none, refl))
+fault_again names bytes e (Other_type dst text mark stands bad) = inr (dst, mark, inr (text, stands, (bad, refl)))
 
 type_law : (names bytes : List ℕ) → Decided LocalType (type_of_record names bytes) (SpellsType names bytes) (TypeFault names bytes)
 unfolding type_of_record type_of
 type_law names bytes = like
     (bind (mark_law (mark_in bytes)) (λ dst _. bind (text_law names (place_in bytes)) (λ text _.
-    guard (record { offset = offset_in bytes; dst = dst; name = designation_of text }) 3 (omega arith)
+    guard (record { offset = offset_in bytes; dst = dst; name = designation_of text }) (LocalTimeType (expected_of_type (offset_in bytes) (designation_of text))) (omega arith)
     (Decides-and (int_lt least_offset (offset_in bytes)) (is_name_or_none (designation_of text)) (above (offset_in bytes), above_again (offset_in bytes)) (named_is (designation_of text), named_again (designation_of text))))))
     (λ t h.
     let x = h.2 in
@@ -129,20 +138,20 @@ type_law names bytes = like
 pub types_law : (n : ℕ) (names part : List ℕ) → length part ≡ n * 6 → Decided (List LocalType) (values_below n (type_in names part)) (SpellTypes names part) (HasTypeFault names part)
 types_law n names part l = records n 6 part (omega arith) l (λ bytes _. type_law names bytes)
 
--- a refusal at the next record is that of all
+-- an error at the next record is that of all
 pub next_refused : (n k : ℕ) (names part : List ℕ) (types : List LocalType) (e : Error) → k < n → values_below k (type_in names part) ≡ Ok types
-    → (e ≡ OutOfMemory) ⊎ (with_next_type names (record_at 6 part k) types ≡ Err (number_of e)) → (e ≡ OutOfMemory) ⊎ (values_below n (type_in names part) ≡ Err (number_of e))
+    → (e ≡ OutOfMemory) ⊎ (with_next_type names (record_at 6 part k) types ≡ Err e) → (e ≡ OutOfMemory) ⊎ (values_below n (type_in names part) ≡ Err e)
 next_refused n k names part types e b h r = elim r [
   | inl m ↦ inl m
-  | inr m ↦ elim (bind_err (type_of_record names (record_at 6 part k)) _ (number_of e) m) [
-    | inl q ↦ inr (first_refusal n k (type_in names part) types (number_of e) b h q)
+  | inr m ↦ elim (bind_err (type_of_record names (record_at 6 part k)) _ e m) [
+    | inl q ↦ inr (first_refusal n k (type_in names part) types e b h q)
     | inr q ↦ let a = q.2 in cc
   ]
 ]
 
 -- ---- what the constructor answers
 pub type_answers : (offset : ℤ) (dst : Bool) (text : List ℕ) (name : Option (List ℕ)) (r : Result LocalType Error) → least_offset ≤ℤ offset → offset ≤ℤ pos 2_147_483_647 → name ≡ designation_of text
-    → MatchResult r (λ t. IsUtOffset offset × IsNameOrNone name × (t ≡ record { offset = offset; dst = dst; name = name })) (λ e. (number_of e ≡ 3) × ¬ (IsUtOffset offset × IsNameOrNone name))
+    → MatchResult r (λ t. IsUtOffset offset × IsNameOrNone name × (t ≡ record { offset = offset; dst = dst; name = name })) (λ e. (e ≡ LocalTimeType (expected_of_type offset name)) × ¬ (IsUtOffset offset × IsNameOrNone name))
     → Gives (λ t. t) r (type_of offset dst text)
 unfolding type_of
 type_answers offset dst text name (Ok t) low high same h =
@@ -150,10 +159,10 @@ type_answers offset dst text name (Ok t) low high same h =
     let a = above_again offset (grind (arith, ints)) in let b = named_again (designation_of text) n in
     rw (a, b) (ap (λ y. Ok y) (sym (h.2 ∙ ap (λ (m : Option (List ℕ)). record { offset = offset; dst = dst; name = m }) same)))
 type_answers offset dst text name (Err e) low high same h =
-    elim (int_lt least_offset offset && is_name_or_none (designation_of text)) as (λ b. (int_lt least_offset offset && is_name_or_none (designation_of text)) ≡ b → type_of offset dst text ≡ Err (number_of e)) [
+    elim (int_lt least_offset offset && is_name_or_none (designation_of text)) as (λ b. (int_lt least_offset offset && is_name_or_none (designation_of text)) ≡ b → type_of offset dst text ≡ Err e) [
       | true ↦ λ k.
           let p = and_parts (int_lt least_offset offset) (is_name_or_none (designation_of text)) k in
           let a = above offset p.0 in
           absurd (h.1 ((grind (arith, ints), high), subst IsNameOrNone (sym same) (named_is (designation_of text) p.1)))
-      | false ↦ λ k. rw (k, h.0) refl
+      | false ↦ λ k. rw k (ap (λ y. Err y) (sym (h.0 ∙ ap (λ (m : Option (List ℕ)). LocalTimeType (expected_of_type offset m)) same)))
     ] refl

@@ -4,8 +4,9 @@ use Rattle.std.specs.Result.{IsErrAnd}
 use Rattle.tz_base.specs.Errors.{number_of, IsOutOfMemory}
 use Rattle.tz_base.specs.LocalTypes.{LocalType}
 use Rattle.tz_base.specs.declared.error.Error.{Error}
-use Rattle.tz_base.specs.declared.error.Error.TheVariants.{OutOfMemory}
-use Rattle.tz_info.specs.Zones.{Zone, IsValid}
+use Rattle.tz_base.specs.declared.error.Error.TheVariants.{InvalidTzFile, OutOfMemory}
+use Rattle.tz_base.specs.declared.error.Expected.TheVariants.{StandardTimeWhereTimeIsUt}
+use Rattle.tz_info.specs.Zones.{Zone, IsValid, ListFault}
 use Rattle.tz_info.specs.FileContents.{HasTypeFault, SpellTypes, SpellTransitions, IndicatorsAgree}
 use Rattle.tz_info.specs.declared.zone.transition.Transition.{Transition}
 use Rattle.tz_info.specs.declared.zone.leap_second.LeapSecond.{LeapSecond}
@@ -24,10 +25,11 @@ use Rattle.tz_info.proofs.FilePieceLaws.{pieces_law, has_lengths}
 use Rattle.tz_info.proofs.FooterLaws.{footer_law as footer_bytes_law}
 use Rattle.tz_base.proofs.ForCallers.{ok_same}
 use Rattle.tz_info.proofs.TypeLaws.{types_law}
+use Rattle.tz_info.proofs.ListFaults.{list_fault_once, list_fault_or_valid, has_list_fault, list_fault_low}
 
 -- ---- what whole pieces say
-abbrev RuleFault : Bool → Option (List ℕ) → ℕ → Type 0
-RuleFault extended footer n = (bytes : List ℕ) × (footer ≡ Some bytes) × FooterFault extended bytes n
+abbrev RuleFault : Bool → Option (List ℕ) → Error → Type 0
+RuleFault extended footer e = (bytes : List ℕ) × (footer ≡ Some bytes) × FooterFault extended bytes e
 
 footer_law : (extended : Bool) (footer : Option (List ℕ)) → Decided (Option TransitionRule) (footer_of extended footer) (HasRule extended footer) (RuleFault extended footer)
 footer_law extended None = like (done None) (λ rule h. sym h) (λ rule h. sym h) (λ n f. absurd f) (λ n f. let e = f.1 in cc)
@@ -39,15 +41,15 @@ footer_law extended (Some bytes) = like (footer_bytes_law extended bytes) (λ ru
 abbrev zone_in : List LocalType → Option TransitionRule → List Transition → List LeapSecond → Zone
 zone_in types rule transitions leaps = record { transitions = transitions; types = types; leaps = leaps; rule = rule }
 
-abbrev ReadFault : FilePieces → ℕ → Type 0
+abbrev ReadFault : FilePieces → Error → Type 0
 ReadFault p n =
     HasTypeFault p.parts.designations p.parts.types n
-    ⊎ ((types : List LocalType) × SpellTypes p.parts.designations p.parts.types types × ((¬ (IndicatorsAgree p.parts.standard_wall p.parts.ut_local) × (n ≡ 5))
+    ⊎ ((types : List LocalType) × SpellTypes p.parts.designations p.parts.types types × ((¬ (IndicatorsAgree p.parts.standard_wall p.parts.ut_local) × (n ≡ InvalidTzFile StandardTimeWhereTimeIsUt))
     ⊎ ((u : Unit {0}) × IndicatorsAgree p.parts.standard_wall p.parts.ut_local × (RuleFault p.extended p.footer n
     ⊎ ((rule : Option TransitionRule) × HasRule p.extended p.footer rule × (⊥
     ⊎ ((ts : List Transition) × SpellTransitions p.time_size p.parts.times p.parts.type_indexes ts × ⊥)))))))
 
-content_fault : (p : FilePieces) (n : ℕ) → ReadFault p n → ContentFault p n
+content_fault : (p : FilePieces) (n : Error) → ReadFault p n → ContentFault p n
 content_fault p n (inl f) = In_type n f
 content_fault p n (inr t) = elim t.2 [
   | inl f ↦ subst (λ k. ContentFault p k) (sym f.1) (In_indicators t.0 t.1 f.0)
@@ -57,7 +59,7 @@ content_fault p n (inr t) = elim t.2 [
   ]
 ]
 
-fault_again : (p : FilePieces) (n : ℕ) → ContentFault p n → ReadFault p n
+fault_again : (p : FilePieces) (n : Error) → ContentFault p n → ReadFault p n
 fault_again p n (In_type m f) = inl f
 fault_again p n (In_indicators types spelled bad) = inr (types, spelled, inl (bad, refl))
 fault_again p n (In_footer types footer m spelled agree is f) = inr (types, spelled, inr (tt, agree, inl (footer, is, f)))
@@ -79,7 +81,7 @@ say_law p l = like
 
 -- ---- the whole
 -- a fault of a piece, or of what whole pieces say
-abbrev SpellingFault : List ℕ → ℕ → Type 0
+abbrev SpellingFault : List ℕ → Error → Type 0
 SpellingFault bytes n = PieceFault bytes n ⊎ ((p : FilePieces) × HasPieces bytes p × ContentFault p n)
 
 file_law : (bytes : List ℕ) → Decided Zone (file_at bytes) (IsTzFile bytes) (SpellingFault bytes)
@@ -91,45 +93,45 @@ pub one_zone : (bytes : List ℕ) (y z : Zone) → IsTzFile bytes y → IsTzFile
 one_zone bytes = value_once (file_law bytes)
 
 -- ---- the first fault
-spelling_fault : (bytes : List ℕ) (n : ℕ) → SpellingFault bytes n → IsFileFault bytes n
+spelling_fault : (bytes : List ℕ) (n : Error) → SpellingFault bytes n → IsFileFault bytes n
 spelling_fault bytes n (inl f) = In_piece n f
 spelling_fault bytes n (inr f) = In_contents n f.0 f.1 f.2
 
-abbrev ValidityFault : List ℕ → ℕ → Type 0
-ValidityFault bytes n = (z : Zone) × IsTzFile bytes z × ¬ (IsValid z) × (n ≡ 12)
+abbrev ValidityFault : List ℕ → Error → Type 0
+ValidityFault bytes e = (z : Zone) × IsTzFile bytes z × ListFault z e
 
-kind_of : (bytes : List ℕ) (n : ℕ) → IsFileFault bytes n → SpellingFault bytes n ⊎ ValidityFault bytes n
-kind_of bytes n (In_piece m f) = inl (inl f)
-kind_of bytes n (In_contents m p whole f) = inl (inr (p, whole, f))
-kind_of bytes n (Not_valid z file bad) = inr (z, file, bad, refl)
+kind_of : (bytes : List ℕ) (e : Error) → IsFileFault bytes e → SpellingFault bytes e ⊎ ValidityFault bytes e
+kind_of bytes e (In_piece m f) = inl (inl f)
+kind_of bytes e (In_contents m p whole f) = inl (inr (p, whole, f))
+kind_of bytes e (Not_valid z m file bad) = inr (z, file, bad)
 
-pub fault_once : (bytes : List ℕ) (m n : ℕ) → IsFileFault bytes m → IsFileFault bytes n → m ≡ n
-fault_once bytes m n f g = elim (kind_of bytes m f) [
-  | inl a ↦ elim (kind_of bytes n g) [
-    | inl b ↦ one_fault (file_law bytes) m n a b
-    | inr b ↦ absurd (apart (file_law bytes) b.0 m b.1 a)
+pub fault_once : (bytes : List ℕ) (d e : Error) → IsFileFault bytes d → IsFileFault bytes e → d ≡ e
+fault_once bytes d e f g = elim (kind_of bytes d f) [
+  | inl a ↦ elim (kind_of bytes e g) [
+    | inl b ↦ one_fault (file_law bytes) d e a b
+    | inr b ↦ absurd (apart (file_law bytes) b.0 d b.1 a)
   ]
-  | inr a ↦ elim (kind_of bytes n g) [
-    | inl b ↦ absurd (apart (file_law bytes) a.0 n a.1 b)
-    | inr b ↦ a.3 ∙ sym b.3
+  | inr a ↦ elim (kind_of bytes e g) [
+    | inl b ↦ absurd (apart (file_law bytes) a.0 e a.1 b)
+    | inr b ↦ list_fault_once b.0 d e (subst (λ y. ListFault y d) (one_zone bytes a.0 b.0 a.1 b.1) a.2) b.2
   ]
 ]
 
-pub fault_or_zone : (bytes : List ℕ) (n : ℕ) (z : Zone) → IsFileFault bytes n → IsTzFile bytes z → IsValid z → ⊥
-fault_or_zone bytes n z f file valid = elim (kind_of bytes n f) [
-  | inl a ↦ apart (file_law bytes) z n file a
-  | inr a ↦ a.2 (subst (λ y. IsValid y) (one_zone bytes z a.0 file a.1) valid)
+pub fault_or_zone : (bytes : List ℕ) (e : Error) (z : Zone) → IsFileFault bytes e → IsTzFile bytes z → IsValid z → ⊥
+fault_or_zone bytes e z f file valid = elim (kind_of bytes e f) [
+  | inl a ↦ apart (file_law bytes) z e file a
+  | inr a ↦ list_fault_or_valid a.0 e a.2 (subst (λ y. IsValid y) (one_zone bytes z a.0 file a.1) valid)
 ]
 
-pub has_fault : (bytes : List ℕ) → ((z : Zone) → IsTzFile bytes z → ¬ (IsValid z)) → (n : ℕ) × IsFileFault bytes n
+pub has_fault : (bytes : List ℕ) → ((z : Zone) → IsTzFile bytes z → ¬ (IsValid z)) → (e : Error) × IsFileFault bytes e
 has_fault bytes none = elim (either (file_law bytes)) [
-  | inl z ↦ (12, Not_valid z.0 z.1 (none z.0 z.1))
+  | inl z ↦ let f = has_list_fault z.0 (none z.0 z.1) in (f.0, Not_valid z.0 f.0 z.1 f.1)
   | inr f ↦ (f.0, spelling_fault bytes f.0 f.1)
 ]
 
--- its number is not that of running out of memory
-pub fault_low : (bytes : List ℕ) (n : ℕ) → IsFileFault bytes n → n ≤ 16
-fault_low bytes n f = elim (kind_of bytes n f) [ inl a ↦ low (file_law bytes) n a | inr a ↦ omega (arith, a.3) ]
+-- it is not running out of memory
+pub fault_low : (bytes : List ℕ) (e : Error) → IsFileFault bytes e → number_of e ≤ 16
+fault_low bytes e f = elim (kind_of bytes e f) [ inl a ↦ low (file_law bytes) e a | inr a ↦ list_fault_low a.0 e a.2 ]
 
 -- ---- what the reader of the lists answers
 pub reads : (bytes : List ℕ) (p : FilePieces) (r : Result Lists Error) → pieces_at bytes ≡ Ok p → GivesInMemory zone_of r (lists_in p) → Reads r bytes
@@ -137,7 +139,7 @@ unfolding file_at
 reads bytes p (Ok lists) h g = rw h g
 reads bytes p (Err e) h g = elim g [ inl memory ↦ inr (memory, p, h) | inr refused ↦ inl (rw h refused) ]
 
-pub no_pieces : (bytes : List ℕ) (e : Error) → pieces_at bytes ≡ Err (number_of e) → Reads (Err e) bytes
+pub no_pieces : (bytes : List ℕ) (e : Error) → pieces_at bytes ≡ Err e → Reads (Err e) bytes
 unfolding file_at
 no_pieces bytes e h = inl (rw h refl)
 
@@ -149,26 +151,26 @@ pub only : (bytes : List ℕ) (r : Result Lists Error) → Reads r bytes → (z 
 only bytes (Ok lists) s z file = ok_same _ _ _ s ((file_law bytes).again z file)
 only bytes (Err e) s z file = elim s [ inl refused ↦ let read = (file_law bytes).again z file in cc | inr memory ↦ memory.0 ]
 
-pub fault : (bytes : List ℕ) (r : Result Lists Error) → Reads r bytes → IfErr r (λ e. IsZoneFault bytes (number_of e))
+pub fault : (bytes : List ℕ) (r : Result Lists Error) → Reads r bytes → IfErr r (λ e. IsZoneFault bytes e)
 fault bytes (Ok lists) s = tt
 fault bytes (Err e) s = elim s [
-  | inl refused ↦ In_file (number_of e) (spelling_fault bytes (number_of e) ((file_law bytes).fails (number_of e) refused))
+  | inl refused ↦ In_file e (spelling_fault bytes e ((file_law bytes).fails e refused))
   | inr memory ↦ rw memory.0 (No_memory memory.1 ((pieces_law bytes).takes memory.1 memory.2))
 ]
 
 pub memory : (bytes : List ℕ) (r : Result Lists Error) → Reads r bytes → IfErr r (λ e. e ≡ OutOfMemory → (p : FilePieces) × HasPieces bytes p)
 memory bytes (Ok lists) s = tt
 memory bytes (Err e) s = λ is. elim s [
-  | inl refused ↦ let low = (file_law bytes).low (number_of e) refused in let n : number_of e ≡ 17 = ap number_of is in absurd (omega arith)
+  | inl refused ↦ let low = (file_law bytes).low e refused in let n : number_of e ≡ 17 = ap number_of is in absurd (omega arith)
   | inr whole ↦ (whole.1, (pieces_law bytes).takes whole.1 whole.2)
 ]
 
 -- ---- what a reader of zones answers
 -- of a file with a fault that one is named, unless memory ran out
-pub named : (bytes : List ℕ) (r : Result TimeZone Error) → IfOk r (λ z. IsTzFile bytes z × IsValid z) → IfErr r (λ e. IsZoneFault bytes (number_of e))
-    → (n : ℕ) → IsFileFault bytes n → IsErrAnd r (λ e. (number_of e ≡ n) ⊎ IsOutOfMemory e)
-named bytes (Ok z) ok err n f = absurd (fault_or_zone bytes n z f ok.0 ok.1)
-named bytes (Err e) ok err n f = by bytes (number_of e) n err f where
-  by : (bytes : List ℕ) (m n : ℕ) → IsZoneFault bytes m → IsFileFault bytes n → (m ≡ n) ⊎ (m ≡ 17)
-  by bytes m n (In_file k g) f = inl (fault_once bytes k n g f)
-  by bytes m n (No_memory p whole) f = inr refl
+pub named : (bytes : List ℕ) (r : Result TimeZone Error) → IfOk r (λ z. IsTzFile bytes z × IsValid z) → IfErr r (λ e. IsZoneFault bytes e)
+    → (fault : Error) → IsFileFault bytes fault → IsErrAnd r (λ e. (e ≡ fault) ⊎ IsOutOfMemory e)
+named bytes (Ok z) ok err fault f = absurd (fault_or_zone bytes fault z f ok.0 ok.1)
+named bytes (Err e) ok err fault f = by bytes e fault err f where
+  by : (bytes : List ℕ) (d e : Error) → IsZoneFault bytes d → IsFileFault bytes e → (d ≡ e) ⊎ IsOutOfMemory d
+  by bytes d e (In_file k g) f = inl (fault_once bytes k e g f)
+  by bytes d e (No_memory p whole) f = inr refl

@@ -1,7 +1,11 @@
 -- What the parts of a data block say (RFC 8536 section 3.2).
-use Rattle.std.specs.Prelude.{ℕ, ℤ, pos, neg_ℤ, ◌<ℤ◌, ◌≡◌, ◌≢◌, ◌==◌, ◌+◌, Bool, true, false, if◌then◌else◌, List, [], ◌∷◌, ◌++◌, length, take, slice_index, map, Option, Some, None}
+use Rattle.std.specs.Prelude.{ℕ, ℤ, pos, neg_ℤ, ◌<ℤ◌, ◌≡◌, ◌≢◌, ◌==◌, ◌+◌, nat_lt, Bool, true, false, if◌then◌else◌, List, [], ◌∷◌, ◌++◌, length, take, slice_index, map, Option, Some, None}
 use Rattle.std.specs.Int.{Width, w32, w64, from_be_bytes, cast_signed}
-use Rattle.tz_base.specs.LocalTypes.{LocalType}
+use Rattle.tz_base.specs.LocalTypes.{LocalType, expected_of_type}
+use Rattle.tz_base.specs.declared.error.Error.{Error}
+use Rattle.tz_base.specs.declared.error.Error.TheVariants.{InvalidTzFile, LocalTimeType}
+use Rattle.tz_base.specs.declared.error.Expected.{Expected}
+use Rattle.tz_base.specs.declared.error.Expected.TheVariants.{ZeroOrOneAsIsDst, NameWithinDesignations, ZeroByteAfterName}
 use Rattle.tz_base.specs.Names.{IsNameOrNone}
 use Rattle.tz_info.specs.declared.zone.transition.Transition.{Transition}
 use Rattle.tz_info.specs.declared.zone.leap_second.LeapSecond.{LeapSecond}
@@ -20,7 +24,7 @@ AreRecords size Spells bytes [] = bytes ≡ []
 AreRecords size Spells bytes (x ∷ xs) = (first : List ℕ) × (rest : List ℕ) × (bytes ≡ first ++ rest) × (length first ≡ size) × Spells first x × AreRecords size Spells rest xs
 
 -- the first record that spells nothing has that fault
-pub record HasRecordFault {X : Type 0} (size : ℕ) (Spells : List ℕ → X → Type 0) (Fault : List ℕ → ℕ → Type 0) (bytes : List ℕ) (n : ℕ) : Type 0 where
+pub record HasRecordFault {X : Type 0} (size : ℕ) (Spells : List ℕ → X → Type 0) (Fault : List ℕ → Error → Type 0) (bytes : List ℕ) (e : Error) : Type 0 where
   pub before : List ℕ
   pub faulty : List ℕ
   pub after : List ℕ
@@ -28,7 +32,7 @@ pub record HasRecordFault {X : Type 0} (size : ℕ) (Spells : List ℕ → X →
   pub earlier : List X
   pub spelled : AreRecords size Spells before earlier
   pub size_is : length faulty ≡ size
-  pub fault : Fault faulty n
+  pub fault : Fault faulty e
 
 -- ---- transitions and leap seconds
 -- the times in one part, in the other a byte for each type index
@@ -96,16 +100,22 @@ pub record SpellsType (designations bytes : List ℕ) (t : LocalType) : Type 0 w
 abbrev pub SpellTypes : List ℕ → List ℕ → List LocalType → Type 0
 SpellTypes designations bytes types = AreRecords 6 (SpellsType designations) bytes types
 
--- what is wrong with a type's record, and the number of the refusal: its mark; else the place of its text, from which on no 0
--- byte comes; else its offset or its name
-pub data TypeFault (designations bytes : List ℕ) : ℕ → Type 0 where
-  Other_mark : ((dst : Bool) → ¬ (IsMark (mark_in bytes) dst)) → TypeFault designations bytes 5
-  No_text : (dst : Bool) → IsMark (mark_in bytes) dst → ((text : List ℕ) → ¬ (StandsAt designations (place_in bytes) text)) → TypeFault designations bytes 5
-  Other_type : (dst : Bool) (text : List ℕ) → IsMark (mark_in bytes) dst → StandsAt designations (place_in bytes) text
-      → ¬ ((least_offset <ℤ offset_in bytes) × IsNameOrNone (designation_of text)) → TypeFault designations bytes 3
+-- what is expected of a place at which no text begins: a place within the designations, or else a 0 byte from it on
+abbrev pub expected_of_place : List ℕ → ℕ → Expected
+expected_of_place designations place = if nat_lt place (length designations) then ZeroByteAfterName else NameWithinDesignations
 
-abbrev pub HasTypeFault : List ℕ → List ℕ → ℕ → Type 0
-HasTypeFault designations bytes n = HasRecordFault 6 (SpellsType designations) (TypeFault designations) bytes n
+-- what is wrong with a type's record: its mark; else the place of its text, from which on no 0 byte comes; else its offset or
+-- its name
+pub data TypeFault (designations bytes : List ℕ) : Error → Type 0 where
+  Other_mark : ((dst : Bool) → ¬ (IsMark (mark_in bytes) dst)) → TypeFault designations bytes (InvalidTzFile ZeroOrOneAsIsDst)
+  No_text : (dst : Bool) → IsMark (mark_in bytes) dst → ((text : List ℕ) → ¬ (StandsAt designations (place_in bytes) text))
+      → TypeFault designations bytes (InvalidTzFile (expected_of_place designations (place_in bytes)))
+  Other_type : (dst : Bool) (text : List ℕ) → IsMark (mark_in bytes) dst → StandsAt designations (place_in bytes) text
+      → ¬ ((least_offset <ℤ offset_in bytes) × IsNameOrNone (designation_of text))
+      → TypeFault designations bytes (LocalTimeType (expected_of_type (offset_in bytes) (designation_of text)))
+
+abbrev pub HasTypeFault : List ℕ → List ℕ → Error → Type 0
+HasTypeFault designations bytes e = HasRecordFault 6 (SpellsType designations) (TypeFault designations) bytes e
 
 -- ---- indicators
 -- where a type's time is given in UT, it is given in standard time; an indicator left out is 0

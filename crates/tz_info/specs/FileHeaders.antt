@@ -4,6 +4,7 @@ use Rattle.std.specs.Bool.{nat_eq}
 use Rattle.std.specs.Cmp.Lexicographic.{pointwise}
 use Rattle.tz_base.specs.Grammar.{Grammar, Nothing, Marked, Exact, Refused, Check, be_u32, ◌>>=◌, ◌>>◌}
 use Rattle.tz_base.specs.Refusals as refused
+use Rattle.tz_base.specs.declared.error.Expected.TheVariants as expected
 use Rattle.tz_info.specs.declared.file.header.Place.{Place}
 use Rattle.tz_info.specs.declared.file.header.Place.TheVariants.{First, Second}
 use Rattle.tz_info.specs.declared.file.header.Version.{Version}
@@ -25,16 +26,16 @@ HasOtherMagic bytes = (4 ≤ length bytes) × (take 4 bytes ≢ magic)
 unfoldable pub tzif : Grammar (Unit {0})
 tzif = do
   four ← Exact 4
-  Check (is_magic four) refused.InvalidTzFile tt
+  Check (is_magic four) (refused.InvalidTzFile expected.TZifAtFrontOfHeader) tt
 
 -- a second header is there from version 2 on
 unfoldable pub version_1 : Place → Grammar Version
 version_1 First = Nothing One
-version_1 Second = Refused refused.InvalidTzFile
+version_1 Second = Refused (refused.InvalidTzFile expected.Version2Or3InSecondHeader)
 
 -- a 0 byte is version 1, the digits 2 and 3 are versions 2 and 3, and another byte is none
 unfoldable pub version : Place → Grammar Version
-version place = Marked 0 (version_1 place) (Marked 50 (Nothing Two) (Marked 51 (Nothing Three) (do Exact 1; Refused refused.UnsupportedTzFile)))
+version place = Marked 0 (version_1 place) (Marked 50 (Nothing Two) (Marked 51 (Nothing Three) (do Exact 1; Refused (refused.UnsupportedTzFile expected.Version1To3))))
 
 unfoldable pub six_counts : Grammar Counts
 six_counts = do
@@ -67,4 +68,4 @@ header place = do
   version ← version place
   Exact 15
   counts ← six_counts
-  Check (counts_agree counts) refused.InvalidTzFile (record { version = version; counts = counts })
+  Check (counts_agree counts) (refused.InvalidTzFile expected.CountsThatAgree) (record { version = version; counts = counts })

@@ -2,6 +2,8 @@
 use Rattle.std.specs.Prelude.{ℕ, Bool, true, false, List, [], Option, Some, None}
 use Rattle.tz_base.specs.Grammar.{Grammar, Nothing, End, Rest, Spells, HasFault, ◌>>=◌, ◌>>◌}
 use Rattle.tz_base.specs.Refusals as refused
+use Rattle.tz_base.specs.declared.error.Error.{Error}
+use Rattle.tz_base.specs.declared.error.Expected.TheVariants as expected
 use Rattle.tz_info.specs.FileHeaders.{header}
 use Rattle.tz_info.specs.FileBlocks.{Parts, block}
 use Rattle.tz_info.specs.declared.file.header.Place.TheVariants.{First, Second}
@@ -29,7 +31,7 @@ first_pieces c p = record { extended = false; time_size = 4; counts = c; parts =
 
 unfoldable pub first_version : Counts → Parts → Grammar FilePieces
 first_version c p = do
-  End refused.InvalidTzFile
+  End (refused.InvalidTzFile expected.NothingAfterBlockOfVersion1)
   Nothing (first_pieces c p)
 
 -- from version 2 on a second header follows, its block with times of eight bytes, and the footer, which is all the rest
@@ -58,6 +60,6 @@ file = do
 abbrev pub HasPieces : List ℕ → FilePieces → Type 0
 HasPieces bytes pieces = Spells file bytes pieces []
 
--- which piece is not there or has a fault
-abbrev pub PieceFault : List ℕ → ℕ → Type 0
-PieceFault bytes n = HasFault file bytes n
+-- the first piece that is missing or has a fault
+abbrev pub PieceFault : List ℕ → Error → Type 0
+PieceFault bytes e = HasFault file bytes e

@@ -1,6 +1,9 @@
 -- The footer of a TZif file (RFC 8536 section 3.3).
 use Rattle.std.specs.Prelude.{ℕ, ◌≡◌, ◌≢◌, Bool, List, [], ◌∷◌, ◌++◌, slice_index, Option, Some, None}
 use Rattle.std.specs.Str.{IsUtf8}
+use Rattle.tz_base.specs.declared.error.Error.{Error}
+use Rattle.tz_base.specs.declared.error.Error.TheVariants.{InvalidTzFile, Utf8}
+use Rattle.tz_base.specs.declared.error.Expected.TheVariants.{FooterInUtf8, FooterBetweenNewlines, TzTextInFooter}
 use Rattle.tz_info.specs.FileContents.{HasNoZero}
 use Rattle.tz_info.specs.Trims.{IsTrimmed}
 use Rattle.tz_info.specs.TzGrammar.{IsTzText, IsTextFault}
@@ -31,10 +34,10 @@ pub record IsFooter (extended : Bool) (bytes : List ℕ) (rule : Option Transiti
   pub no_zero : HasNoZero text
   pub says : SaysRule extended text rule
 
--- what is wrong with a footer, and the number of the refusal
-pub data FooterFault (extended : Bool) (bytes : List ℕ) : ℕ → Type 0 where
-  Not_utf8 : ¬ (IsUtf8 bytes) → FooterFault extended bytes 16
-  No_newlines : IsUtf8 bytes → ¬ (IsBetweenNewlines bytes) → FooterFault extended bytes 5
-  Colon : (text : List ℕ) → HasText bytes text → slice_index text 0 ≡ 58 → FooterFault extended bytes 5
-  Zero : (text : List ℕ) → HasText bytes text → ¬ (HasNoZero text) → FooterFault extended bytes 5
-  In_text : (text : List ℕ) (n : ℕ) → HasText bytes text → slice_index text 0 ≢ 58 → HasNoZero text → text ≢ [] → IsTextFault extended text n → FooterFault extended bytes n
+-- what is wrong with a footer
+pub data FooterFault (extended : Bool) (bytes : List ℕ) : Error → Type 0 where
+  Not_utf8 : ¬ (IsUtf8 bytes) → FooterFault extended bytes (Utf8 FooterInUtf8)
+  No_newlines : IsUtf8 bytes → ¬ (IsBetweenNewlines bytes) → FooterFault extended bytes (InvalidTzFile FooterBetweenNewlines)
+  Colon : (text : List ℕ) → HasText bytes text → slice_index text 0 ≡ 58 → FooterFault extended bytes (InvalidTzFile TzTextInFooter)
+  Zero : (text : List ℕ) → HasText bytes text → ¬ (HasNoZero text) → FooterFault extended bytes (InvalidTzFile TzTextInFooter)
+  In_text : (text : List ℕ) (e : Error) → HasText bytes text → slice_index text 0 ≢ 58 → HasNoZero text → text ≢ [] → IsTextFault extended text e → FooterFault extended bytes e

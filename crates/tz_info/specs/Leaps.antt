@@ -1,8 +1,10 @@
 -- Leap seconds (RFC 8536 section 3.2, "leap-second records"). A Unix time counts seconds from 1970-01-01 00:00:00 UTC
 -- without the leap seconds, a leap time counts them too; an entry's correction is the difference from its leap time on.
-use Rattle.std.specs.Prelude.{ℕ, ◌≡◌, ◌+◌, ◌<◌, List, [], ◌∷◌, length, slice_index_or, take, map, filter, count_by, ℤ, pos, neg_ℤ, ◌+ℤ◌, ◌-ℤ◌, ◌≤ℤ◌, int_le, int_lt, ◌⊎◌, FitsSigned}
+use Rattle.std.specs.Prelude.{ℕ, ◌≡◌, ◌+◌, ◌<◌, List, [], ◌∷◌, length, slice_index_or, take, map, filter, count_by, ℤ, pos, neg_ℤ, ◌+ℤ◌, ◌-ℤ◌, ◌≤ℤ◌, int_le, int_lt, if◌then◌else◌, ◌⊎◌, FitsSigned}
 use Rattle.std.specs.Int.{w64}
 use Rattle.std.specs.List.{AllAdjacentBelow}
+use Rattle.tz_base.specs.declared.error.Expected.{Expected}
+use Rattle.tz_base.specs.declared.error.Expected.TheVariants.{LeapTimeAboveI64Min, UnixTimeOf64Bits}
 use Rattle.tz_info.specs.Lists.{last_else}
 use Rattle.tz_info.specs.declared.zone.leap_second.LeapSecond.{LeapSecond}
 
@@ -74,6 +76,10 @@ pub record IsUnixTime (entries : List LeapSecond) (x u : ℤ) : Type 0 where
 -- the leap time x has no Unix time of 64 bits
 abbrev pub IsUnixTimeRefused : List LeapSecond → ℤ → Type 0
 IsUnixTimeRefused entries x = (x ≡ least_time) ⊎ (¬ (FitsSigned w64 (x -ℤ correction_before entries x)))
+
+-- what is expected of a leap time that has none: another one than the least, or else a Unix time of 64 bits
+abbrev pub expected_of_leap_time : ℤ → Expected
+expected_of_leap_time x = if int_le x least_time then LeapTimeAboveI64Min else UnixTimeOf64Bits
 
 -- the corrections are 1, 2, 3 and so on
 abbrev pub AreCounted : List LeapSecond → Type 0

@@ -1,6 +1,7 @@
 -- The zones of TZ texts (POSIX.1 section 8.3, "TZ").
 use Rattle.std.specs.Prelude.{ℕ, pos, ◌≡◌, ◌≢◌, ◌⊎◌, false, List, [], ◌∷◌, Some}
 use Rattle.tz_base.specs.LocalTypes.{LocalType}
+use Rattle.tz_base.specs.declared.error.Error.{Error}
 use Rattle.tz_info.specs.Zones.{Zone, plain_zone, zone_of_rule}
 use Rattle.tz_info.specs.Trims.{IsTrimmed}
 use Rattle.tz_info.specs.TzGrammar.{IsTzText, IsTextFault}
@@ -30,9 +31,9 @@ pub record IsZoneOfText (text : List ℕ) (z : Zone) : Type 0 where
 abbrev pub IsPosixZone : List ℕ → Zone → Type 0
 IsPosixZone text z = ((text ≡ []) × (z ≡ plain_zone (pos 0))) ⊎ IsZoneOfText text z
 
--- what is wrong with a text, by the number of the refusal
-pub record IsPosixFault (text : List ℕ) (n : ℕ) : Type 0 where
+-- what is wrong with a text
+pub record IsPosixFault (text : List ℕ) (e : Error) : Type 0 where
   pub some : text ≢ []
   pub trimmed : List ℕ
   pub trims : IsTrimmed text trimmed
-  pub fault : IsTextFault false trimmed n
+  pub fault : IsTextFault false trimmed e

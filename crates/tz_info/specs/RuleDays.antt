@@ -1,8 +1,10 @@
 -- The days on which a rule changes the clock (POSIX.1 section 8.3, the forms `Jn`, `n` and `Mm.w.d` of a date).
-use Rattle.std.specs.Prelude.{ℕ, ◌≡◌, ◌≤◌, ◌<◌, ◌+◌, ◌-◌, ◌*◌, false, ℤ, pos, ◌+ℤ◌, ◌⊎◌}
+use Rattle.std.specs.Prelude.{ℕ, ◌≡◌, ◌≤◌, ◌<◌, ◌+◌, ◌-◌, ◌*◌, nat_le, ◌&&◌, if◌then◌else◌, false, ℤ, pos, ◌+ℤ◌, ◌⊎◌}
 use Rattle.naive_base.specs.Month.{days_in_month, days_of_months}
 use Rattle.naive_base.specs.Date.{IsDate, day_number}
 use Rattle.naive_base.specs.Weekday.{weekday_of}
+use Rattle.tz_base.specs.declared.error.Expected.{Expected}
+use Rattle.tz_base.specs.declared.error.Expected.TheVariants.{DayFromJ1ToJ365, DayFrom0To365, MonthFrom1To12, WeekFrom1To5, WeekdayFrom0To6}
 use Rattle.tz_info.specs.declared.rule.day.DayForm.{DayForm}
 use Rattle.tz_info.specs.declared.rule.day.DayForm.TheVariants.{Julian1, Julian0, MonthWeekday}
 
@@ -11,6 +13,13 @@ abbrev pub IsRuleDay : DayForm → Type 0
 IsRuleDay (Julian1 n) = (1 ≤ n) × (n ≤ 365)
 IsRuleDay (Julian0 n) = n ≤ 365
 IsRuleDay (MonthWeekday month week weekday) = (1 ≤ month) × (month ≤ 12) × (1 ≤ week) × (week ≤ 5) × (weekday ≤ 6)
+
+-- what is expected of numbers that no date may have: of a month, a week and a weekday the first that is out of its limits
+abbrev pub expected_of_day : DayForm → Expected
+expected_of_day (Julian1 n) = DayFromJ1ToJ365
+expected_of_day (Julian0 n) = DayFrom0To365
+expected_of_day (MonthWeekday month week weekday) =
+    if nat_le 1 month && nat_le month 12 then (if nat_le 1 week && nat_le week 5 then WeekdayFrom0To6 else WeekFrom1To5) else MonthFrom1To12
 
 -- the date is the n-th of the 365 dates of a common year
 abbrev pub IsCommonDate : ℕ → ℕ → ℕ → Type 0

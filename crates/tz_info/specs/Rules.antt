@@ -1,7 +1,9 @@
 -- Rules with two types (POSIX.1 section 8.3: `std`, `dst`, and when each begins).
-use Rattle.std.specs.Prelude.{ℤ, pos, neg_ℤ, ◌<ℤ◌}
+use Rattle.std.specs.Prelude.{ℤ, pos, neg_ℤ, ◌<ℤ◌, int_lt, Bool, ◌&&◌, if◌then◌else◌}
 use Rattle.offset_core.specs.Offset.{IsWithinDay}
 use Rattle.tz_base.specs.LocalTypes.{LocalType}
+use Rattle.tz_base.specs.declared.error.Expected.{Expected}
+use Rattle.tz_base.specs.declared.error.Expected.TheVariants.{OffsetsWithinDay, StartWithinWeek, EndWithinWeek}
 use Rattle.tz_info.specs.RuleDays.{IsRuleDay}
 use Rattle.tz_info.specs.declared.rule.day.DayTime.{DayTime}
 
@@ -22,6 +24,17 @@ pub record IsAlternate (a : Alternate) : Type 0 where
   pub dst_offset : IsWithinDay a.dst.offset
   pub start_time : IsWithinWeek a.start.time
   pub end_time : IsWithinWeek a.end.time
+
+-- strictly between the number and its negative
+abbrev pub is_between : ℤ → ℤ → Bool
+is_between limit n = int_lt (neg_ℤ limit) n && int_lt n limit
+
+-- what is expected of numbers that are not in these limits: of the offsets, the start and the end the first that is not
+abbrev pub expected_of_alternate : Alternate → Expected
+expected_of_alternate a =
+    if is_between (pos 86_400) a.std.offset && is_between (pos 86_400) a.dst.offset
+    then (if is_between (pos 604_800) a.start.time then EndWithinWeek else StartWithinWeek)
+    else OffsetsWithinDay
 
 -- the numbers of an alternate rule, those of its days too, are in their limits
 pub record IsAlternateRule (a : Alternate) : Type 0 where

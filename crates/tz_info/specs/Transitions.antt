@@ -6,9 +6,13 @@ use Rattle.tz_info.specs.declared.zone.transition.Transition.{Transition}
 abbrev pub AreRising : List Transition → Type 0
 AreRising transitions = AllPairs (λ a b. a.unix_leap_time <ℤ b.unix_leap_time) transitions
 
+-- each names one of so many types
+abbrev pub NameTypes : ℕ → List Transition → Type 0
+NameTypes types transitions = All (λ t. t.type_index < types) transitions
+
 -- the transitions that a zone of so many types may have
 pub record AreTransitions (types : ℕ) (transitions : List Transition) : Type 0 where
-  pub indexes : All (λ t. t.type_index < types) transitions
+  pub indexes : NameTypes types transitions
   pub rising : AreRising transitions
 
 -- those at or before the leap time x

@@ -1,7 +1,10 @@
 -- The lists that the bytes of a TZif file spell (RFC 8536 section 3).
 use Rattle.std.specs.Prelude.{ℕ, ◌≡◌, Bool, List, Option, Some, None}
 use Rattle.tz_base.specs.LocalTypes.{LocalType}
-use Rattle.tz_info.specs.Zones.{Zone, IsValid}
+use Rattle.tz_base.specs.declared.error.Error.{Error}
+use Rattle.tz_base.specs.declared.error.Error.TheVariants.{InvalidTzFile, OutOfMemory}
+use Rattle.tz_base.specs.declared.error.Expected.TheVariants.{StandardTimeWhereTimeIsUt}
+use Rattle.tz_info.specs.Zones.{Zone, ListFault}
 use Rattle.tz_info.specs.FileContents.{SpellTransitions, SpellLeapSeconds, SpellTypes, HasTypeFault, IndicatorsAgree}
 use Rattle.tz_info.specs.Footers.{IsFooter, FooterFault}
 use Rattle.tz_info.specs.FilePieces.{FilePieces, HasPieces, PieceFault}
@@ -24,22 +27,22 @@ pub record SayZone (p : FilePieces) (z : Zone) : Type 0 where
 abbrev pub IsTzFile : List ℕ → Zone → Type 0
 IsTzFile bytes z = (p : FilePieces) × HasPieces bytes p × SayZone p z
 
--- what is wrong with what whole pieces say, and the number of the refusal: the first type's record that spells no type; else
--- the indicators of some type; else the footer
-pub data ContentFault (p : FilePieces) : ℕ → Type 0 where
-  In_type : (n : ℕ) → HasTypeFault p.parts.designations p.parts.types n → ContentFault p n
-  In_indicators : (types : List LocalType) → SpellTypes p.parts.designations p.parts.types types → ¬ (IndicatorsAgree p.parts.standard_wall p.parts.ut_local) → ContentFault p 5
-  In_footer : (types : List LocalType) (footer : List ℕ) (n : ℕ) → SpellTypes p.parts.designations p.parts.types types → IndicatorsAgree p.parts.standard_wall p.parts.ut_local
-      → p.footer ≡ Some footer → FooterFault p.extended footer n → ContentFault p n
+-- what is wrong with what whole pieces say: the first type's record that spells no type; else the indicators of some type;
+-- else the footer
+pub data ContentFault (p : FilePieces) : Error → Type 0 where
+  In_type : (e : Error) → HasTypeFault p.parts.designations p.parts.types e → ContentFault p e
+  In_indicators : (types : List LocalType) → SpellTypes p.parts.designations p.parts.types types → ¬ (IndicatorsAgree p.parts.standard_wall p.parts.ut_local)
+      → ContentFault p (InvalidTzFile StandardTimeWhereTimeIsUt)
+  In_footer : (types : List LocalType) (footer : List ℕ) (e : Error) → SpellTypes p.parts.designations p.parts.types types → IndicatorsAgree p.parts.standard_wall p.parts.ut_local
+      → p.footer ≡ Some footer → FooterFault p.extended footer e → ContentFault p e
 
--- the first fault of bytes that spell no valid zone, and its number: of a piece; else of what the pieces say; else the lists that
--- they say are not valid
-pub data IsFileFault (bytes : List ℕ) : ℕ → Type 0 where
-  In_piece : (n : ℕ) → PieceFault bytes n → IsFileFault bytes n
-  In_contents : (n : ℕ) (p : FilePieces) → HasPieces bytes p → ContentFault p n → IsFileFault bytes n
-  Not_valid : (z : Zone) → IsTzFile bytes z → ¬ (IsValid z) → IsFileFault bytes 12
+-- the first fault of bytes that spell no valid zone: of a piece; else of what the pieces say; else of the lists that they say
+pub data IsFileFault (bytes : List ℕ) : Error → Type 0 where
+  In_piece : (e : Error) → PieceFault bytes e → IsFileFault bytes e
+  In_contents : (e : Error) (p : FilePieces) → HasPieces bytes p → ContentFault p e → IsFileFault bytes e
+  Not_valid : (z : Zone) (e : Error) → IsTzFile bytes z → ListFault z e → IsFileFault bytes e
 
--- why no zone is made of bytes: by their first fault, or for want of memory, where all pieces are there
-pub data IsZoneFault (bytes : List ℕ) : ℕ → Type 0 where
-  In_file : (n : ℕ) → IsFileFault bytes n → IsZoneFault bytes n
-  No_memory : (p : FilePieces) → HasPieces bytes p → IsZoneFault bytes 17
+-- why no zone is made of bytes: their first fault, or too little memory, once all pieces are there
+pub data IsZoneFault (bytes : List ℕ) : Error → Type 0 where
+  In_file : (e : Error) → IsFileFault bytes e → IsZoneFault bytes e
+  No_memory : (p : FilePieces) → HasPieces bytes p → IsZoneFault bytes OutOfMemory

@@ -2,11 +2,14 @@
 -- section 3.3.1 where `extended` holds. Each line is a piece of the text, in the order in which it stands there.
 use Rattle.std.specs.Prelude.{ℕ, ℤ, pos, neg_ℤ, ◌+ℤ◌, ◌+◌, ◌*◌, ◌==◌, nat_le, int_le, Bool, true, false, not, ◌&&◌, ◌||◌, if◌then◌else◌, List, [], length, Some}
 use Rattle.std.specs.List.{list_all}
-use Rattle.tz_base.specs.Names.{is_name_byte}
+use Rattle.tz_base.specs.Names.{is_name_byte, expected_of_name}
 use Rattle.tz_base.specs.LocalTypes.{LocalType}
 use Rattle.tz_base.specs.Grammar.{Grammar, Nothing, Marked, Optional, Ended, End, Byte, Run, Number, Check, ◌>>=◌, ◌>>◌, Spells, HasFault}
 use Rattle.tz_base.specs.Grammar as grammar
 use Rattle.tz_base.specs.Refusals as refused
+use Rattle.tz_base.specs.declared.error.Error.{Error}
+use Rattle.tz_base.specs.declared.error.Expected.TheVariants as expected
+use Rattle.tz_info.specs.RuleDays.{expected_of_day}
 use Rattle.tz_info.specs.declared.rule.day.DayForm.{DayForm}
 use Rattle.tz_info.specs.declared.rule.day.DayForm.TheVariants.{Julian1, Julian0, MonthWeekday}
 use Rattle.tz_info.specs.declared.rule.day.DayTime.{DayTime}
@@ -95,7 +98,7 @@ is_within limit h m s = nat_le h limit && nat_le m 59 && nat_le s 59
 unfoldable pub duration : ℕ → Bool → Grammar ℤ
 duration limit negative = do
   (h, m, s) ← hours_minutes_seconds
-  Check (is_within limit h m s) refused.InvalidTzString (seconds_of negative h m s)
+  Check (is_within limit h m s) (refused.InvalidTzString expected.HoursMinutesAndSecondsWithinTheirLimits) (seconds_of negative h m s)
 
 -- an offset, in seconds east of UTC: a text counts west, and so a minus leads east; its hours go to 23 (POSIX allows 24)
 unfoldable pub offset : Grammar ℤ
@@ -136,7 +139,7 @@ is_rule_day (Julian0 n) = nat_le n 365
 is_rule_day (MonthWeekday month week weekday) = nat_le 1 month && nat_le month 12 && nat_le 1 week && nat_le week 5 && nat_le weekday 6
 
 unfoldable pub rule_day : DayForm → Grammar DayForm
-rule_day form = Check (is_rule_day form) refused.TransitionRule form
+rule_day form = Check (is_rule_day form) (refused.TransitionRule (expected_of_day form)) form
 
 -- after `M`: month, week and weekday
 unfoldable pub month_date : Grammar DayForm
@@ -183,11 +186,11 @@ days extended = do
 -- ---- the offset of daylight saving time, and the comma after it
 -- left out, it is an hour more than that of standard time, which must still be less than a day
 unfoldable pub next_hour : ℤ → Grammar ℤ
-next_hour std = Check (int_le (std +ℤ pos 3_600) (pos 86_399)) refused.InvalidTzString (std +ℤ pos 3_600)
+next_hour std = Check (int_le (std +ℤ pos 3_600) (pos 86_399)) (refused.InvalidTzString expected.OffsetOfDaylightSavingTimeWithinDay) (std +ℤ pos 3_600)
 
 -- a text that ends before the days is none that is supported
 unfoldable pub more : Grammar (Unit {0})
-more = grammar.Some refused.UnsupportedTzString
+more = grammar.Some (refused.UnsupportedTzString expected.DaysWhenDaylightSavingTimeStartsAndEnds)
 
 unfoldable pub given_offset : Grammar ℤ
 given_offset = do
@@ -210,10 +213,10 @@ named_type text dst offset = record { offset = offset; dst = dst; name = Some te
 
 -- the type of that name, if a type can have it
 unfoldable pub named : List ℕ → Bool → ℤ → Grammar LocalType
-named text dst offset = Check (is_name text) refused.LocalTimeType (named_type text dst offset)
+named text dst offset = Check (is_name text) (refused.LocalTimeType (expected_of_name text)) (named_type text dst offset)
 
 unfoldable pub end : Grammar (Unit {0})
-end = End refused.InvalidTzString
+end = End (refused.InvalidTzString expected.NothingAfterText)
 
 -- one type
 unfoldable pub fixed : List ℕ → ℤ → Grammar TransitionRule
@@ -245,6 +248,6 @@ text extended = do
 abbrev pub IsTzText : Bool → List ℕ → TransitionRule → Type 0
 IsTzText extended bytes rule = Spells (text extended) bytes rule []
 
--- what is wrong with a TZ text, by the number of the error
-abbrev pub IsTextFault : Bool → List ℕ → ℕ → Type 0
-IsTextFault extended bytes n = HasFault (text extended) bytes n
+-- what is wrong with a TZ text
+abbrev pub IsTextFault : Bool → List ℕ → Error → Type 0
+IsTextFault extended bytes e = HasFault (text extended) bytes e

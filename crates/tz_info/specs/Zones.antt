@@ -1,10 +1,13 @@
 -- Time zones (RFC 8536 section 3.2: a file's transitions, local time types and leap seconds; section 3.3: its footer's rule).
 use Rattle.std.specs.Prelude.{ℕ, ℤ, ◌≡◌, ◌<◌, ◌-◌, List, [], ◌∷◌, length, map, slice_get, Option, Some, None, IfSome}
 use Rattle.tz_base.specs.LocalTypes.{LocalType, plain_type}
+use Rattle.tz_base.specs.declared.error.Error.{Error}
+use Rattle.tz_base.specs.declared.error.Error.TheVariants.{TimeZone}
+use Rattle.tz_base.specs.declared.error.Expected.TheVariants.{AtLeastOneLocalTimeType, TypeIndexesWithinTypes, TransitionTimesThatRise, LeapSecondsInOrder, RuleThatAgreesWithLastTransition}
 use Rattle.tz_info.specs.Leaps.{AreLeapSeconds, IsLeapTime, IsLeapTimeRefused, IsUnixTime}
 use Rattle.tz_info.specs.Lists.{last_else}
 use Rattle.tz_info.specs.RuleTypes.{RuleAt, IsRuleRefused, IsRule}
-use Rattle.tz_info.specs.Transitions.{AreTransitions, passed}
+use Rattle.tz_info.specs.Transitions.{NameTypes, AreRising, AreTransitions, passed}
 use Rattle.tz_info.specs.declared.rule.transition_rule.TransitionRule.{TransitionRule}
 use Rattle.tz_info.specs.declared.zone.leap_second.LeapSecond.{LeapSecond}
 use Rattle.tz_info.specs.declared.zone.transition.Transition.{Transition}
@@ -32,12 +35,26 @@ pub record Agrees (types : List LocalType) (leaps : List LeapSecond) (rule : Tra
 abbrev pub last_transition : List Transition → Option Transition
 last_transition transitions = slice_get transitions (length transitions - 1)
 
+-- if there are a rule and a transition, the rule agrees with the last one
+abbrev pub RuleAgrees : Zone → Type 0
+RuleAgrees z = IfSome z.rule (λ rule. IfSome (last_transition z.transitions) (Agrees z.types z.leaps rule))
+
 -- lists that make a zone: there is a type, and the rule agrees with the last transition
 pub record IsValid (z : Zone) : Type 0 where
   pub some : 0 < length z.types
   pub transitions : AreTransitions (length z.types) z.transitions
   pub leaps : AreLeapSeconds z.leaps
-  pub agrees : IfSome z.rule (λ rule. IfSome (last_transition z.transitions) (Agrees z.types z.leaps rule))
+  pub agrees : RuleAgrees z
+
+-- the first fault of lists that make no zone: of types, of the types and then the times of transitions, of leap seconds, of
+-- the rule
+pub data ListFault (z : Zone) : Error → Type 0 where
+  No_type : ¬ (0 < length z.types) → ListFault z (TimeZone AtLeastOneLocalTimeType)
+  Other_index : 0 < length z.types → ¬ (NameTypes (length z.types) z.transitions) → ListFault z (TimeZone TypeIndexesWithinTypes)
+  Not_rising : 0 < length z.types → NameTypes (length z.types) z.transitions → ¬ (AreRising z.transitions) → ListFault z (TimeZone TransitionTimesThatRise)
+  Other_leaps : 0 < length z.types → AreTransitions (length z.types) z.transitions → ¬ (AreLeapSeconds z.leaps) → ListFault z (TimeZone LeapSecondsInOrder)
+  Other_rule : 0 < length z.types → AreTransitions (length z.types) z.transitions → AreLeapSeconds z.leaps → ¬ (RuleAgrees z)
+      → ListFault z (TimeZone RuleThatAgreesWithLastTransition)
 
 -- the zone of those types and that rule, without transitions and leap seconds
 abbrev pub zone_of_rule : List LocalType → Option TransitionRule → Zone

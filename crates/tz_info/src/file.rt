@@ -1,8 +1,9 @@
 //! Time zone files (TZif, RFC 8536): the zone that the bytes of a file spell.
 
-ghost use Rattle.std.specs.Prelude.{◌≡◌, ◌⊎◌, ℕ, IfOk, IfErr, MatchResult};
+ghost use Rattle.std.specs.Prelude.{◌≡◌, ◌⊎◌, IfOk, IfErr, MatchResult};
 ghost use Rattle.std.specs.Result.{IsErrAnd};
-ghost use Rattle.tz_base.specs.Errors.{number_of, IsOutOfMemory};
+ghost use Rattle.tz_base.specs.Errors.{IsOutOfMemory};
+ghost use Rattle.tz_base.specs.declared.error.Error.{Error as Fault};
 ghost use Rattle.tz_base.specs.declared.error.Error.TheVariants.{InvalidTzFile, OutOfMemory};
 ghost use Rattle.tz_base.specs.declared.error.Expected.TheVariants.{TZifAtFrontOfHeader};
 ghost use Rattle.tz_info.specs.FileHeaders.{HasOtherMagic};
@@ -55,11 +56,11 @@ impl TimeZone {
         // A file that has a valid zone gives it, unless memory runs out.
         ensures only { (z : Zone) → IsTzFile bytes.now z → IsValid z
             → MatchResult result (λ y. y ≡ z) (λ e. e ≡ OutOfMemory) }
-        // An error names the first fault of the file, or that memory ran out.
-        ensures fault { IfErr result (λ e. IsZoneFault bytes.now (number_of e)) }
+        // An error is the first fault of the file, or says that memory ran out.
+        ensures fault { IfErr result (λ e. IsZoneFault bytes.now e) }
         // A file with a fault is refused by its first one, unless memory runs out.
-        ensures first { (n : ℕ) → IsFileFault bytes.now n
-            → IsErrAnd result (λ e. (number_of e ≡ n) ⊎ IsOutOfMemory e) }
+        ensures first { (fault : Fault) → IsFileFault bytes.now fault
+            → IsErrAnd result (λ e. (e ≡ fault) ⊎ IsOutOfMemory e) }
         // Running out of memory is answered only where every piece of the file is there.
         ensures memory { IfErr result
             (λ e. e ≡ OutOfMemory → (p : FilePieces) × HasPieces bytes.now p) }

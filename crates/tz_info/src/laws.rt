@@ -1,6 +1,7 @@
 //! Theorems: each function is empty, its contract is proved; never called. Here those of rules and
 //! zones at every year and every second.
 
+pub mod changes;
 pub mod equality;
 pub mod files;
 pub mod texts;

@@ -1,5 +1,7 @@
 -- The forms in which a zone is told, and the zones of files and of TZ texts told in them.
 use Rattle.std.specs.Prelude.{◌≡◌, ℕ, ℤ, List, ◌++◌, ◌⊎◌}
+use Rattle.tz_base.specs.Errors.{IsOutOfMemory}
+use Rattle.tz_base.specs.declared.error.Error.{Error}
 use Rattle.tz_info.specs.PosixZones.{IsPosixZone, IsPosixFault}
 use Rattle.tz_info.specs.TzFiles.{IsTzFile, IsFileFault}
 use Rattle.tz_info.specs.Zones.{Zone, IsValid}
@@ -24,10 +26,10 @@ IsTextTold form tz first last text = (zone : Zone) × IsPosixZone tz zone × IsT
 abbrev pub Tells : (List ℕ → Type 0) → List ℕ → List ℕ → Type 0
 Tells is_text before after = (text : List ℕ) × is_text text × (after ≡ before ++ text)
 
--- why nothing is told of a file, by its number: memory ran out, or the first fault of the file
-abbrev pub IsFileRefused : List ℕ → ℕ → Type 0
-IsFileRefused bytes number = (number ≡ 17) ⊎ IsFileFault bytes number
+-- why nothing is written of a file: memory ran out, or the first fault of the file
+abbrev pub IsFileRefused : List ℕ → Error → Type 0
+IsFileRefused bytes e = IsOutOfMemory e ⊎ IsFileFault bytes e
 
--- why nothing is told of a TZ text
-abbrev pub IsTextRefused : List ℕ → ℕ → Type 0
-IsTextRefused tz number = (number ≡ 17) ⊎ IsPosixFault tz number
+-- why nothing is written of a TZ string
+abbrev pub IsTextRefused : List ℕ → Error → Type 0
+IsTextRefused tz e = IsOutOfMemory e ⊎ IsPosixFault tz e

@@ -1,7 +1,10 @@
 //! A file or a TZ text told in some form.
 
 ghost use Rattle.std.specs.Prelude.{◌≡◌, IfErr, OnErr, OnOk, string_bytes};
-ghost use Rattle.tz_base.specs.Errors.{number_of};
+ghost use Rattle.tz_base.specs.Errors.{IsOutOfMemory};
+ghost use Rattle.tz_info.specs.FilePieces.{FilePieces, HasPieces};
+ghost use Rattle.tz_info.specs.PosixZones.{IsPosixZone};
+ghost use Rattle.tz_info.specs.Zones.{Zone};
 ghost use Rattle.zone_dump.specs.Forms.{IsTold, IsFileTold, IsTextTold, Tells, IsFileRefused, IsTextRefused};
 
 use crate::form::{Form, told};
@@ -27,8 +30,11 @@ pub fn tell_file(
         (string_bytes out.old) (string_bytes out.new)) }
     // Nothing is written where there is an error.
     ensures kept { OnErr result (string_bytes out.new ≡ string_bytes out.old) }
-    // An error names the first fault of the file, or that memory ran out.
-    ensures fault { IfErr result (λ e. IsFileRefused bytes.now (number_of e)) }
+    // An error is the first fault of the file, or says that memory ran out.
+    ensures fault { IfErr result (λ e. IsFileRefused bytes.now e) }
+    // Running out of memory is answered only if every piece of the file is there.
+    ensures memory { IfErr result
+        (λ e. IsOutOfMemory e → (p : FilePieces) × HasPieces bytes.now p) }
 {
     match TimeZone::from_tz_data(alloc, bytes) {
         Ok(zone) => tell_zone(alloc, &zone, years, form, out),
@@ -54,8 +60,10 @@ pub fn tell_text(
         (string_bytes out.old) (string_bytes out.new)) }
     // Nothing is written where there is an error.
     ensures kept { OnErr result (string_bytes out.new ≡ string_bytes out.old) }
-    // An error names a fault of the text, or that memory ran out.
-    ensures fault { IfErr result (λ e. IsTextRefused text.now (number_of e)) }
+    // An error is the first fault of the text, or says that memory ran out.
+    ensures fault { IfErr result (λ e. IsTextRefused text.now e) }
+    // Running out of memory is answered only for a text that has a zone.
+    ensures memory { IfErr result (λ e. IsOutOfMemory e → (z : Zone) × IsPosixZone text.now z) }
 {
     match TimeZone::from_posix_tz(alloc, text) {
         Ok(zone) => tell_zone(alloc, &zone, years, form, out),
@@ -74,7 +82,7 @@ fn tell_zone(
     ensures told { OnOk result (Tells (IsTold form.entry zone.now years.first years.last)
         (string_bytes out.old) (string_bytes out.new)) }
     ensures kept { OnErr result (string_bytes out.new ≡ string_bytes out.old) }
-    ensures fault { IfErr result (λ e. number_of e ≡ 17) }
+    ensures fault { IfErr result (λ e. IsOutOfMemory e) }
 {
     let text = told(alloc, zone, years, form)?;
     out.push_str(text.as_str())?;

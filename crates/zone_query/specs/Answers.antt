@@ -8,7 +8,9 @@ use Rattle.offset_core.specs.declared.local_result.LocalResult.{LocalResult}
 use Rattle.offset_core.specs.declared.local_result.LocalResult.TheVariants as results
 use Rattle.naive_base.specs.Reading.{Reading, ahead}
 use Rattle.naive_base.specs.Text.{reading_text}
+use Rattle.tz_base.specs.Errors.{number_of, IsOutOfMemory}
 use Rattle.tz_base.specs.LocalTypes.{LocalType}
+use Rattle.tz_base.specs.declared.error.Error.{Error}
 use Rattle.tz_info.specs.PosixZones.{IsPosixZone, IsPosixFault}
 use Rattle.tz_info.specs.TzFiles.{IsTzFile, IsFileFault}
 use Rattle.tz_info.specs.WallClocks.{Shows}
@@ -59,12 +61,12 @@ zone_text zone =
 abbrev pub refusal_text : ℕ → List ℕ
 refusal_text number = codes "refused " ++ decimal number
 
--- a zone is read, which is the zone from here on; or it is refused, and the earlier zone stays: for running out of memory (17), or
--- by the fault of what was to be read, its first one, and then no zone is spelled there
-abbrev pub AnswersRead : (Zone → Type 0) → (ℕ → Type 0) → Option Zone → List ℕ → Option Zone → Type 0
+-- a zone is read, which is the zone from here on; or an error is returned by its number, and the earlier zone stays: memory ran
+-- out, or the error is the first fault of what was to be read, and then no zone is spelled there
+abbrev pub AnswersRead : (Zone → Type 0) → (Error → Type 0) → Option Zone → List ℕ → Option Zone → Type 0
 AnswersRead is_zone is_fault zone answer after =
     ((found : Zone) × is_zone found × (answer ≡ zone_text found) × (after ≡ Some found))
-    ⊎ ((number : ℕ) × ((number ≡ 17) ⊎ (is_fault number × ((found : Zone) → ¬ (is_zone found)))) × (answer ≡ refusal_text number)
+    ⊎ ((e : Error) × (IsOutOfMemory e ⊎ (is_fault e × ((found : Zone) → ¬ (is_zone found)))) × (answer ≡ refusal_text (number_of e))
     × (after ≡ zone))
 
 -- a TZ text is read

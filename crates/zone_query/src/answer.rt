@@ -5,7 +5,7 @@ ghost use Rattle.naive_base.specs.NaiveDateTime.{reading};
 ghost use Rattle.naive_base.specs.Text.{reading_text};
 ghost use Rattle.zoned_time.specs.DateTime.{zoned};
 ghost use Rattle.zoned_time.specs.Zoned.{local_of};
-ghost use Rattle.tz_base.specs.Errors.{number_of};
+ghost use Rattle.tz_base.specs.Errors.{IsOutOfMemory, number_of};
 ghost use Rattle.tz_info.specs.TzFiles.{IsTzFile, IsFileFault};
 ghost use Rattle.tz_info.specs.Zones.{IsValid};
 ghost use Rattle.zone_query.specs.Steps.HexBytes.{bytes_of};
@@ -80,8 +80,7 @@ fn take_file(
 // The zone of the file whose bytes hex digits spell.
 fn read_file(alloc: Global, digits: &[u8]) -> Result<TimeZone, Error>
     ensures found { IfOk result (λ z. IsTzFile (bytes_of digits.now) z × IsValid z) }
-    ensures fault { IfErr result (λ e.
-        (number_of e ≡ 17) ⊎ IsFileFault (bytes_of digits.now) (number_of e)) }
+    ensures fault { IfErr result (λ e. IsOutOfMemory e ⊎ IsFileFault (bytes_of digits.now) e) }
 {
     match hex::decode(alloc, digits) {
         Ok(bytes) => TimeZone::from_tz_data(alloc, bytes.as_slice()),

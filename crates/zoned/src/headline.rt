@@ -13,6 +13,7 @@ ghost use Rattle.naive_base.specs.NaiveDateTime.{reading};
 ghost use Rattle.naive_base.specs.Range.{IsWide};
 ghost use Rattle.tz_base.specs.Errors.{number_of};
 ghost use Rattle.tz_base.specs.LocalTypes.{LocalType};
+ghost use Rattle.tz_base.specs.declared.error.Error.{Error as Fault};
 ghost use Rattle.tz_base.specs.declared.error.Error.TheVariants.{OutOfMemory};
 ghost use Rattle.tz_timeline.specs.Counts.{HasRoom};
 ghost use Rattle.tz_info.specs.FilePieces.{FilePieces, HasPieces};
@@ -36,15 +37,15 @@ use tz_info::{Error, LocalTimeType, Probes};
 /// its faults is the first. A text with a fault spells no zone at all; a text's zone is valid.
 pub fn one_zone()
     ensures files { (bytes : List ℕ) (y z : Zone) → IsTzFile bytes y → IsTzFile bytes z → y ≡ z }
-    ensures file_or_fault { (bytes : List ℕ) (n : ℕ) (z : Zone) → IsFileFault bytes n
+    ensures file_or_fault { (bytes : List ℕ) (e : Fault) (z : Zone) → IsFileFault bytes e
         → IsTzFile bytes z → ¬ (IsValid z) }
     ensures file_has_fault { (bytes : List ℕ) → ((z : Zone) → IsTzFile bytes z → ¬ (IsValid z))
-        → (n : ℕ) × IsFileFault bytes n }
-    ensures one_file_fault { (bytes : List ℕ) (m n : ℕ) → IsFileFault bytes m → IsFileFault bytes n
-        → m ≡ n }
+        → (e : Fault) × IsFileFault bytes e }
+    ensures one_file_fault { (bytes : List ℕ) (d e : Fault) → IsFileFault bytes d → IsFileFault bytes e
+        → d ≡ e }
     ensures texts { (text : List ℕ) (y z : Zone) → IsPosixZone text y → IsPosixZone text z
         → y ≡ z }
-    ensures text_or_fault { (text : List ℕ) (n : ℕ) (z : Zone) → IsPosixFault text n
+    ensures text_or_fault { (text : List ℕ) (e : Fault) (z : Zone) → IsPosixFault text e
         → ¬ (IsPosixZone text z) }
     ensures text_is_valid { (text : List ℕ) (z : Zone) → IsPosixZone text z → IsValid z }
 {}
@@ -70,8 +71,8 @@ pub fn answer_of_file(
     ensures only { (z : Zone) → IsTzFile bytes.now z → IsValid z → MatchResult result
         (IsWallAnswer (Shows (TypeAt z) (reading local.now).s))
         (λ e. e ≡ OutOfMemory) }
-    // An error's number says what stands in the file.
-    ensures fault { IfErr result (λ e. IsZoneFault bytes.now (number_of e)) }
+    // An error is the first fault of the file, or says that memory ran out.
+    ensures fault { IfErr result (λ e. IsZoneFault bytes.now e) }
     // Running out of memory is answered only if every piece of the file is there.
     ensures memory { IfErr result (λ e. e ≡ OutOfMemory
         → (p : FilePieces) × HasPieces bytes.now p) }
@@ -103,9 +104,8 @@ pub fn answer_of_text(
     ensures only { (z : Zone) → IsPosixZone text.now z → MatchResult result
         (IsWallAnswer (Shows (TypeAt z) (reading local.now).s))
         (λ e. number_of e ≡ 17) }
-    // An error's number says what stands in the text, or that memory ran out.
-    ensures fault { IfErr result
-        (λ e. (number_of e ≡ 17) ⊎ IsPosixFault text.now (number_of e)) }
+    // An error is the first fault of the text, or says that memory ran out.
+    ensures fault { IfErr result (λ e. (number_of e ≡ 17) ⊎ IsPosixFault text.now e) }
 {
     match tz_info::TimeZone::from_posix_tz(alloc, text) {
         Ok(zone) => Ok(answer_in(&zone, local, probes)),

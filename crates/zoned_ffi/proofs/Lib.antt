@@ -6,3 +6,4 @@ pub mod Reading
 pub mod Resolving
 pub mod Telling
 pub mod Sayings
+pub mod OneNumber

@@ -1,22 +1,23 @@
 -- What comes of reading, as a call tells it.
 use Rattle.std.proofs.Common.{◌≡◌, ◌≢◌, ◌⊎◌, ◌↔◌, Bool, IsTrue, IsFalse, ℕ, List, IfErr, Result, Ok, Err, subst, sym, inl, inr, arith, refl}
-use Rattle.tz_base.specs.Errors.{number_of}
+use Rattle.std.specs.Str.{IsUtf8}
+use Rattle.tz_base.specs.Errors.{number_of, IsOutOfMemory}
 use Rattle.tz_base.specs.declared.error.Error.{Error}
 use Rattle.tz_base.specs.declared.error.Error.TheVariants as errors
 use Rattle.tz_info.specs.PosixZones.{IsPosixZone, IsPosixFault}
 use Rattle.tz_info.specs.TzFiles.{IsZoneFault}
 use Rattle.tz_info.specs.Zones.{Zone}
 use Rattle.zoned_ffi.specs.Kinds.{number_of as kind_number, IsZoneOf, Spells}
-use Rattle.zoned_ffi.specs.Refusals.{IsFault, IsReaderNumber, IsRefusal, IsTextFault, refusal_number}
+use Rattle.zoned_ffi.specs.Refusals.{IsFault, IsFileError, IsReaderNumber, IsRefusal, IsTextFault, refusal_number}
 use Rattle.zoned_ffi.specs.declared.kind.Kind.{Kind}
 use Rattle.zoned_ffi.specs.declared.kind.Kind.TheVariants as kinds
 use Rattle.zoned_ffi.specs.declared.refusal.Refusal.{Refusal}
 
--- the number of a text that is refused tells its fault
-pub text_refused : (bytes : List ℕ) (n : ℕ) → (n ≡ 17) ⊎ IsPosixFault bytes n → (n ≡ 17 → (z : Zone) × IsPosixZone bytes z) → IsTextFault bytes n
-text_refused bytes n fault memory = elim fault [
-  | inl is ↦ let zone = memory is in subst (IsTextFault bytes) (sym is) (IsTextFault.No_memory zone.0 zone.1)
-  | inr there ↦ IsTextFault.In_text n there
+-- the number of a text's error is that of its fault
+pub text_refused : (bytes : List ℕ) (e : Error) → IsUtf8 bytes → IsOutOfMemory e ⊎ IsPosixFault bytes e → (IsOutOfMemory e → (z : Zone) × IsPosixZone bytes z) → IsTextFault bytes (number_of e)
+text_refused bytes e utf8 fault memory = elim fault [
+  | inl is ↦ let zone = memory is in subst (IsTextFault bytes) (sym is) (IsTextFault.No_memory zone.0 utf8 zone.1)
+  | inr there ↦ IsTextFault.In_text e utf8 there
 ]
 
 pub reader_number : (e : Error) → IsReaderNumber (number_of e)
@@ -44,8 +45,8 @@ not_fitting fits wanted room is same equal = absurd (grind (arith, is, same.1 eq
 
 -- where there is no memory for a zone that is spelled, that is the fault
 no_memory : (kind : Kind) (bytes : List ℕ) (z : Zone) → Spells kind bytes z → IsFault kind bytes 17
-no_memory kinds.File bytes z spells = IsZoneFault.No_memory spells.0.0 spells.0.1
-no_memory kinds.Text bytes z spells = IsTextFault.No_memory z spells.1
+no_memory kinds.File bytes z spells = IsFileError.In_file errors.OutOfMemory (IsZoneFault.No_memory spells.0.0 spells.0.1)
+no_memory kinds.Text bytes z spells = IsTextFault.No_memory z spells.0 spells.1
 
 pub no_memory_refused : (number : ℕ) (bytes : List ℕ) (z : Zone) → IsZoneOf number bytes z → IsRefusal number bytes 0 0 17
 no_memory_refused number bytes z of_kind =

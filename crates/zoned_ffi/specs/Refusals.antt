@@ -2,6 +2,7 @@
 use Rattle.std.specs.Prelude.{ℕ, ◌≡◌, ◌≢◌, ◌≤◌, List}
 use Rattle.std.specs.Str.{IsUtf8}
 use Rattle.tz_base.specs.Errors.{number_of as error_number}
+use Rattle.tz_base.specs.declared.error.Error.{Error}
 use Rattle.tz_info.specs.PosixZones.{IsPosixZone, IsPosixFault}
 use Rattle.tz_info.specs.TzFiles.{IsZoneFault}
 use Rattle.tz_info.specs.Zones.{Zone}
@@ -17,15 +18,20 @@ refusal_number refusals.TextNotUtf8 = 16
 refusal_number refusals.UnknownKind = 31
 refusal_number refusals.OtherSize = 32
 
--- what is wrong with a TZ text: it is not UTF-8, or it has a fault, or there is no memory for its zone
+-- what is wrong with a TZ string, by the number of the error: it is not UTF-8, or it is and has a fault, or there is no memory
+-- for its zone
 pub data IsTextFault (bytes : List ℕ) : ℕ → Type 0 where
   Not_utf8 : ¬ (IsUtf8 bytes) → IsTextFault bytes 16
-  In_text : (n : ℕ) → IsPosixFault bytes n → IsTextFault bytes n
-  No_memory : (z : Zone) → IsPosixZone bytes z → IsTextFault bytes 17
+  In_text : (e : Error) → IsUtf8 bytes → IsPosixFault bytes e → IsTextFault bytes (error_number e)
+  No_memory : (z : Zone) → IsUtf8 bytes → IsPosixZone bytes z → IsTextFault bytes 17
+
+-- what is wrong with a file, by the number of the error
+pub data IsFileError (bytes : List ℕ) : ℕ → Type 0 where
+  In_file : (e : Error) → IsZoneFault bytes e → IsFileError bytes (error_number e)
 
 -- what is wrong with bytes of that kind
 abbrev pub IsFault : Kind → List ℕ → ℕ → Type 0
-IsFault kinds.File bytes n = IsZoneFault bytes n
+IsFault kinds.File bytes n = IsFileError bytes n
 IsFault kinds.Text bytes n = IsTextFault bytes n
 
 -- the reader's numbers

@@ -14,6 +14,7 @@ mod changes;
 mod handle;
 mod instants;
 mod kind;
+pub mod laws;
 mod local_type;
 mod opening;
 mod refusal;

@@ -1,12 +1,12 @@
--- Reading what the parts of a TZif file's block say, by the places of records: values, or the number of the refusal.
+-- Reading what the parts of a TZif file's block say, by the places of records: values, or the error.
 use Rattle.std.specs.Prelude.{ℕ, ℤ, zero, suc, int_lt, nat_lt, ◌+◌, ◌*◌, ◌==◌, Bool, true, false, not, ◌&&◌, if◌then◌else◌, List, [], ◌∷◌, ◌++◌, length, take, drop, slice_index, Result, Ok, Err, Option, Some, None, ◌≡◌, ◌⊎◌}
 use Rattle.std.specs.Int.{w32}
 use Rattle.std.specs.List.{position_from}
-use Rattle.tz_base.specs.Errors.{number_of}
-use Rattle.tz_base.specs.LocalTypes.{LocalType}
+use Rattle.tz_base.specs.LocalTypes.{LocalType, expected_of_type}
 use Rattle.tz_base.specs.Fronts.{◌>>=◌}
 use Rattle.tz_base.specs.declared.error.Error.{Error}
-use Rattle.tz_base.specs.declared.error.Error.TheVariants.{OutOfMemory}
+use Rattle.tz_base.specs.declared.error.Error.TheVariants.{InvalidTzFile, LocalTimeType, OutOfMemory}
+use Rattle.tz_base.specs.declared.error.Expected.TheVariants.{ZeroOrOneAsIsDst, NameWithinDesignations, ZeroByteAfterName, StandardTimeWhereTimeIsUt}
 use Rattle.tz_info.specs.Steps.Below.{all_below}
 use Rattle.tz_info.specs.TzGrammar.{is_name}
 use Rattle.tz_info.specs.FileContents.{signed, time_of, designation_of, offset_in, mark_in, place_in, least_offset}
@@ -14,21 +14,21 @@ use Rattle.tz_info.specs.declared.zone.transition.Transition.{Transition}
 use Rattle.tz_info.specs.declared.zone.leap_second.LeapSecond.{LeapSecond}
 
 -- what a function returned is what reading gives, unless memory ran out
-abbrev pub GivesInMemory : {X Y : Type 0} → (X → Y) → Result X Error → Result Y ℕ → Type 0
+abbrev pub GivesInMemory : {X Y : Type 0} → (X → Y) → Result X Error → Result Y Error → Type 0
 GivesInMemory view (Ok x) read = read ≡ Ok (view x)
-GivesInMemory view (Err e) read = (e ≡ OutOfMemory) ⊎ (read ≡ Err (number_of e))
+GivesInMemory view (Err e) read = (e ≡ OutOfMemory) ⊎ (read ≡ Err e)
 
 -- the record of that place, where each has that size
 abbrev pub record_at : ℕ → List ℕ → ℕ → List ℕ
 record_at size part place = take size (drop (place * size) part)
 
--- the values of read at 0 to n - 1, or its first refusal
-abbrev pub values_below : {X : Type 0} → ℕ → (ℕ → Result X ℕ) → Result (List X) ℕ
+-- the values of read at 0 to n - 1, or the first error
+abbrev pub values_below : {X : Type 0} → ℕ → (ℕ → Result X Error) → Result (List X) Error
 values_below zero read = Ok []
 values_below (suc n) read = values_below n read >>= λ xs. read n >>= λ x. Ok (xs ++ x ∷ [])
 
 -- ---- transitions and leap seconds
-abbrev pub transition_in : ℕ → List ℕ → List ℕ → ℕ → Result Transition ℕ
+abbrev pub transition_in : ℕ → List ℕ → List ℕ → ℕ → Result Transition Error
 transition_in time_size times type_indexes k =
     Ok (record { unix_leap_time = time_of time_size (record_at time_size times k); type_index = slice_index type_indexes k })
 
@@ -36,7 +36,7 @@ abbrev pub leap_second_of : ℕ → List ℕ → LeapSecond
 leap_second_of time_size bytes =
     record { unix_leap_time = time_of time_size (take time_size bytes); correction = signed w32 (drop time_size bytes) }
 
-abbrev pub leap_second_in : ℕ → List ℕ → ℕ → Result LeapSecond ℕ
+abbrev pub leap_second_in : ℕ → List ℕ → ℕ → Result LeapSecond Error
 leap_second_in time_size part k = Ok (leap_second_of time_size (record_at (time_size + 4) part k))
 
 -- ---- local time types
@@ -44,44 +44,44 @@ abbrev pub is_name_or_none : Option (List ℕ) → Bool
 is_name_or_none None = true
 is_name_or_none (Some text) = is_name text
 
-unfoldable pub type_of : ℤ → Bool → List ℕ → Result LocalType ℕ
+unfoldable pub type_of : ℤ → Bool → List ℕ → Result LocalType Error
 type_of offset dst text =
     if int_lt least_offset offset && is_name_or_none (designation_of text)
     then Ok (record { offset = offset; dst = dst; name = designation_of text })
-    else Err 3
+    else Err (LocalTimeType (expected_of_type offset (designation_of text)))
 
-abbrev pub mark_of : ℕ → Result Bool ℕ
-mark_of byte = if byte == 0 then Ok false else (if byte == 1 then Ok true else Err 5)
+abbrev pub mark_of : ℕ → Result Bool Error
+mark_of byte = if byte == 0 then Ok false else (if byte == 1 then Ok true else Err (InvalidTzFile ZeroOrOneAsIsDst))
 
-abbrev pub front_of : List ℕ → Option ℕ → Result (List ℕ) ℕ
-front_of bytes None = Err 5
+abbrev pub front_of : List ℕ → Option ℕ → Result (List ℕ) Error
+front_of bytes None = Err (InvalidTzFile ZeroByteAfterName)
 front_of bytes (Some n) = Ok (take n bytes)
 
 -- the byte is 0
 abbrev pub is_zero : ℕ → Bool
 is_zero byte = byte == 0
 
-unfoldable pub text_before_zero : List ℕ → Result (List ℕ) ℕ
+unfoldable pub text_before_zero : List ℕ → Result (List ℕ) Error
 text_before_zero bytes = front_of bytes (position_from is_zero 0 bytes)
 
-unfoldable pub designation_at : List ℕ → ℕ → Result (List ℕ) ℕ
-designation_at designations place = if nat_lt place (length designations) then text_before_zero (drop place designations) else Err 5
+unfoldable pub designation_at : List ℕ → ℕ → Result (List ℕ) Error
+designation_at designations place = if nat_lt place (length designations) then text_before_zero (drop place designations) else Err (InvalidTzFile NameWithinDesignations)
 
-unfoldable pub type_of_record : List ℕ → List ℕ → Result LocalType ℕ
+unfoldable pub type_of_record : List ℕ → List ℕ → Result LocalType Error
 type_of_record designations bytes = do
   dst ← mark_of (mark_in bytes)
   text ← designation_at designations (place_in bytes)
   type_of (offset_in bytes) dst text
 
-abbrev pub with_next_type : List ℕ → List ℕ → List LocalType → Result (List LocalType) ℕ
+abbrev pub with_next_type : List ℕ → List ℕ → List LocalType → Result (List LocalType) Error
 with_next_type designations bytes types = type_of_record designations bytes >>= λ t. Ok (types ++ t ∷ [])
 
-abbrev pub type_in : List ℕ → List ℕ → ℕ → Result LocalType ℕ
+abbrev pub type_in : List ℕ → List ℕ → ℕ → Result LocalType Error
 type_in designations part k = type_of_record designations (record_at 6 part k)
 
 -- ---- indicators
 abbrev pub pair_agrees : List ℕ → List ℕ → ℕ → Bool
 pair_agrees standard_wall ut_local k = not ((slice_index standard_wall k == 0) && (slice_index ut_local k == 1))
 
-unfoldable pub indicators_of : List ℕ → List ℕ → Result Unit ℕ
-indicators_of standard_wall ut_local = if all_below (length ut_local) (pair_agrees standard_wall ut_local) then Ok tt else Err 5
+unfoldable pub indicators_of : List ℕ → List ℕ → Result Unit Error
+indicators_of standard_wall ut_local = if all_below (length ut_local) (pair_agrees standard_wall ut_local) then Ok tt else Err (InvalidTzFile StandardTimeWhereTimeIsUt)

@@ -1,6 +1,5 @@
 -- Reading the lists of a TZif file, and what its reader answers.
 use Rattle.std.specs.Prelude.{ℕ, ◌≡◌, ◌⊎◌, ◌*◌, ◌+◌, Result, Ok, Err, List, length, Option, option_map}
-use Rattle.tz_base.specs.Errors.{number_of}
 use Rattle.tz_base.specs.LocalTypes.{LocalType}
 use Rattle.tz_base.specs.Fronts.{◌>>=◌}
 use Rattle.tz_base.specs.declared.error.Error.{Error}
@@ -35,29 +34,29 @@ pub record HasLengths (p : FilePieces) : Type 0 where
   pub types : length p.parts.types ≡ p.counts.types * 6
   pub leap_seconds : length p.parts.leap_seconds ≡ p.counts.leap_seconds * (p.time_size + 4)
 
-unfoldable pub with_rule : FilePieces → List LocalType → Option TransitionRule → Result Zone ℕ
+unfoldable pub with_rule : FilePieces → List LocalType → Option TransitionRule → Result Zone Error
 with_rule p types rule = do
   transitions ← values_below p.counts.transitions (transition_in p.time_size p.parts.times p.parts.type_indexes)
   leaps ← values_below p.counts.leap_seconds (leap_second_in p.time_size p.parts.leap_seconds)
   Ok (record { transitions = transitions; types = types; leaps = leaps; rule = rule })
 
-unfoldable pub with_types : FilePieces → List LocalType → Result Zone ℕ
+unfoldable pub with_types : FilePieces → List LocalType → Result Zone Error
 with_types p types = do
   agree ← indicators_of p.parts.standard_wall p.parts.ut_local
   rule ← footer_of p.extended p.footer
   with_rule p types rule
 
-unfoldable pub lists_in : FilePieces → Result Zone ℕ
+unfoldable pub lists_in : FilePieces → Result Zone Error
 lists_in p = values_below p.counts.types (type_in p.parts.designations p.parts.types) >>= λ types. with_types p types
 
 -- the pieces of a file, and its lists
-unfoldable pub pieces_at : List ℕ → Result FilePieces ℕ
+unfoldable pub pieces_at : List ℕ → Result FilePieces Error
 pieces_at bytes = read file bytes >>= λ p. Ok p.0
 
-unfoldable pub file_at : List ℕ → Result Zone ℕ
+unfoldable pub file_at : List ℕ → Result Zone Error
 file_at bytes = pieces_at bytes >>= lists_in
 
 -- they are read, unless memory runs out, which is answered only where every piece is there
 abbrev pub Reads : Result Lists Error → List ℕ → Type 0
 Reads (Ok lists) bytes = file_at bytes ≡ Ok (zone_of lists)
-Reads (Err e) bytes = (file_at bytes ≡ Err (number_of e)) ⊎ ((e ≡ OutOfMemory) × (p : FilePieces) × (pieces_at bytes ≡ Ok p))
+Reads (Err e) bytes = (file_at bytes ≡ Err e) ⊎ ((e ≡ OutOfMemory) × (p : FilePieces) × (pieces_at bytes ≡ Ok p))

@@ -1,10 +1,13 @@
--- Reading the footer of a TZif file: its rule, or the number of the refusal.
+-- Reading the footer of a TZif file: its rule, or the error.
 use Rattle.std.specs.Prelude.{ℕ, ◌==◌, ◌&&◌, ◌||◌, Bool, if◌then◌else◌, List, [], ◌∷◌, slice_index, Result, Ok, Err, Option, Some, None}
 use Rattle.std.specs.Bool.{nat_eq}
 use Rattle.std.specs.List.{list_any, starts_with, ends_with}
 use Rattle.std.specs.Str.{is_utf8}
 use Rattle.std.specs.Char.{is_ascii_whitespace}
 use Rattle.tz_base.specs.Fronts.{◌>>=◌}
+use Rattle.tz_base.specs.declared.error.Error.{Error}
+use Rattle.tz_base.specs.declared.error.Error.TheVariants.{InvalidTzFile, Utf8}
+use Rattle.tz_base.specs.declared.error.Expected.TheVariants.{FooterInUtf8, FooterBetweenNewlines, TzTextInFooter}
 use Rattle.tz_info.specs.Steps.ContentReading.{is_zero}
 use Rattle.tz_base.specs.Grammar.{read}
 use Rattle.tz_info.specs.TzGrammar.{text}
@@ -33,20 +36,21 @@ abbrev pub is_no_text : List ℕ → Bool
 is_no_text text = (slice_index text 0 == 58) || list_any is_zero text
 
 -- the rule of a TZ text, which goes to the end
-unfoldable pub rule_in : Bool → List ℕ → Result TransitionRule ℕ
+unfoldable pub rule_in : Bool → List ℕ → Result TransitionRule Error
 rule_in extended bytes = read (text extended) bytes >>= λ p. Ok p.0
 
-abbrev pub rule_or_none : Bool → List ℕ → Result (Option TransitionRule) ℕ
+abbrev pub rule_or_none : Bool → List ℕ → Result (Option TransitionRule) Error
 rule_or_none extended [] = Ok None
 rule_or_none extended (b ∷ bs) = rule_in extended (b ∷ bs) >>= λ r. Ok (Some r)
 
-abbrev pub text_or_none : Bool → List ℕ → Result (Option TransitionRule) ℕ
-text_or_none extended text = if is_no_text text then Err 5 else rule_or_none extended text
+abbrev pub text_or_none : Bool → List ℕ → Result (Option TransitionRule) Error
+text_or_none extended text = if is_no_text text then Err (InvalidTzFile TzTextInFooter) else rule_or_none extended text
 
-unfoldable pub footer_at : Bool → List ℕ → Result (Option TransitionRule) ℕ
+unfoldable pub footer_at : Bool → List ℕ → Result (Option TransitionRule) Error
 footer_at extended bytes =
-    if is_utf8 bytes then (if is_between_newlines bytes then text_or_none extended (trimmed bytes) else Err 5) else Err 16
+    if is_utf8 bytes then (if is_between_newlines bytes then text_or_none extended (trimmed bytes) else Err (InvalidTzFile FooterBetweenNewlines))
+    else Err (Utf8 FooterInUtf8)
 
-abbrev pub footer_of : Bool → Option (List ℕ) → Result (Option TransitionRule) ℕ
+abbrev pub footer_of : Bool → Option (List ℕ) → Result (Option TransitionRule) Error
 footer_of extended None = Ok None
 footer_of extended (Some bytes) = footer_at extended bytes

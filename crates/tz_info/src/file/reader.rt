@@ -2,11 +2,10 @@
 
 ghost use Rattle.std.specs.Prelude.{[], ◌≡◌, ◌⊎◌, IfOk, IfErr, MatchResult, option_map};
 ghost use Rattle.std.specs.Result.{IsErrAnd};
-ghost use Rattle.tz_base.specs.Errors.{IsTimeZoneError, number_of};
 ghost use Rattle.tz_base.specs.Fronts.{Gives};
 ghost use Rattle.tz_base.specs.declared.error.Error.TheVariants.{InvalidTzFile, OutOfMemory};
 ghost use Rattle.tz_base.specs.declared.error.Expected.TheVariants.{TZifAtFrontOfHeader};
-ghost use Rattle.tz_info.specs.Zones.{Zone, IsValid};
+ghost use Rattle.tz_info.specs.Zones.{Zone, IsValid, ListFault};
 ghost use Rattle.tz_info.specs.FileBlocks.{parts_of};
 ghost use Rattle.tz_base.specs.Grammar.{read};
 ghost use Rattle.tz_info.specs.Steps.ContentReading.{GivesInMemory};
@@ -40,8 +39,7 @@ impl Lists {
     pub fn into_zone(self, alloc: Global) -> Result<TimeZone, Error>
         ensures { MatchResult result
             (λ z. IsValid (zone_of self) × (z ≡ zone_of self))
-            (λ e. (IsTimeZoneError e × ¬ (IsValid (zone_of self))) ⊎ ((e ≡ OutOfMemory)
-            × IsValid (zone_of self))) }
+            (λ e. ListFault (zone_of self) e ⊎ ((e ≡ OutOfMemory) × IsValid (zone_of self))) }
     {
         let Lists {
             transitions,
@@ -61,7 +59,7 @@ pub fn read_lists(alloc: Global, bytes: &[u8]) -> Result<Lists, Error>
     ensures only { (z : Zone) → IsTzFile bytes.now z
         → MatchResult result (λ lists. zone_of lists ≡ z) (λ e. e ≡ OutOfMemory) }
     // A refusal names a fault that is there.
-    ensures fault { IfErr result (λ e. IsZoneFault bytes.now (number_of e)) }
+    ensures fault { IfErr result (λ e. IsZoneFault bytes.now e) }
     // Running out of memory is answered only where every piece of the file is there.
     ensures memory { IfErr result
         (λ e. e ≡ OutOfMemory → (p : FilePieces) × HasPieces bytes.now p) }

@@ -75,7 +75,7 @@ fn text_before_zero(bytes: &[u8]) -> Result<&[u8], Error>
 {
     match first_zero(bytes) {
         Some(place) => Ok(bytes.split_at(place).0),
-        None => Err(Error::InvalidTzFile(Expected::ZeroByteBehindName)),
+        None => Err(Error::InvalidTzFile(Expected::ZeroByteAfterName)),
     }
 }
 

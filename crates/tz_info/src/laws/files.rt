@@ -1,6 +1,8 @@
 //! Theorems of time zone files: each function is empty, its contract is proved; never called.
 
 ghost use Rattle.std.specs.Prelude.{◌≡◌, ◌≤◌, List, ℕ};
+ghost use Rattle.tz_base.specs.Errors.{number_of};
+ghost use Rattle.tz_base.specs.declared.error.Error.{Error as Fault};
 ghost use Rattle.tz_info.specs.TzFiles.{IsTzFile, IsFileFault};
 ghost use Rattle.tz_info.specs.Zones.{Zone, IsValid, IsRuleOrNone};
 
@@ -14,13 +16,14 @@ pub fn rule_is_in_limits()
     ensures { (bytes : List ℕ) (zone : Zone) → IsTzFile bytes zone → IsRuleOrNone zone.rule }
 {}
 
-/// A file has a fault if and only if it spells no valid zone. Of its faults one is the first: that
-/// fault has one number, which is not that of running out of memory.
+/// A file has a fault if and only if it spells no valid zone. It has one first fault, and that is
+/// not running out of memory.
 pub fn fault_or_zone()
-    ensures apart { (bytes : List ℕ) (n : ℕ) (zone : Zone) → IsFileFault bytes n
+    ensures apart { (bytes : List ℕ) (e : Fault) (zone : Zone) → IsFileFault bytes e
         → IsTzFile bytes zone → ¬ (IsValid zone) }
-    ensures once { (bytes : List ℕ) (m n : ℕ) → IsFileFault bytes m → IsFileFault bytes n → m ≡ n }
+    ensures once { (bytes : List ℕ) (d e : Fault) → IsFileFault bytes d → IsFileFault bytes e
+        → d ≡ e }
     ensures some { (bytes : List ℕ) → ((zone : Zone) → IsTzFile bytes zone → ¬ (IsValid zone))
-        → (n : ℕ) × IsFileFault bytes n }
-    ensures low { (bytes : List ℕ) (n : ℕ) → IsFileFault bytes n → n ≤ 16 }
+        → (e : Fault) × IsFileFault bytes e }
+    ensures low { (bytes : List ℕ) (e : Fault) → IsFileFault bytes e → number_of e ≤ 16 }
 {}

@@ -2,6 +2,8 @@
 //! proved; never called.
 
 ghost use Rattle.std.specs.Prelude.{◌≡◌, ◌≤◌, List, ℕ, Bool};
+ghost use Rattle.tz_base.specs.Errors.{number_of};
+ghost use Rattle.tz_base.specs.declared.error.Error.{Error as Fault};
 ghost use Rattle.tz_info.specs.TzGrammar.{IsTzText, IsTextFault};
 ghost use Rattle.tz_info.specs.PosixZones.{IsPosixZone, IsPosixFault};
 ghost use Rattle.tz_info.specs.Zones.{Zone, IsValid, IsRuleOrNone};
@@ -24,22 +26,22 @@ pub fn zone_is_valid()
         → IsValid zone × IsRuleOrNone zone.rule }
 {}
 
-/// A text with a fault spells no rule. Its fault has one number, which is not that of running out
-/// of memory.
+/// A text with a fault spells no rule. It has one first fault, and that is not running out of
+/// memory.
 pub fn fault_or_rule()
-    ensures apart { (extended : Bool) (bytes : List ℕ) (n : ℕ) (rule : Rule)
-        → IsTextFault extended bytes n → ¬ (IsTzText extended bytes rule) }
-    ensures once { (extended : Bool) (bytes : List ℕ) (m n : ℕ) → IsTextFault extended bytes m
-        → IsTextFault extended bytes n → m ≡ n }
-    ensures low { (extended : Bool) (bytes : List ℕ) (n : ℕ) → IsTextFault extended bytes n
-        → n ≤ 16 }
+    ensures apart { (extended : Bool) (bytes : List ℕ) (e : Fault) (rule : Rule)
+        → IsTextFault extended bytes e → ¬ (IsTzText extended bytes rule) }
+    ensures once { (extended : Bool) (bytes : List ℕ) (d e : Fault) → IsTextFault extended bytes d
+        → IsTextFault extended bytes e → d ≡ e }
+    ensures low { (extended : Bool) (bytes : List ℕ) (e : Fault) → IsTextFault extended bytes e
+        → number_of e ≤ 16 }
 {}
 
-/// A text with a fault gives no zone. Its fault has one number, which is not that of running out
-/// of memory.
+/// A text with a fault gives no zone. It has one first fault, and that is not running out of memory.
 pub fn fault_or_zone()
-    ensures apart { (text : List ℕ) (n : ℕ) (zone : Zone) → IsPosixFault text n
+    ensures apart { (text : List ℕ) (e : Fault) (zone : Zone) → IsPosixFault text e
         → ¬ (IsPosixZone text zone) }
-    ensures once { (text : List ℕ) (m n : ℕ) → IsPosixFault text m → IsPosixFault text n → m ≡ n }
-    ensures low { (text : List ℕ) (n : ℕ) → IsPosixFault text n → n ≤ 16 }
+    ensures once { (text : List ℕ) (d e : Fault) → IsPosixFault text d → IsPosixFault text e
+        → d ≡ e }
+    ensures low { (text : List ℕ) (e : Fault) → IsPosixFault text e → number_of e ≤ 16 }
 {}

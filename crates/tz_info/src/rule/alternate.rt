@@ -4,8 +4,9 @@ ghost use Rattle.std.specs.Prelude.{◌≡◌, ◌<◌, ℤ, pos, neg_ℤ, ◌+�
 ghost use Rattle.naive_base.specs.DateOf.{year_of, day_of_year};
 ghost use Rattle.naive_base.specs.Year.{floor_div, year_start, LiesIn, IsDay};
 ghost use Rattle.offset_core.specs.Offset.{IsWithinDay};
-ghost use Rattle.tz_base.specs.Errors.{IsOutOfRangeError, IsTransitionRuleError};
-ghost use Rattle.tz_info.specs.Rules.{Alternate, IsAlternate, IsAlternateRule, IsWithinWeek};
+ghost use Rattle.tz_base.specs.declared.error.Error.TheVariants.{OutOfRange, TransitionRule};
+ghost use Rattle.tz_base.specs.declared.error.Expected.TheVariants.{YearThatRuleAnswersIn};
+ghost use Rattle.tz_info.specs.Rules.{Alternate, expected_of_alternate, IsAlternate, IsAlternateRule, IsWithinWeek};
 ghost use Rattle.tz_info.specs.Moments.{IsRuleTime};
 ghost use Rattle.tz_info.specs.Steps.Kinds.{kind_place};
 ghost use Rattle.tz_info.specs.Steps.Seasons.{IsDecidedIn};
@@ -168,7 +169,7 @@ impl AlternateTime {
           end = record { day = dst_end; time = dst_end_time };
         } in
             MatchResult result (λ a. IsAlternate shown × (a ≡ shown))
-            (λ e. IsTransitionRuleError e × ¬ (IsAlternate shown)) }
+            (λ e. (e ≡ TransitionRule (expected_of_alternate shown)) × ¬ (IsAlternate shown)) }
     {
         if !is_within_day(&std) || !is_within_day(&dst) {
             return Err(Error::TransitionRule(Expected::OffsetsWithinDay));
@@ -209,7 +210,7 @@ impl AlternateTime {
     pub fn find_local_time_type(&self, unix_time: i64) -> Result<&LocalTimeType, Error>
         ensures { MatchResult result
             (λ t. AlternateAt self.now unix_time t.now)
-            (λ e. IsOutOfRangeError e × IsAlternateRefused unix_time) }
+            (λ e. (e ≡ OutOfRange YearThatRuleAnswersIn) × IsAlternateRefused unix_time) }
     {
         if !is_rule_time(unix_time) {
             return Err(Error::OutOfRange(Expected::YearThatRuleAnswersIn));

@@ -6,8 +6,9 @@ ghost use Rattle.naive_base.specs.Year.{is_leap, year_start};
 ghost use Rattle.naive_base.specs.Month.{days_in_month};
 ghost use Rattle.naive_base.specs.Date.{day_number};
 ghost use Rattle.naive_base.specs.Weekday.{weekday_of};
-ghost use Rattle.tz_base.specs.Errors.{IsTransitionRuleError};
-ghost use Rattle.tz_info.specs.RuleDays.{IsWrittenDate};
+ghost use Rattle.tz_base.specs.declared.error.Error.TheVariants.{TransitionRule};
+ghost use Rattle.tz_base.specs.declared.error.Expected.TheVariants.{DayFromJ1ToJ365, DayFrom0To365};
+ghost use Rattle.tz_info.specs.RuleDays.{IsWrittenDate, expected_of_day};
 ghost use Rattle.tz_info.specs.Rules.{IsWithinWeek};
 ghost use Rattle.tz_info.specs.Steps.KindPlaces.{place_from, places_by_kind};
 ghost use Rattle.tz_info.specs.Steps.RuleDays.{julian_place, weekday_place};
@@ -75,7 +76,7 @@ impl RuleDay {
     /// ```
     pub fn julian_1(n: u16) -> Result<RuleDay, Error>
         ensures { MatchResult result (λ d. IsRuleDay (Julian1 n) × (d ≡ Julian1 n))
-            (λ e. IsTransitionRuleError e × ¬ (IsRuleDay (Julian1 n))) }
+            (λ e. (e ≡ TransitionRule DayFromJ1ToJ365) × ¬ (IsRuleDay (Julian1 n))) }
     {
         if n < 1 || n > 365 {
             return Err(Error::TransitionRule(Expected::DayFromJ1ToJ365));
@@ -97,7 +98,7 @@ impl RuleDay {
     /// ```
     pub fn julian_0(n: u16) -> Result<RuleDay, Error>
         ensures { MatchResult result (λ d. IsRuleDay (Julian0 n) × (d ≡ Julian0 n))
-            (λ e. IsTransitionRuleError e × ¬ (IsRuleDay (Julian0 n))) }
+            (λ e. (e ≡ TransitionRule DayFrom0To365) × ¬ (IsRuleDay (Julian0 n))) }
     {
         if n > 365 {
             return Err(Error::TransitionRule(Expected::DayFrom0To365));
@@ -116,7 +117,7 @@ impl RuleDay {
     pub fn month_weekday(month: u8, week: u8, weekday: u8) -> Result<RuleDay, Error>
         ensures { let form = MonthWeekday month week weekday in
             MatchResult result (λ d. IsRuleDay form × (d ≡ form))
-            (λ e. IsTransitionRuleError e × ¬ (IsRuleDay form)) }
+            (λ e. (e ≡ TransitionRule (expected_of_day form)) × ¬ (IsRuleDay form)) }
     {
         if month < 1 || month > 12 {
             return Err(Error::TransitionRule(Expected::MonthFrom1To12));

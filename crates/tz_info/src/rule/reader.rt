@@ -2,7 +2,6 @@
 
 ghost use Rattle.std.specs.Prelude.{◌≡◌, List, ℕ, IfOk, IfErr};
 ghost use Rattle.std.specs.Result.{IsOkAnd};
-ghost use Rattle.tz_base.specs.Errors.{number_of};
 ghost use Rattle.tz_base.specs.Fronts.{Gives};
 ghost use Rattle.tz_base.specs.Grammar.{read};
 ghost use Rattle.tz_info.specs.TzGrammar.{text, IsTzText, IsTextFault};
@@ -37,8 +36,8 @@ impl TransitionRule {
         // What is spelled so is read.
         ensures only { (rule : Rule) → IsTzText extended bytes.now rule
             → IsOkAnd result (λ r. r ≡ rule) }
-        // An error names a fault that is in the text.
-        ensures fault { IfErr result (λ e. IsTextFault extended bytes.now (number_of e)) }
+        // An error is the first fault of the text.
+        ensures fault { IfErr result (λ e. IsTextFault extended bytes.now e) }
     {
         read_all(bytes, extended)
     }

@@ -1,7 +1,8 @@
 //! The rule of a TZ text.
 
 ghost use Rattle.std.specs.Prelude.{◌≡◌, MatchResult};
-ghost use Rattle.tz_base.specs.Errors.{IsOutOfRangeError};
+ghost use Rattle.tz_base.specs.declared.error.Error.TheVariants.{OutOfRange};
+ghost use Rattle.tz_base.specs.declared.error.Expected.TheVariants.{YearThatRuleAnswersIn};
 
 use crate::rule::alternate::AlternateTime;
 use tz_base::{Error, LocalTimeType};
@@ -33,7 +34,8 @@ impl TransitionRule {
     #[inline(always)]
     pub fn find_local_time_type(&self, unix_time: i64) -> Result<&LocalTimeType, Error>
         ensures { MatchResult result (λ t. RuleAt self.now unix_time t.now)
-            (λ e. IsOutOfRangeError e × IsRuleRefused self.now unix_time) }
+            (λ e. (e ≡ OutOfRange YearThatRuleAnswersIn)
+            × IsRuleRefused self.now unix_time) }
     {
         match self {
             TransitionRule::Fixed(local) => Ok(local),

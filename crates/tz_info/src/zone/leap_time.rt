@@ -1,8 +1,9 @@
 //! Leap times of Unix times, and Unix times of leap times.
 
 ghost use Rattle.std.specs.Prelude.{◌≡◌, MatchResult};
-ghost use Rattle.tz_base.specs.Errors.{IsOutOfRangeError};
-ghost use Rattle.tz_info.specs.Leaps.{AreLeapSeconds, IsLeapTime, IsLeapTimeRefused, IsUnixTime, IsUnixTimeRefused, correction_before};
+ghost use Rattle.tz_base.specs.declared.error.Error.TheVariants.{OutOfRange};
+ghost use Rattle.tz_base.specs.declared.error.Expected.TheVariants.{LeapTimeOf64Bits};
+ghost use Rattle.tz_info.specs.Leaps.{AreLeapSeconds, IsLeapTime, IsLeapTimeRefused, IsUnixTime, IsUnixTimeRefused, expected_of_leap_time, correction_before};
 
 use crate::zone::leap_second::LeapSecond;
 use tz_base::{Error, Expected};
@@ -13,7 +14,8 @@ pub(super) fn leap_time(entries: &[LeapSecond], unix_time: i64) -> Result<i64, E
     requires { AreLeapSeconds entries.now }
     ensures { MatchResult result
         (λ x. IsLeapTime entries.now unix_time x)
-        (λ e. IsOutOfRangeError e × IsLeapTimeRefused entries.now unix_time) }
+        (λ e. (e ≡ OutOfRange LeapTimeOf64Bits)
+        × IsLeapTimeRefused entries.now unix_time) }
 {
     let mut leap_time = unix_time;
     for entry in entries {
@@ -33,7 +35,8 @@ pub(super) fn unix_time(entries: &[LeapSecond], leap_time: i64) -> Result<i64, E
     requires { AreLeapSeconds entries.now }
     ensures { MatchResult result
         (λ u. IsUnixTime entries.now leap_time u)
-        (λ e. IsOutOfRangeError e × IsUnixTimeRefused entries.now leap_time) }
+        (λ e. (e ≡ OutOfRange (expected_of_leap_time leap_time))
+        × IsUnixTimeRefused entries.now leap_time) }
 {
     if leap_time == i64::MIN {
         return Err(Error::OutOfRange(Expected::LeapTimeAboveI64Min));

@@ -1,7 +1,7 @@
 //! Zones of TZ texts.
 
 ghost use Rattle.std.specs.Prelude.{◌≡◌, IfOk, IfErr, MatchResult, ◌⊎◌, [], ◌∷◌};
-ghost use Rattle.tz_base.specs.Errors.{IsOutOfMemory, number_of};
+ghost use Rattle.tz_base.specs.Errors.{IsOutOfMemory};
 ghost use Rattle.tz_info.specs.Zones.{Zone};
 ghost use Rattle.tz_info.specs.PosixZones.{IsPosixZone, IsPosixFault, types_of, posix_zone};
 
@@ -31,9 +31,9 @@ impl TimeZone {
         // A text that has a zone gives it, unless there is no memory.
         ensures only { (z : Zone) → IsPosixZone text.now z
             → MatchResult result (λ y. y ≡ z) (λ e. IsOutOfMemory e) }
-        // An error names a fault that is in the text, or says that memory ran out.
+        // An error is the first fault of the text, or says that memory ran out.
         ensures fault { IfErr result
-            (λ e. IsOutOfMemory e ⊎ IsPosixFault text.now (number_of e)) }
+            (λ e. IsOutOfMemory e ⊎ IsPosixFault text.now e) }
         // Running out of memory is answered only for a text that has a zone.
         ensures memory { IfErr result
             (λ e. IsOutOfMemory e → (z : Zone) × IsPosixZone text.now z) }

@@ -3,13 +3,14 @@
 
 ghost use Rattle.std.specs.Prelude.{◌≡◌, pos, ◌+◌, ◌*◌, ◌<◌, ◌≤◌, length, MatchResult, ◌⊎◌, option_map};
 ghost use Rattle.std.specs.List.{slice_get};
-ghost use Rattle.tz_base.specs.Errors.{IsLocalTimeTypeError, IsOutOfMemory, IsOutOfRangeError, IsTimeZoneError};
+ghost use Rattle.tz_base.specs.Errors.{IsOutOfMemory};
 ghost use Rattle.tz_base.specs.LocalTypes.{IsUtOffset};
-ghost use Rattle.tz_base.specs.declared.error.Error.TheVariants.{OutOfMemory};
-ghost use Rattle.tz_info.specs.Leaps.{IsLeapTime, IsLeapTimeRefused, IsUnixTime, IsUnixTimeRefused};
+ghost use Rattle.tz_base.specs.declared.error.Error.TheVariants.{LocalTimeType as TypeError, OutOfMemory, OutOfRange};
+ghost use Rattle.tz_base.specs.declared.error.Expected.TheVariants.{LeapTimeOf64Bits, OffsetAboveI32Min};
+ghost use Rattle.tz_info.specs.Leaps.{IsLeapTime, IsLeapTimeRefused, IsUnixTime, IsUnixTimeRefused, expected_of_leap_time};
 ghost use Rattle.tz_info.specs.WallPieces.{WallIndex, IsIndex};
 ghost use Rattle.tz_info.specs.Windows.{IsGreatest, IsLeast, offsets};
-ghost use Rattle.tz_info.specs.Zones.{Zone, IsValid, IsRuleOrNone, plain_zone, zone_of_rule, zone_of_type};
+ghost use Rattle.tz_info.specs.Zones.{Zone, IsValid, ListFault, IsRuleOrNone, plain_zone, zone_of_rule, zone_of_type};
 
 use crate::rule::TransitionRule;
 use crate::zone::extremes::{Extremes, extremes_of};
@@ -19,11 +20,11 @@ use crate::zone::leap_time::{leap_time, unix_time};
 use crate::zone::segments::Lists;
 use crate::zone::table::Table;
 use crate::zone::transition::Transition;
-use crate::zone::valid::is_valid;
+use crate::zone::valid::check;
 use std::alloc::Global;
 use std::fmt;
 use std::marker::Model;
-use tz_base::{Error, Expected, LocalTimeType};
+use tz_base::{Error, LocalTimeType};
 use tz_timeline::Probes;
 
 /// A time zone: which type of local time is in force at each instant.
@@ -122,8 +123,9 @@ impl TimeZone {
     ///
     /// # Errors
     ///
-    /// [`Error::TimeZone`] if the lists are otherwise; [`Error::OutOfMemory`] if there is no memory
-    /// for the zone's index and hints.
+    /// [`Error::TimeZone`] if the lists are otherwise, with what was expected of the first one with
+    /// a fault: the types, the type indexes, then the times of the transitions, the leap seconds,
+    /// the rule. [`Error::OutOfMemory`] if there is no memory for the zone's index and hints.
     pub fn new(
         alloc: Global,
         transitions: Vec<Transition>,
@@ -138,11 +140,9 @@ impl TimeZone {
           rule = rule;
         } in
             MatchResult result (λ z. IsValid lists × (z ≡ lists))
-            (λ e. (IsTimeZoneError e × ¬ (IsValid lists)) ⊎ ((e ≡ OutOfMemory) × IsValid lists)) }
+            (λ e. ListFault lists e ⊎ ((e ≡ OutOfMemory) × IsValid lists)) }
     {
-        if !is_valid(&transitions, &types, &leaps, &rule) {
-            return Err(Error::TimeZone(Expected::ListsOfZone));
-        }
+        check(&transitions, &types, &leaps, &rule)?;
         let lists = Lists {
             transitions: &transitions,
             types: &types,
@@ -181,8 +181,8 @@ impl TimeZone {
     pub fn fixed(alloc: Global, ut_offset: i32) -> Result<TimeZone, Error>
         ensures { MatchResult result
             (λ z. IsUtOffset ut_offset × (z ≡ plain_zone ut_offset))
-            (λ e. (IsLocalTimeTypeError e × ¬ (IsUtOffset ut_offset)) ⊎ (IsOutOfMemory e
-            × IsUtOffset ut_offset)) }
+            (λ e. ((e ≡ TypeError OffsetAboveI32Min) × ¬ (IsUtOffset ut_offset))
+            ⊎ (IsOutOfMemory e × IsUtOffset ut_offset)) }
     {
         TimeZone::of_type(alloc, LocalTimeType::with_offset(ut_offset)?)
     }
@@ -314,7 +314,8 @@ impl TimeZone {
     pub fn unix_time_to_unix_leap_time(&self, unix_time: i64) -> Result<i64, Error>
         ensures { MatchResult result
             (λ x. IsLeapTime self.now.leaps unix_time x)
-            (λ e. IsOutOfRangeError e × IsLeapTimeRefused self.now.leaps unix_time) }
+            (λ e. (e ≡ OutOfRange LeapTimeOf64Bits)
+            × IsLeapTimeRefused self.now.leaps unix_time) }
     {
         leap_time(&self.leap_seconds, unix_time)
     }
@@ -329,7 +330,8 @@ impl TimeZone {
     pub fn unix_leap_time_to_unix_time(&self, unix_leap_time: i64) -> Result<i64, Error>
         ensures { MatchResult result
             (λ u. IsUnixTime self.now.leaps unix_leap_time u)
-            (λ e. IsOutOfRangeError e × IsUnixTimeRefused self.now.leaps unix_leap_time) }
+            (λ e. (e ≡ OutOfRange (expected_of_leap_time unix_leap_time))
+            × IsUnixTimeRefused self.now.leaps unix_leap_time) }
     {
         unix_time(&self.leap_seconds, unix_leap_time)
     }

@@ -1,40 +1,62 @@
 //! Whether lists make a zone.
 
-ghost use Rattle.std.specs.Prelude.{◌≡◌, ◌+ℤ◌, ◌<◌, ◌≤ℤ◌, ◌<ℤ◌, pos, length, IsTrue, ◌↔◌};
+ghost use Rattle.std.specs.Prelude.{◌≡◌, ◌+ℤ◌, ◌<◌, ◌≤ℤ◌, ◌<ℤ◌, pos, length, IsTrue, IfSome, MatchResult, ◌↔◌};
 ghost use Rattle.tz_info.specs.Leaps.{IsOneStep, IsFirstLeap, IsNextLeap, AreLeapSeconds};
-ghost use Rattle.tz_info.specs.Transitions.{AreTransitions};
+ghost use Rattle.tz_info.specs.Transitions.{NameTypes, AreTransitions};
 ghost use Rattle.tz_info.specs.Steps.Validity.{Stands};
-ghost use Rattle.tz_info.specs.Zones.{IsValid, Agrees};
+ghost use Rattle.tz_info.specs.Zones.{Zone, IsValid, ListFault, Agrees, last_transition};
 
 use crate::rule::TransitionRule;
 use crate::zone::leap_second::LeapSecond;
 use crate::zone::leap_time::unix_time;
 use crate::zone::transition::Transition;
-use tz_base::LocalTimeType;
+use tz_base::{Error, Expected, LocalTimeType};
 
-// Whether the lists make a zone, in one pass over each.
-pub(super) fn is_valid(
+// Nothing if the lists make a zone, or else their first fault, in one pass over each.
+pub(super) fn check(
+    transitions: &[Transition],
+    types: &[LocalTimeType],
+    leaps: &[LeapSecond],
+    rule: &Option<TransitionRule>,
+) -> Result<(), Error>
+    ensures { let lists : Zone = record {
+      transitions = transitions.now;
+      types = types.now;
+      leaps = leaps.now;
+      rule = rule.now;
+    } in
+        MatchResult result (λ _. IsValid lists) (λ e. ListFault lists e) }
+{
+    if types.is_empty() {
+        return Err(Error::TimeZone(Expected::AtLeastOneLocalTimeType));
+    }
+    if !are_transitions(types.len(), transitions) {
+        if !name_types(types.len(), transitions) {
+            return Err(Error::TimeZone(Expected::TypeIndexesWithinTypes));
+        }
+        return Err(Error::TimeZone(Expected::TransitionTimesThatRise));
+    }
+    if !are_leap_seconds(leaps) {
+        return Err(Error::TimeZone(Expected::LeapSecondsInOrder));
+    }
+    if !rule_agrees(transitions, types, leaps, rule) {
+        return Err(Error::TimeZone(Expected::RuleThatAgreesWithLastTransition));
+    }
+    Ok(())
+}
+
+// Whether the rule, if there is one, agrees with the last transition, if there is one.
+fn rule_agrees(
     transitions: &[Transition],
     types: &[LocalTimeType],
     leaps: &[LeapSecond],
     rule: &Option<TransitionRule>,
 ) -> bool
-    ensures { IsTrue result ↔ IsValid (record {
-      transitions = transitions.now;
-      types = types.now;
-      leaps = leaps.now;
-      rule = rule.now;
-    }) }
+    requires transitions { AreTransitions (length types.now) transitions.now }
+    requires leaps { AreLeapSeconds leaps.now }
+    ensures { IsTrue result ↔ IfSome rule.now (λ r. IfSome (last_transition transitions.now)
+        (Agrees types.now leaps.now r)) }
 {
-    if types.is_empty() {
-        return false;
-    }
-    if !are_transitions(types.len(), transitions) {
-        return false;
-    }
-    if !are_leap_seconds(leaps) {
-        return false;
-    }
     match rule {
         Some(rule) => match transitions.last() {
             Some(last) => agrees(types, leaps, rule, *last),
@@ -68,6 +90,13 @@ fn is_same_type(a: &LocalTimeType, b: &LocalTimeType) -> bool
     ensures { IsTrue result ↔ (a.now ≡ b.now) }
 {
     *a == *b
+}
+
+// Whether each transition names one of that many types.
+fn name_types(type_count: usize, transitions: &[Transition]) -> bool
+    ensures { IsTrue result ↔ NameTypes type_count transitions.now }
+{
+    transitions.iter().all(|transition| transition.type_index < type_count)
 }
 
 // Whether a zone of so many types may have the transitions, in one pass over them. None is left

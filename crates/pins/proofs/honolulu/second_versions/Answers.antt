@@ -5,8 +5,8 @@ use Rattle.pins.proofs.honolulu.second_versions.Goals as goal
 
 pub returns : goal.returns
 returns c = record {
-  version_1 = no_file _ 5 version_1_again;
-  version_1_fault = In_file 5 (In_piece 5 version_1_again);
-  digit_1 = no_file _ 14 other_version;
-  digit_1_fault = In_file 14 (In_piece 14 other_version);
+  version_1 = no_file _ _ version_1_again;
+  version_1_fault = In_file _ (In_piece _ version_1_again);
+  digit_1 = no_file _ _ other_version;
+  digit_1_fault = In_file _ (In_piece _ other_version);
 }

@@ -6,6 +6,6 @@ use Rattle.pins.proofs.honolulu.version_1.Goals as goal
 pub returns : goal.returns
 returns c = record {
   spells = of_version_1;
-  byte_after = λ b. no_file _ 5 (byte_after b);
-  byte_after_fault = λ b. In_file 5 (In_piece 5 (byte_after b));
+  byte_after = λ b. no_file _ _ (byte_after b);
+  byte_after_fault = λ b. In_file _ (In_piece _ (byte_after b));
 }

@@ -9,7 +9,7 @@ pub returns : goal.returns
 returns c = record {
   hours_23 = foo_23_spelled;
   hours_24 = over_23;
-  none = λ zone z. text_fault_or_zone foo_24 6 zone (record {
+  none = λ zone z. text_fault_or_zone foo_24 _ zone (record {
     some = some_bytes _ _;
     trimmed = foo_24;
     trims = record { before = []; after = []; whole = refl; space_before = tt; space_after = tt; first = refl; last = refl };

@@ -4,7 +4,9 @@ ghost use Rattle.std.specs.Prelude.{◌≡◌, IfOk, int_le, pos, ◌+ℤ◌};
 ghost use Rattle.offset_core.specs.Offset.{IsWithinDay};
 ghost use Rattle.tz_base.specs.Fronts.{Gives};
 ghost use Rattle.tz_base.specs.Grammar.{read, checked, is_end};
+ghost use Rattle.tz_base.specs.Names.{expected_of_name};
 ghost use Rattle.tz_base.specs.Refusals.{InvalidTzString, LocalTimeType as BadType};
+ghost use Rattle.tz_base.specs.declared.error.Expected.TheVariants.{OffsetOfDaylightSavingTimeWithinDay};
 ghost use Rattle.tz_info.specs.Rules.{IsWithinWeek};
 ghost use Rattle.tz_info.specs.TzGrammar.{more, end, given_offset, dst_offset, is_name, named_type, fixed, alternate, days, rule, text};
 ghost use Rattle.tz_info.specs.Steps.Spelled.{day_time_of, alternate_of, rule_of, IsSpelled};
@@ -148,7 +150,7 @@ fn read_given_offset(cursor: &mut Cursor<'_>) -> Result<i32, Error>
 fn next_hour(std: i32) -> Result<i32, Error>
     requires { IsWithinDay std }
     ensures value { Gives (λ z. z) result (checked (int_le (std +ℤ pos 3_600) (pos 86_399))
-        InvalidTzString (std +ℤ pos 3_600)) }
+        (InvalidTzString OffsetOfDaylightSavingTimeWithinDay) (std +ℤ pos 3_600)) }
     ensures bound { IfOk result (λ z. IsWithinDay z) }
 {
     let offset = std + 3_600;
@@ -161,8 +163,8 @@ fn next_hour(std: i32) -> Result<i32, Error>
 // The type of that name, if a type can have it.
 fn named_type(name: &[u8], dst: bool, offset: i32) -> Result<LocalTimeType, Error>
     requires { IsWithinDay offset }
-    ensures value { Gives (λ t. t) result (checked (is_name name.now) BadType
-        (named_type name.now dst offset)) }
+    ensures value { Gives (λ t. t) result (checked (is_name name.now)
+        (BadType (expected_of_name name.now)) (named_type name.now dst offset)) }
     ensures offset { IfOk result (λ t. IsWithinDay t.offset) }
 {
     LocalTimeType::new(offset, dst, Some(name))
@@ -205,7 +207,7 @@ fn expect_end(cursor: &Cursor<'_>) -> Result<(), Error>
     if is_at_end(cursor) {
         Ok(())
     } else {
-        Err(Error::InvalidTzString(Expected::NothingBehindText))
+        Err(Error::InvalidTzString(Expected::NothingAfterText))
     }
 }
 

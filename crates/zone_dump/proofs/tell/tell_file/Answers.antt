@@ -1,6 +1,6 @@
 use Rattle.std.proofs.Common.{◌≡◌, inl}
 use Rattle.std.proofs.lemmas.Result.{on_ok_weaker, IfErr-weaker}
-use Rattle.tz_base.specs.Errors.{number_of}
+use Rattle.tz_base.specs.Errors.{IsOutOfMemory}
 use Rattle.zone_dump.specs.Forms.{IsFileRefused}
 use Rattle.zone_dump.proofs.tell.tell_file.Goals as goal
 
@@ -11,4 +11,4 @@ returns-in-Ok-clause-told c =
 
 pub returns-in-Ok-clause-fault : goal.returns-in-Ok-clause-fault
 returns-in-Ok-clause-fault c =
-    IfErr-weaker c.tell_zone.result (λ e. number_of e ≡ 17) (λ e. IsFileRefused c.args.bytes.now (number_of e)) (λ e memory. inl memory) c.tell_zone.ensures.fault
+    IfErr-weaker c.tell_zone.result (λ e. IsOutOfMemory e) (λ e. IsFileRefused c.args.bytes.now e) (λ e memory. inl memory) c.tell_zone.ensures.fault

@@ -1,6 +1,6 @@
 use Rattle.std.proofs.Common.{◌≡◌, ◌⊎◌, ◌∙◌}
 use Rattle.std.proofs.lemmas.Result.{IfErr-weaker}
-use Rattle.tz_base.specs.Errors.{number_of}
+use Rattle.tz_base.specs.Errors.{IsOutOfMemory}
 use Rattle.tz_info.specs.TzFiles.{IsFileFault, IsZoneFault}
 use Rattle.zone_query.specs.Steps.HexBytes.{bytes_of}
 use Rattle.zone_query.proofs.HexLaws.{decoded}
@@ -15,4 +15,4 @@ returns-in-Ok-clause-found c =
 pub returns-in-Ok-clause-fault : goal.returns-in-Ok-clause-fault
 returns-in-Ok-clause-fault c =
     let bytes = c.as_slice.ensures.value ∙ decoded c.args.digits.now c.in-Ok.bytes.items c.in-Ok.ensures.ok in
-    IfErr-weaker c.from_tz_data.result (λ e. IsZoneFault (bytes_of c.args.digits.now) (number_of e)) (λ e. (number_of e ≡ 17) ⊎ IsFileFault (bytes_of c.args.digits.now) (number_of e)) (λ e fault. memory_or_fault (bytes_of c.args.digits.now) (number_of e) fault) (rw bytes at c.from_tz_data.ensures.fault)
+    IfErr-weaker c.from_tz_data.result (λ e. IsZoneFault (bytes_of c.args.digits.now) e) (λ e. IsOutOfMemory e ⊎ IsFileFault (bytes_of c.args.digits.now) e) (λ e fault. memory_or_fault (bytes_of c.args.digits.now) e fault) (rw bytes at c.from_tz_data.ensures.fault)

@@ -1,4 +1,5 @@
 use Rattle.std.proofs.Common.{List, subst, sym, ℕ}
+use Rattle.std.specs.Str.{IsUtf8}
 use Rattle.tz_base.specs.Errors.{number_of}
 use Rattle.tz_info.specs.PosixZones.{IsPosixZone}
 use Rattle.zoned_ffi.proofs.Reading.{reader_number, text_refused}
@@ -20,9 +21,9 @@ returns-in-Err-clause-only c = λ z spelled.
 
 pub returns-in-Err-clause-fault : goal.returns-in-Err-clause-fault
 returns-in-Err-clause-fault c =
-    let number = number_of c.in-Err.error in
-    let fault = text_refused c.in-Ok.text.now number c.in-Err.ensures.fault c.in-Err.ensures.memory in
-    subst (λ (bytes : List ℕ). IsTextFault bytes number) c.in-Ok.ensures.cases.0 fault
+    let utf8 = subst (λ (bytes : List ℕ). IsUtf8 bytes) (sym c.in-Ok.ensures.cases.0) c.in-Ok.ensures.cases.1 in
+    let fault = text_refused c.in-Ok.text.now c.in-Err.error utf8 c.in-Err.ensures.fault c.in-Err.ensures.memory in
+    subst (λ (bytes : List ℕ). IsTextFault bytes (number_of c.in-Err.error)) c.in-Ok.ensures.cases.0 fault
 
 pub returns-in-Err-clause-number : goal.returns-in-Err-clause-number
 returns-in-Err-clause-number c = reader_number c.in-Err.error

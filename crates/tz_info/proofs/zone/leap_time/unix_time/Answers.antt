@@ -1,6 +1,9 @@
-use Rattle.std.proofs.Common.{arith, to_z-of_z, of_z, w64, w32, rules, ◌-ℤ◌, ◌∙◌, ap, inr, refl}
+use Rattle.std.proofs.Common.{arith, to_z-of_z, of_z, w64, w32, rules, ◌-ℤ◌, ◌≤ℤ◌, ◌∙◌, ap, sym, inr}
 use mir.Val.{SFits}
 use Rattle.std.proofs.lemmas.Int.{ints}
+use Rattle.tz_base.specs.declared.error.Error.TheVariants.{OutOfRange}
+use Rattle.tz_info.specs.Leaps.{least_time}
+use Rattle.tz_info.proofs.LeapEntries.{above_least}
 use Rattle.tz_info.proofs.zone.leap_time.unix_time.Goals as goal
 
 pub returns-in-Some : goal.returns-in-Some
@@ -20,4 +23,5 @@ returns-in-None c =
     let fd : SFits w64 c.correction_before.result = omega (arith, ints) in
     let v = simp to_z-of_z at c.correction_before.ensures in
     let n = simp to_z-of_z at c.in-None.ensures in
-    (refl, inr (λ f. n (rw (← v) at f)))
+    let least : least_time ≤ℤ c.args.leap_time = omega (arith, ints) in
+    (ap OutOfRange (sym (above_least c.args.leap_time least (λ e. c.if-leap_time-eqminus9223372036854775808.false (ap (of_z w64) e)))), inr (λ f. n (rw (← v) at f)))

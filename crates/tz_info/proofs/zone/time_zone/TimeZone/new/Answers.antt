@@ -2,13 +2,13 @@ use Rattle.tz_info.proofs.zone.time_zone.TimeZone.new.Goals as goal
 
 pub new-requires-2 : goal.new-requires-2
 new-requires-2 c =
-    let valid = rw (c.deref.ensures.value, c.deref-2.ensures.value, c.deref-3.ensures.value) at (c.is_valid.ensures.0 c.if-not-is_valid.false) in
+    let valid = rw (c.deref.ensures.value, c.deref-2.ensures.value, c.deref-3.ensures.value) at c.in_ok-check.ensures in
     valid.transitions.rising
 
 pub invariant_of-result : goal.invariant_of-result
 invariant_of-result c =
     rw c.in_ok-new.ensures (record {
-      valid = rw (c.deref.ensures.value, c.deref-2.ensures.value, c.deref-3.ensures.value) at (c.is_valid.ensures.0 c.if-not-is_valid.false);
+      valid = rw (c.deref.ensures.value, c.deref-2.ensures.value, c.deref-3.ensures.value) at c.in_ok-check.ensures;
       extremes = rw c.deref-7.ensures.value at c.extremes_of-extremes.ensures;
       index = rw (c.deref-4.ensures.value, c.deref-5.ensures.value, c.deref-6.ensures.value) at c.in_ok-index.ensures;
     })

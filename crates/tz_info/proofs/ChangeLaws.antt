@@ -1,0 +1,102 @@
+-- At a second there is one change, and so one next change, one previous change and one list of them.
+use Rattle.std.proofs.Common.{◌≡◌, ◌↔◌, ◌⊎◌, ℕ, zero, suc, ◌<◌, ◌+◌, List, [], ◌∷◌, length, get_or, AllPairs, Contains, Option, Some, None, ℤ, pos, ◌+ℤ◌, ◌-ℤ◌, ◌≤ℤ◌, ◌<ℤ◌, refl, sym, ap, subst, arith, inl, inr}
+use Rattle.std.proofs.lemmas.Int.{ints, by_lt_z}
+use Rattle.tz_base.specs.LocalTypes.{LocalType}
+use Rattle.tz_base.specs.declared.change.Change.{Change}
+use Rattle.tz_info.specs.Changes.{IsChange, IsFirst, IsLast, AreChanges}
+use Rattle.tz_info.specs.Gaps.{IsBeforeGap}
+use Rattle.tz_info.specs.Zones.{Zone, TypeAt}
+use Rattle.tz_info.proofs.ZoneLaws.{type_once}
+
+same_parts : (c d : Change) → c.at ≡ d.at → c.before ≡ d.before → c.after ≡ d.after → c ≡ d
+same_parts c d p q r = λ i. record { at = p i; before = q i; after = r i }
+
+pub one_change : (z : Zone) (c d : Change) → IsChange (TypeAt z) c → IsChange (TypeAt z) d → c.at ≡ d.at → c ≡ d
+one_change z c d a b same = same_parts c d same
+    (type_once z (d.at -ℤ pos 1) c.before d.before (subst (λ (u : ℤ). TypeAt z (u -ℤ pos 1) c.before) same a.before) b.before)
+    (type_once z d.at c.after d.after (subst (λ (u : ℤ). TypeAt z u c.after) same a.after) b.after)
+
+-- ---- the first and the last one
+pub one_first : (z : Zone) (within : ℤ → Type 0) (a b : Option Change) → IsFirst (TypeAt z) within a → IsFirst (TypeAt z) within b → a ≡ b
+one_first z within None None h k = refl
+one_first z within None (Some d) h k = absurd (h d k.is k.inside)
+one_first z within (Some c) None h k = absurd (k c h.is h.inside)
+one_first z within (Some c) (Some d) h k = let l = h.first d k.is k.inside in let m = k.first c h.is h.inside in ap Some (one_change z c d h.is k.is (omega (arith, ints, l, m)))
+
+pub one_last : (z : Zone) (within : ℤ → Type 0) (a b : Option Change) → IsLast (TypeAt z) within a → IsLast (TypeAt z) within b → a ≡ b
+one_last z within None None h k = refl
+one_last z within None (Some d) h k = absurd (h d k.is k.inside)
+one_last z within (Some c) None h k = absurd (k c h.is h.inside)
+one_last z within (Some c) (Some d) h k = let l = h.last d k.is k.inside in let m = k.last c h.is h.inside in ap Some (one_change z c d h.is k.is (omega (arith, ints, l, m)))
+
+-- ---- lists
+abbrev Rise : List Change → Type 0
+Rise changes = AllPairs (λ c d. c.at <ℤ d.at) changes
+
+at_front : (c : Change) (cs : List Change) → Contains (c ∷ cs) c
+at_front c cs = (0, omega arith, refl)
+
+behind_front : (c d : Change) (cs : List Change) → Contains cs d → Contains (c ∷ cs) d
+behind_front c d cs h = (suc h.0, omega (arith, h.1), h.2)
+
+-- what a list contains is its front, or comes behind it
+parted : (c d : Change) (cs : List Change) → Contains (c ∷ cs) d → (c ≡ d) ⊎ Contains cs d
+parted c d cs (zero, l, same) = inl same
+parted c d cs (suc k, l, same) = inr (k, omega (arith, l), same)
+
+later : (c d : Change) (cs : List Change) → Rise (c ∷ cs) → Contains cs d → c.at <ℤ d.at
+later c d cs rise h = subst (λ (x : Change). c.at <ℤ x.at) h.2 (rise 0 (suc h.0) d (omega arith) (omega (arith, h.1)))
+
+not_before : (c d : Change) (cs : List Change) → Rise (c ∷ cs) → Contains (c ∷ cs) d → c.at ≤ℤ d.at
+not_before c d cs rise h = elim (parted c d cs h) [ inl same ↦ subst (λ (x : Change). c.at ≤ℤ x.at) same (omega (arith, ints)) | inr more ↦ let l = later c d cs rise more in omega (arith, ints, l) ]
+
+rest_rises : (c : Change) (cs : List Change) → Rise (c ∷ cs) → Rise cs
+rest_rises c cs rise = λ i j d l m. rise (suc i) (suc j) d (omega (arith, l)) (omega (arith, m))
+
+-- of two lists that contain the same, what comes behind the same front is the same
+rest_same : (c : Change) (cs ds : List Change) → Rise (c ∷ cs) → ((x : Change) → Contains (c ∷ cs) x → Contains (c ∷ ds) x) → (x : Change) → Contains cs x → Contains ds x
+rest_same c cs ds rise same x h = elim (parted c x ds (same x (behind_front c x cs h))) [
+  | inl front ↦ let l = subst (λ (y : Change). c.at <ℤ y.at) (sym front) (later c x cs rise h) in absurd (omega (arith, ints, l))
+  | inr more ↦ more
+]
+
+one_list : (z : Zone) (a b : List Change) → Rise a → Rise b → ((c : Change) → Contains a c → IsChange (TypeAt z) c) → ((c : Change) → Contains b c → IsChange (TypeAt z) c)
+    → ((c : Change) → Contains a c → Contains b c) → ((c : Change) → Contains b c → Contains a c) → a ≡ b
+one_list z [] [] p q are_a are_b to from = refl
+one_list z [] (d ∷ ds) p q are_a are_b to from = let h = from d (at_front d ds) in absurd (omega (arith, h.1))
+one_list z (c ∷ cs) [] p q are_a are_b to from = let h = to c (at_front c cs) in absurd (omega (arith, h.1))
+one_list z (c ∷ cs) (d ∷ ds) p q are_a are_b to from =
+    let l = not_before d c ds q (to c (at_front c cs)) in
+    let m = not_before c d cs p (from d (at_front d ds)) in
+    let same : c ≡ d = one_change z c d (are_a c (at_front c cs)) (are_b d (at_front d ds)) (omega (arith, ints, l, m)) in
+    let to' = subst (λ (x : Change). (y : Change) → Contains (c ∷ cs) y → Contains (x ∷ ds) y) (sym same) to in
+    let from' = subst (λ (x : Change). (y : Change) → Contains (x ∷ ds) y → Contains (c ∷ cs) y) (sym same) from in
+    let q' = subst (λ (x : Change). Rise (x ∷ ds)) (sym same) q in
+    let rest : cs ≡ ds = one_list z cs ds (rest_rises c cs p) (rest_rises c ds q') (λ x h. are_a x (behind_front c x cs h)) (λ x h. are_b x (behind_front d x ds h)) (rest_same c cs ds p to') (rest_same c ds cs q' from') in
+    λ i. same i ∷ rest i
+
+pub one_list_of_changes : (z : Zone) (from until : ℤ) (a b : List Change) → AreChanges (TypeAt z) from until a → AreChanges (TypeAt z) from until b → a ≡ b
+one_list_of_changes z from until a b h k = one_list z a b h.rising k.rising
+    (λ c inside. ((h.each c).0 inside).0)
+    (λ c inside. ((k.each c).0 inside).0)
+    (λ c inside. (k.each c).1 ((h.each c).0 inside))
+    (λ c inside. (h.each c).1 ((k.each c).0 inside))
+
+-- the front of a list is the first change at or after its first second
+pub front_is_first : (z : Zone) (from until : ℤ) (c : Change) (cs : List Change) → AreChanges (TypeAt z) from until (c ∷ cs) → IsFirst (TypeAt z) (λ u. (from -ℤ pos 1) <ℤ u) (Some c)
+front_is_first z from until c cs h =
+    let here = (h.each c).0 (at_front c cs) in
+    let low = here.1.0 in
+    record {
+      is = here.0;
+      inside = omega (arith, ints, low);
+      first = λ d is inside. by_lt_z {P = c.at ≤ℤ d.at} d.at until (λ before. not_before c d cs h.rising ((h.each d).1 (is, omega (arith, ints, inside), before))) (λ from_on. let high = here.1.1 in omega (arith, ints, high, from_on));
+    }
+
+-- ---- the type before a gap
+pub one_type_before_gap : (z : Zone) (l : ℤ) (s t : LocalType) → IsBeforeGap (TypeAt z) l s → IsBeforeGap (TypeAt z) l t → s ≡ t
+one_type_before_gap z l s t a b =
+    let less = a.least b.first b.more in
+    let more = b.least a.first a.more in
+    let same : a.first ≡ b.first = omega (arith, ints, less, more) in
+    type_once z (b.first -ℤ pos 1) s t (subst (λ (u : ℤ). TypeAt z (u -ℤ pos 1) s) same a.before) b.before

@@ -1,0 +1,11 @@
+use Rattle.tz_info.proofs.ChangeLaws.{one_change, one_first, one_last, one_list_of_changes, front_is_first}
+use Rattle.tz_info.proofs.laws.changes.one_change_law.Goals as goal
+
+pub returns : goal.returns
+returns c = record {
+  once = one_change;
+  next = λ z s. one_first z _;
+  previous = λ z s. one_last z _;
+  lists = one_list_of_changes;
+  first = front_is_first;
+}

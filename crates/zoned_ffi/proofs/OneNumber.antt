@@ -1,0 +1,45 @@
+-- A call that is rejected has one number, unless memory runs out.
+use Rattle.std.proofs.Common.{◌≡◌, ◌⊎◌, ℕ, List, ap, refl, sym, ◌∙◌, inl, inr, arith}
+use Rattle.tz_base.specs.Errors.{number_of}
+use Rattle.tz_info.proofs.ForCallers.{file_fault_once, text_fault_once}
+use Rattle.tz_info.specs.TzFiles.IsZoneFault.{In_file as Of_file, No_memory as Of_memory}
+use Rattle.zoned_ffi.specs.Kinds.{number_of as kind_number}
+use Rattle.zoned_ffi.specs.Refusals.{IsFault, IsFileError, IsRefusal, IsTextFault}
+use Rattle.zoned_ffi.specs.Refusals.IsFileError.{In_file}
+use Rattle.zoned_ffi.specs.Refusals.IsTextFault.{Not_utf8, In_text, No_memory}
+use Rattle.zoned_ffi.specs.Refusals.IsRefusal.{Unknown_kind, Other_size, Not_read}
+use Rattle.zoned_ffi.specs.declared.kind.Kind.{Kind}
+use Rattle.zoned_ffi.specs.declared.kind.Kind.TheVariants as kinds
+
+abbrev Alike : ℕ → ℕ → Type 0
+Alike m n = (m ≡ n) ⊎ (m ≡ 17) ⊎ (n ≡ 17)
+
+file_alike : (bytes : List ℕ) (m n : ℕ) → IsFileError bytes m → IsFileError bytes n → Alike m n
+file_alike bytes m n (In_file _ (Of_memory _ _)) g = inr (inl refl)
+file_alike bytes m n (In_file _ (Of_file _ _)) (In_file _ (Of_memory _ _)) = inr (inr refl)
+file_alike bytes m n (In_file d (Of_file _ f)) (In_file e (Of_file _ g)) = inl (ap number_of (file_fault_once bytes d e f g))
+
+text_alike : (bytes : List ℕ) (m n : ℕ) → IsTextFault bytes m → IsTextFault bytes n → Alike m n
+text_alike bytes m n (No_memory _ _ _) g = inr (inl refl)
+text_alike bytes m n f (No_memory _ _ _) = inr (inr refl)
+text_alike bytes m n (Not_utf8 _) (Not_utf8 _) = inl refl
+text_alike bytes m n (Not_utf8 bad) (In_text _ utf8 _) = absurd (bad utf8)
+text_alike bytes m n (In_text _ utf8 _) (Not_utf8 bad) = absurd (bad utf8)
+text_alike bytes m n (In_text d _ f) (In_text e _ g) = inl (ap number_of (text_fault_once bytes d e f g))
+
+fault_alike : (j k : Kind) (bytes : List ℕ) (m n : ℕ) → kind_number j ≡ kind_number k → IsFault j bytes m → IsFault k bytes n → Alike m n
+fault_alike kinds.File kinds.File bytes m n same f g = file_alike bytes m n f g
+fault_alike kinds.File kinds.Text bytes m n same f g = absurd (omega (arith, same))
+fault_alike kinds.Text kinds.File bytes m n same f g = absurd (omega (arith, same))
+fault_alike kinds.Text kinds.Text bytes m n same f g = text_alike bytes m n f g
+
+pub one_number : (kind : ℕ) (bytes : List ℕ) (wanted room m n : ℕ) → IsRefusal kind bytes wanted room m → IsRefusal kind bytes wanted room n → Alike m n
+one_number kind bytes wanted room m n (Unknown_kind _) (Unknown_kind _) = inl refl
+one_number kind bytes wanted room m n (Unknown_kind none) (Other_size is _) = absurd (none is)
+one_number kind bytes wanted room m n (Unknown_kind none) (Not_read k _ is _ _ _) = absurd (none (k, is))
+one_number kind bytes wanted room m n (Other_size is _) (Unknown_kind none) = absurd (none is)
+one_number kind bytes wanted room m n (Other_size _ _) (Other_size _ _) = inl refl
+one_number kind bytes wanted room m n (Other_size _ differ) (Not_read _ _ _ same _ _) = absurd (differ same)
+one_number kind bytes wanted room m n (Not_read k _ is _ _ _) (Unknown_kind none) = absurd (none (k, is))
+one_number kind bytes wanted room m n (Not_read _ _ _ same _ _) (Other_size _ differ) = absurd (differ same)
+one_number kind bytes wanted room m n (Not_read j p is _ f _) (Not_read k q of _ g _) = fault_alike j k bytes p q (sym is ∙ of) f g
