@@ -7,7 +7,7 @@ use Rattle.std.specs.Bool.{nat_eq}
 use Rattle.std.specs.List.{starts_with}
 use Rattle.tz_info.specs.FileContents.{HasNoZero}
 use Rattle.tz_write.specs.FileDesignations.{begins, place_of}
-use Rattle.tz_write.specs.Steps.FileLayouts.{ends}
+use Rattle.tz_write.specs.FileLayouts.{ends}
 use Rattle.tz_write.proofs.FileMeetings.{Stands, Ends}
 use Rattle.tz_write.proofs.FileRecords.{begins_is, has_text}
 
