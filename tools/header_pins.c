@@ -1,10 +1,13 @@
 /* What zoned_ffi.h says of sizes, places and numbers, held beside the archive. The assertions are tried when this file is
    compiled, and fail where the header says something else than the callers of today were built with. The program is linked
-   with the archive and asks it: the numbers and the places that the archive writes are those of the header. It prints
-   nothing and ends with 0, or names the line that differs. tools/try_examples.py compiles and runs it. */
+   with the archive and asks it: the numbers and the places that the archive writes are those of the header. With -DOWN_HEAP
+   the library takes its memory by the three functions below, and not by those of the kit. It prints nothing and ends with 0,
+   or names the line that differs. tools/try_examples.py compiles and runs it both ways. */
 #include "../crates/zoned_ffi/include/zoned_ffi.h"
 
+#include <stdbool.h>
 #include <stdio.h>
+#include <stdlib.h>
 #include <string.h>
 
 _Static_assert(sizeof(zoned_wall_clock) == 32, "the size of the struct");
@@ -32,6 +35,10 @@ _Static_assert(offsetof(zoned_change, at) == 0, "the place of at");
 _Static_assert(offsetof(zoned_change, before) == 8, "the place of the type before");
 _Static_assert(offsetof(zoned_change, after) == 24, "the place of the type after");
 _Static_assert(ZONED_NOT_OPEN == 33 && ZONED_UNKNOWN_CHOICE == 34 && ZONED_NO_CHANGE == 35, "the numbers of a call by handle");
+_Static_assert(ZONED_LOCAL_TIME_TYPE == 3 && ZONED_INVALID_TZ_FILE == 5 && ZONED_INVALID_TZ_STRING == 6, "faults of the bytes");
+_Static_assert(ZONED_UNEXPECTED_END == 7 && ZONED_MISSING_TAG == 8 && ZONED_PARSE_INT == 10, "faults of the bytes");
+_Static_assert(ZONED_TIME_ZONE == 12 && ZONED_TRANSITION_RULE == 13 && ZONED_UNSUPPORTED_TZ_FILE == 14, "faults of the bytes");
+_Static_assert(ZONED_UNSUPPORTED_TZ_STRING == 15 && ZONED_UTF8 == 16 && ZONED_OUT_OF_MEMORY == 17, "faults of the bytes");
 _Static_assert(ZONED_GAP_REFUSE == 0 && ZONED_GAP_SHIFT_FORWARD == 1, "choices for gaps");
 _Static_assert(ZONED_FOLD_REFUSE == 0 && ZONED_FOLD_EARLIEST == 1 && ZONED_FOLD_LATEST == 2, "choices for folds");
 _Static_assert(ZONED_IN_GAP == 21 && ZONED_IN_FOLD == 22 && ZONED_INSTANT_OUT_OF_RANGE == 23, "why there is no instant");
@@ -48,6 +55,34 @@ static int differences = 0;
             differences++;                                                                                     \
         }                                                                                                      \
     } while (0)
+
+/* How many blocks the library has, and how often it asked for one. */
+static long blocks = 0, requests = 0;
+
+#ifdef OWN_HEAP
+struct tried { bool ok; void *p; };
+static char none;
+
+static struct tried tried_as(void *block) { return (struct tried){block != NULL, block ? block : &none}; }
+
+struct tried rattle_alloc(size_t size, size_t align) {
+    void *block = malloc(size ? size : align);
+    requests++;
+    blocks += block != NULL;
+    return tried_as(block);
+}
+
+struct tried rattle_realloc(void *block, size_t kept, size_t size, size_t align) {
+    (void)kept;
+    requests++;
+    return tried_as(realloc(block, size ? size : align));
+}
+
+void rattle_dealloc(void *block) {
+    blocks--;
+    free(block);
+}
+#endif
 
 /* New York since 2007. Clocks are set forward at 2021-03-14 07:00:00 UTC, and back at 2021-11-07 06:00:00 UTC. */
 static const uint8_t NEW_YORK[] = "EST5EDT,M3.2.0,M11.1.0";
@@ -165,5 +200,9 @@ int main(void) {
     IS(zoned_wall(ZONED_TEXT, NEW_YORK, LEN, LOCALS, 1, guarded + 1, 2), ZONED_OTHER_SIZE);
     IS(zoned_at(ZONED_TEXT, NEW_YORK, LEN, instants, 3, guarded + 1, 2), ZONED_OTHER_SIZE);
     for (int i = 0; i < 4; i++) IS(guarded[i], 77);
+#ifdef OWN_HEAP
+    IS(requests > 0, 1);
+#endif
+    IS(blocks, 0);
     return differences != 0;
 }

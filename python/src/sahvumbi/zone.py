@@ -103,7 +103,7 @@ class Zone:
         >>> Zone.from_bytes(b"TZif")
         Traceback (most recent call last):
         ...
-        sahvumbi.errors.ZoneRefusedError: 4 bytes is refused: fewer bytes than must come (7)
+        sahvumbi.errors.ZoneRefusedError: 4 bytes is refused: unexpected end of input (7)
         """
         return cls(FILE, bytes(data), f"{len(data)} bytes")
 
