@@ -6,8 +6,8 @@ usage: tools/check_documents.py [--write]
 - Each relative link of a document leads to a file, and its anchor to a heading there.
 - Each word between backquotes in README.md and docs/ is a name of the code, or stands in tools/known_words.txt, which lists
   the names of chrono, of the kit and of other programs that the documents speak of.
-- The index at the end of docs/DEFINITIONS.md has a line for each word of specs/ that a public contract cites: its page and
-  its meaning, which is the comment before its definition. --write writes the index anew.
+- The index at the end of docs/DEFINITIONS.md has a line for each word of specs/ that a public contract cites, except those of
+  pins: its page and its meaning, which is the comment before its definition. --write writes the index anew.
 - No clause of a public function cites a step of a proof (specs/Steps).
 - Each must-fail edit is listed in docs/WRONG_BODIES.md, under what tries it, and each of its old texts stands once in its file.
 - A lemma that nothing names is an error, and so is a page of lemmas that its proofs/Lib.antt doesn't name.
@@ -159,7 +159,8 @@ def index_row(word):
 
 
 def index():
-    rows = [index_row(word) for (page, _), (word, _) in words_in_contracts().items() if ".Steps" not in page]
+    words = {page_and_name: word for page_and_name, (word, _) in words_in_contracts().items()}
+    rows = [index_row(word) for (page, _), word in words.items() if ".Steps" not in page and ".pins." not in page]
     head = "Made from the comments of the pages by `tools/check_documents.py --write`.\n\n| word | page | means |\n|---|---|---|\n"
     return INDEX + "\n" + head + "\n".join(sorted(rows, key=str.lower)) + "\n"
 
