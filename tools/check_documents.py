@@ -11,7 +11,7 @@ usage: tools/check_documents.py [--write]
 - No clause of a public function cites a step of a proof (specs/Steps).
 - Each must-fail edit is listed in docs/WRONG_BODIES.md, under what tries it, and each of its old texts stands once in its file.
 - A lemma that nothing names is an error, and so is a page of lemmas that its proofs/Lib.antt doesn't name.
-- docs/MAP.md names each crate and each module of a library.
+- docs/MAP.md names each crate and each module of a library. The pages that docs/PINS.md names are there.
 - No call for C requires anything: what C passes is checked, or is what the header says.
 - The numbers of tz_info::Error, 1 to 17, have the same words in docs/ZONEQ.md, in the comments of `Error`, in the texts of
   zoned_ffi, in its header and in the Python package, and these have all that C returns.
@@ -36,6 +36,7 @@ DOCUMENTS = [*sorted(TOP.glob("*.md")), *sorted((TOP / "docs").glob("*.md"))]
 DEFINITIONS = TOP / "docs/DEFINITIONS.md"
 WRONG_BODIES = TOP / "docs/WRONG_BODIES.md"
 MAP = TOP / "docs/MAP.md"
+PINS = TOP / "docs/PINS.md"
 KNOWN = TOP / "tools/known_words.txt"
 README = TOP / "README.md"
 ZONEQ = TOP / "docs/ZONEQ.md"
@@ -317,6 +318,13 @@ def required_of_c():
                 yield f"{shown(path, call.start())}: {call[1]} is called from C, and requires something"
 
 
+def pins_faults():
+    """Pages of docs/PINS.md, `crate`: `Page`, that aren't there."""
+    for row in re.finditer(r"`(\w+)`: `([\w/]+)`", text_of(PINS)):
+        if not (TOP / "crates" / row[1] / "specs" / f"{row[2]}.antt").exists():
+            yield f"{shown(PINS, row.start())}: {row[1]} has no page {row[2]}"
+
+
 # The words of numbers
 
 
@@ -370,7 +378,7 @@ def readme_facts():
 
 CHECKS = [
     links, unknown_words, stale_words, index_faults, edits, unused_lemmas, unlisted_pages, map_faults, required_of_c,
-    number_faults, readme_facts,
+    pins_faults, number_faults, readme_facts,
 ]
 
 

@@ -5,8 +5,8 @@
 //! contracts, and those of [`client_laws`], for a client's own contracts.
 //!
 //! Each call answers what its contract says, and no call panics, overflows, reads out of bounds or
-//! loops for ever. What a call requires, such as a range, its caller proves; for a literal the check
-//! mostly finds it by itself.
+//! loops for ever; no contract bounds the stack. What a call requires, such as a range, its caller
+//! proves; for a literal the check mostly finds it by itself.
 //!
 //! # The types
 //!
@@ -148,8 +148,9 @@
 //!
 //! # Where the checker doesn't reach
 //!
-//! What is written every day needs no contract, no lemma and no proof file: the repository's crate
-//! `idioms` has some fifty forms over each kind of zone. These aren't covered yet:
+//! What is written every day needs no contract, no lemma and no proof file: the repository's crates
+//! `idioms_utc`, `idioms_borrowed` and `idioms_kept` have sixty such functions and more for each kind
+//! of zone. These aren't covered yet:
 //!
 //! | of | in place of | write |
 //! |---|---|---|
