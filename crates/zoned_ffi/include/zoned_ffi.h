@@ -89,8 +89,8 @@
    Memory
    ------
    Memory is taken by malloc and realloc, and given back by free: before a call returns, or for an open zone when its last
-   handle is closed. Asking by a handle takes none. Leave a call 24 KB of stack: 16 KB
-   is the most that was measured, for a file of 8 million transitions.
+   handle is closed. Asking by a handle takes none. Leave a call 24 KB of stack: 16 KB is the most that was measured, when a file
+   of 8 million transitions was opened.
 
    The kit's c/liblibc_c.a defines the three functions by which the library takes memory. Link your own in its place to use
    another allocator. `align` is a power of two up to 16 that divides `size`; `p` must not be NULL, also if `ok` is false.
