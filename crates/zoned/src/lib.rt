@@ -37,9 +37,9 @@
 //! ```
 //! let parsed = tz_info::TimeZone::from_tz_data(alloc, bytes)?;
 //! let new_york = TimeZoneRef::new(&parsed).ok_or(MyError::WideZone)?;
-//! new_york.with_ymd_and_hms(2021, 3, 14, 2, 30, 0) // None
-//! new_york.with_ymd_and_hms(2021, 11, 7, 1, 30, 0) // Ambiguous(01:30 -04:00, 01:30 -05:00)
-//! new_york.with_ymd_and_hms(2021, 7, 1, 12, 0, 0) // Single(12:00 -04:00)
+//! let gap = new_york.with_ymd_and_hms(2021, 3, 14, 2, 30, 0); // None
+//! let fold = new_york.with_ymd_and_hms(2021, 11, 7, 1, 30, 0); // Ambiguous(-04:00, -05:00)
+//! let noon = new_york.with_ymd_and_hms(2021, 7, 1, 12, 0, 0); // Single(-04:00)
 //! ```
 //!
 //! [`TimeZone::resolve`] gives one instant, by a choice, or says why there is none. There are seven
@@ -92,8 +92,8 @@
 //! ```
 //! let new_year = Utc.timestamp(1_609_459_200, 0); // 2021-01-01 00:00:00 UTC
 //! if let Some(change) = new_york.next_change(&new_year) {
-//!     change.before // 2021-03-14 01:59:59 -05:00, EST
-//!     change.at // 2021-03-14 03:00:00 -04:00, EDT
+//!     let before = change.before; // 2021-03-14 01:59:59 -05:00, EST
+//!     let at = change.at; // 2021-03-14 03:00:00 -04:00, EDT
 //! }
 //! ```
 //!
