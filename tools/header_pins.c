@@ -56,10 +56,10 @@ static int differences = 0;
         }                                                                                                      \
     } while (0)
 
+#ifdef OWN_HEAP
 /* How many blocks the library has, and how often it asked for one. */
 static long blocks = 0, requests = 0;
 
-#ifdef OWN_HEAP
 struct tried { bool ok; void *p; };
 static char none;
 
@@ -91,6 +91,8 @@ static const uint8_t NEW_YORK[] = "EST5EDT,M3.2.0,M11.1.0";
 /* 2021-03-14 02:30:00 lies in a gap, 2021-11-07 01:30:00 in a fold, noon of that day is shown once, and the last one is the
    first second after the calendar's range. */
 static const int64_t LOCALS[4] = {1615689000, 1636248600, 1636286400, 8210266876800};
+
+static uint32_t parsed(const char *text) { return zoned_parse(ZONED_TEXT, (const uint8_t *)text, strlen(text)); }
 
 int main(void) {
     const int64_t instants[3] = {1615705199, 1615705200, INT64_MAX};
@@ -126,6 +128,12 @@ int main(void) {
     IS(zoned_parse(ZONED_FILE, NEW_YORK, LEN), 5);
     IS(zoned_parse(ZONED_FILE, (const uint8_t *)"TZif", 4), 7);
     IS(zoned_parse(2, NEW_YORK, LEN), ZONED_UNKNOWN_KIND);
+    IS(parsed(" EST5EDT,M3.2.0,M11.1.0\r\n"), ZONED_OK);
+    IS(parsed("EST5EDT,M13.2.0,M11.1.0"), ZONED_TRANSITION_RULE);
+    IS(parsed("EST5EDT"), ZONED_UNSUPPORTED_TZ_STRING);
+    IS(parsed("<-03>3<-02>,M3.5.0/-2,M10.5.0/-1"), ZONED_PARSE_INT);
+    IS(parsed("IST-2IDT,M3.4.4/26,M10.5.0"), ZONED_INVALID_TZ_STRING);
+    IS(zoned_parse(ZONED_FILE, (const uint8_t[44]){'T', 'Z', 'i', 'f', '4'}, 44), ZONED_UNSUPPORTED_TZ_FILE);
 
     /* By a handle. The gap's instant by the offset before it is 2021-03-14 07:30:00 UTC. */
     struct zoned_zone zone = {0};
@@ -183,6 +191,11 @@ int main(void) {
     IS(count, 0);
     IS(zoned_zone_next_change(&zone, 1636264800, &next), ZONED_OK);
     IS(next.at, 1647154800);
+    /* The rule answers up to the year 2147483645: that November has its last change. */
+    IS(zoned_zone_previous_change(&zone, INT64_MAX, &next), ZONED_OK);
+    IS(next.at, 67767976165557600);
+    IS(zoned_zone_next_change(&zone, next.at, &next), ZONED_NO_CHANGE);
+    IS(next.at, 67767976165557600);
     zoned_close(&zone);
     zoned_close(&zone);
     IS(zone.zone != NULL, 0);
@@ -202,7 +215,7 @@ int main(void) {
     for (int i = 0; i < 4; i++) IS(guarded[i], 77);
 #ifdef OWN_HEAP
     IS(requests > 0, 1);
-#endif
     IS(blocks, 0);
+#endif
     return differences != 0;
 }
