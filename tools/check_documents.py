@@ -6,18 +6,24 @@ usage: tools/check_documents.py [--write]
 - Each relative link of a document leads to a file, and its anchor to a heading there.
 - Each word between backquotes in README.md and docs/ is a name of the code, or stands in tools/known_words.txt, which lists
   the names of chrono, of the kit and of other programs that the documents speak of.
-- The index at the end of docs/DEFINITIONS.md has a line for each word of specs/ that a public contract cites: its page and
-  its meaning, which is the comment before its definition. --write writes the index anew.
+- The index at the end of docs/DEFINITIONS.md has a line for each word of specs/ that a public contract cites, except those of
+  pins: its page and its meaning, which is the comment before its definition. --write writes the index anew.
 - No clause of a public function cites a step of a proof (specs/Steps).
 - Each must-fail edit is listed in docs/WRONG_BODIES.md, under what tries it, and each of its old texts stands once in its file.
 - A lemma that nothing names is an error, and so is a page of lemmas that its proofs/Lib.antt doesn't name.
-- docs/MAP.md names each crate and each module of a library.
+- docs/MAP.md names each crate and each module of a library. The pages that docs/PINS.md names are there.
 - No call for C requires anything: what C passes is checked, or is what the header says.
+- The numbers of tz_info::Error, 1 to 17, have the same words in docs/ZONEQ.md, in the comments of `Error`, in the texts of
+  zoned_ffi, in its header and in the Python package, and these have all that C returns.
+- README.md names the version of the kit that `rt version` prints (where there is rt), and how many functions idioms_utc and
+  its kin have.
 
 Prints a line for each fault, with its place, and ends with status 1 where there is one.
 """
 
 import re
+import shutil
+import subprocess
 import sys
 from functools import lru_cache
 from itertools import chain
@@ -30,7 +36,14 @@ DOCUMENTS = [*sorted(TOP.glob("*.md")), *sorted((TOP / "docs").glob("*.md"))]
 DEFINITIONS = TOP / "docs/DEFINITIONS.md"
 WRONG_BODIES = TOP / "docs/WRONG_BODIES.md"
 MAP = TOP / "docs/MAP.md"
+PINS = TOP / "docs/PINS.md"
 KNOWN = TOP / "tools/known_words.txt"
+README = TOP / "README.md"
+ZONEQ = TOP / "docs/ZONEQ.md"
+ERROR = TOP / "crates/tz_base/src/error.rt"
+TEXTS = TOP / "crates/zoned_ffi/specs/Texts.antt"
+HEADER = TOP / "crates/zoned_ffi/include/zoned_ffi.h"
+PYTHON = TOP / "python/src/sahvumbi/errors.py"
 INDEX = "## Index of the words that contracts cite\n"
 EDITS = {
     "## Tried by the gate": "must-fail-in-part", "## Tried by hand": "must-fail-by-hand",
@@ -147,7 +160,8 @@ def index_row(word):
 
 
 def index():
-    rows = [index_row(word) for (page, _), (word, _) in words_in_contracts().items() if ".Steps" not in page]
+    words = {page_and_name: word for page_and_name, (word, _) in words_in_contracts().items()}
+    rows = [index_row(word) for (page, _), word in words.items() if ".Steps" not in page and ".pins." not in page]
     head = "Made from the comments of the pages by `tools/check_documents.py --write`.\n\n| word | page | means |\n|---|---|---|\n"
     return INDEX + "\n" + head + "\n".join(sorted(rows, key=str.lower)) + "\n"
 
@@ -304,7 +318,68 @@ def required_of_c():
                 yield f"{shown(path, call.start())}: {call[1]} is called from C, and requires something"
 
 
-CHECKS = [links, unknown_words, stale_words, index_faults, edits, unused_lemmas, unlisted_pages, map_faults, required_of_c]
+def pins_faults():
+    """Pages of docs/PINS.md, `crate`: `Page`, that aren't there."""
+    for row in re.finditer(r"`(\w+)`: `([\w/]+)`", text_of(PINS)):
+        if not (TOP / "crates" / row[1] / "specs" / f"{row[2]}.antt").exists():
+            yield f"{shown(PINS, row.start())}: {row[1]} has no page {row[2]}"
+
+
+# The words of numbers
+
+
+def first_sentence(comment):
+    """A comment's first sentence, as it stands in a table."""
+    sentence = re.split(r"\.(?:\s|$)", " ".join(comment.replace("///", " ").split()))[0]
+    return sentence[:1].lower() + sentence[1:]
+
+
+def number_faults():
+    """Numbers 1 to 17 whose words differ from those of ZONEQ.md."""
+    rows = re.findall(r"(?m)^\| (\d+) \| `(\w+)` \| (.*) \|$", text_of(ZONEQ))
+    words = {int(number): said for number, _, said in rows}
+    names = {name: int(number) for number, name, _ in rows}
+    error = text_of(ERROR).partition("\npub enum Error {\n")[2].partition("\n}\n")[0]
+    variants = re.findall(r"((?: *///[^\n]*\n)+) *#\[error[^\n]*\n *(\w+)", error)
+    constants = {"ZONED_" + re.sub(r"(?<=[a-z])(?=[A-Z])", "_", name).upper(): number for name, number in names.items()}
+    defines = re.findall(r"(?m)^ {4}(ZONED_\w+) = (\d+),? */\* (.*) \*/$", text_of(HEADER))
+    places = {
+        ERROR: {names.get(name, name): first_sentence(comment) for comment, name in variants},
+        TEXTS: {int(number): said for number, said in re.findall(r'IsSaidOf (\d+) \(codes "(.*)"\)', text_of(TEXTS))},
+        HEADER: {int(number): said for name, number, said in defines if constants.get(name) == int(number)},
+        PYTHON: {int(number): said for number, said in re.findall(r'(?m)^ {4}(\d+): "(.*)",$', text_of(PYTHON))},
+    }
+    at_instants = re.search(r'(?m)^ {4}NO_OFFSET: "(.*)",$', text_of(PYTHON))
+    places[PYTHON][2] = at_instants and at_instants[1]
+    returned = {number for number in places[TEXTS] if 0 < number < 18}
+    due = {ERROR: set(range(1, 18)), TEXTS: returned, HEADER: returned, PYTHON: returned | {2}}
+    if sorted(words) != list(range(1, 18)) or len(returned) < 12:
+        yield f"{shown(ZONEQ)}: its table of numbers isn't read, or that of {shown(TEXTS)}"
+    for path, said in places.items():
+        for number in sorted(due[path] | {number for number in said if number in words}):
+            if said.get(number) != words.get(number):
+                yield f"{shown(path)}: {number} is {said.get(number)!r}, and {words.get(number)!r} in {shown(ZONEQ)}"
+
+
+# What README says of the kit and of the code
+
+
+def readme_facts():
+    text = text_of(README)
+    version = subprocess.run(["rt", "version"], capture_output=True, text=True).stdout.strip() if shutil.which("rt") else ""
+    if version and f"`{version}`" not in text:
+        yield f"{shown(README)}: it doesn't name the version of the kit, {version}"
+    idioms = ["idioms_utc", "idioms_borrowed", "idioms_kept"]
+    counts = [str(sum(len(re.findall(r"(?m)^ *pub fn ", text_of(path))) for path in files("src", ".rt", [crate]))) for crate in idioms]
+    due = f"`crates/{idioms[0]}`, `{idioms[1]}` and `{idioms[2]}` have {counts[0]}, {counts[1]} and {counts[2]} "
+    if due not in text:
+        yield f"{shown(README)}: it doesn't say: {due}"
+
+
+CHECKS = [
+    links, unknown_words, stale_words, index_faults, edits, unused_lemmas, unlisted_pages, map_faults, required_of_c,
+    pins_faults, number_faults, readme_facts,
+]
 
 
 def main():

@@ -1,10 +1,13 @@
 /* What zoned_ffi.h says of sizes, places and numbers, held beside the archive. The assertions are tried when this file is
    compiled, and fail where the header says something else than the callers of today were built with. The program is linked
-   with the archive and asks it: the numbers and the places that the archive writes are those of the header. It prints
-   nothing and ends with 0, or names the line that differs. tools/try_examples.py compiles and runs it. */
+   with the archive and asks it: the numbers and the places that the archive writes are those of the header. With -DOWN_HEAP
+   the library takes its memory by the three functions below, and not by those of the kit. It prints nothing and ends with 0,
+   or names the line that differs. tools/try_examples.py compiles and runs it both ways. */
 #include "../crates/zoned_ffi/include/zoned_ffi.h"
 
+#include <stdbool.h>
 #include <stdio.h>
+#include <stdlib.h>
 #include <string.h>
 
 _Static_assert(sizeof(zoned_wall_clock) == 32, "the size of the struct");
@@ -32,6 +35,10 @@ _Static_assert(offsetof(zoned_change, at) == 0, "the place of at");
 _Static_assert(offsetof(zoned_change, before) == 8, "the place of the type before");
 _Static_assert(offsetof(zoned_change, after) == 24, "the place of the type after");
 _Static_assert(ZONED_NOT_OPEN == 33 && ZONED_UNKNOWN_CHOICE == 34 && ZONED_NO_CHANGE == 35, "the numbers of a call by handle");
+_Static_assert(ZONED_LOCAL_TIME_TYPE == 3 && ZONED_INVALID_TZ_FILE == 5 && ZONED_INVALID_TZ_STRING == 6, "faults of the bytes");
+_Static_assert(ZONED_UNEXPECTED_END == 7 && ZONED_MISSING_TAG == 8 && ZONED_PARSE_INT == 10, "faults of the bytes");
+_Static_assert(ZONED_TIME_ZONE == 12 && ZONED_TRANSITION_RULE == 13 && ZONED_UNSUPPORTED_TZ_FILE == 14, "faults of the bytes");
+_Static_assert(ZONED_UNSUPPORTED_TZ_STRING == 15 && ZONED_UTF8 == 16 && ZONED_OUT_OF_MEMORY == 17, "faults of the bytes");
 _Static_assert(ZONED_GAP_REFUSE == 0 && ZONED_GAP_SHIFT_FORWARD == 1, "choices for gaps");
 _Static_assert(ZONED_FOLD_REFUSE == 0 && ZONED_FOLD_EARLIEST == 1 && ZONED_FOLD_LATEST == 2, "choices for folds");
 _Static_assert(ZONED_IN_GAP == 21 && ZONED_IN_FOLD == 22 && ZONED_INSTANT_OUT_OF_RANGE == 23, "why there is no instant");
@@ -49,6 +56,34 @@ static int differences = 0;
         }                                                                                                      \
     } while (0)
 
+#ifdef OWN_HEAP
+/* How many blocks the library has, and how often it asked for one. */
+static long blocks = 0, requests = 0;
+
+struct tried { bool ok; void *p; };
+static char none;
+
+static struct tried tried_as(void *block) { return (struct tried){block != NULL, block ? block : &none}; }
+
+struct tried rattle_alloc(size_t size, size_t align) {
+    void *block = malloc(size ? size : align);
+    requests++;
+    blocks += block != NULL;
+    return tried_as(block);
+}
+
+struct tried rattle_realloc(void *block, size_t kept, size_t size, size_t align) {
+    (void)kept;
+    requests++;
+    return tried_as(realloc(block, size ? size : align));
+}
+
+void rattle_dealloc(void *block) {
+    blocks--;
+    free(block);
+}
+#endif
+
 /* New York since 2007. Clocks are set forward at 2021-03-14 07:00:00 UTC, and back at 2021-11-07 06:00:00 UTC. */
 static const uint8_t NEW_YORK[] = "EST5EDT,M3.2.0,M11.1.0";
 #define LEN (sizeof NEW_YORK - 1)
@@ -56,6 +91,8 @@ static const uint8_t NEW_YORK[] = "EST5EDT,M3.2.0,M11.1.0";
 /* 2021-03-14 02:30:00 lies in a gap, 2021-11-07 01:30:00 in a fold, noon of that day is shown once, and the last one is the
    first second after the calendar's range. */
 static const int64_t LOCALS[4] = {1615689000, 1636248600, 1636286400, 8210266876800};
+
+static uint32_t parsed(const char *text) { return zoned_parse(ZONED_TEXT, (const uint8_t *)text, strlen(text)); }
 
 int main(void) {
     const int64_t instants[3] = {1615705199, 1615705200, INT64_MAX};
@@ -91,6 +128,12 @@ int main(void) {
     IS(zoned_parse(ZONED_FILE, NEW_YORK, LEN), 5);
     IS(zoned_parse(ZONED_FILE, (const uint8_t *)"TZif", 4), 7);
     IS(zoned_parse(2, NEW_YORK, LEN), ZONED_UNKNOWN_KIND);
+    IS(parsed(" EST5EDT,M3.2.0,M11.1.0\r\n"), ZONED_OK);
+    IS(parsed("EST5EDT,M13.2.0,M11.1.0"), ZONED_TRANSITION_RULE);
+    IS(parsed("EST5EDT"), ZONED_UNSUPPORTED_TZ_STRING);
+    IS(parsed("<-03>3<-02>,M3.5.0/-2,M10.5.0/-1"), ZONED_PARSE_INT);
+    IS(parsed("IST-2IDT,M3.4.4/26,M10.5.0"), ZONED_INVALID_TZ_STRING);
+    IS(zoned_parse(ZONED_FILE, (const uint8_t[44]){'T', 'Z', 'i', 'f', '4'}, 44), ZONED_UNSUPPORTED_TZ_FILE);
 
     /* By a handle. The gap's instant by the offset before it is 2021-03-14 07:30:00 UTC. */
     struct zoned_zone zone = {0};
@@ -148,6 +191,11 @@ int main(void) {
     IS(count, 0);
     IS(zoned_zone_next_change(&zone, 1636264800, &next), ZONED_OK);
     IS(next.at, 1647154800);
+    /* The rule answers up to the year 2147483645: that November has its last change. */
+    IS(zoned_zone_previous_change(&zone, INT64_MAX, &next), ZONED_OK);
+    IS(next.at, 67767976165557600);
+    IS(zoned_zone_next_change(&zone, next.at, &next), ZONED_NO_CHANGE);
+    IS(next.at, 67767976165557600);
     zoned_close(&zone);
     zoned_close(&zone);
     IS(zone.zone != NULL, 0);
@@ -165,5 +213,9 @@ int main(void) {
     IS(zoned_wall(ZONED_TEXT, NEW_YORK, LEN, LOCALS, 1, guarded + 1, 2), ZONED_OTHER_SIZE);
     IS(zoned_at(ZONED_TEXT, NEW_YORK, LEN, instants, 3, guarded + 1, 2), ZONED_OTHER_SIZE);
     for (int i = 0; i < 4; i++) IS(guarded[i], 77);
+#ifdef OWN_HEAP
+    IS(requests > 0, 1);
+    IS(blocks, 0);
+#endif
     return differences != 0;
 }

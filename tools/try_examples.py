@@ -9,7 +9,8 @@ crates/zoned_ffi, and gcc, rustc and python3. Three things are tried:
 - each program of examples/ is built and run by the two lines in its head, and what it prints is compared with Python's
   zoneinfo: zones.c, zones.rs and zones.py on files, rule.c on TZ texts;
 - each call that the header declares is called by a program of examples/ or by try_handles.c, and defined in the archive;
-- tools/header_pins.c, which pins the header's sizes, places and numbers, compiles, and finds them in the archive's answers.
+- tools/header_pins.c, which pins the header's sizes, places and numbers, compiles, and finds them in the archive's answers,
+  over the kit's heap and over one of its own.
 
 It takes a few seconds. The gate runs it. Ends with status 1 where anything differs.
 """
@@ -175,14 +176,14 @@ def complaints_of_header(folder):
         yield f"{call} is called neither by a program of examples/ nor by {HANDLES.name}"
     kit = Path(run(["rt", "doc"]).stdout.strip()).parent
     pins = folder / "pins"
-    libraries = [str(ARCHIVE), str(kit / "c/liblibc_c.a")]
-    made = run(["gcc", "-O2", "-Wall", "-Wextra", "-Werror", "-o", str(pins), str(PINS), *libraries])
-    if made.returncode:
-        yield f"{PINS.name} is not built: {made.stderr}"
-        return
-    ended = run([str(pins)])
-    if ended.returncode:
-        yield f"{PINS.name} ends with {ended.returncode}: {ended.stderr}"
+    for heap in (str(kit / "c/liblibc_c.a"), "-DOWN_HEAP"):
+        made = run(["gcc", "-O2", "-Wall", "-Wextra", "-Werror", "-o", str(pins), str(PINS), str(ARCHIVE), heap])
+        if made.returncode:
+            yield f"{PINS.name} is not built with {heap}: {made.stderr}"
+            continue
+        ended = run([str(pins)])
+        if ended.returncode:
+            yield f"{PINS.name} with {heap} ends with {ended.returncode}: {ended.stderr}"
 
 
 def main():

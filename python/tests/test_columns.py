@@ -2,10 +2,13 @@
 
 import pickle
 from concurrent.futures import ThreadPoolExecutor
+from datetime import datetime
+from io import BytesIO
+from zoneinfo import ZoneInfo
 
 import numpy as np
 import pytest
-from definitions import Lists
+from definitions import Lists, tzif
 
 import sahvumbi
 from sahvumbi import Zone
@@ -395,7 +398,7 @@ def test_a_file(tmp_path):
         Zone.from_file(tmp_path / "none")
     (tmp_path / "bad").write_bytes(data[:100])
     with pytest.raises(
-        sahvumbi.ZoneRefusedError, match="bad is refused: fewer bytes than must come"
+        sahvumbi.ZoneRefusedError, match="bad is refused: unexpected end of input"
     ) as raised:
         Zone.from_file(tmp_path / "bad")
     assert raised.value.number == 7
@@ -408,6 +411,27 @@ def test_refused_texts(text, number):
     with pytest.raises(sahvumbi.ZoneRefusedError) as raised:
         Zone.from_text(text)
     assert raised.value.number == number
+
+
+# The examples of RFC 8536, sections 3.3.1 and B.3: western Greenland, a year of daylight saving
+# time, Jerusalem.
+@pytest.mark.parametrize(
+    "text, number",
+    [
+        ("<-03>3<-02>,M3.5.0/-2,M10.5.0/-1", 10),
+        ("EST5EDT,0/0,J365/25", 6),
+        ("IST-2IDT,M3.4.4/26,M10.5.0", 6),
+    ],
+)
+def test_extensions_are_refused_but_in_a_footer(text, number):
+    with pytest.raises(sahvumbi.ZoneRefusedError) as raised:
+        Zone.from_text(text)
+    assert raised.value.number == number
+    data = tzif([], [(0, False, "UTC")], text).replace(b"TZif2", b"TZif3")
+    zone, other = Zone.from_bytes(data), ZoneInfo.from_file(BytesIO(data))
+    seconds = np.arange(1_577_836_800, 1_704_067_200, 10_799)  # 2020 to 2023
+    expected = [datetime.fromtimestamp(second, other).utcoffset() for second in seconds.tolist()]
+    assert zone.offsets(seconds).tolist() == [offset.total_seconds() for offset in expected]
 
 
 @pytest.mark.parametrize("data, number", [(b"", 7), (b"not a file", 5), (b"TZif", 7)])

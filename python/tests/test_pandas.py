@@ -72,6 +72,16 @@ def test_errors_tell_row_and_label():
     assert (raised.value.row, raised.value.label, raised.value.value) == (1, "y", 2**63)
 
 
+def test_shift_and_shift_forward_of_pandas():
+    """pandas' shift_forward takes the end of the gap; 'shift' is its shift by the gap's hour."""
+    ours = NEW_YORK.localize(GAP, gap="shift")
+    by_an_hour = GAP.dt.tz_localize("America/New_York", nonexistent=pd.Timedelta("1h"))
+    forward = GAP.dt.tz_localize("America/New_York", nonexistent="shift_forward")
+    assert ours.tolist() == by_an_hour.tolist()
+    assert ours["y"] == pd.Timestamp("2021-03-14 07:30", tz="UTC")
+    assert forward["y"] == pd.Timestamp("2021-03-14 07:00", tz="UTC")
+
+
 def test_choices():
     assert NEW_YORK.localize(GAP, gap="nat").isna().tolist() == [False, True]
     assert NEW_YORK.localize(GAP, gap="shift").tolist()[1] == pd.Timestamp(

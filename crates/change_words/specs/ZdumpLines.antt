@@ -64,12 +64,14 @@ pair_lines name c = line (second_text name (c.at -ℤ pos 1) c.before) ++ line (
 abbrev pub null_line : List ℕ → List ℕ → List ℕ
 null_line name second = line (name ++ codes "  " ++ second ++ codes " = NULL")
 
--- the first second of 64 bits and that of a day later; and a day before the last one, and the last one
+-- the first second of 64 bits, and that a day later
 abbrev pub first_lines : List ℕ → List ℕ
 first_lines name = null_line name (codes "-9223372036854775808") ++ null_line name (codes "-9223372036854689408")
 
+-- the second a day before the last one of 64 bits, and the last one
 abbrev pub last_lines : List ℕ → List ℕ
 last_lines name = null_line name (codes "9223372036854689407") ++ null_line name (codes "9223372036854775807")
 
+-- the lines of some changes of a zone: those of the first seconds of 64 bits, a pair for each change, those of the last ones
 abbrev pub zdump_text : List ℕ → List Change → List ℕ
 zdump_text name changes = first_lines name ++ flat_map (pair_lines name) changes ++ last_lines name

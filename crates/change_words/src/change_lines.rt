@@ -20,6 +20,9 @@ use tz_base::{Change, LocalTimeType};
 /// Writes a line for each of those changes: what clocks of UTC, of the type before and of the type
 /// after show at its second, the gap or the fold, and the second.
 ///
+/// Requires: each change comes at a Unix second from -70,000,000,000 to 260,000,000,000, which are
+/// the years 1 to 9999 and some before and after them.
+///
 /// # Errors
 ///
 /// There is no memory for them.

@@ -19,6 +19,9 @@ use tz_base::{Change, LocalTimeType};
 /// Writes those changes as `zdump -v` prints them of a file of that name: a pair of lines for each,
 /// the second before it and its own, between two lines at either end of what 64 bits hold.
 ///
+/// Requires: each change comes in one of the years 1 to 9999 of UTC, or at the first second after
+/// them.
+///
 /// # Errors
 ///
 /// There is no memory for them.

@@ -69,6 +69,9 @@ impl<T> LocalResult<T> {
     }
 
     /// What `f` gives for each value. It is called with the first one first.
+    ///
+    /// Requires: `f` may be called with each value; with the last one in the state in which the call
+    /// with the first one left it.
     pub fn map<U, F: FnMut(T) -> U>(self, mut f: F) -> LocalResult<U>
         requires { IsCallableOnEach F.pre F.step f self }
         ensures { IsMapped F.step f self result }
@@ -86,6 +89,8 @@ impl<T> LocalResult<T> {
 
     /// What `f` gives for each value, or `None` where it gives `None` for one of them. It is called
     /// with the first one first, and with the last one also where it gave `None` for the first.
+    ///
+    /// Requires: as [`LocalResult::map`].
     pub fn and_then<U, F: FnMut(T) -> Option<U>>(self, f: F) -> LocalResult<U>
     where
         U: Drop,

@@ -161,58 +161,62 @@ impl fmt::Debug for Expected {
     }
 }
 
-/// A refusal. Each variant but the last says what was expected.
+/// An error of this crate and those above it. Each variant except the last says what was expected.
+/// A variant's first sentence is the text of its number (`number`) in docs/ZONEQ.md, in C and in
+/// Python.
 #[derive(Clone, Copy, Debug, PartialEq, Eq, Error)]
 pub enum Error {
-    /// A date or time that does not exist. Kept for its name; no call answers it.
+    /// A date or time that does not exist; never returned.
     #[error("invalid date time: expected {0}")]
     DateTime(Expected),
-    /// The instant asked of a zone has no type: its leap time or its rule's year is out of range.
+    /// The zone has no local time type at that instant. Its leap time leaves 64 bits, or its year is
+    /// one in which the rule, one of two types, does not answer.
     #[error("no local time type: expected {0}")]
     FindLocalTimeType(Expected),
-    /// An offset or a name that no local time type can have.
+    /// An offset or abbreviation that no local time type can have.
     #[error("invalid local time type: expected {0}")]
     LocalTimeType(Expected),
-    /// A slice that could not be taken. Kept for its name; no call answers it.
+    /// A slice out of bounds; never returned.
     #[error("invalid slice: expected {0}")]
     InvalidSlice(Expected),
     /// A fault in the form of a TZif file.
     #[error("invalid TZif file: expected {0}")]
     InvalidTzFile(Expected),
-    /// A time or an offset of a TZ text out of its limits, or bytes left over after it.
+    /// A time or offset of a TZ string is out of its limits, or extra bytes follow the string.
     #[error("invalid TZ text: expected {0}")]
     InvalidTzString(Expected),
-    /// Fewer bytes than are required.
+    /// Unexpected end of input.
     #[error("unexpected end: expected {0}")]
     UnexpectedEnd(Expected),
-    /// Another byte than the one that must come.
+    /// Unexpected byte in a TZ string. `Cursor::read_tag` returns it for any bytes.
     #[error("missing tag: expected {0}")]
     MissingTag(Expected),
-    /// An instant outside the range that can be answered.
+    /// An instant out of range.
     #[error("out of range: expected {0}")]
     OutOfRange(Expected),
-    /// No digit, or a number over its limit.
+    /// A number of a TZ string is missing or too large. `Cursor::read_int` returns it for any bytes.
     #[error("invalid number: expected {0}")]
     ParseInt(Expected),
-    /// A date time that cannot be projected. Kept for its name; no call answers it.
+    /// A date-time that cannot be projected; never returned.
     #[error("cannot project date time: expected {0}")]
     ProjectDateTime(Expected),
-    /// Lists that make no valid zone.
+    /// The lists of a TZif file make no valid zone. `TimeZone::new` returns it for any lists.
     #[error("invalid time zone: expected {0}")]
     TimeZone(Expected),
-    /// A value out of its limits in a rule.
+    /// A month, week, weekday or day of a TZ string is out of its limits. `AlternateTime::new` returns
+    /// it for an offset or a time of day out of its limits too.
     #[error("invalid transition rule: expected {0}")]
     TransitionRule(Expected),
-    /// A TZif version that is not read.
+    /// A TZif version other than 1, 2 and 3.
     #[error("unsupported TZif version: expected {0}")]
     UnsupportedTzFile(Expected),
-    /// A TZ text that names daylight saving time and does not say when it starts and ends.
+    /// A TZ string names daylight saving time but has no rule for it.
     #[error("unsupported TZ text: expected {0}")]
     UnsupportedTzString(Expected),
-    /// Bytes that are not UTF-8.
+    /// A TZ string that is not UTF-8.
     #[error("invalid UTF-8: expected {0}")]
     Utf8(Expected),
-    /// There was no memory for the zone.
+    /// Out of memory.
     #[error("out of memory")]
     OutOfMemory,
 }

@@ -5,8 +5,8 @@
 //! contracts, and those of [`client_laws`], for a client's own contracts.
 //!
 //! Each call answers what its contract says, and no call panics, overflows, reads out of bounds or
-//! loops for ever. What a call requires, such as a range, its caller proves; for a literal the check
-//! mostly finds it by itself.
+//! loops for ever; no contract bounds the stack. What a call requires, such as a range, its caller
+//! proves; for a literal the check mostly finds it by itself.
 //!
 //! # The types
 //!
@@ -37,9 +37,9 @@
 //! ```
 //! let parsed = tz_info::TimeZone::from_tz_data(alloc, bytes)?;
 //! let new_york = TimeZoneRef::new(&parsed).ok_or(MyError::WideZone)?;
-//! new_york.with_ymd_and_hms(2021, 3, 14, 2, 30, 0) // None
-//! new_york.with_ymd_and_hms(2021, 11, 7, 1, 30, 0) // Ambiguous(01:30 -04:00, 01:30 -05:00)
-//! new_york.with_ymd_and_hms(2021, 7, 1, 12, 0, 0) // Single(12:00 -04:00)
+//! let gap = new_york.with_ymd_and_hms(2021, 3, 14, 2, 30, 0); // None
+//! let fold = new_york.with_ymd_and_hms(2021, 11, 7, 1, 30, 0); // Ambiguous(-04:00, -05:00)
+//! let noon = new_york.with_ymd_and_hms(2021, 7, 1, 12, 0, 0); // Single(-04:00)
 //! ```
 //!
 //! [`TimeZone::resolve`] gives one instant, by a choice, or says why there is none. There are seven
@@ -92,8 +92,8 @@
 //! ```
 //! let new_year = Utc.timestamp(1_609_459_200, 0); // 2021-01-01 00:00:00 UTC
 //! if let Some(change) = new_york.next_change(&new_year) {
-//!     change.before // 2021-03-14 01:59:59 -05:00, EST
-//!     change.at // 2021-03-14 03:00:00 -04:00, EDT
+//!     let before = change.before; // 2021-03-14 01:59:59 -05:00, EST
+//!     let at = change.at; // 2021-03-14 03:00:00 -04:00, EDT
 //! }
 //! ```
 //!
@@ -148,8 +148,9 @@
 //!
 //! # Where the checker doesn't reach
 //!
-//! What is written every day needs no contract, no lemma and no proof file: the repository's crate
-//! `idioms` has some fifty forms over each kind of zone. These aren't covered yet:
+//! What is written every day needs no contract, no lemma and no proof file: the repository's crates
+//! `idioms_utc`, `idioms_borrowed` and `idioms_kept` have sixty such functions and more for each kind
+//! of zone. These aren't covered yet:
 //!
 //! | of | in place of | write |
 //! |---|---|---|

@@ -14,18 +14,15 @@
    The number that a call returns
    ------------------------------
    ZONED_OK (0): every answer is written. Any other number: the call returned an error, and neither an answer nor a handle
-   that it was to open is changed. The first of these that holds (those of a handle, and of a choice, where there is one):
+   that it was to open is changed. The first of these that holds (those of a handle, and of a choice, if there is one):
 
      ZONED_UNKNOWN_KIND    `kind` is neither ZONED_FILE nor ZONED_TEXT
      ZONED_UNKNOWN_CHOICE  `gap` or `fold` is none of its enum
      ZONED_NOT_OPEN        the handle has no zone open
      ZONED_OTHER_SIZE      the count of answers is not the one that is stated below
-     1 .. 17               the bytes have a fault; docs/ZONEQ.md has the table of these numbers:
-        5, 12, 14          a fault of a TZif file: in its form, in its lists, its version
-        6, 8, 10, 13, 15   a fault of a TZ text, or of the one at the end of a file
-        3, 7               in either: an offset or a name that can't be; fewer bytes than must come
-       16                  a text, or the end of a file, that is not UTF-8
-       17                  no memory for the zone, or for a share of it
+     3 .. 17               the bytes make no zone: the enum of these numbers is below, and docs/ZONEQ.md says more of each.
+                           ZONED_OUT_OF_MEMORY (17) says nothing about the bytes
+     ZONED_NO_CHANGE       zoned_zone_next_change and zoned_zone_previous_change only: there is no such change
 
    Handles
    -------
@@ -51,9 +48,16 @@
          return NULL;
      }
 
-     for (int i = 0; i < count; i++)                 // before the threads start
-         if (zoned_share(&zone, &workers[i].zone) == ZONED_OK) pthread_create(&threads[i], NULL, work, &workers[i]);
+     int started = 0;                                // `workers` starts as zeros
+     while (started < count && zoned_share(&zone, &workers[started].zone) == ZONED_OK) {
+         if (pthread_create(&threads[started], NULL, work, &workers[started]) != 0) {
+             zoned_close(&workers[started].zone);
+             break;
+         }
+         started++;
+     }
      zoned_close(&zone);
+     .. join threads[0] to threads[started - 1]: fewer than `count` if a share or a thread failed ..
 
    Arrays
    ------
@@ -77,19 +81,31 @@
    Threads
    -------
    Calls share nothing but the zones that handles share, which no call changes. So several threads may call at once, each with
-   answers and handles of its own. (That is by design: no clause speaks of threads.) Don't call from a signal handler, nor in
-   the forked child of a process with threads.
+   answers and handles of its own. (That is by design: no clause speaks of threads.) Don't call from a signal handler. In the
+   forked child of a process with threads only ask open handles that no other thread was using: asking takes neither memory nor
+   a lock, but zoned_open, zoned_share, zoned_close and the calls without a handle use the heap. A call that is left by longjmp
+   or by the end of its thread loses the zone of its handle.
 
    Memory
    ------
    Memory is taken by malloc and realloc, and given back by free: before a call returns, or for an open zone when its last
-   handle is closed. Asking by a handle takes none. The three come from one allocator, and a block is aligned to each power of
-   two up to 16 that divides its size, as those of the C library do.
+   handle is closed. Asking by a handle takes none. Leave a call 24 KB of stack: 16 KB is the most that was measured, when a file
+   of 8 million transitions was opened.
+
+   The kit's c/liblibc_c.a defines the three functions by which the library takes memory. Link your own in its place to use
+   another allocator. `align` is a power of two up to 16 that divides `size`; `p` must not be NULL, also if `ok` is false.
+
+     struct tried { bool ok; void *p; };
+     struct tried rattle_alloc(size_t size, size_t align);          // size may be 0
+     struct tried rattle_realloc(void *block, size_t kept, size_t size, size_t align);  // on failure the block is as it was
+     void rattle_dealloc(void *block);
 
    Link
    ----
    crates/zoned_ffi/out/libzoned_ffi.a, which `rt lib` builds, and after it the kit's c/liblibc_c.a. The code is for Linux on
-   x86-64-v2 processors (with SSE4.2 and popcnt) or later ones. */
+   x86-64-v2 processors (with SSE4.2 and popcnt) or later ones. It has neither frame pointers nor .eh_frame, so debuggers and
+   profilers can't unwind a stack through it. A shared library made of both archives also exports rattle_alloc, rattle_realloc
+   and rattle_dealloc, unless it is linked with -Wl,--exclude-libs,liblibc_c.a. */
 #ifndef ZONED_FFI_H
 #define ZONED_FFI_H
 
@@ -102,12 +118,30 @@ extern "C" {
 
 /* How bytes are read: `kind`. */
 enum {
-    ZONED_FILE = 0, /* a TZif file of version 1, 2 or 3 (RFC 8536), as those of /usr/share/zoneinfo */
-    ZONED_TEXT = 1  /* a TZ text (POSIX.1 section 8.3), such as EST5EDT,M3.2.0,M11.1.0, with no zero byte after it. An empty
-                       one is UTC. A sign of a time of day (10) and hours of it above 24 (6) are faults */
+    ZONED_FILE = 0, /* a TZif file of version 1, 2 or 3 (RFC 8536), as those of /usr/share/zoneinfo; version 4 (RFC 9636) is
+                       rejected (14). Debian's files under right/ have leap seconds and no footer: their last type stays */
+    ZONED_TEXT = 1  /* a TZ string (POSIX.1 section 8.3), such as EST5EDT,M3.2.0,M11.1.0, with no zero byte after it. An empty
+                       one is UTC. White space around it is passed over. The extensions of RFC 8536 section 3.3.1 are faults:
+                       a sign of a time of day (10) and hours of it above 24 (6). In the footer of a file they are read */
 };
 
-/* What a call returns beside 1 .. 17. */
+/* Why the bytes make no zone. The numbers 1, 2, 4, 9 and 11 of docs/ZONEQ.md aren't returned here. */
+enum {
+    ZONED_LOCAL_TIME_TYPE = 3,        /* an offset or abbreviation that no local time type can have */
+    ZONED_INVALID_TZ_FILE = 5,        /* a fault in the form of a TZif file */
+    ZONED_INVALID_TZ_STRING = 6,      /* a time or offset of a TZ string is out of its limits, or extra bytes follow the string */
+    ZONED_UNEXPECTED_END = 7,         /* unexpected end of input */
+    ZONED_MISSING_TAG = 8,            /* unexpected byte in a TZ string */
+    ZONED_PARSE_INT = 10,             /* a number of a TZ string is missing or too large */
+    ZONED_TIME_ZONE = 12,             /* the lists of a TZif file make no valid zone */
+    ZONED_TRANSITION_RULE = 13,       /* a month, week, weekday or day of a TZ string is out of its limits */
+    ZONED_UNSUPPORTED_TZ_FILE = 14,   /* a TZif version other than 1, 2 and 3 */
+    ZONED_UNSUPPORTED_TZ_STRING = 15, /* a TZ string names daylight saving time but has no rule for it */
+    ZONED_UTF8 = 16,                  /* a TZ string that is not UTF-8 */
+    ZONED_OUT_OF_MEMORY = 17          /* out of memory */
+};
+
+/* What else a call returns. */
 enum {
     ZONED_OK = 0,
     ZONED_UNKNOWN_KIND = 31,
@@ -221,7 +255,10 @@ typedef struct zoned_change {
 /* *change is the first change after that second, or the last one at that second or before it. ZONED_NO_CHANGE: there is none at
    a second of 64 bits, and nothing is written. The changes of a zone are listed by asking again after change->at.
 
-   A transition of the file that changes nothing is no change, and what a rule does after the last transition is. */
+   A transition of the file that changes nothing is no change, and what a rule does after the last transition is. Where the zone
+   begins or ends to have a type is no change either: the last change of the rule EST5EDT,M3.2.0,M11.1.0, which answers up to the
+   year 2147483645, is that of November of that year, 67767976165557600, also before INT64_MAX. The calls step over transitions
+   that change nothing one by one. */
 uint32_t zoned_zone_next_change(struct zoned_zone *zone, int64_t after, zoned_change *change);
 uint32_t zoned_zone_previous_change(struct zoned_zone *zone, int64_t before_or_at, zoned_change *change);
 

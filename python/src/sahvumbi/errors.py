@@ -5,7 +5,7 @@
 ...     sahvumbi.Zone.from_text("EST5EDT")
 ... except sahvumbi.ZoneRefusedError as refused:
 ...     print(refused.number, refused.words)
-15 a TZ text that names daylight saving time, and ends after the name or the offset
+15 a TZ string names daylight saving time but has no rule for it
 """
 
 from __future__ import annotations
@@ -19,19 +19,19 @@ OUT_OF_RANGE = 23
 
 #: The words of each number that a zone is refused with, and of each that a row is.
 WORDS = {
-    NO_OFFSET: "the zone has no offset at this instant",
-    3: "an offset or a name that no local time type can have",
+    NO_OFFSET: "the zone has no local time type at that instant",
+    3: "an offset or abbreviation that no local time type can have",
     5: "a fault in the form of a TZif file",
-    6: "hours, minutes, seconds or an offset of a TZ text above their limits, or bytes left over",
-    7: "fewer bytes than must come",
-    8: "another byte than the one that must come",
-    10: "no digit where a number must come, or a number above its limit",
-    12: "lists that make no valid zone",
-    13: "a value out of its limits in a rule",
+    6: "a time or offset of a TZ string is out of its limits, or extra bytes follow the string",
+    7: "unexpected end of input",
+    8: "unexpected byte in a TZ string",
+    10: "a number of a TZ string is missing or too large",
+    12: "the lists of a TZif file make no valid zone",
+    13: "a month, week, weekday or day of a TZ string is out of its limits",
     14: "a TZif version other than 1, 2 and 3",
-    15: "a TZ text that names daylight saving time, and ends after the name or the offset",
-    16: "a text that is not UTF-8",
-    17: "no memory for the zone",
+    15: "a TZ string names daylight saving time but has no rule for it",
+    16: "a TZ string that is not UTF-8",
+    17: "out of memory",
     GAP: "no clock of the zone shows that time",
     FOLD: "clocks of the zone show that time more than once",
     OUT_OF_RANGE: "the instant is out of range",

@@ -103,15 +103,17 @@ class Zone:
         >>> Zone.from_bytes(b"TZif")
         Traceback (most recent call last):
         ...
-        sahvumbi.errors.ZoneRefusedError: 4 bytes is refused: fewer bytes than must come (7)
+        sahvumbi.errors.ZoneRefusedError: 4 bytes is refused: unexpected end of input (7)
         """
         return cls(FILE, bytes(data), f"{len(data)} bytes")
 
     @classmethod
     def from_text(cls, text: str) -> Zone:
-        """The zone of a TZ text (POSIX.1, section 8.3, with the extensions of RFC 8536).
+        """The zone of a TZ string as in POSIX.1, section 8.3. The empty string is UTC.
 
-        Raises `ZoneRefusedError` where it is none. The empty text is UTC.
+        Raises `ZoneRefusedError` if it is none. That is so of the extensions of RFC 8536, section
+        3.3.1, too: a signed time of day (10), and hours of one above 24 (6). In the footer of a
+        file they are read.
 
         >>> Zone.from_text("<+0330>-3:30").offsets([0])
         array([12600], dtype=int32)
@@ -296,9 +298,9 @@ class Zone:
         none if `to` is `from_` or comes before it.
 
         The ends are both numbers of seconds since 1970-01-01 00:00:00 UTC, or both datetime64.
-        Raises ValueError where one is NaT, and `OutOfRangeError` where one doesn't fit 64 bits of
-        seconds. A rule has some two changes in a year, and those of all 64 bits are 8.6 billion, so
-        give a stretch that can be listed.
+        Raises ValueError if one is NaT (TypeError if that has no unit), and `OutOfRangeError` if one
+        doesn't fit 64 bits of seconds. A rule has some two changes in a year, and those of all 64
+        bits are 8.6 billion, so give a stretch that can be listed.
 
         >>> new_york = Zone.from_text("EST5EDT,M3.2.0,M11.1.0")
         >>> changes = new_york.changes(np.datetime64("2021-01-01"), np.datetime64("2022-01-01"))

@@ -22,9 +22,9 @@ impl<Tz: TimeZone> DateTime<Tz> {
     /// from -262143 to 262142, unless it is the date that the clock shows now.
     ///
     /// ```text
-    /// let noon = new_york.with_ymd_and_hms(2021, 1, 31, 12, 0, 0).unwrap();
+    /// let noon = new_york.with_ymd_and_hms(2021, 1, 31, 12, 0, 0).single()?;
     /// noon.checked_add_months(Months::new(1))  // 2021-02-28 12:00:00 -05:00
-    /// let night = new_york.with_ymd_and_hms(2021, 2, 14, 2, 30, 0).unwrap();
+    /// let night = new_york.with_ymd_and_hms(2021, 2, 14, 2, 30, 0).single()?;
     /// night.checked_add_months(Months::new(1)) // None: a gap
     /// ```
     pub fn checked_add_months(&self, months: Months) -> Option<DateTime<Tz>>
@@ -46,7 +46,7 @@ impl<Tz: TimeZone> DateTime<Tz> {
     ///
     /// ```
     /// // In New York clocks were set back at 02:00 on 2021-11-07.
-    /// let noon = new_york.with_ymd_and_hms(2021, 11, 6, 12, 0, 0).unwrap();
+    /// let noon = new_york.with_ymd_and_hms(2021, 11, 6, 12, 0, 0).single()?;
     /// noon.checked_add_days(Days::new(1)) // 2021-11-07 12:00:00 -05:00, 25 hours later
     /// ```
     pub fn checked_add_days(&self, days: Days) -> Option<DateTime<Tz>>
@@ -72,7 +72,7 @@ impl<Tz: TimeZone> DateTime<Tz> {
     /// shows: [`TimeZone::from_local_datetime`] of the two.
     ///
     /// ```
-    /// let noon = new_york.with_ymd_and_hms(2021, 3, 14, 12, 0, 0).unwrap();
+    /// let noon = new_york.with_ymd_and_hms(2021, 3, 14, 12, 0, 0).single()?;
     /// noon.with_time(NaiveTime::from_hms_opt(2, 30, 0)?) // None: a gap
     /// noon.with_time(NaiveTime::from_hms_opt(3, 30, 0)?) // Single(2021-03-14 03:30:00 -04:00)
     /// ```

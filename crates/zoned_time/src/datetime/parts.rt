@@ -17,6 +17,8 @@ use std::marker::PhantomData;
 
 impl<Tz: TimeZone> DateTime<Tz> {
     /// The instant of a UTC reading in range, with that offset.
+    ///
+    /// Requires: the reading is in range.
     pub fn from_naive_utc_and_offset(datetime: NaiveDateTime, offset: Tz::Offset) -> DateTime<Tz>
         requires { IsInRange (reading datetime).s }
         ensures { zoned result ≡ shown datetime offset }
@@ -29,6 +31,8 @@ impl<Tz: TimeZone> DateTime<Tz> {
     }
 
     /// chrono's older name of [`DateTime::from_naive_utc_and_offset`].
+    ///
+    /// Requires: the reading is in range.
     pub fn from_utc(datetime: NaiveDateTime, offset: Tz::Offset) -> DateTime<Tz>
         requires { IsInRange (reading datetime).s }
         ensures { zoned result ≡ shown datetime offset }
