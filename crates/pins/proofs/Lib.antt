@@ -2,6 +2,8 @@ pub mod Weeks
 pub mod LeapSeconds
 pub mod NewYork
 pub mod NewYorkClocks
+pub mod NewYorkChanges
+pub mod AskedRules
 pub mod SpelledPieces
 pub mod SpelledTexts
 pub mod FileParts

@@ -1,3 +1,4 @@
+pub mod Changes
 pub mod Choices
 pub mod Fields
 pub mod Files

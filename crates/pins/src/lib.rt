@@ -7,15 +7,18 @@
 #![tactic(auto)]
 
 pub mod calendar;
+pub mod clock_changes;
 pub mod choices;
 pub mod fields;
 pub mod files;
+pub mod gaps;
 pub mod honolulu;
 pub mod instants;
 pub mod leap_seconds;
 pub mod looks;
 pub mod odd;
 pub mod printed;
+pub mod questions;
 pub mod readings;
 pub mod roundings;
 pub mod rules;
