@@ -49,9 +49,12 @@ pub two_more : IsAskedFor new_york_zone (pos 1_615_689_000) 5 7
 two_more = record {
   seconds = pos 1_615_707_000 ∷ pos 1_615_703_400 ∷ [];
   once = two_apart;
-  each = λ u. (either_second u, λ h. elim (by_offset (pos 1_615_689_000) u h.offset h.of_rule h.of_second) [
-    | inl at ↦ (0, omega arith, sym at)
-    | inr at ↦ (1, omega arith, sym at)
-  ]);
+  each = λ u. (
+    either_second u,
+    λ h. elim (by_offset (pos 1_615_689_000) u h.offset h.of_rule h.of_second) [
+      | inl at ↦ (0, omega arith, sym at)
+      | inr at ↦ (1, omega arith, sym at)
+    ],
+  );
   count = refl;
 }

@@ -11,3 +11,6 @@ pub mod HonoluluFile
 pub mod GivenDays
 pub mod PassedYears
 pub mod SetClocks
+pub mod ChangeDays
+pub mod WrittenPins
+pub mod AskedWords

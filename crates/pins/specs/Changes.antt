@@ -1,7 +1,8 @@
 -- Clock changes, and types that differ little.
-use Rattle.std.specs.Prelude.{◌≡◌, ℤ, pos, ◌≤ℤ◌, ◌<ℤ◌, ◌⊎◌, true, false, [], ◌∷◌, Some}
+use Rattle.std.specs.Prelude.{◌≡◌, ℤ, pos, ◌≤ℤ◌, ◌<ℤ◌, ◌⊎◌, true, false, [], ◌∷◌, Some, None}
 use Rattle.tz_base.specs.LocalTypes.{LocalType}
 use Rattle.tz_base.specs.declared.change.Change.{Change}
+use Rattle.tz_info.specs.Zones.{Zone, plain_zone}
 use Rattle.pins.specs.NewYork.{est, edt}
 
 abbrev pub change_at : ℤ → LocalType → LocalType → Change
@@ -27,3 +28,11 @@ renamed = record { offset = pos 3_600; dst = false; name = Some (77 ∷ 69 ∷ 8
 
 abbrev pub dst_cet : LocalType
 dst_cet = record { offset = pos 3_600; dst = true; name = Some (67 ∷ 69 ∷ 84 ∷ []) }
+
+-- standard time an hour ahead of UTC, without a name
+abbrev pub unnamed : LocalType
+unnamed = record { offset = pos 3_600; dst = false; name = None }
+
+-- a day ahead of UTC
+abbrev pub wide : Zone
+wide = plain_zone (pos 86_400)

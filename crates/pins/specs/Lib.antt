@@ -9,4 +9,5 @@ pub mod Looks
 pub mod NewYork
 pub mod Readings
 pub mod Texts
+pub mod WrittenZones
 pub mod Zones
