@@ -2,6 +2,8 @@ pub mod Weeks
 pub mod LeapSeconds
 pub mod NewYork
 pub mod NewYorkClocks
+pub mod NewYorkChanges
+pub mod AskedRules
 pub mod SpelledPieces
 pub mod SpelledTexts
 pub mod FileParts
@@ -9,3 +11,6 @@ pub mod HonoluluFile
 pub mod GivenDays
 pub mod PassedYears
 pub mod SetClocks
+pub mod ChangeDays
+pub mod WrittenPins
+pub mod AskedWords

@@ -37,6 +37,14 @@ pub end_2020 : end_in new_york (pos 2020) ≡ pos 1_604_210_400
 unfolding moment closed_day day_number year_start days_of_months
 end_2020 = rw (november (pos 2020)) refl
 
+start_2020 : start_in new_york (pos 2020) ≡ pos 1_583_650_800
+unfolding moment closed_day day_number year_start days_of_months
+start_2020 = rw (march (pos 2020)) refl
+
+end_2022 : end_in new_york (pos 2022) ≡ pos 1_667_714_400
+unfolding moment closed_day day_number year_start days_of_months
+end_2022 = rw (november (pos 2022)) refl
+
 -- they rise from year to year
 starts_rise : (a b : ℤ) → a <ℤ b → start_in new_york a <ℤ start_in new_york b
 unfolding moment
@@ -109,6 +117,46 @@ edt_between u low high = record {
   when = record {
     start_first = λ first. (λ _. (pos 2021, rw start_2021 low, rw end_2021 high), λ s. refl);
     end_first = λ first. absurd (start_comes_first first);
+  };
+  shown = refl;
+}
+
+-- the last second of 2020
+pub est_2020 : RuleAt new_york_rule (pos 1_609_459_199) est
+unfolding year_start
+est_2020 = record {
+  year = pos 2020;
+  of_second = (omega (arith, floors), omega (arith, floors));
+  inside = (omega arith, omega arith);
+  dst = false;
+  when = record {
+    start_first = λ first. (
+      λ h. absurd (false≢true h),
+      λ s. absurd (by_lt_z s.0 (pos 2021)
+          (λ lt. let rise = ends_from s.0 (pos 2020) (omega (arith, ints)) in let end = end_2020 in let before = s.2 in omega (arith, ints))
+          (λ ge. let rise = starts_from (pos 2021) s.0 ge in let start = start_2021 in let come = s.1 in omega (arith, ints))),
+    );
+    end_first = λ first. absurd (let start = start_2020 in let end = end_2020 in omega (arith, ints));
+  };
+  shown = refl;
+}
+
+-- the first second of 2022
+pub est_2022 : RuleAt new_york_rule (pos 1_640_995_200) est
+unfolding year_start
+est_2022 = record {
+  year = pos 2022;
+  of_second = (omega (arith, floors), omega (arith, floors));
+  inside = (omega arith, omega arith);
+  dst = false;
+  when = record {
+    start_first = λ first. (
+      λ h. absurd (false≢true h),
+      λ s. absurd (by_lt_z s.0 (pos 2022)
+          (λ lt. let rise = ends_from s.0 (pos 2021) (omega (arith, ints)) in let end = end_2021 in let before = s.2 in omega (arith, ints))
+          (λ ge. let rise = starts_from (pos 2022) s.0 ge in let start = start_2022 in let come = s.1 in omega (arith, ints))),
+    );
+    end_first = λ first. absurd (let start = start_2022 in let end = end_2022 in omega (arith, ints));
   };
   shown = refl;
 }

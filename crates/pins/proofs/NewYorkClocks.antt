@@ -25,6 +25,10 @@ type_of_rule u t r = record {
 rule_of_type : (u : ℤ) (t : LocalType) → TypeAt new_york_zone u t → RuleAt new_york_rule u t
 rule_of_type u t h = h.in_force.from_last refl
 
+-- where the rule gives a type, no other one is in force
+pub one_type : (u : ℤ) (s t : LocalType) → RuleAt new_york_rule u s → TypeAt new_york_zone u t → t ≡ s
+one_type u s t r h = rule_once new_york_rule u t s (rule_of_type u t h) r
+
 by_dst : (t : LocalType) (dst : Bool) → t ≡ type_when new_york dst → (t ≡ est) ⊎ (t ≡ edt)
 by_dst t true e = inr e
 by_dst t false e = inl e
@@ -32,7 +36,7 @@ by_dst t false e = inl e
 either : (u : ℤ) (t : LocalType) → TypeAt new_york_zone u t → (t ≡ est) ⊎ (t ≡ edt)
 either u t h = let r = rule_of_type u t h in by_dst t r.dst r.shown
 
-apart : est ≡ edt → ⊥
+pub apart : est ≡ edt → ⊥
 apart e = false≢true (ap (λ t. t.dst) e)
 
 -- where it is standard time no clock is of the other type, and the other way round
@@ -49,7 +53,7 @@ by_est l u t shown e = let is = rw e at shown in omega (arith, ints)
 by_edt : (l u : ℤ) (t : LocalType) → u +ℤ t.offset ≡ l → t ≡ edt → u ≡ l +ℤ pos 14_400
 by_edt l u t shown e = let is = rw e at shown in omega (arith, ints)
 
-fits : (u : ℤ) → pos 0 ≤ℤ u → u ≤ℤ pos 2_000_000_000 → FitsSigned w64 u
+pub fits : (u : ℤ) → pos 0 ≤ℤ u → u ≤ℤ pos 2_000_000_000 → FitsSigned w64 u
 fits u low high = fits_signed_from_abs w64 u (omega (arith, ints))
 
 -- from 02:00 to 03:00 on 14 March
@@ -66,17 +70,20 @@ more_at_change l high = record {
   more = omega (arith, ints);
 }
 
+pub none_earlier : (l : ℤ) → pos 1_615_687_200 ≤ℤ l → (u : ℤ) → ShowsMore (TypeAt new_york_zone) l u → pos 1_615_705_200 ≤ℤ u
+none_earlier l low u m = by_lt_z u (pos 1_615_705_200)
+    (λ lt. elim (either u m.type m.here) [
+      | inl e ↦ let more = rw e at m.more in omega (arith, ints)
+      | inr e ↦ let more = rw e at m.more in absurd (not_edt u m.type (est_early u (omega (arith, ints)) lt) m.here e)
+    ])
+    (λ ge. ge)
+
 pub before_gap : (l : ℤ) → pos 1_615_687_200 ≤ℤ l → l <ℤ pos 1_615_690_800 → IsBeforeGap (TypeAt new_york_zone) l est
 before_gap l low high = record {
   never = in_gap l low high;
   first = pos 1_615_705_200;
   more = more_at_change l high;
-  least = λ u m. by_lt_z u (pos 1_615_705_200)
-      (λ lt. elim (either u m.type m.here) [
-        | inl e ↦ let more = rw e at m.more in omega (arith, ints)
-        | inr e ↦ let more = rw e at m.more in absurd (not_edt u m.type (est_early u (omega (arith, ints)) lt) m.here e)
-      ])
-      (λ ge. ge);
+  least = none_earlier l low;
   before = type_of_rule (pos 1_615_705_199) est (est_early (pos 1_615_705_199) (omega arith) (omega arith));
 }
 
@@ -151,5 +158,20 @@ in_fold l low high = record {
   not_after = λ u t s. elim (either u t s.type) [
     | inl e ↦ let at = by_est l u t s.shown e in omega (arith, ints)
     | inr e ↦ let at = by_edt l u t s.shown e in omega (arith, ints)
+  ];
+}
+
+-- from 02:00 on 7 November on
+pub est_once_late : (l : ℤ) → pos 1_636_250_400 ≤ℤ l → l <ℤ pos 1_640_977_200 → IsShownOnce (Shows (TypeAt new_york_zone) l) est
+est_once_late l low high = record {
+  second = l +ℤ pos 18_000;
+  shown = record {
+    fits = fits (l +ℤ pos 18_000) (omega (arith, ints)) (omega (arith, ints));
+    type = type_of_rule (l +ℤ pos 18_000) est (est_late (l +ℤ pos 18_000) (omega (arith, ints)) (omega (arith, ints)));
+    shown = omega (arith, ints);
+  };
+  only = λ u t s. elim (either u t s.type) [
+    | inl e ↦ by_est l u t s.shown e
+    | inr e ↦ let at = by_edt l u t s.shown e in absurd (not_edt u t (est_late u (omega (arith, ints)) (omega (arith, ints))) s.type e)
   ];
 }

@@ -1,5 +1,5 @@
 -- What the texts spell, and their faults: what a reading of them comes to.
-use Rattle.std.proofs.Common.{◌≡◌, refl, ℕ, Bool, true, false, List, [], ◌∷◌, Ok, Err}
+use Rattle.std.proofs.Common.{◌≡◌, refl, ℕ, Bool, true, false, List, [], ◌∷◌, Ok, Err, inr}
 use Rattle.tz_base.specs.Fronts.{int_at, tag_at, optional_tag_at}
 use Rattle.tz_base.specs.Grammar.{read}
 use Rattle.tz_base.proofs.ForCallers.{lawful}
@@ -9,7 +9,9 @@ use Rattle.tz_base.specs.declared.error.Expected.TheVariants.{DayFromJ1ToJ365, D
 use Rattle.tz_info.specs.TzGrammar.{name, quoted, seconds, minutes_seconds, optional_minutes, hours_minutes_seconds, sign, duration, offset, time_sign, time, rule_day, month_date, julian_date, day_number, date, optional_time, day, days, next_hour, more, given_offset, dst_offset, named, end, fixed, alternate, rule, text, IsTzText, IsTextFault}
 use Rattle.tz_info.specs.declared.rule.transition_rule.TransitionRule.{TransitionRule}
 use Rattle.tz_info.specs.declared.rule.transition_rule.TransitionRule.TheVariants as rules
-use Rattle.pins.specs.NewYork.{new_york_rule}
+use Rattle.tz_info.specs.PosixZones.{IsPosixZone}
+use Rattle.pins.specs.NewYork.{new_york_rule, new_york_zone}
+use Rattle.pins.proofs.SpelledPieces.{some_bytes}
 use Rattle.pins.specs.Zones.{hst}
 use Rattle.pins.specs.Texts.{new_york_text, no_days, foo_23, foo_23_rule, foo_24, foo_5_60, foo, fo_5, day_0, utc_text, utc_rule, jerusalem_text, jerusalem_rule, nuuk_text, nuuk_rule, foo_plus_5, foo_minus_5, foo_behind, foo_ahead, numbered_text, numbered_rule}
 
@@ -22,6 +24,16 @@ faulty extended bytes = (lawful (text extended) bytes).fails
 pub new_york : (extended : Bool) → IsTzText extended new_york_text new_york_rule
 unfolding name quoted seconds minutes_seconds optional_minutes hours_minutes_seconds sign duration offset time_sign time rule_day month_date julian_date day_number date optional_time day days next_hour more given_offset dst_offset named end fixed alternate rule text int_at tag_at optional_tag_at
 new_york extended = spelled extended new_york_text new_york_rule refl
+
+pub new_york_gives : IsPosixZone new_york_text new_york_zone
+new_york_gives = inr (record {
+  some = some_bytes _ _;
+  trimmed = new_york_text;
+  rule = new_york_rule;
+  trims = record { before = []; after = []; whole = refl; space_before = tt; space_after = tt; first = refl; last = refl };
+  spells = new_york false;
+  zone = refl;
+})
 
 pub utc : (extended : Bool) → IsTzText extended utc_text utc_rule
 unfolding name quoted seconds minutes_seconds optional_minutes hours_minutes_seconds sign duration offset time_sign time rule_day month_date julian_date day_number date optional_time day days next_hour more given_offset dst_offset named end fixed alternate rule text int_at tag_at optional_tag_at

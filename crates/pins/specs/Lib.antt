@@ -1,3 +1,4 @@
+pub mod Changes
 pub mod Choices
 pub mod Fields
 pub mod Files
@@ -8,4 +9,5 @@ pub mod Looks
 pub mod NewYork
 pub mod Readings
 pub mod Texts
+pub mod WrittenZones
 pub mod Zones

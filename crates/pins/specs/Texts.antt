@@ -12,6 +12,14 @@ new_york_text =
     44 ∷ 77 ∷ 49 ∷ 49 ∷ 46 ∷ 49 ∷ 46 ∷ 48 ∷
     []
 
+-- the same with the time that a text may leave out: `EST5EDT,M3.2.0/2,M11.1.0`
+abbrev pub new_york_long : List ℕ
+new_york_long =
+    69 ∷ 83 ∷ 84 ∷ 53 ∷ 69 ∷ 68 ∷ 84 ∷
+    44 ∷ 77 ∷ 51 ∷ 46 ∷ 50 ∷ 46 ∷ 48 ∷ 47 ∷ 50 ∷
+    44 ∷ 77 ∷ 49 ∷ 49 ∷ 46 ∷ 49 ∷ 46 ∷ 48 ∷
+    []
+
 -- `EST5EDT`, which doesn't say when daylight saving time starts and ends
 abbrev pub no_days : List ℕ
 no_days = 69 ∷ 83 ∷ 84 ∷ 53 ∷ 69 ∷ 68 ∷ 84 ∷ []

@@ -5,7 +5,9 @@ use Rattle.tz_info.specs.Zones.{Zone}
 use Rattle.tz_info.specs.declared.rule.transition_rule.TransitionRule.{TransitionRule}
 use Rattle.tz_info.specs.declared.rule.transition_rule.TransitionRule.TheVariants as rules
 use Rattle.tz_info.specs.declared.zone.transition.Transition.{Transition}
+use Rattle.tz_info.specs.PosixZones.{posix_zone}
 use Rattle.pins.specs.LeapSeconds.{utc_leaps}
+use Rattle.pins.specs.Texts.{utc_rule}
 
 -- `LMT`, `HST` of both offsets, `HDT`, `HWT` and `HPT`
 abbrev pub named : ℤ → Bool → ℕ → ℕ → LocalType
@@ -76,3 +78,7 @@ listed transitions types = record {
   leaps = [];
   rule = None;
 }
+
+-- one type and its rule, without transitions
+abbrev pub utc_zone : Zone
+utc_zone = posix_zone utc_rule

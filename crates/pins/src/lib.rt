@@ -6,20 +6,29 @@
 //! code between.
 #![tactic(auto)]
 
+pub mod asked_lines;
 pub mod calendar;
 pub mod choices;
+pub mod clock_changes;
+pub mod drawn_changes;
 pub mod fields;
 pub mod files;
+pub mod gaps;
 pub mod honolulu;
 pub mod instants;
+pub mod kept_zones;
 pub mod leap_seconds;
 pub mod looks;
 pub mod odd;
 pub mod printed;
+pub mod printed_changes;
+pub mod questions;
 pub mod readings;
 pub mod roundings;
 pub mod rules;
 pub mod texts;
+pub mod told_zones;
 pub mod values;
 pub mod wall_clocks;
+pub mod written_zones;
 pub mod zones;
