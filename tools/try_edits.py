@@ -35,7 +35,7 @@ import subprocess
 import sys
 import tempfile
 import threading
-from collections import defaultdict
+from collections import Counter, defaultdict
 from concurrent.futures import ThreadPoolExecutor
 from dataclasses import dataclass, field, replace
 from pathlib import Path
@@ -189,13 +189,16 @@ def leave_out(folder, crate, functions, edits):
 
 def leave_bodies_out(folder, functions, edits):
     """Takes the body from each of these functions that no edit changes: with its proof left out, its contract is all that is taken of
-    it, and what it calls isn't looked at. One with a closure keeps it for the closure's proof, and one that calls itself."""
+    it, and what it calls isn't looked at. One with a closure keeps it for the closure's proof, and one that calls itself, and one
+    whose name is also that of a function that isn't given."""
     kept = {part.rsplit("::", 1)[-1] for edit in edits for part in {*edit.parts, *edit.changed}}
     kept |= {path.name[1:] for path in folder.joinpath("proofs").rglob("+*")}
     kept |= {path.rsplit("::", 1)[-1] for path in functions if any(edits_function(edit, path) for edit in edits)}
-    names = {path.rsplit("::", 1)[-1] for path in functions} - kept
-    for path in folder.joinpath("src").rglob("*.rt"):
-        text = path.read_text()
+    texts = {path: path.read_text() for path in folder.joinpath("src").rglob("*.rt")}
+    written = Counter(head[2] for text in texts.values() for head, start, _ in bodies(text) if start >= 0)
+    given = Counter(path.rsplit("::", 1)[-1] for path in functions)
+    names = {name for name, count in given.items() if written[name] <= count} - kept
+    for path, text in texts.items():
         for head, start, end in reversed(list(bodies(text))):
             if head[2] in names and start >= 0 and "|" not in text[start:end] and "const fn" not in head[0]:
                 text = f"{text[:start]}\n{head[1]}{LEFT_OUT}{text[end + 2 + len(head[1]):]}"
