@@ -96,7 +96,7 @@ def read(crate, path):
         elif key.rstrip(":") == "new":
             texts[file] = texts.get(file) or (TOP / "crates" / crate / file).read_text()
             if texts[file].count(old) != 1:
-                sys.exit(f"{edit}: the old text stands {texts[file].count(old)} times in {file}: {old}")
+                sys.exit(f"{edit}: the old text is {texts[file].count(old)} times in {file}: {old}")
             edit.changed.add(function_at(texts[file], old))
             texts[file] = texts[file].replace(old, text)
             edit.pairs.append((file, old, text))
@@ -109,8 +109,8 @@ def read(crate, path):
 
 
 def bodies(text):
-    """Each function that has lines between the braces of its body: its head, and where these braces stand (-1 for one that ends
-    the head's line). A trait's `fn ..;` has no body, and `{}` no lines: what follows there is a later function's."""
+    """Each function that has lines between the braces of its body: its head, and the places of these braces (-1 for one that ends the
+    head's line). A trait's `fn ..;` has no body, and `{}` no lines: the next braces are a later function's."""
     heads = list(FUNCTION.finditer(text))
     for head, following in zip(heads, [*heads[1:], None]):
         stop = following.start() if following else len(text)
@@ -188,9 +188,9 @@ def leave_out(folder, crate, functions, edits):
 
 
 def leave_bodies_out(folder, functions, edits):
-    """Takes the body from each of these functions that no edit changes: with its proof left out, its contract is all that is taken of
-    it, and what it calls isn't looked at. One with a closure keeps it for the closure's proof, and one that calls itself, and one
-    whose name is also that of a function that isn't given."""
+    """Takes the body from each of these functions that no edit changes: with its proof left out, only its contract is used, and what it
+    calls isn't checked. A function keeps its body if it has a closure, which has a proof, if it calls itself, or if a function
+    that isn't given has the same name."""
     kept = {part.rsplit("::", 1)[-1] for edit in edits for part in {*edit.parts, *edit.changed}}
     kept |= {path.name[1:] for path in folder.joinpath("proofs").rglob("+*")}
     kept |= {path.rsplit("::", 1)[-1] for path in functions if any(edits_function(edit, path) for edit in edits)}
@@ -215,8 +215,8 @@ def is_of(path, part):
 
 
 def checked(crate, edits, around, proved):
-    """Checks what the edits change in a copy of their crate, with proofs and bodies left out around the functions of all edits that
-    are given as the second list, and returns what is said."""
+    """Checks the functions that the edits change in a copy of their crate, and returns what is said. In the copy, proofs and bodies are
+    left out but for those that the edits `around` change."""
     with tempfile.TemporaryDirectory() as room:
         folder = Path(room)
         for part in ("src", "specs", "proofs"):
@@ -298,8 +298,8 @@ def tried_together(crate, edits, around, proved):
     rows = []
     for edit in edits:
         row = told(edit, said)
-        is_alone = len(edits) == 1 or NOT_TRIED not in row[0]
-        rows += [row] if is_alone else tried_together(crate, [edit], around, proved)
+        again = len(edits) > 1 and NOT_TRIED in row[0]
+        rows += tried_together(crate, [edit], around, proved) if again else [row]
     return rows
 
 
