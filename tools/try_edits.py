@@ -1,30 +1,31 @@
 #!/usr/bin/env python3
-"""Tries must-fail edits: wrong bodies that the prover must refuse.
+"""Tries planted bugs: edits of function bodies that the prover must reject.
 
-usage: tools/try_edits.py [--lanes N] [--beside FILE] [--unedited] [NAME | NAME/EDIT ..]
+usage: tools/try_edits.py [--lanes N] [--beside FILE] [NAME | NAME/EDIT ..]
+       tools/try_edits.py --self-test
 
-With no names it tries those of must-fail-in-part/, as the gate does. Of a named crate it tries those of must-fail-by-hand/ too.
+Without names it tries the edits of must-fail-in-part/, as the gate does. For a named crate it also tries those of
+must-fail-by-hand/.
 
-A wrong body is refused by the contract of the function that has it, whatever stands above and below that function. So only the
-functions that edits change are checked, in a copy of their crate, and all edits of a crate that change different functions are
-tried by one check: what it tells of each function tells of that one's edit. A line `only: PATH` of an edit names the function or
-module whose contract refuses it, where that is another one, or where two functions, or a function and a module, have one name.
-An edit that changes something outside of functions is tried alone.
+A planted bug is rejected by the contract of the function that has it, whatever is above and below that function. So only the
+functions that edits change are checked, in a copy of their crate, and one check tries all edits of a crate that change different
+functions. A line `only: PATH` of an edit names the function or module whose contract rejects it, if that is another one, or if two
+functions, or a function and a module, have the same name. An edit that changes something outside of functions is tried alone.
 
-An edit is refused if its function isn't proved, and an open goal of that function is told. It doesn't count where a text can't be
-read, nor where nothing but a proof misses a name.
+An edit is rejected if a goal of its function is open. It is NOT REJECTED if the function is proved. It is NOT TRIED if its text is
+not in the files that are checked, if a text can't be read, or if a proof only misses a name. Both are failures.
 
-The libraries below are taken as `rt ci` or `rt check` has built them. Beside an `rt ci` that still runs, and whose words go to
-FILE, a crate's edits wait until the crate is proved. Then each function that FILE tells as proved, and that no edit changes, is
-taken by its contract, with a hole for its proof and without its body: to prove it once more would tell nothing new. Where FILE tells none, as of a
-crate that an earlier run proved, the functions with a plain name are taken so, by the sources. The edits of tz_info don't wait
-for its long proof, beside which processors are free. With no FILE the functions that the edited ones call are proved as well, over
-what `rt check` keeps of the crate, where it is there.
+Libraries are used as `rt ci` or `rt check` has built them. Beside an `rt ci` that is still running, with its output in FILE, a
+crate's edits wait until the crate is proved. Then each function that FILE reports as proved, and that no edit changes, is reduced to
+its contract: a hole takes the place of its proof, and `unreachable!()` that of its body. If FILE reports none, since an earlier run
+proved the crate, the functions with a plain name are found in the sources. The edits of tz_info don't wait for its long proof:
+processors are free meanwhile. What is left out must reject nothing. So the same functions are first checked in the same copy without
+the edits, and the edits of one that isn't proved there are NOT TRIED. Without FILE nothing is left out: the functions that the
+edited ones call are proved as well, starting from what `rt check` has kept of the crate.
 
-With --unedited the same functions are checked in the same way as they stand, and each must be proved: so what refuses an edit is
-the edit, and nothing that is left out around it.
+--self-test tries this script, without a proof.
 
-N crates are tried at a time (3). Ends with status 1 unless each edit is refused.
+N crates are tried at a time (3). The status is 1 unless every edit is rejected.
 """
 
 import argparse
@@ -34,7 +35,7 @@ import subprocess
 import sys
 import tempfile
 import threading
-from collections import defaultdict
+from collections import Counter, defaultdict
 from concurrent.futures import ThreadPoolExecutor
 from dataclasses import dataclass, field, replace
 from pathlib import Path
@@ -46,10 +47,18 @@ IN_PART, BY_HAND = "must-fail-in-part", "must-fail-by-hand"
 # Its proof takes as long as those of all crates that can be proved beside it.
 EARLY = "tz_info"
 FUNCTION = re.compile(r'(?m)^( *)(?:pub(?:\([a-z]+\))? )?(?:(?:final|const|unsafe|extern "C") )*fn (\w+)')
-# What is said where a text can't be read, so that no contract was tried.
+# What the checker says if a text can't be read, so that no contract was tried.
 UNREAD = r"is not in scope|has no field|has no `|is no name|operand is missing|expected the end|cannot continue|was not admitted"
-# A fault or an open goal, and where it stands.
+# A fault or an open goal, and its place.
 TOLD = r"(?:note: )?(?:\./)?(\S+?):\d+:\d+: (?:error: )?((?:`|it is not proved|error).*)"
+# The line about a function, and what it begins with if a goal is open, or is if none is but in proofs that are left out.
+VERDICT = r"fn \w+?::(\S+): (.*)"
+OPEN = ("no proof", "not proved")
+PROVED = r"proved|no holes|depends on a hole in `\S+\.Proof\.\w+_spec`.*"
+NOT_TRIED = "NOT TRIED:"
+LOST = "its text is not in the files that are checked"
+# What takes the place of a body that is left out. `rt fmt` writes no such line.
+LEFT_OUT = "{ unreachable!() }"
 HOLE = """use {module}.Statement.{{statement}}
 
 pub {name}_spec : {{M : Type 1}} → statement M
@@ -59,11 +68,13 @@ pub {name}_spec : {{M : Type 1}} → statement M
 
 @dataclass
 class Edit:
-    """A wrong body: the texts that it exchanges in files, and the functions or modules whose contracts refuse it."""
+    """A planted bug: the texts that it exchanges in files, the functions that it changes, and the functions or modules whose contracts
+    reject it."""
 
     crate: str
     name: str
     pairs: list = field(default_factory=list)
+    changed: set = field(default_factory=set)
     parts: list = field(default_factory=list)
     is_alone: bool = False
 
@@ -73,7 +84,7 @@ class Edit:
 
 def read(crate, path):
     """An edit, and of each text that it changes the function that has it."""
-    edit, file, old, texts, changed = Edit(crate, path.stem), "", "", {}, set()
+    edit, file, old, texts = Edit(crate, path.stem), "", "", {}
     for line in path.read_text().splitlines():
         key, _, text = line.partition(": ")
         if key == "file":
@@ -85,24 +96,34 @@ def read(crate, path):
         elif key.rstrip(":") == "new":
             texts[file] = texts.get(file) or (TOP / "crates" / crate / file).read_text()
             if texts[file].count(old) != 1:
-                sys.exit(f"{edit}: the old text stands {texts[file].count(old)} times in {file}: {old}")
-            changed.add(function_at(texts[file], old))
+                sys.exit(f"{edit}: the old text is {texts[file].count(old)} times in {file}: {old}")
+            edit.changed.add(function_at(texts[file], old))
             texts[file] = texts[file].replace(old, text)
             edit.pairs.append((file, old, text))
-    edit.is_alone = None in changed
-    edit.parts = edit.parts or sorted(changed - {None})
+    edit.is_alone = None in edit.changed
+    edit.changed.discard(None)
+    edit.parts = edit.parts or sorted(edit.changed)
     if not edit.parts:
         sys.exit(f"{edit}: it changes no function, so it needs a line `only: PATH`")
     return edit
 
 
+def bodies(text):
+    """Each function that has lines between the braces of its body: its head, and the places of these braces (-1 for one that ends the
+    head's line). A trait's `fn ..;` has no body, and `{}` no lines: the next braces are a later function's."""
+    heads = list(FUNCTION.finditer(text))
+    for head, following in zip(heads, [*heads[1:], None]):
+        stop = following.start() if following else len(text)
+        opening = re.compile(rf"\n{head[1]}{{(}}?)\n").search(text, head.end(), stop)
+        end = text.find(f"\n{head[1]}}}\n", head.end(), stop)
+        if end >= 0 and not (opening and opening[1]):
+            yield head, opening.start() if opening else -1, end
+
+
 def function_at(text, part):
     """The name of the function that has that part of the text, for one of a trait behind its type and the trait."""
-    place, name = text.find(part), None
-    for begin in FUNCTION.finditer(text, 0, place + len(part)):
-        end = text.find(f"\n{begin[1]}}}", begin.end())
-        if end >= place:
-            name = begin[2]
+    place = text.find(part)
+    name = next((head[2] for head, _, end in bodies(text) if head.start() <= place <= end), None)
     if name is None:
         return None
     before = text[:place]
@@ -131,7 +152,7 @@ def apart(edits):
     for edit in edits:
         for others in [] if edit.is_alone else rounds:
             is_free = not any(other.is_alone or set(other.parts) & set(edit.parts) for other in others)
-            if is_free and made([*others, edit]) is not None:
+            if is_free and made([*others, edit], TOP / "crates" / edit.crate) is not None:
                 others.append(edit)
                 break
         else:
@@ -139,12 +160,12 @@ def apart(edits):
     return rounds
 
 
-def made(edits):
-    """The files of the crate that the edits change, by their paths, or None where a text doesn't stand there once."""
+def made(edits, folder):
+    """The files of the crate in that folder that the edits change, by their paths, or None if a text isn't there once."""
     texts = {}
     for edit in edits:
         for file, old, new in edit.pairs:
-            text = texts.get(file) or (TOP / "crates" / edit.crate / file).read_text()
+            text = texts.get(file) or (folder / file).read_text()
             if text.count(old) != 1:
                 return None
             texts[file] = text.replace(old, new)
@@ -157,7 +178,7 @@ def leave_out(folder, crate, functions, edits):
         parts = path.split("::")
         calls_itself = folder.joinpath("proofs", *parts[:-1], f"+{parts[-1]}").is_dir()
         is_closure = "fn" in parts[:-1]
-        if calls_itself or is_closure or any(is_of(path, part) for edit in edits for part in edit.parts):
+        if calls_itself or is_closure or any(edits_function(edit, path) for edit in edits):
             continue
         proof = folder.joinpath("proofs", *parts)
         shutil.rmtree(proof, ignore_errors=True)
@@ -167,20 +188,25 @@ def leave_out(folder, crate, functions, edits):
 
 
 def leave_bodies_out(folder, functions, edits):
-    """Takes the body from each of these functions that no edit changes: with its proof left out, its contract is all that is taken of
-    it, and what it calls isn't looked at. One with a closure keeps it for the closure's proof, and one that calls itself."""
-    kept = {part.rsplit("::", 1)[-1] for edit in edits for part in edit.parts}
+    """Takes the body from each of these functions that no edit changes: with its proof left out, only its contract is used, and what it
+    calls isn't checked. A function keeps its body if it has a closure, which has a proof, if it calls itself, or if a function
+    that isn't given has the same name."""
+    kept = {part.rsplit("::", 1)[-1] for edit in edits for part in {*edit.parts, *edit.changed}}
     kept |= {path.name[1:] for path in folder.joinpath("proofs").rglob("+*")}
-    kept |= {path.rsplit("::", 1)[-1] for path in functions if any(is_of(path, part) for edit in edits for part in edit.parts)}
-    names = {path.rsplit("::", 1)[-1] for path in functions} - kept
-    for path in folder.joinpath("src").rglob("*.rt"):
-        text = path.read_text()
-        for begin in reversed(list(FUNCTION.finditer(text))):
-            end = text.find(f"\n{begin[1]}}}\n", begin.end())
-            start = text.find(f"\n{begin[1]}{{\n", begin.end(), end)
-            if begin[2] in names and start >= 0 and "|" not in text[start:end] and "const fn" not in begin[0]:
-                text = f"{text[:start]}\n{begin[1]}{{ unreachable!() {text[end + 1 + len(begin[1]):]}"
+    kept |= {path.rsplit("::", 1)[-1] for path in functions if any(edits_function(edit, path) for edit in edits)}
+    texts = {path: path.read_text() for path in folder.joinpath("src").rglob("*.rt")}
+    written = Counter(head[2] for text in texts.values() for head, start, _ in bodies(text) if start >= 0)
+    given = Counter(path.rsplit("::", 1)[-1] for path in functions)
+    names = {name for name, count in given.items() if written[name] <= count} - kept
+    for path, text in texts.items():
+        for head, start, end in reversed(list(bodies(text))):
+            if head[2] in names and start >= 0 and "|" not in text[start:end] and "const fn" not in head[0]:
+                text = f"{text[:start]}\n{head[1]}{LEFT_OUT}{text[end + 2 + len(head[1]):]}"
         path.write_text(text)
+
+
+def edits_function(edit, path):
+    return any(is_of(path, part) for part in edit.parts)
 
 
 def is_of(path, part):
@@ -188,22 +214,36 @@ def is_of(path, part):
     return f"::{path}::".find(f"::{part}::") >= 0
 
 
-def checked(crate, edits, proved):
-    """Checks what the edits change in a copy of their crate, and returns what is said."""
+def checked(crate, edits, around, proved):
+    """Checks the functions that the edits change in a copy of their crate, and returns what is said. In the copy, proofs and bodies are
+    left out but for those that the edits `around` change."""
     with tempfile.TemporaryDirectory() as room:
         folder = Path(room)
         for part in ("src", "specs", "proofs"):
             if (TOP / "crates" / crate / part).is_dir():
                 shutil.copytree(TOP / "crates" / crate / part, folder / part)
-        for file, text in made(edits).items():
+        leave_out(folder, crate, proved, around)
+        leave_bodies_out(folder, proved, around)
+        texts = made(edits, folder)
+        if texts is None:
+            return LOST
+        for file, text in texts.items():
             (folder / file).write_text(text)
-        leave_out(folder, crate, proved, edits)
-        leave_bodies_out(folder, proved, edits)
         only = [word for part in sorted({part for edit in edits for part in edit.parts}) for word in ("--only", part)]
         holes = ["--allow-holes"] if proved else ["--incremental", kept_of(crate, folder / "kept")]
         command = [*words("check", crate), "--jobs", "1", *only, *holes]
         ran = subprocess.run(command, cwd=folder, stdin=subprocess.DEVNULL, capture_output=True, text=True)
-    return ran.stdout + ran.stderr
+        return without_left_out(ran.stdout + ran.stderr, folder)
+
+
+def without_left_out(said, folder):
+    """What is said, without the goals of bodies that are left out: they say nothing of an edit."""
+    ours = set()
+    for path in folder.joinpath("src").rglob("*.rt"):
+        lines = enumerate(path.read_text().splitlines(), 1)
+        ours |= {f"{path.relative_to(folder)}:{number}" for number, line in lines if line.strip() == LEFT_OUT}
+    places = ((re.search(r"(src/\S+?:\d+):\d+: ", line), line) for line in said.splitlines())
+    return "\n".join(line for place, line in places if not place or place[1] not in ours)
 
 
 def kept_of(crate, folder):
@@ -217,56 +257,49 @@ def kept_of(crate, folder):
 
 
 def told(edit, said):
-    """What is said of an edit, and whether the prover refuses it."""
-    goals, faults, verdicts, notes = [], [], [], []
+    """What is said of an edit, and whether the prover rejects it."""
+    goals, faults, unread, verdicts, notes = [], [], [], [], []
     for line in said.splitlines():
         place = re.fullmatch(TOLD, line)
-        verdict = re.fullmatch(r"fn \w+?::(\S+): (.*)", line)
+        verdict = re.fullmatch(VERDICT, line)
         if verdict:
-            if any(is_of(verdict[1], part) for part in edit.parts):
+            if edits_function(edit, verdict[1]):
                 verdicts.append(verdict[2])
-                goals += notes if verdict[2].startswith(("no proof", "not proved")) else []
+                goals += notes if verdict[2].startswith(OPEN) else []
             notes = []
         elif place and place[1].startswith("proofs/"):
-            path = "::".join(Path(place[1]).parent.parts[1:])
-            if any(is_of(path, part) for part in edit.parts) and not re.search(UNREAD, place[2]):
-                goals.append(f"{place[1]}: {place[2]}")
-        elif place and re.search(UNREAD, place[2]):
-            faults.append(f"{place[1]}: {place[2]}")
+            if edits_function(edit, "::".join(Path(place[1]).parent.parts[1:])):
+                (unread if re.search(UNREAD, place[2]) else goals).append(f"{place[1]}: {place[2]}")
         elif place:
-            notes.append(f"{place[1]}: {place[2]}")
-    is_refused = bool(goals) and not faults and any(it.startswith(("no proof", "not proved")) for it in verdicts)
-    if is_refused:
-        return f"{edit}: refused, as it must be: {goals[0][:120]}", True
-    if verdicts and not faults:
-        return f"{edit}: NOT REFUSED: {'; '.join(verdicts)}", False
-    return f"{edit}: not tried: {(faults or [said[-900:]])[0]}", False
+            (faults if re.search(UNREAD, place[2]) else notes).append(f"{place[1]}: {place[2]}")
+    is_open = any(verdict.startswith(OPEN) for verdict in verdicts)
+    if goals and is_open and not faults:
+        return f"{edit}: rejected, as it must be: {goals[0][:120]}", True
+    if verdicts and not is_open and not faults:
+        return f"{edit}: NOT REJECTED: {'; '.join(verdicts)}", False
+    return f"{edit}: {NOT_TRIED} {(faults or unread or verdicts or [said[-900:]])[0]}", False
 
 
-def told_unedited(edit, said):
-    """What is said of the functions of an edit that changes nothing, and whether they are proved."""
-    verdicts = re.findall(r"(?m)^fn \w+?::(\S+): (.*)$", said)
-    of_edit = [verdict for path, verdict in verdicts if any(is_of(path, part) for part in edit.parts)]
-    if not of_edit:
-        return f"{edit}: not tried: {said[-900:]}", False
-    are_proved = all(verdict == "proved" for verdict in of_edit)
-    return f"{edit}: {'proved as it stands' if are_proved else 'NOT PROVED as it stands: ' + '; '.join(of_edit)}", are_proved
+def not_proved(crate, edits, proved):
+    """The rows of the edits whose functions aren't proved if no edit is made: what rejects them need not be the edit."""
+    said = checked(crate, [replace(edit, pairs=[]) for edit in edits], edits, proved)
+    verdicts = re.findall(f"(?m)^{VERDICT}$", said)
+    rows = {}
+    for edit in edits:
+        of_edit = [verdict for path, verdict in verdicts if edits_function(edit, path)] or [said[-900:]]
+        if not all(re.fullmatch(PROVED, verdict) for verdict in of_edit):
+            rows[edit.name] = (f"{edit}: {NOT_TRIED} without the edit: {'; '.join(of_edit)}", False)
+    return rows
 
 
-def unedited(edit):
-    return replace(edit, pairs=[(file, old, old) for file, old, _ in edit.pairs])
-
-
-def is_unedited(edit):
-    return all(old == new for _, old, new in edit.pairs)
-
-
-def tried_together(crate, edits, proved):
-    """Tries edits by one check, or each alone where the check says nothing of one of them."""
-    said = checked(crate, edits, proved)
-    rows = [told_unedited(edit, said) if is_unedited(edit) else told(edit, said) for edit in edits]
-    if len(edits) > 1 and any(": not tried: " in row for row, _ in rows):
-        return [row for edit in edits for row in tried_together(crate, [edit], proved)]
+def tried_together(crate, edits, around, proved):
+    """Tries edits by one check, and each alone of which it says nothing."""
+    said = checked(crate, edits, around, proved)
+    rows = []
+    for edit in edits:
+        row = told(edit, said)
+        again = len(edits) > 1 and NOT_TRIED in row[0]
+        rows += tried_together(crate, [edit], around, proved) if again else [row]
     return rows
 
 
@@ -277,7 +310,9 @@ def tried(crate, edits, free, log):
         return [(f"{crate}: {', '.join(needed)} isn't proved, so its edits weren't tried", False)]
     with free:
         proved = (proved_of(crate, log) or plain_functions(crate)) if log else []
-        return [row for edits in apart(edits) for row in tried_together(crate, edits, proved)]
+        rows = not_proved(crate, edits, proved) if log else {}
+        rest = apart([edit for edit in edits if edit.name not in rows])
+        return [*rows.values(), *[row for those in rest for row in tried_together(crate, those, edits, proved)]]
 
 
 def proved_of(crate, log):
@@ -310,16 +345,67 @@ def module_of(crate, path):
     return [] if names == ("lib",) else names
 
 
+SELF_TEST = """pub trait Numbered {
+    fn first(&self) -> u8
+        ensures { result ≡ 1 };
+
+    fn second(&self) -> u8
+        ensures { result ≡ 2 }
+    {
+        if self.first() == 1 {
+            2
+        } else {
+            0
+        }
+    }
+}
+
+pub fn theorem()
+    ensures { 1 ≡ 1 }
+{}
+
+fn third() -> u8
+    ensures { result ≡ 3 }
+{
+    3
+}
+"""
+
+
+def self_test():
+    """Tries without a proof which bodies are left out, and what counts as rejected."""
+    with tempfile.TemporaryDirectory() as room:
+        folder, file, edit = Path(room), Path(room, "src/lib.rt"), Edit("it", "edit", [("src/lib.rt", "    3", "    4")], {"third"}, ["third"])
+
+        def text_without(functions, edits):
+            file.write_text(SELF_TEST)
+            leave_bodies_out(folder, functions, edits)
+            return file.read_text()
+
+        file.parent.mkdir()
+        assert text_without(["Numbered::first", "theorem", "third"], [edit]) == SELF_TEST
+        body = SELF_TEST[SELF_TEST.index("    {\n        if") : SELF_TEST.index("}\n\npub fn")]
+        assert text_without(["Numbered::second"], [edit]) == SELF_TEST.replace(body, f"    {LEFT_OUT}\n")
+        assert made([edit], folder) is not None
+        assert [function_at(SELF_TEST, part) for part in ("            2", "{}\n", "    3")] == ["second", None, "third"]
+        # An edit whose text is lost, and the goal of the body that is left out.
+        line = text_without(["third"], []).splitlines().index(LEFT_OUT) + 1
+        assert made([edit], folder) is None and told(edit, LOST) == (f"{edit}: {NOT_TRIED} {LOST}", False)
+        goal = "note: src/lib.rt:{}:3: it is not proved that control never comes here\nfn it::third: no proof: it is open"
+        assert told(edit, goal.format(line - 1))[1] and not told(edit, without_left_out(goal.format(line), folder))[1]
+        assert not told(edit, "fn it::third: no holes")[1]
+
+
 def main():
     given = argparse.ArgumentParser(usage=__doc__.partition("usage: ")[2].partition("\n\n")[0])
     given.add_argument("--lanes", type=int, default=3)
     given.add_argument("--beside", type=Path)
-    given.add_argument("--unedited", action="store_true")
+    given.add_argument("--self-test", action="store_true")
     given.add_argument("names", nargs="*")
     given = given.parse_args()
+    if given.self_test:
+        return self_test()
     edits, free = wanted(given.names), threading.Semaphore(given.lanes)
-    if given.unedited:
-        edits = {crate: [unedited(edit) for edit in those] for crate, those in edits.items()}
     as_due = 0
     with ThreadPoolExecutor(len(edits)) as pool:
         for rows in pool.map(lambda crate: tried(crate, edits[crate], free, given.beside), edits):
@@ -327,7 +413,7 @@ def main():
                 print(row, flush=True)
                 as_due += is_as_due
     count = sum(map(len, edits.values()))
-    print(f"{count} tried, {count - as_due} not {'proved as they stand' if given.unedited else 'refused'}")
+    print(f"{count} tried, {count - as_due} not rejected")
     return 0 if count == as_due > 0 else 1
 
 
