@@ -2,22 +2,25 @@
 """Check that each clause that docs/HEADLINE.md cites is one of the code.
 
 A citation is `crate::module::function` {`clause`}, or `crate::module::function` {} for a function
-whose only clause has no name. The module is a path of files below src/. A clause is one of the
-function's `ensures`, or a ghost item of its file.
+whose only clause has no name: the clause is one of the function's `ensures`. A ghost member is cited
+by its trait, as `crate::module::Trait` {`ghost`}, or by its impl, as
+`crate::module::Trait<Argument> for Type` {`ghost`}, without the impl's parameters. The type's
+arguments may be left out. The module is a path of files below src/.
 """
-import pathlib
 import re
 import sys
 
-TOP = pathlib.Path(__file__).resolve().parent.parent
-CITATION = re.compile(r"`((?:\w+::)+\w+)` \{([^}]*)\}")
+from sources import TOP, block_end, text_of, without_comments
+
+CITATION = re.compile(r"`((?:\w+::)+[^`\n]+)` \{([^}]*)\}")
 
 
 def source_of(path):
-    """The file of a module's path, and the function's name."""
-    crate, *modules, function = path.split("::")
+    """The file of a module's path, and the name of what is cited there."""
+    modules, name = re.fullmatch(r"((?:[a-z]\w*::)+)(.*)", path).groups()
+    crate, *inside = modules.split("::")[:-1]
     source = TOP / "crates" / crate / "src"
-    return source.joinpath(*modules).with_suffix(".rt") if modules else source / "lib.rt", function
+    return source.joinpath(*inside).with_suffix(".rt") if inside else source / "lib.rt", name
 
 
 def clauses_of(text, function):
@@ -30,22 +33,49 @@ def clauses_of(text, function):
     return found
 
 
+def without_parameters(text):
+    """What follows the parameters in angle brackets that a text begins with."""
+    depth = 0
+    for place, mark in enumerate(text):
+        depth += {"<": 1, ">": -1}.get(mark, 0)
+        if not depth:
+            return text[place:].lstrip("> ")
+    return text
+
+
+def names_of(head):
+    """How the head of a trait or an impl is cited."""
+    kind, rest = re.match(r"(?:pub )?(?:unsafe )?(trait|impl)\b(.*)", " ".join(head.split())).groups()
+    if kind == "trait":
+        return {re.search(r"\w+", rest)[0]}
+    trait, _, of_whom = without_parameters(rest).partition(" where ")[0].partition(" for ")
+    trait = re.sub(r"^(?:\w+::)+", "", trait)
+    return {f"{trait} for {name}" for name in (of_whom, of_whom.partition("<")[0])}
+
+
+def ghosts_of(text, name):
+    """The ghost members of the trait or the impl of that name. `None` if there isn't exactly one."""
+    heads = re.finditer(r"(?m)^(?:pub )?(?:unsafe )?(?:trait|impl)\b[^{;]*(?=\{)", text)
+    blocks = [text[head.end():block_end(text, head.end())] for head in heads if name in names_of(head[0])]
+    return set(re.findall(r"(?m)^    (?:pub )?ghost (\w+) ?[:=]", blocks[0])) if len(blocks) == 1 else None
+
+
 def missing(path, clauses):
     """What of a citation is not in the code."""
-    source, function = source_of(path)
+    source, name = source_of(path)
     if not source.is_file():
         return f"{path}: no file {source.relative_to(TOP)}"
-    text = source.read_text()
-    known = clauses_of(text, function)
+    text = without_comments(text_of(source), "//")
+    is_function = re.fullmatch(r"\w+", name) and re.search(rf"\bfn {name}\b", text)
+    known = clauses_of(text, name) if is_function else ghosts_of(text, name)
     if known is None:
-        return f"{path}: no such function"
-    ghosts = set(re.findall(r"\bghost (\w+) ?[:=]", text))
-    lacking = [c for c in clauses if c not in known | ghosts]
+        return f"{path}: no such function, and not exactly one such trait or impl"
+    lacking = [clause for clause in clauses if clause not in known]
     return f"{path}: no clause {', '.join(repr(c) for c in lacking)}" if lacking else None
 
 
 def main():
-    text = (TOP / "docs" / "HEADLINE.md").read_text()
+    text = text_of(TOP / "docs" / "HEADLINE.md")
     citations = CITATION.findall(text)
     faults = [missing(path, re.findall(r"`(\w+)`", clauses) or [""]) for path, clauses in citations]
     faults = [fault for fault in faults if fault]

@@ -7,3 +7,4 @@ pub mod Relocals
 pub mod Stays
 pub mod Walls
 mod Choices
+mod Alike

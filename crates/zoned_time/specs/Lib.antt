@@ -1,3 +1,4 @@
+pub mod Alike
 pub mod Choice
 pub mod DateTime
 pub mod Fields

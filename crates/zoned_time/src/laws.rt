@@ -13,8 +13,10 @@ ghost use Rattle.naive_base.specs.NaiveDateTime.{reading};
 ghost use Rattle.naive_base.specs.Range.{IsInRange};
 ghost use Rattle.naive_base.specs.Reading.{Reading, IsEarlier, total, of_total};
 ghost use Rattle.naive_base.specs.Stamp.{of_secs, IsStamp};
+ghost use Rattle.zoned_time.specs.declared.around.OffsetsAround.{OffsetsAround as AnyAround};
 ghost use Rattle.zoned_time.specs.declared.resolve_error.ResolveError.{ResolveError as Fault};
 ghost use Rattle.zoned_time.specs.declared.utc.Utc.{Utc as TheUtc};
+ghost use Rattle.zoned_time.specs.Alike.{AreAlike, HoldsOfEach};
 ghost use Rattle.zoned_time.specs.Choice.{IsBeforeGap, IsResolved, IsUnresolved};
 ghost use Rattle.zoned_time.specs.Relocal.{IsRelocal, HasInstant, instant_of, SingleIff};
 ghost use Rattle.zoned_time.specs.Stamps.{millis_of, micros_of, of_millis, of_micros, in_utc};
@@ -23,7 +25,7 @@ ghost use Rattle.zoned_time.specs.Order.{compared};
 ghost use Rattle.zoned_time.specs.Zone.{Each, SameOffsets, SameLaw, seconds_alone};
 ghost use Rattle.zoned_time.specs.Zoned.{Zoned, local_of, in_seconds, IsAt, IsFixedFrom};
 
-use crate::{DateTime, Offset, ResolveError, TimeZone, Utc};
+use crate::{DateTime, Offset, OffsetsAround, ResolveError, TimeZone, Utc};
 use naive_base::NaiveDateTime;
 use offset_core::{Choice, FixedOffset};
 use std::hash::Hash;
@@ -88,6 +90,9 @@ pub fn stamps_come_back()
     ensures seconds { (secs : ℤ) (nanos : ℕ) (instant : Zoned TheUtc)
         → SomeIff (Some instant) (IsStamp (of_secs secs nanos)) (in_utc (of_secs secs nanos))
         → (instant.utc.s ≡ secs) × (instant.utc.f ≡ nanos) }
+    ensures whole_seconds { (secs : ℤ) (instant : Zoned TheUtc)
+        → SomeIff (Some instant) (IsInRange secs) (in_utc (of_secs secs 0))
+        → (instant.utc.s ≡ secs) × (instant.utc.f ≡ 0) }
     ensures millis { (millis : ℤ) (instant : Zoned TheUtc)
         → SomeIff (Some instant) (IsInRange (of_millis millis).s) (in_utc (of_millis millis))
         → millis_of instant.utc ≡ millis }
@@ -150,6 +155,17 @@ pub fn resolve_errors()
     ensures equal { (a b : Fault) → IsTrue (⟦<ResolveError as PartialEq>⟧.eq a b) ↔ (a ≡ b) }
     ensures cloned { (a b : Fault) → ⟦<ResolveError as Clone>⟧.is_clone a b ↔ (a ≡ b) }
     ensures infallible { (a : Fault) → ⟦<ResolveError as Clone>⟧.is_infallible a }
+{}
+
+/// What a zone gives around a local time is equal if and only if it is of one kind and its offsets are
+/// equal, and a clone is of one kind with clones of the offsets. It fails only if one of these does.
+pub fn offsets_around<O: PartialEq + Clone>()
+    ensures equal { (x y : AnyAround O) → IsTrue (⟦<OffsetsAround<O> as PartialEq>⟧.eq x y)
+        ↔ AreAlike (λ a b. IsTrue (O.PartialEq.eq a b)) x y }
+    ensures cloned { (x y : AnyAround O) → ⟦<OffsetsAround<O> as Clone>⟧.is_clone x y
+        ↔ AreAlike O.Clone.is_clone x y }
+    ensures infallible { (x : AnyAround O) → HoldsOfEach O.Clone.is_infallible x
+        → ⟦<OffsetsAround<O> as Clone>⟧.is_infallible x }
 {}
 
 /// What a zone gives for a wall clock is determined: two answers are the same instants, at offsets
