@@ -35,6 +35,8 @@ _Static_assert(offsetof(zoned_change, at) == 0, "the place of at");
 _Static_assert(offsetof(zoned_change, before) == 8, "the place of the type before");
 _Static_assert(offsetof(zoned_change, after) == 24, "the place of the type after");
 _Static_assert(ZONED_NOT_OPEN == 33 && ZONED_UNKNOWN_CHOICE == 34 && ZONED_NO_CHANGE == 35, "the numbers of a call by handle");
+_Static_assert(ZONED_OTHER_TYPE_INDEX == 41 && ZONED_OTHER_TRANSITION_TIMES == 42, "faults of lists");
+_Static_assert(ZONED_OTHER_LEAP_SECONDS == 43 && ZONED_OTHER_RULE == 44, "faults of lists");
 _Static_assert(ZONED_LOCAL_TIME_TYPE == 3 && ZONED_INVALID_TZ_FILE == 5 && ZONED_INVALID_TZ_STRING == 6, "faults of the bytes");
 _Static_assert(ZONED_UNEXPECTED_END == 7 && ZONED_MISSING_TAG == 8 && ZONED_PARSE_INT == 10, "faults of the bytes");
 _Static_assert(ZONED_TIME_ZONE == 12 && ZONED_TRANSITION_RULE == 13 && ZONED_UNSUPPORTED_TZ_FILE == 14, "faults of the bytes");
@@ -92,6 +94,18 @@ static const uint8_t NEW_YORK[] = "EST5EDT,M3.2.0,M11.1.0";
    first second after the calendar's range. */
 static const int64_t LOCALS[4] = {1615689000, 1636248600, 1636286400, 8210266876800};
 
+/* A file of version 1 whose transitions are the given ones, with one local time type. */
+static uint32_t fault_of(int32_t first, uint8_t first_index, int32_t second, uint8_t second_index) {
+    uint8_t file[64] = {'T', 'Z', 'i', 'f'};
+    file[35] = 2, file[39] = 1, file[43] = 4;
+    for (int k = 0; k < 4; k++) file[44 + k] = (uint8_t)((uint32_t)first >> (24 - 8 * k)), file[48 + k] = (uint8_t)((uint32_t)second >> (24 - 8 * k));
+    file[52] = first_index, file[53] = second_index;
+    memcpy(file + 60, "UTC", 4);
+    const uint32_t number = zoned_fault(ZONED_FILE, file, sizeof file);
+    const uint32_t parsed = zoned_parse(ZONED_FILE, file, sizeof file);
+    return number == parsed || (number > 40 && parsed == ZONED_TIME_ZONE) ? number : 0xFFFF;
+}
+
 static uint32_t parsed(const char *text) { return zoned_parse(ZONED_TEXT, (const uint8_t *)text, strlen(text)); }
 
 int main(void) {
@@ -128,6 +142,12 @@ int main(void) {
     IS(zoned_parse(ZONED_FILE, NEW_YORK, LEN), 5);
     IS(zoned_parse(ZONED_FILE, (const uint8_t *)"TZif", 4), 7);
     IS(zoned_parse(2, NEW_YORK, LEN), ZONED_UNKNOWN_KIND);
+    IS(fault_of(0, 0, 1, 0), ZONED_OK);
+    IS(fault_of(0, 0, 1, 1), ZONED_OTHER_TYPE_INDEX);
+    IS(fault_of(0, 0, 0, 0), ZONED_OTHER_TRANSITION_TIMES);
+    IS(zoned_fault(ZONED_TEXT, NEW_YORK, LEN), ZONED_OK);
+    IS(zoned_fault(ZONED_FILE, NEW_YORK, LEN), ZONED_INVALID_TZ_FILE);
+    IS(zoned_fault(2, NEW_YORK, LEN), ZONED_UNKNOWN_KIND);
     IS(parsed(" EST5EDT,M3.2.0,M11.1.0\r\n"), ZONED_OK);
     IS(parsed("EST5EDT,M13.2.0,M11.1.0"), ZONED_TRANSITION_RULE);
     IS(parsed("EST5EDT"), ZONED_UNSUPPORTED_TZ_STRING);

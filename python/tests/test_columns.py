@@ -441,6 +441,26 @@ def test_refused_files(data, number):
     assert raised.value.number == number
 
 
+UTC = (0, False, "UTC")
+
+
+# What is wrong with lists that make no zone (RFC 8536, sections 3.2 and 3.3).
+@pytest.mark.parametrize(
+    "data, words",
+    [
+        (tzif([(0, 1)], [UTC]), "a transition of a TZif file names no local time type"),
+        (tzif([(0, 0), (0, 0)], [UTC]), "the transition times of a TZif file do not rise"),
+        (tzif([(0, 0)], [UTC], "EST5"), "the footer of a TZif file disagrees with the last transition"),
+    ],
+)
+def test_files_whose_lists_make_no_zone(data, words):
+    with pytest.raises(sahvumbi.ZoneRefusedError) as raised:
+        Zone.from_bytes(data)
+    assert (raised.value.number, raised.value.words) == (12, words)
+    again = pickle.loads(pickle.dumps(raised.value))
+    assert (again.number, again.words) == (12, words)
+
+
 def test_a_shift_by_more_than_a_day():
     """Clocks set forward by 25 hours: what they skipped is told by the offset before."""
     zone = Zone.from_bytes(Lists([(0, 1)], [0, 90_000]).file())

@@ -151,6 +151,14 @@ enum {
     ZONED_NO_CHANGE = 35
 };
 
+/* What is wrong with a TZif file whose lists make no valid zone: zoned_fault returns these in place of ZONED_TIME_ZONE. */
+enum {
+    ZONED_OTHER_TYPE_INDEX = 41,       /* a transition of a TZif file names no local time type */
+    ZONED_OTHER_TRANSITION_TIMES = 42, /* the transition times of a TZif file do not rise */
+    ZONED_OTHER_LEAP_SECONDS = 43,     /* the leap seconds of a TZif file cannot follow one another */
+    ZONED_OTHER_RULE = 44              /* the footer of a TZif file disagrees with the last transition */
+};
+
 /* The offset of an instant at which the zone has none. No zone has it as an offset. */
 #define ZONED_NO_OFFSET INT32_MIN
 
@@ -164,6 +172,9 @@ enum {
 
 /* Reads a zone, and answers nothing: ZONED_OK, or why the bytes are refused. */
 uint32_t zoned_parse(uint32_t kind, const uint8_t *zone, size_t zone_len);
+
+/* As zoned_parse, and returns 41 to 44 in place of ZONED_TIME_ZONE (12). */
+uint32_t zoned_fault(uint32_t kind, const uint8_t *zone, size_t zone_len);
 
 /* offsets[i] is the offset in force at instants[i], in seconds east of UTC.
 

@@ -3,6 +3,9 @@ use Rattle.std.specs.Prelude.{ℕ, ◌≡◌, ◌≢◌, ◌≤◌, List}
 use Rattle.std.specs.Str.{IsUtf8}
 use Rattle.tz_base.specs.Errors.{number_of as error_number}
 use Rattle.tz_base.specs.declared.error.Error.{Error}
+use Rattle.tz_base.specs.declared.error.Error.TheVariants as errors
+use Rattle.tz_base.specs.declared.error.Expected.{Expected}
+use Rattle.tz_base.specs.declared.error.Expected.TheVariants as expected
 use Rattle.tz_info.specs.PosixZones.{IsPosixZone, IsPosixFault}
 use Rattle.tz_info.specs.TzFiles.{IsZoneFault}
 use Rattle.tz_info.specs.Zones.{Zone}
@@ -44,3 +47,20 @@ pub data IsRefusal (number : ℕ) (bytes : List ℕ) (wanted room : ℕ) : ℕ �
   Unknown_kind : ¬ (IsKind number) → IsRefusal number bytes wanted room 31
   Other_size : IsKind number → wanted ≢ room → IsRefusal number bytes wanted room 32
   Not_read : (kind : Kind) (n : ℕ) → number ≡ number_of kind → wanted ≡ room → IsFault kind bytes n → IsReaderNumber n → IsRefusal number bytes wanted room n
+
+-- what is wrong with lists that make no zone has a number of its own; each other error keeps its number
+abbrev pub list_number : Expected → ℕ
+list_number expected.TypeIndexesWithinTypes = 41
+list_number expected.TransitionTimesThatRise = 42
+list_number expected.LeapSecondsInOrder = 43
+list_number expected.RuleThatAgreesWithLastTransition = 44
+list_number _ = 12
+
+abbrev pub detail_number : Error → ℕ
+detail_number (errors.TimeZone x) = list_number x
+detail_number e = error_number e
+
+-- why the bytes of a file, or of another kind, spell no zone
+pub data IsRefusalInDetail (number : ℕ) (bytes : List ℕ) : ℕ → Type 0 where
+  Of_file : (e : Error) → number ≡ number_of kinds.File → IsZoneFault bytes e → IsRefusalInDetail number bytes (detail_number e)
+  Of_other : (n : ℕ) → number ≢ number_of kinds.File → IsRefusal number bytes 0 0 n → IsRefusalInDetail number bytes n

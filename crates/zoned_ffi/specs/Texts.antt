@@ -24,6 +24,10 @@ pub data IsSaidOf : ℕ → List ℕ → Type 0 where
   Not_open : IsSaidOf 33 (codes "no zone is open")
   Unknown_choice : IsSaidOf 34 (codes "no such choice for gaps and folds")
   No_change : IsSaidOf 35 (codes "no change of the clocks")
+  Other_index : IsSaidOf 41 (codes "a transition of a TZif file names no local time type")
+  Not_rising : IsSaidOf 42 (codes "the transition times of a TZif file do not rise")
+  Other_leaps : IsSaidOf 43 (codes "the leap seconds of a TZif file cannot follow one another")
+  Other_rule : IsSaidOf 44 (codes "the footer of a TZif file disagrees with the last transition")
 
 -- the text of a number: what it says, or of a number that says nothing that it is none
 abbrev pub IsTextOf : ℕ → List ℕ → Type 0

@@ -5,8 +5,11 @@
 ghost use Rattle.std.specs.Prelude.{◌≡◌, ◌≢◌, ◌*◌, ◌⊎◌, length};
 ghost use Rattle.tz_info.specs.Zones.{Zone};
 ghost use Rattle.zoned_ffi.specs.Instants.{AreOffsetsAt};
-ghost use Rattle.zoned_ffi.specs.Kinds.{IsZoneOf};
-ghost use Rattle.zoned_ffi.specs.Refusals.{IsRefusal};
+ghost use Rattle.tz_base.specs.declared.error.Error.{Error};
+ghost use Rattle.tz_info.specs.TzFiles.{IsZoneFault};
+ghost use Rattle.zoned_ffi.specs.Kinds.{IsZoneOf, Spells};
+ghost use Rattle.zoned_ffi.specs.Refusals.{IsRefusal, IsRefusalInDetail, detail_number};
+ghost use Rattle.zoned_ffi.specs.declared.kind.Kind.TheVariants.{File};
 ghost use Rattle.zoned_ffi.specs.WallClocks.{AreTriples, AreWallClocks};
 
 mod asking;
@@ -24,8 +27,10 @@ mod texts;
 mod wall_clock;
 
 use instants::write_offsets;
-use kind::read_zone;
+use kind::{Kind, read_zone};
+use refusal::detail_number;
 use std::alloc::Global;
+use tz_info::TimeZone;
 pub use wall_clock::WallClock;
 use wall_clock::{has_room_for_triples, write_triples, write_wall_clocks};
 
@@ -42,6 +47,36 @@ pub extern "C" fn zoned_parse(alloc: Global, kind: u32, zone: &[u8]) -> u32
     match read_zone(alloc, kind, zone, true) {
         Ok(_) => 0,
         Err(refusal) => refusal.number(),
+    }
+}
+
+/// Reads the zone as `zoned_parse` does, and reports in detail what is wrong with a TZif file whose
+/// lists make no valid zone: 41 to 44 in place of 12.
+#[unsafe(no_mangle)]
+pub extern "C" fn zoned_fault(alloc: Global, kind: u32, zone: &[u8]) -> u32
+    // 0: the bytes spell a zone.
+    ensures answered { result ≡ 0 → (z : Zone) × IsZoneOf kind zone.now z }
+    // Another number says what is wrong.
+    ensures refused { result ≢ 0 → IsRefusalInDetail kind zone.now result }
+    // The zone that is spelled is read, unless memory runs out.
+    ensures only { (z : Zone) → IsZoneOf kind zone.now z → (result ≡ 0) ⊎ (result ≡ 17) }
+{
+    match Kind::from_number(kind) {
+        Some(Kind::File) => file_fault(alloc, zone),
+        _ => zoned_parse(alloc, kind, zone),
+    }
+}
+
+// What is wrong with a file, or 0.
+fn file_fault(alloc: Global, file: &[u8]) -> u32
+    ensures answered { result ≡ 0 → (z : Zone) × Spells File file.now z }
+    ensures refused { result ≢ 0
+        → (e : Error) × IsZoneFault file.now e × (result ≡ detail_number e) }
+    ensures only { (z : Zone) → Spells File file.now z → (result ≡ 0) ⊎ (result ≡ 17) }
+{
+    match TimeZone::from_tz_data(alloc, file) {
+        Ok(_) => 0,
+        Err(error) => detail_number(error),
     }
 }
 

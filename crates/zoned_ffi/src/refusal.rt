@@ -1,9 +1,9 @@
 //! Why a call is refused.
 
 ghost use Rattle.std.specs.Prelude.{◌≡◌, ◌≢◌};
-ghost use Rattle.zoned_ffi.specs.Refusals.{refusal_number};
+ghost use Rattle.zoned_ffi.specs.Refusals.{detail_number, list_number, refusal_number};
 
-use tz_info::Error;
+use tz_info::{Error, Expected};
 
 /// What a question by a handle returns where no zone is open.
 pub const NOT_OPEN: u32 = 33;
@@ -46,5 +46,30 @@ impl Refusal {
             Refusal::UnknownKind => 31,
             Refusal::OtherSize => 32,
         }
+    }
+}
+
+/// The number of a file's error, in detail: what is wrong with lists that make no zone has one of
+/// its own.
+pub fn detail_number(error: Error) -> u32
+    ensures value { result ≡ detail_number error }
+    ensures some { result ≢ 0 }
+{
+    match error {
+        Error::TimeZone(expected) => list_number(expected),
+        other => u32::from(other.number()),
+    }
+}
+
+fn list_number(expected: Expected) -> u32
+    ensures value { result ≡ list_number expected }
+    ensures some { result ≢ 0 }
+{
+    match expected {
+        Expected::TypeIndexesWithinTypes => 41,
+        Expected::TransitionTimesThatRise => 42,
+        Expected::LeapSecondsInOrder => 43,
+        Expected::RuleThatAgreesWithLastTransition => 44,
+        _ => 12,
     }
 }

@@ -58,7 +58,7 @@ def _calls():
         raise ImportError(f"{LIBRARY} can't be loaded, see python/README.md: {error}") from error
     zone, array = [c_uint32, c_char_p, c_size_t], [c_void_p, c_size_t]
     for call, arguments in (
-        (library.zoned_parse, zone),
+        (library.zoned_fault, zone),
         (library.zoned_at, zone + 2 * array),
         (library.zoned_wall, zone + 2 * array),
         (library.zoned_open, [*zone, c_void_p]),
@@ -82,7 +82,7 @@ class Door:
 
     def __init__(self, kind: int, data: bytes, what: str):
         self.kind, self.data, self.what = kind, data, what
-        self._must_be_answered(_LIBRARY.zoned_parse(kind, data, len(data)))
+        self._must_be_answered(_LIBRARY.zoned_fault(kind, data, len(data)))
 
     def offsets(self, instants: np.ndarray) -> np.ndarray:
         """The offset at each Unix second, in seconds east of UTC; `NO_OFFSET` where there is none.

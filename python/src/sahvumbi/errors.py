@@ -13,6 +13,7 @@ from __future__ import annotations
 from typing import Any, Optional
 
 NO_OFFSET = 2
+TIME_ZONE = 12
 GAP = 21
 FOLD = 22
 OUT_OF_RANGE = 23
@@ -32,6 +33,10 @@ WORDS = {
     15: "a TZ string names daylight saving time but has no rule for it",
     16: "a TZ string that is not UTF-8",
     17: "out of memory",
+    41: "a transition of a TZif file names no local time type",
+    42: "the transition times of a TZif file do not rise",
+    43: "the leap seconds of a TZif file cannot follow one another",
+    44: "the footer of a TZif file disagrees with the last transition",
     GAP: "no clock of the zone shows that time",
     FOLD: "clocks of the zone show that time more than once",
     OUT_OF_RANGE: "the instant is out of range",
@@ -49,7 +54,7 @@ class ZoneRefusedError(ZoneError):
     """The bytes are no zone."""
 
     def __init__(self, number: int, what: str = "the zone"):
-        self.number = number
+        self.number = TIME_ZONE if 41 <= number <= 44 else number
         self.words = WORDS.get(number, "a fault of another kind")
         self.what = what
         super().__init__(number, what)

@@ -64,3 +64,15 @@ returns-in-34 c = says c.args.number 34 _ c.in-34.is IsSaidOf.Unknown_choice
 
 pub returns-in-35 : goal.returns-in-35
 returns-in-35 c = says c.args.number 35 _ c.in-35.is IsSaidOf.No_change
+
+pub returns-in-41 : goal.returns-in-41
+returns-in-41 c = says c.args.number 41 _ c.in-41.is IsSaidOf.Other_index
+
+pub returns-in-42 : goal.returns-in-42
+returns-in-42 c = says c.args.number 42 _ c.in-42.is IsSaidOf.Not_rising
+
+pub returns-in-43 : goal.returns-in-43
+returns-in-43 c = says c.args.number 43 _ c.in-43.is IsSaidOf.Other_leaps
+
+pub returns-in-44 : goal.returns-in-44
+returns-in-44 c = says c.args.number 44 _ c.in-44.is IsSaidOf.Other_rule
