@@ -4,3 +4,4 @@ pub mod Tables
 pub mod Zdump
 pub mod Forms
 pub mod Pictures
+pub mod ExtendedZones

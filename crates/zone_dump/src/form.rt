@@ -18,8 +18,12 @@ pub enum Form<'a> {
     Zdump(&'a str),
 }
 
-// The zone in those years, in that form.
-pub(crate) fn told(
+/// The zone in those years, in that form.
+///
+/// # Errors
+///
+/// There is no memory for it.
+pub fn told(
     alloc: Global,
     zone: &TimeZone,
     years: Years,

@@ -6,6 +6,7 @@
 #![tactic(auto)]
 
 mod changes;
+mod extended;
 mod form;
 mod json_text;
 mod picture;
@@ -16,7 +17,8 @@ mod zdump;
 
 pub use change_words::Years;
 pub use changes::changes_in;
-pub use form::Form;
+pub use extended::extended_zone;
+pub use form::{Form, told};
 pub use json_text::to_json;
 pub use picture::draw;
 pub use tables::table;

@@ -1,5 +1,5 @@
 -- Which beginnings of a line let no line ask anything.
-use Rattle.std.proofs.Common.{◌≡◌, ◌≢◌, ◌==◌, true, false, ℕ, ◌+◌, ◌-◌, ◌<◌, ◌≤◌, ◌⊎◌, inl, inr, refl, ap, sym, ◌∙◌, subst, List, ◌++◌, append_assoc, All, length, get_or, take, drop, slice_index, codes, arith}
+use Rattle.std.proofs.Common.{◌≡◌, ◌≢◌, ◌==◌, true, false, ℕ, ◌+◌, ◌-◌, ◌<◌, ◌≤◌, ◌⊎◌, inl, inr, refl, ap, sym, ◌∙◌, subst, List, [], ◌∷◌, ◌++◌, ℤ, append_assoc, All, length, get_or, take, drop, slice_index, codes, arith, rules, FitsSigned, w32, w64}
 use Rattle.std.proofs.lemmas.Bool.{cases_eq}
 use Rattle.std.proofs.lemmas.Bool.Decides.{nat_tests}
 use Rattle.std.proofs.lemmas.List.{take-append-drop, take-append-le, length-append, length-take, get_or_append_left, get_or-append_right, get_or-take}
@@ -12,9 +12,10 @@ use Rattle.offset_core.specs.declared.choice.FoldChoice.{FoldChoice}
 use Rattle.offset_core.specs.declared.choice.FoldChoice.TheVariants as folds
 use Rattle.zone_query.specs.Choices.{choice_text}
 use Rattle.zone_query.specs.Lines.{without_return}
-use Rattle.zone_query.specs.Questions.{Text, Data, At, Wall, Resolve, Show, IsBadLine, IsChosenTime}
-use Rattle.zone_query.specs.Steps.Hopeless.{IsHopeless, IsForeign}
+use Rattle.zone_query.specs.Questions.{Text, Data, At, Wall, Resolve, Show, IsBadLine, IsChosenTime, IsLocalTime, IsTimestamp}
+use Rattle.zone_query.specs.Steps.Hopeless.{IsHopeless, IsForeign, weight}
 use Rattle.zone_query.proofs.Plain.{IsPlain, plain_integer, plain_local_time, plain_timestamp}
+use Rattle.zone_query.proofs.Weights.{weight_of_both, weight_short, weight_within, integer_light, numbers_light}
 
 not_foreign : (b : ℕ) → IsPlain b → IsForeign b → ⊥
 not_foreign b (inl space) h = h.1 space
@@ -27,6 +28,9 @@ none_foreign word text line k i e w from within plain h =
     let lengths : length line ≡ length word + length text = ap length e ∙ length-append word text in
     let byte : get_or line i 0 ≡ get_or text (i - k) 0 = ap (λ (l : List ℕ). get_or l i 0) e ∙ get_or-append_right word text k i 0 w from in
     not_foreign (get_or text (i - k) 0) (All-get_or IsPlain text (i - k) 0 (omega (arith, lengths, w, from, within)) plain) (subst IsForeign byte h)
+
+fits_w64 : (z : ℤ) → FitsSigned w32 z → FitsSigned w64 z
+fits_w64 z h = search rules
 
 choice_length : (gap : GapChoice) (fold : FoldChoice) → length (choice_text (record { gap = gap; fold = fold })) ≤ 15
 choice_length gaps.Refuse folds.Refuse = omega arith
@@ -59,6 +63,38 @@ foreign_bad line i from within foreign no_text no_data (Wall local) h = none_for
 foreign_bad line i from within foreign no_text no_data (Resolve l choice) h = none_before_choice h.0 l choice line i h.1 from within h.2 foreign
 foreign_bad line i from within foreign no_text no_data (Show seconds nanos) h = none_foreign (codes "show ") h.0 line 5 i h.1 refl from (omega (arith, within)) (plain_timestamp h.0 seconds nanos h.2) foreign
 
+-- ---- lines with few bytes that are no leading zeros
+local_light : (text : List ℕ) (local : ℤ) → IsLocalTime text local → weight false text ≤ 126
+local_light text local h =
+    let year = integer_light h.year h.y h.year_spelled (fits_w64 h.y h.year_fits) in
+    let others = numbers_light h.others (h.m ∷ h.d ∷ h.h ∷ h.min ∷ h.s ∷ []) h.others_spelled in
+    let both = weight_of_both h.year h.others false in
+    rw h.whole (omega (arith, year, others, both))
+
+timestamp_light : (text : List ℕ) (seconds : ℤ) (nanos : ℕ) → IsTimestamp text seconds nanos → weight false text ≤ 42
+timestamp_light text seconds nanos h =
+    let first = integer_light h.first seconds h.seconds_spelled h.seconds_fit in
+    let others = numbers_light h.others (nanos ∷ []) h.nanos_spelled in
+    let both = weight_of_both h.first h.others false in
+    rw h.whole (omega (arith, first, others, both))
+
+chosen_light : (text : List ℕ) (l : Reading) (choice : Choice) → IsChosenTime text l choice → weight false text ≤ 142
+chosen_light text l choice h =
+    let end = codes " " ++ choice_text choice in
+    let time = local_light h.time l.s h.local in
+    let both = weight_of_both h.time end false in
+    let short = weight_short end true in
+    let last : length end ≡ 1 + length (choice_text choice) = length-append (codes " ") (choice_text choice) in
+    rw h.whole (omega (arith, time, both, short, last, choice_length choice.gap choice.fold))
+
+heavy_bad : (line : List ℕ) → 255 < weight false line → ((rest : List ℕ) → line ≢ codes "text " ++ rest) → ((rest : List ℕ) → line ≢ codes "data " ++ rest) → IsBadLine line
+heavy_bad line heavy no_text no_data (Text text) h = no_text text h.0
+heavy_bad line heavy no_text no_data (Data bytes) h = no_data h.0 h.1
+heavy_bad line heavy no_text no_data (At seconds) h = let light = integer_light h.0 seconds h.2 h.3 in let w = rw h.1 at heavy in omega (arith, light, w)
+heavy_bad line heavy no_text no_data (Wall local) h = let light = local_light h.0 local h.2 in let w = rw h.1 at heavy in omega (arith, light, w)
+heavy_bad line heavy no_text no_data (Resolve l choice) h = let light = chosen_light h.0 l choice h.2 in let w = rw h.1 at heavy in omega (arith, light, w)
+heavy_bad line heavy no_text no_data (Show seconds nanos) h = let light = timestamp_light h.0 seconds nanos h.2 in let w = rw h.1 at heavy in omega (arith, light, w)
+
 -- ---- lines that begin with the same five bytes
 -- where one of them begins with a word, so does the other
 same_word : (word t rest line front : List ℕ) → take 5 line ≡ take 5 front → line ≡ word ++ rest → take 5 (word ++ rest) ≡ word ++ t → front ≡ word ++ (t ++ drop 5 front)
@@ -81,23 +117,23 @@ wordless_bad line front same nt nd others (Show seconds nanos) h = no_word (code
 -- ---- with and without a carriage return
 -- a line that goes on from a front has its bytes; except for the last ones, which may be a choice and a carriage return
 record GoesOn (front line : List ℕ) : Type 0 where
-  begins : take 5 line ≡ take 5 front
+  begins : (n : ℕ) → n < length front → take n line ≡ take n front
   has : (i : ℕ) → i + 17 < length front → IsForeign (get_or front i 0) → (i + 16 < length line) × IsForeign (get_or line i 0)
 
 goes_on : (front more : List ℕ) → 5 < length front → GoesOn front (front ++ more)
 goes_on front more some = record {
-  begins = take-append-le 5 front more (omega (arith, some));
+  begins = λ n h. take-append-le n front more (omega (arith, h));
   has = λ i h foreign. let l = length-append front more in (omega (arith, l, h), subst IsForeign (sym (get_or_append_left front more 0 i (omega (arith, h)))) foreign);
 }
 
-take_shorter : (line : List ℕ) (n : ℕ) → 5 ≤ n → n ≤ length line → take 5 (take n line) ≡ take 5 line
-take_shorter line n h within =
+take_shorter : (line : List ℕ) (k n : ℕ) → k ≤ n → n ≤ length line → take k (take n line) ≡ take k line
+take_shorter line k n h within =
     let l = length-take n line in
-    sym (take-append-le 5 (take n line) (drop n line) (omega (arith, l, h, within))) ∙ ap (take 5) (take-append-drop n line)
+    sym (take-append-le k (take n line) (drop n line) (omega (arith, l, h, within))) ∙ ap (take k) (take-append-drop n line)
 
 shortened : (front line : List ℕ) → 5 < length front → length front ≤ length line → GoesOn front line → GoesOn front (take (length line - 1) line)
 shortened front line some within g = record {
-  begins = take_shorter line (length line - 1) (omega (arith, some, within)) (omega arith) ∙ g.begins;
+  begins = λ n h. take_shorter line n (length line - 1) (omega (arith, h, within)) (omega arith) ∙ g.begins n h;
   has = λ i h foreign.
       let there = g.has i h foreign in
       let l = length-take (length line - 1) line in
@@ -122,12 +158,20 @@ hopeless front some bad = record {
 
 pub wordless : (front : List ℕ) → 5 < length front → ((rest : List ℕ) → front ≢ codes "text " ++ rest) → ((rest : List ℕ) → front ≢ codes "data " ++ rest)
     → ((rest : List ℕ) → front ≢ codes "at " ++ rest) × ((rest : List ℕ) → front ≢ codes "wall " ++ rest) × ((rest : List ℕ) → front ≢ codes "show " ++ rest) → IsHopeless front
-wordless front some nt nd others = hopeless front some (λ line g. wordless_bad line front g.begins nt nd others)
+wordless front some nt nd others = hopeless front some (λ line g. wordless_bad line front (g.begins 5 some) nt nd others)
 
 pub numberless : (front : List ℕ) (i : ℕ) → 5 < length front → 5 ≤ i → i + 17 < length front → IsForeign (get_or front i 0) → ((rest : List ℕ) → front ≢ codes "text " ++ rest) → ((rest : List ℕ) → front ≢ codes "data " ++ rest) → IsHopeless front
 numberless front i some from h foreign nt nd =
     hopeless front some (λ line g. let there = g.has i h foreign in foreign_bad line i from there.0 there.1
-    (no_word (codes "text ") (take 0) (λ rest. refl) line front g.begins nt) (no_word (codes "data ") (take 0) (λ rest. refl) line front g.begins nd))
+    (no_word (codes "text ") (take 0) (λ rest. refl) line front (g.begins 5 some) nt) (no_word (codes "data ") (take 0) (λ rest. refl) line front (g.begins 5 some) nd))
+
+pub overweight : (front : List ℕ) (start end : ℕ) → 5 < length front → end < length front → 255 < weight false (drop start (take end front)) → ((rest : List ℕ) → front ≢ codes "text " ++ rest) → ((rest : List ℕ) → front ≢ codes "data " ++ rest) → IsHopeless front
+overweight front start end some inside heavy nt nd =
+    hopeless front some (λ line g.
+    let within = weight_within line start end in
+    let there = rw (sym (g.begins end inside)) at heavy in
+    heavy_bad line (omega (arith, there, within))
+    (no_word (codes "text ") (take 0) (λ rest. refl) line front (g.begins 5 some) nt) (no_word (codes "data ") (take 0) (λ rest. refl) line front (g.begins 5 some) nd))
 
 -- more of a hopeless line is as hopeless
 pub more_hopeless : (front more : List ℕ) → IsHopeless front → IsHopeless (front ++ more)

@@ -7,6 +7,7 @@ pub mod Joining
 pub mod Bytes
 pub mod Stopping
 pub mod Plain
+pub mod Weights
 pub mod Resolving
 pub mod Showing
 pub mod Covering

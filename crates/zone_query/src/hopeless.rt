@@ -1,7 +1,7 @@
 //! Beginnings of a line with which no line asks anything.
 
 ghost use Rattle.std.specs.Prelude.{◌≡◌, ◌≢◌, ◌≤◌, ◌<◌, ◌++◌, ℕ, List, true, false, length, get_or, MatchBool, codes};
-ghost use Rattle.zone_query.specs.Steps.Hopeless.{IsHopeless, IsForeign};
+ghost use Rattle.zone_query.specs.Steps.Hopeless.{IsHopeless, IsForeign, weight};
 
 // How many bytes the longest word of a question has, with the space after it.
 const LONGEST_WORD: usize = 5;
@@ -9,6 +9,9 @@ const LONGEST_WORD: usize = 5;
 // How many bytes a choice for gaps and folds may add to a line: the space before it, its longest
 // word, and a carriage return.
 const LONGEST_CHOICE: usize = 17;
+
+// How many bytes of a question on numbers may be other than leading zeros: more than any has.
+const HEAVIEST: usize = 255;
 
 /// Whether a line that begins so may still ask something. Its first `judged` bytes were judged
 /// before.
@@ -30,15 +33,21 @@ pub fn may_ask(front: &[u8], judged: usize) -> bool
     if !asks_by_numbers(front) {
         return false;
     }
-    // The last bytes may be those of a choice, of the earlier beginning too.
+    // The last bytes may be those of a choice, of the earlier beginning too. Bytes that were judged
+    // with others before are judged again with those after them.
     let end = front.len().saturating_sub(LONGEST_CHOICE);
-    let start = judged.saturating_sub(LONGEST_CHOICE).max(LONGEST_WORD);
+    let start = judged
+        .saturating_sub(LONGEST_CHOICE + 2 * HEAVIEST)
+        .max(LONGEST_WORD);
     if end <= start {
         return true;
     }
     let (numbers, _) = front.split_at(end);
     let (_, unjudged) = numbers.split_at(start);
-    may_be_numbers(unjudged)
+    if !may_be_numbers(unjudged) {
+        return false;
+    }
+    is_light(unjudged)
 }
 
 // Whether a line begins with a word that numbers follow.
@@ -56,8 +65,7 @@ fn begins_with(line: &[u8], word: &[u8]) -> bool
     line.starts_with(word)
 }
 
-// Whether these bytes are such as numbers are made of, and what is between them and before a
-// newline.
+// Whether these bytes are such as numbers are made of, and what is between them.
 fn may_be_numbers(bytes: &[u8]) -> bool
     ensures { result ≡ false
         → (i : ℕ) × (i < length bytes.now) × IsForeign (get_or bytes.now i 0) }
@@ -74,5 +82,23 @@ fn may_be_numbers(bytes: &[u8]) -> bool
 fn is_foreign(byte: u8) -> bool
     ensures { result ≡ true → IsForeign byte }
 {
-    !byte.is_ascii_digit() && byte != b' ' && byte != b'-' && byte != b'\r'
+    !byte.is_ascii_digit() && byte != b' ' && byte != b'-'
+}
+
+// Whether no more of these bytes are other than leading zeros than a question may have.
+fn is_light(bytes: &[u8]) -> bool
+    ensures { result ≡ false → HEAVIEST < weight false bytes.now }
+{
+    let mut count = 0;
+    let mut in_number = false;
+    for byte in bytes {
+        if *byte != b'0' || in_number {
+            if count == HEAVIEST {
+                return false;
+            }
+            count += 1;
+            in_number = byte.is_ascii_digit();
+        }
+    }
+    true
 }

@@ -5,17 +5,36 @@ use clap::{Arg, ArgAction, ArgMatches, Command, value_parser};
 use std::alloc::{AllocError, Global};
 use zone_dump::Years;
 
+const VERSION: &str = "0.4.0";
+
+const USAGE: &str = "zonedump [OPTIONS] FILE..
+       zonedump [OPTIONS] --text TZ [--extended]";
+
+const NOTES: &str = "--write takes one zone and none of --from, --to, --zdump, --json and --svg.
+--svg takes one zone and none of --zdump and --json. --json and --zdump exclude each other.
+
+Exit status: 0 if every zone was printed or written, 1 if one was not, 2 for wrong arguments.";
+
 /// The words that the program takes.
 pub fn command<'a>(alloc: Global) -> Result<Command<'a>, AllocError> {
-    let command = Command::new(alloc, "zonedump").about("Prints what the clocks of time zones do");
+    let command = Command::new(alloc, "zonedump")
+        .about("Prints what the clocks of time zones do")
+        .version(VERSION)
+        .override_usage(USAGE)
+        .after_help(NOTES);
     with_zones(alloc, with_forms(alloc, with_years(alloc, command)?)?)
 }
 
 // The years that are asked for.
 fn with_years<'a>(alloc: Global, command: Command<'a>) -> Result<Command<'a>, AllocError> {
-    let from = year(alloc, "from", "1900", "The first year of UTC");
+    let from = year(alloc, "from", "1900", "First year (UTC), 1 to 9999");
     let command = command.arg(from)?;
-    let to = year(alloc, "to", "2037", "The last year of UTC");
+    let to = year(
+        alloc,
+        "to",
+        "2037",
+        "Last year (UTC), 1 to 9999, --from or later",
+    );
     command.arg(to)
 }
 
@@ -38,23 +57,37 @@ fn with_forms<'a>(alloc: Global, command: Command<'a>) -> Result<Command<'a>, Al
     let write = with_value(
         alloc,
         "write",
-        "FILE",
-        "Writes the zone as a TZif file, and prints nothing",
+        "NEW",
+        "Writes one zone to the file NEW in TZif form, and prints nothing",
     );
-    let command = command.arg(write)?;
+    let command = without(
+        command.arg(write)?,
+        "write",
+        &["zdump", "json", "from", "to"],
+    )?;
     let svg = with_value(
         alloc,
         "svg",
-        "FILE",
-        "Draws the zone as a picture of SVG, and prints nothing",
+        "NEW",
+        "Draws one zone as a picture of SVG in the file NEW, and prints nothing",
     );
     without(command.arg(svg)?, "svg", &["zdump", "json", "write"])
 }
 
-// The zones: those of files, or that of a TZ text.
+// The zones: those of files, or that of a TZ string.
 fn with_zones<'a>(alloc: Global, command: Command<'a>) -> Result<Command<'a>, AllocError> {
-    let text = with_value(alloc, "text", "TZ", "A TZ text in place of files");
+    let text = with_value(alloc, "text", "TZ", "A TZ string in place of files");
     let command = without(command.arg(text)?, "text", &["FILE"])?;
+    let extended = flag(
+        alloc,
+        "extended",
+        "Reads the TZ string with the extensions of RFC 8536, section 3.3.1",
+    );
+    let command = without(
+        command.arg(extended.requires_arg("text")?)?,
+        "extended",
+        &["FILE"],
+    )?;
     let files = argument(alloc, "FILE", "TZif files").action(ArgAction::Append);
     command.arg(files)?.mut_arg(
         "FILE",

@@ -4,11 +4,13 @@
 mod arguments;
 mod files;
 mod told;
+mod words;
 
 use clap::ArgMatches;
+use std::fmt::Write;
+use std::io;
 use std::process::ExitCode;
-use std::{env, io};
-use told::{Asked, tell_file, tell_text};
+use told::{Asked, What, tell_file, tell_text};
 
 // The status of a run that told all that was asked, of one that did not, and of wrong arguments.
 const TOLD: u8 = 0;
@@ -28,7 +30,7 @@ fn main(rt: HostRuntime) -> ExitCode {
 }
 
 fn run(rt: &HostRuntime) -> io::Result<u8> {
-    let words: Vec<String> = env::args(rt)?.collect(rt.alloc())?;
+    let words = words::of_call(rt)?;
     answer(rt, words.as_slice())
 }
 
@@ -40,18 +42,24 @@ fn answer<'a>(rt: &HostRuntime, words: &'a [String]) -> io::Result<u8> {
     }
 }
 
-// Prints what is wrong with the words, or the help that they ask for.
+// Prints what is wrong with the words, or the help that they ask for, without the marks of words
+// that aren't UTF-8.
 fn explain(rt: &HostRuntime, error: &clap::Error) -> io::Result<u8> {
-    error.print(rt)?;
+    let mut text = String::new(rt.alloc());
+    write!(text, "{error}")?;
+    for part in text.split(words::MARK) {
+        if error.use_stderr() {
+            eprint!(rt; "{part}")?;
+        } else {
+            print!(rt; "{part}")?;
+        }
+    }
     Ok(error.exit_code() as u8)
 }
 
 fn tell_matched(rt: &HostRuntime, matches: &ArgMatches<'_>) -> io::Result<u8> {
     let Some(years) = arguments::years_of(matches) else {
-        return refuse(
-            rt,
-            "the years go from one of 1 to 9999 to the same or a later one",
-        );
+        return refuse(rt, "years must be 1 to 9999, --from not after --to");
     };
     let what = arguments::what_of(matches);
     tell_asked(rt, matches, Asked { years, what })
@@ -59,7 +67,7 @@ fn tell_matched(rt: &HostRuntime, matches: &ArgMatches<'_>) -> io::Result<u8> {
 
 fn tell_asked(rt: &HostRuntime, matches: &ArgMatches<'_>, asked: Asked<'_>) -> io::Result<u8> {
     if let Some(text) = matches.get_str("text") {
-        let is_told = tell_text(rt, text, asked)?;
+        let is_told = tell_text(rt, text, matches.get_flag("extended"), asked)?;
         return Ok(status_of(is_told));
     }
     match matches.get_strs("FILE") {
@@ -75,10 +83,26 @@ fn refuse(rt: &HostRuntime, why: &str) -> io::Result<u8> {
 }
 
 fn tell_files(rt: &HostRuntime, files: &[&str], asked: Asked<'_>) -> io::Result<u8> {
-    if asked.what.is_of_one_zone() && files.len() > 1 {
+    if asked.what.target().is_some() && files.len() > 1 {
         return refuse(rt, "only one zone is written or drawn");
     }
+    if draws_over(rt, asked.what, files) {
+        return refuse(rt, "--svg names the file that is read");
+    }
     tell_each(rt, files, asked)
+}
+
+// Whether the picture is to replace a file that is read.
+fn draws_over(rt: &HostRuntime, what: What<'_>, files: &[&str]) -> bool {
+    let What::Draw(target) = what else {
+        return false;
+    };
+    for file in files {
+        if files::are_same(rt, target, file) {
+            return true;
+        }
+    }
+    false
 }
 
 // Tells each of the files. One that is refused leaves the others as they are.

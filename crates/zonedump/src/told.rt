@@ -1,13 +1,13 @@
 //! What is told of one zone, or why it is refused.
 
-use crate::files;
+use crate::{files, words};
 use std::alloc::Global;
 use std::fmt::Write;
 use std::io;
 use std::io::Write as _;
 use tz_info::{Error, TimeZone};
 use tz_write::ToTzData;
-use zone_dump::{Form, Years, to_json};
+use zone_dump::{Form, Years, extended_zone, to_json, told};
 
 /// What is done with a zone.
 #[derive(Clone, Copy)]
@@ -21,10 +21,13 @@ pub enum What<'a> {
     Draw(&'a str),
 }
 
-impl What<'_> {
-    /// Whether it is done with one zone alone.
-    pub fn is_of_one_zone(&self) -> bool {
-        matches!(self, What::Write(_) | What::Draw(_))
+impl<'a> What<'a> {
+    /// The file that one zone is written to.
+    pub fn target(self) -> Option<&'a str> {
+        match self {
+            What::Write(path) | What::Draw(path) => Some(path),
+            What::Table | What::Zdump | What::Json => None,
+        }
     }
 }
 
@@ -39,6 +42,7 @@ pub struct Asked<'a> {
 #[derive(Clone, Copy)]
 enum Source<'a> {
     Text(&'a str),
+    Extended(&'a str),
     File(&'a [u8]),
 }
 
@@ -46,6 +50,7 @@ impl Source<'_> {
     fn zone(self, alloc: Global) -> Result<TimeZone, Error> {
         match self {
             Source::Text(text) => TimeZone::from_posix_tz(alloc, text),
+            Source::Extended(text) => extended_zone(alloc, text),
             Source::File(bytes) => TimeZone::from_tz_data(alloc, bytes),
         }
     }
@@ -60,25 +65,59 @@ impl Source<'_> {
     ) -> Result<(), Error> {
         match self {
             Source::Text(text) => zone_dump::tell_text(alloc, text, years, form, out),
+            Source::Extended(text) => tell_extended(alloc, text, years, form, out),
             Source::File(bytes) => zone_dump::tell_file(alloc, bytes, years, form, out),
         }
     }
 
     fn kind(self) -> &'static str {
         match self {
-            Source::Text(_) => "TZ text",
+            Source::Text(_) | Source::Extended(_) => "TZ text",
             Source::File(_) => "TZif file",
         }
     }
 }
 
-/// Tells the zone of a TZ text, or why it is refused, and whether it was told.
-pub fn tell_text(rt: &HostRuntime, text: &str, asked: Asked<'_>) -> io::Result<bool> {
-    tell(rt, text, Source::Text(text), asked)
+// Writes the zone of a TZ string with extensions in a form behind what `out` holds.
+fn tell_extended(
+    alloc: Global,
+    text: &str,
+    years: Years,
+    form: Form<'_>,
+    out: &mut String,
+) -> Result<(), Error> {
+    let zone = extended_zone(alloc, text)?;
+    let lines = told(alloc, &zone, years, form)?;
+    out.push_str(lines.as_str())?;
+    Ok(())
 }
 
-/// Tells the zone of a TZif file, or why it is refused, and whether it was told.
+/// Prints or writes the zone of a TZ string, or why it can't be read, and returns whether that was
+/// done.
+pub fn tell_text(
+    rt: &HostRuntime,
+    text: &str,
+    is_extended: bool,
+    asked: Asked<'_>,
+) -> io::Result<bool> {
+    if let Some(name) = words::escaped(text) {
+        eprintln!(rt; "zonedump: {name}: not a TZ text: not UTF-8")?;
+        return Ok(false);
+    }
+    let source = if is_extended {
+        Source::Extended(text)
+    } else {
+        Source::Text(text)
+    };
+    tell(rt, text, source, asked)
+}
+
+/// Prints or writes the zone of a TZif file, or why it can't be read, and returns whether that was
+/// done.
 pub fn tell_file(rt: &HostRuntime, file: &str, asked: Asked<'_>) -> io::Result<bool> {
+    if let Some(name) = words::escaped(file) {
+        return refuse_name(rt, name);
+    }
     match files::read_limited(rt, file) {
         Ok(Some(bytes)) => tell(rt, file, Source::File(bytes.as_slice()), asked),
         Ok(None) => {
@@ -139,6 +178,12 @@ fn give(rt: &HostRuntime, name: &str, zone: &TimeZone, asked: Asked<'_>) -> io::
     }
 }
 
+// Says that a file can't be opened by its name.
+fn refuse_name(rt: &HostRuntime, name: &str) -> io::Result<bool> {
+    eprintln!(rt; "zonedump: {name}: the name is not UTF-8")?;
+    Ok(false)
+}
+
 // Says why a zone is refused.
 fn refuse(rt: &HostRuntime, name: &str, kind: &str, fault: &Error) -> io::Result<bool> {
     match fault {
@@ -192,7 +237,10 @@ fn draw(
 
 // Writes those bytes to a file, or says why they can't be written.
 fn put(rt: &HostRuntime, path: &str, bytes: &[u8]) -> io::Result<bool> {
-    match files::write(rt, path, bytes) {
+    if let Some(name) = words::escaped(path) {
+        return refuse_name(rt, name);
+    }
+    match files::replace(rt, path, bytes) {
         Ok(()) => Ok(true),
         Err(error) => {
             eprintln!(rt; "zonedump: {path}: {error}")?;
