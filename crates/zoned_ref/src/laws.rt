@@ -1,10 +1,14 @@
 //! Theorems: what a function here does is its contract alone; never called.
-ghost use Rattle.std.specs.Prelude.{◌≡◌, ◌↔◌, IsTrue};
+ghost use Rattle.std.specs.Prelude.{◌≡◌, ◌↔◌, ℤ, IsTrue, Option};
 ghost use Rattle.std.specs.Hash as fed;
+ghost use Rattle.tz_base.specs.declared.change.Change.{Change};
+ghost use Rattle.tz_info.specs.Changes.{IsFirst, IsLast};
+ghost use Rattle.tz_info.specs.Zones.{Zone, TypeAt};
+ghost use Rattle.zoned_ref.specs.ZoneChange.{IsAfter, IsUpTo};
 ghost use Rattle.zoned_ref.specs.ZoneOffset.{ahead_of, type_of};
 ghost use Rattle.zoned_ref.specs.declared.zone_offset.ZoneOffset.{ZoneOffset as AnyOffset};
 
-use crate::{TimeZoneRef, WallClock, ZoneOffset};
+use crate::{TimeZoneRef, WallClock, ZoneChange, ZoneOffset};
 use std::hash::Hash;
 
 /// Offsets are equal if and only if their types of local time are, a hash looks at the seconds, and
@@ -26,8 +30,24 @@ pub fn time_zone_refs<'a>(a: &TimeZoneRef<'a>, b: &TimeZoneRef<'a>)
     ensures infallible { ⟦<TimeZoneRef<'a> as Clone>⟧.is_infallible a.now }
 {}
 
+/// A clone of a change of the clocks is that change, and making it never fails.
+pub fn zone_changes<'a>(a: &ZoneChange<'a>, b: &ZoneChange<'a>)
+    ensures cloned { ⟦<ZoneChange<'a> as Clone>⟧.is_clone a.now b.now → b.now ≡ a.now }
+    ensures infallible { ⟦<ZoneChange<'a> as Clone>⟧.is_infallible a.now }
+{}
+
 /// A clone of what a wall clock tells is the same, and making it never fails.
 pub fn wall_clocks(a: &WallClock, b: &WallClock)
     ensures cloned { ⟦<WallClock as Clone>⟧.is_clone a.now b.now → b.now ≡ a.now }
     ensures infallible { ⟦<WallClock as Clone>⟧.is_infallible a.now }
+{}
+
+/// The first change of a zone's clocks after a second, and the last one up to it, are determined: two
+/// answers of `next_change` for one instant show the same change, and so do two of
+/// `previous_change`.
+pub fn one_change()
+    ensures next { (z : Zone) (s : ℤ) (a b : Option Change) → IsFirst (TypeAt z) (IsAfter s) a
+        → IsFirst (TypeAt z) (IsAfter s) b → a ≡ b }
+    ensures previous { (z : Zone) (s : ℤ) (a b : Option Change) → IsLast (TypeAt z) (IsUpTo s) a
+        → IsLast (TypeAt z) (IsUpTo s) b → a ≡ b }
 {}
