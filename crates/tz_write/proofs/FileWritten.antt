@@ -44,7 +44,7 @@ written_is : (z : Zone) (room : Room) (text : List ℕ) (extended : Bool) (bytes
 written_is z room text extended bytes h sound some fits footer e =
     let p = text_is z.rule text extended fits footer in
     record {
-      spells = subst (λ (b : List ℕ). IsTzFile b z) (sym e) (file_is extended text room.designations z h.size h.counts some h.places sound p.0 p.1);
+      spells = subst (λ (b : List ℕ). IsTzFile b z) (sym e) (file_is extended text room.designations z (laid_size z.types room.designations h.laid) h.counts some h.places sound p.0 p.1);
       text = text;
       extended = extended;
       footer = footer;
@@ -138,7 +138,6 @@ file_some z some fits sound h =
         places = d.1.0;
         laid = d.1.1;
         shortest = d.1.2;
-        size = laid_size z.types d.0 d.1.1;
         counts_are = refl;
       }) sound some fits f.2 refl,
     )

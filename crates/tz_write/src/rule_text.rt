@@ -107,7 +107,7 @@ fn can_be_spelled(rule: &TransitionRule) -> bool
     }
 }
 
-// Whether both types have their names and their marks.
+// Whether both types have a name and their DST flags.
 fn are_named(alternate: &AlternateTime) -> bool
     ensures answer { IsTrue result ↔ (IsNamedType false alternate.now.std
         × IsNamedType true alternate.now.dst) }
@@ -116,7 +116,7 @@ fn are_named(alternate: &AlternateTime) -> bool
     is_named(alternate.std(), false) && is_named(alternate.dst(), true)
 }
 
-// Whether the type has a name, and that mark.
+// Whether the type has a name, and that DST flag.
 fn is_named(local: &LocalTimeType, dst: bool) -> bool
     ensures { IsTrue result ↔ IsNamedType dst local.now }
 {

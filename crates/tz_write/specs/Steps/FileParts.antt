@@ -1,5 +1,5 @@
 -- What the parts of a written file rest on.
-use Rattle.std.specs.Prelude.{◌≡◌, ◌≤◌, length, All}
+use Rattle.std.specs.Prelude.{◌≡◌, All}
 use Rattle.tz_info.specs.Zones.{Zone}
 use Rattle.tz_info.specs.declared.file.header.Counts.{Counts}
 use Rattle.tz_write.specs.FileBytes.{counts_of, zone_counts}
@@ -19,5 +19,4 @@ pub record HasRoom (z : Zone) (room : Room) : Type 0 where
   pub places : HavePlaces room.designations z.types
   pub laid : IsLaid z.types room.designations
   pub shortest : AreShortest room.designations z.types
-  pub size : length room.designations ≤ 263
   pub counts_are : counts_in room.sizes ≡ zone_counts room.designations z

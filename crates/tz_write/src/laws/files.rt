@@ -1,10 +1,11 @@
 //! Theorems of the files that are written.
 
-ghost use Rattle.std.specs.Prelude.{◌≡◌, ℕ, false, true, List, [], ◌∷◌, slice_index, IfOk, IfSome, MatchOption, MatchResult};
+ghost use Rattle.std.specs.Prelude.{◌≡◌, ℕ, pos, neg_ℤ, false, true, List, [], ◌∷◌, slice_index, Some, IfOk, IfSome, MatchOption, MatchResult};
 ghost use Rattle.tz_base.specs.Errors.{IsOutOfMemory};
 ghost use Rattle.tz_info.specs.TzFiles.{IsTzFile};
 ghost use Rattle.tz_info.specs.Zones.{Zone, IsValid, IsRuleOrNone};
 ghost use Rattle.tz_write.specs.FileBytes.{counts_of, header_bytes};
+ghost use Rattle.tz_write.specs.FileLayouts.{laid};
 ghost use Rattle.tz_write.specs.WrittenFiles.{AreBytes, IsInNoFile, IsWritable, IsWrittenFile, NeedsExtensions, IsSound};
 
 use crate::ToTzData;
@@ -41,6 +42,26 @@ pub fn headers()
         0 ∷ 0 ∷ 0 ∷ 0 ∷
         0 ∷ 0 ∷ 0 ∷ 1 ∷
         0 ∷ 0 ∷ 0 ∷ 4 ∷
+        [] }
+{}
+
+/// The names of Honolulu's file (RFC 8536 appendix B.2) stand in the order of its types, of which
+/// two have the name `HST`.
+#[tactic(auto, unfolding(crate::specs::FileLayouts::laid, crate::specs::FileLayouts::before_last, crate::specs::FileLayouts::with_texts, crate::specs::FileLayouts::with_text, crate::specs::FileDesignations::begins))]
+pub fn names()
+    ensures { laid [] (
+        record { offset = neg_ℤ (pos 37_886); dst = false; name = Some (76 ∷ 77 ∷ 84 ∷ []) } ∷
+        record { offset = neg_ℤ (pos 37_800); dst = false; name = Some (72 ∷ 83 ∷ 84 ∷ []) } ∷
+        record { offset = neg_ℤ (pos 34_200); dst = true; name = Some (72 ∷ 68 ∷ 84 ∷ []) } ∷
+        record { offset = neg_ℤ (pos 34_200); dst = true; name = Some (72 ∷ 87 ∷ 84 ∷ []) } ∷
+        record { offset = neg_ℤ (pos 34_200); dst = true; name = Some (72 ∷ 80 ∷ 84 ∷ []) } ∷
+        record { offset = neg_ℤ (pos 36_000); dst = false; name = Some (72 ∷ 83 ∷ 84 ∷ []) } ∷
+        []) ≡
+        76 ∷ 77 ∷ 84 ∷ 0 ∷
+        72 ∷ 83 ∷ 84 ∷ 0 ∷
+        72 ∷ 68 ∷ 84 ∷ 0 ∷
+        72 ∷ 87 ∷ 84 ∷ 0 ∷
+        72 ∷ 80 ∷ 84 ∷ 0 ∷
         [] }
 {}
 

@@ -1,5 +1,4 @@
-use Rattle.std.proofs.Common.{◌≡◌, ◌↔◌, List, ℕ, Bool, true, false, not, IsTrue, subst, sym, rules}
-use Rattle.tz_info.specs.declared.rule.transition_rule.TransitionRule.{TransitionRule}
+use Rattle.std.proofs.Common.{◌≡◌, List, ℕ, true, not, subst, sym, rules}
 use Rattle.tz_write.specs.WrittenTexts.{CanBeSpelled, AreTimesOf, IsWrittenText}
 use Rattle.tz_write.specs.Steps.TextPieces.{text_of}
 use Rattle.tz_write.proofs.RuleTexts.{rule_spelled, times_extended, unspelled, written}
@@ -21,10 +20,6 @@ returns-in_err-text-clause-memory c =
     let spelled = rule_spelled true rule fits (c.can_be_spelled.ensures.answer.0 (search rules)) (times_extended rule fits) in
     on_err c.from_residual.result _ (true, text_of rule, spelled)
 
-unspelled_if : (rule : TransitionRule) (b : Bool) → IsTrue b ↔ CanBeSpelled rule → b ≡ false → ¬ (CanBeSpelled rule)
-unspelled_if rule b answer none = λ named. let t = answer.1 named in cc
-
 pub returns-then-not-can_be_spelled : goal.returns-then-not-can_be_spelled
 returns-then-not-can_be_spelled c =
-    let none = unspelled_if c.args.self.now c.can_be_spelled.result c.can_be_spelled.ensures.answer (search rules) in
-    record { written = unspelled c.args.self.now none; reason = none; memory = tt }
+    let none : ¬ (CanBeSpelled c.args.self.now) = search (rules, c.can_be_spelled.ensures.answer) in record { written = unspelled c.args.self.now none; reason = none; memory = tt }
