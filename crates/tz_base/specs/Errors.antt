@@ -23,21 +23,9 @@ number_of (errors.UnsupportedTzString _) = 15
 number_of (errors.Utf8 _) = 16
 number_of errors.OutOfMemory = 17
 
--- the error is of the variant that is named, whatever was expected
+-- the error is of that variant, whatever was expected
 abbrev pub IsFindLocalTimeTypeError : Error → Type 0
 IsFindLocalTimeTypeError e = number_of e ≡ 2
-
-abbrev pub IsLocalTimeTypeError : Error → Type 0
-IsLocalTimeTypeError e = number_of e ≡ 3
-
-abbrev pub IsOutOfRangeError : Error → Type 0
-IsOutOfRangeError e = number_of e ≡ 9
-
-abbrev pub IsTimeZoneError : Error → Type 0
-IsTimeZoneError e = number_of e ≡ 12
-
-abbrev pub IsTransitionRuleError : Error → Type 0
-IsTransitionRuleError e = number_of e ≡ 13
 
 abbrev pub IsOutOfMemory : Error → Type 0
 IsOutOfMemory e = number_of e ≡ 17

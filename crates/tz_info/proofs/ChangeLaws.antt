@@ -90,7 +90,7 @@ front_is_first z from until c cs h =
     record {
       is = here.0;
       inside = omega (arith, ints, low);
-      first = λ d is inside. by_lt_z {P = c.at ≤ℤ d.at} d.at until (λ before. not_before c d cs h.rising ((h.each d).1 (is, omega (arith, ints, inside), before))) (λ from_on. let high = here.1.1 in omega (arith, ints, high, from_on));
+      first = λ d is inside. by_lt_z {P = c.at ≤ℤ d.at} d.at until (λ before. not_before c d cs h.rising ((h.each d).1 (is, (omega (arith, ints, inside), before)))) (λ from_on. let high = here.1.1 in omega (arith, ints, high, from_on));
     }
 
 -- ---- the type before a gap

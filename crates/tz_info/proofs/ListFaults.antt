@@ -1,8 +1,8 @@
 -- Lists make a zone or have one first fault.
-use Rattle.std.proofs.Common.{◌≡◌, ◌≢◌, ℕ, zero, suc, ◌+◌, ◌<◌, ◌≤◌, List, [], ◌∷◌, length, get_or, All, AllPairs, ℤ, pos, ◌+ℤ◌, ◌-ℤ◌, ◌≤ℤ◌, ◌<ℤ◌, int_le, int_eq, Bool, true, false, refl, ap, subst, arith, ◌⊎◌, inl, inr}
+use Rattle.std.proofs.Common.{◌≡◌, ◌≢◌, ℕ, zero, suc, ◌+◌, ◌<◌, ◌≤◌, List, [], ◌∷◌, length, get_or, All, AllPairs, ℤ, pos, ◌+ℤ◌, ◌-ℤ◌, ◌≤ℤ◌, ◌<ℤ◌, int_le, int_eq, Bool, true, false, refl, ap, subst, add-one, arith, ◌⊎◌, inl, inr}
 use Rattle.std.proofs.lemmas.Bool.{cases_lt}
 use Rattle.std.proofs.lemmas.Bool.Decides.{Decides-int_eq}
-use Rattle.std.proofs.lemmas.Int.{ints}
+use Rattle.std.proofs.lemmas.Int.{ints, by_lt_z}
 use Rattle.std.proofs.lemmas.List.Kept.{AllPairs-cons}
 use Rattle.std.specs.List.{AllAdjacentBelow}
 use Rattle.tz_base.specs.Errors.{number_of}
@@ -43,13 +43,13 @@ all_known {P = P} each (x ∷ xs) = elim (each x) [
   | inr none ↦ inr (λ h. none (h 0 x (omega arith)))
   | inl first ↦ elim (all_known each xs) [
     | inr none ↦ inr (λ h. none (λ k d l. h (suc k) d (omega (arith, l))))
-    | inl more ↦ inl (all_front first more)
+    | inl more ↦ inl (all_front P x xs first more)
   ]
 ]
   where
-    all_front : {X : Type 0} {P : X → Type 0} {x : X} {xs : List X} → P x → All P xs → All P (x ∷ xs)
-    all_front first more zero d l = first
-    all_front first more (suc k) d l = more k d (omega (arith, l))
+    all_front : {X : Type 0} (P : X → Type 0) (x : X) (xs : List X) → P x → All P xs → All P (x ∷ xs)
+    all_front P x xs first more zero d l = first
+    all_front P x xs first more (suc k) d l = more k d (omega (arith, l))
 
 pairs_known : {X : Type 0} {R : X → X → Type 0} → ((x y : X) → Known (R x y)) → (xs : List X) → Known (AllPairs R xs)
 pairs_known each [] = inl (λ i j d l m. absurd (omega (arith, m)))
@@ -64,24 +64,24 @@ pairs_known {R = R} each (x ∷ xs) = elim (all_known (each x) xs) [
 adjacent_known : {X : Type 0} {R : X → X → Type 0} → ((x y : X) → Known (R x y)) → (xs : List X) → Known (AllAdjacentBelow R xs (length xs))
 adjacent_known each [] = inl (λ k d l. absurd (omega (arith, l)))
 adjacent_known each (x ∷ []) = inl (λ k d l. absurd (omega (arith, l)))
-adjacent_known each (x ∷ y ∷ ys) = elim (each x y) [
+adjacent_known {R = R} each (x ∷ y ∷ ys) = elim (each x y) [
   | inr none ↦ inr (λ h. none (h 0 x (omega arith)))
   | inl first ↦ elim (adjacent_known each (y ∷ ys)) [
-    | inr none ↦ inr (λ h. none (λ k d l. h (suc k) d (omega (arith, l))))
-    | inl more ↦ inl (next_front first more)
+    | inr none ↦ inr (λ h. none (λ k d l. rw add-one (rw add-one at (h (suc k) d (omega (arith, l))))))
+    | inl more ↦ inl (next_front R x y ys first more)
   ]
 ]
   where
-    next_front : {X : Type 0} {R : X → X → Type 0} {x y : X} {ys : List X} → R x y → AllAdjacentBelow R (y ∷ ys) (length (y ∷ ys)) → AllAdjacentBelow R (x ∷ y ∷ ys) (length (x ∷ y ∷ ys))
-    next_front first more zero d l = first
-    next_front first more (suc k) d l = more k d (omega (arith, l))
+    next_front : {X : Type 0} (R : X → X → Type 0) (x y : X) (ys : List X) → R x y → AllAdjacentBelow R (y ∷ ys) (length (y ∷ ys)) → AllAdjacentBelow R (x ∷ y ∷ ys) (length (x ∷ y ∷ ys))
+    next_front R x y ys first more zero d l = first
+    next_front R x y ys first more (suc k) d l = rw add-one (rw add-one at (more k d (omega (arith, l))))
 
 -- ---- transitions and leap seconds
 index_known : (types : ℕ) (t : Transition) → Known (t.type_index < types)
 index_known types t = elim (cases_lt t.type_index types) [ inl l ↦ inl l | inr m ↦ inr (λ l. absurd (omega (arith, l, m))) ]
 
 earlier_known : (a b : Transition) → Known (a.unix_leap_time <ℤ b.unix_leap_time)
-earlier_known a b = elim (at_most_known b.unix_leap_time a.unix_leap_time) [ inl l ↦ inr (λ h. absurd (omega (arith, ints, l, h))) | inr m ↦ inl (omega (arith, ints, m)) ]
+earlier_known a b = by_lt_z {P = Known (a.unix_leap_time <ℤ b.unix_leap_time)} a.unix_leap_time b.unix_leap_time (λ l. inl l) (λ m. inr (λ l. absurd (omega (arith, ints, l, m))))
 
 step_known : (a b : ℤ) → Known (IsOneStep a b)
 step_known a b = either_known (equal_known b (a +ℤ pos 1)) (equal_known b (a -ℤ pos 1))
