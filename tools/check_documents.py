@@ -12,6 +12,8 @@ usage: tools/check_documents.py [--write]
 - Each must-fail edit is listed in docs/WRONG_BODIES.md, under what tries it, and each of its old texts stands once in its file.
 - A lemma that nothing names is an error, and so is a page of lemmas that its proofs/Lib.antt doesn't name.
 - docs/MAP.md names each crate and each module of a library. The pages that docs/PINS.md names are there.
+- Each page that a public contract of the libraries of `zoned` cites is passed on by zoned/specs/Lib.antt, and each type that
+  one cites is a name of `zoned`.
 - No call for C requires anything: what C passes is checked, or is what the header says.
 - The numbers of tz_info::Error, 1 to 17, have the same words in docs/ZONEQ.md, in the comments of `Error`, in the texts of
   zoned_ffi, in its header and in the Python package, and these have all that C returns.
@@ -37,6 +39,7 @@ DEFINITIONS = TOP / "docs/DEFINITIONS.md"
 WRONG_BODIES = TOP / "docs/WRONG_BODIES.md"
 MAP = TOP / "docs/MAP.md"
 PINS = TOP / "docs/PINS.md"
+FACADE = TOP / "crates/zoned"
 KNOWN = TOP / "tools/known_words.txt"
 README = TOP / "README.md"
 ZONEQ = TOP / "docs/ZONEQ.md"
@@ -379,6 +382,41 @@ def readme_facts():
 CHECKS = [
     links, unknown_words, stale_words, index_faults, edits, unused_lemmas, unlisted_pages, map_faults, required_of_c,
     pins_faults, number_faults, readme_facts,
+# What a client that names `zoned` alone can cite
+
+
+def passed_by(crate):
+    """The pages of other crates that the pages of a crate pass on."""
+    return set(re.findall(r"(?m)^pub use ([\w.]+)", text_of(TOP / "crates" / crate / "specs/Lib.antt")))
+
+
+def not_passed_on():
+    root = without_comments(text_of(FACADE / "src/lib.rt"), "//")
+    libraries = set(re.findall(r"(?m)^pub use (\w+)", root))
+    whole = set(re.findall(r"(?m)^pub use (\w+);", root))
+    names = set(re.findall(WORD, " ".join(re.findall(r"pub use \w+::([^;]*);", root))))
+    pages = passed_by("zoned")
+    for crate in libraries:
+        pages |= {page for page in passed_by(crate) if f"Rattle.{crate}.specs.{page.rsplit('.', 1)[-1]}" in pages}
+    told = set()
+    for clause in public_clauses():
+        if clause.path.relative_to(TOP / "crates").parts[0] not in libraries or is_invariant(clause):
+            continue
+        for page in sorted({clause.imports[name][0] for name in set(re.findall(NAME, clause.text)) & set(clause.imports)} - told):
+            _, crate, *inside = page.split(".")
+            if crate not in crates() or inside[0] != "specs" or ".contracts." in page:
+                continue
+            if inside[1:2] == ["declared"]:
+                is_named = crate in whole or bool(names & set(inside))
+            else:
+                is_named = page in pages or ".Steps" in page
+            if not is_named:
+                told.add(page)
+                yield f"{shown(clause.path, clause.place)}: zoned passes on no {page}"
+
+
+CHECKS = [
+    links, unknown_words, stale_words, index_faults, edits, unused_lemmas, unlisted_pages, map_faults, not_passed_on, required_of_c,
 ]
 
 

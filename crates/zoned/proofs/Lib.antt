@@ -1,2 +1,3 @@
 mod Buckets
 pub mod ForCallers
+mod Shown

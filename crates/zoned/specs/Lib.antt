@@ -1,6 +1,6 @@
 -- What the contracts cite, passed on to callers: each page of the crates below, under its name. Where two crates have a page of
 -- one name, that of the lower one keeps it.
-pub use Rattle.offset_core.specs.Digits
+pub use Rattle.offset_core.specs.Digits as TextDigits
 pub use Rattle.offset_core.specs.FixedOffset
 pub use Rattle.offset_core.specs.LocalResult
 pub use Rattle.offset_core.specs.Nanoseconds
@@ -34,15 +34,18 @@ pub use Rattle.tz_info.specs.RuleTypes
 pub use Rattle.tz_info.specs.RuleEquality
 pub use Rattle.tz_info.specs.Lists
 pub use Rattle.tz_info.specs.Leaps
-pub use Rattle.tz_timeline.specs.Digits as TextDigits
+pub use Rattle.tz_timeline.specs.Digits as BinaryDigits
 pub use Rattle.tz_timeline.specs.Counts
 pub use Rattle.tz_info.specs.Transitions
 pub use Rattle.tz_info.specs.Zones
 pub use Rattle.tz_info.specs.WallClocks
 pub use Rattle.tz_info.specs.Gaps
+pub use Rattle.tz_info.specs.Around
 pub use Rattle.tz_info.specs.Changes
+pub use Rattle.tz_info.specs.ChangesLeft
 pub use Rattle.tz_info.specs.Windows
 pub use Rattle.tz_info.specs.Looks
+pub use Rattle.tz_info.specs.Questions
 pub use Rattle.tz_info.specs.Segments
 pub use Rattle.tz_info.specs.WallPieces
 pub use Rattle.tz_info.specs.ZoneEquality
@@ -63,6 +66,7 @@ pub use Rattle.tz_write.specs.FileDesignations
 pub use Rattle.tz_write.specs.FileLayouts
 pub use Rattle.tz_write.specs.FileBytes
 pub use Rattle.tz_write.specs.WrittenFiles
+pub use Rattle.zoned_time.specs.Alike
 pub use Rattle.zoned_time.specs.Choice
 pub use Rattle.zoned_time.specs.DateTime
 pub use Rattle.zoned_time.specs.Fields as InstantFields

@@ -1,15 +1,18 @@
 //! Theorems for a client's own contracts: those that say that a question has one answer, and that an
 //! instant made of one of a zone is one of that zone, passed on; and some in the shape of a client's
 //! clauses. A call of one gives its caller's proof what it says, and does nothing when it runs.
-ghost use Rattle.std.specs.Prelude.{◌≡◌, ℕ, ℤ, pos, ◌+ℤ◌, ◌≤ℤ◌, ◌<ℤ◌, Ok, Some};
+ghost use Rattle.std.specs.Prelude.{◌≡◌, ◌≢◌, ◌⊎◌, ℕ, ℤ, pos, ◌+ℤ◌, ◌-ℤ◌, ◌≤ℤ◌, ◌<ℤ◌, Ok, Some};
+ghost use Rattle.offset_core.specs.declared.local_result.LocalResult.TheVariants.{None as NoInstant};
 ghost use Rattle.offset_core.specs.LocalResult.{map_of};
 ghost use Rattle.offset_core.specs.TimeDelta.{nanos_of};
+ghost use Rattle.offset_core.specs.WallAnswer.{IsWallAnswer, IsNeverShown};
 ghost use Rattle.naive_base.specs.NaiveDateTime.{reading};
+ghost use Rattle.naive_base.specs.Range.{IsInRange};
 ghost use Rattle.naive_base.specs.Reading.{Reading, total};
 ghost use Rattle.zoned_time.specs.Choice.{IsResolved};
 ghost use Rattle.zoned_time.specs.DateTime.{zoned, wall_of, home_of, IsIn, IsDaysAdded};
 ghost use Rattle.zoned_time.specs.Relocal.{IsRelocal};
-ghost use Rattle.zoned_time.specs.Zone.{Each};
+ghost use Rattle.zoned_time.specs.Zone.{Each, Shows};
 ghost use Rattle.zoned_time.specs.Zoned.{in_seconds, IsAt};
 ghost use Rattle.zoned_round.specs.Durations.{IsRoundedTo};
 ghost use Rattle.zoned_round.specs.Laws.{IsMultiple};
@@ -18,11 +21,12 @@ ghost use Rattle.zoned_round.specs.Multiples.{multiple_below, IsItselfOr};
 use crate::{
     Choice, DateTime, DurationRound, LocalResult, NaiveDateTime, Offset, TimeDelta, TimeZone,
 };
+pub use zoned_ref::laws::one_change;
 pub use zoned_round::laws::one_rounded_value;
 pub use zoned_series::laws::one_item;
 pub use zoned_time::laws::{
-    in_zone_after_move, in_zone_at_time, in_zone_on_day, one_offset_before_gap, one_relocal,
-    one_resolution, resolution_decided,
+    in_zone_after_move, in_zone_at_time, in_zone_on_day, local_times_come_back,
+    one_offset_before_gap, one_relocal, one_resolution, resolution_decided,
 };
 
 /// Two instants that one choice takes for one reading are the same, at offsets of the same seconds.
@@ -64,6 +68,30 @@ pub fn truncated<Tz: TimeZone>(instant: &DateTime<Tz>, length: TimeDelta, start:
     ensures multiple { (span : ℕ) → nanos_of length ≡ pos span
         → Tz.Offset.seconds (zoned start.now).offset ≡ Tz.Offset.seconds (zoned instant.now).offset
         → IsMultiple span (total (wall_of start.now)) }
+{}
+
+/// Every second at which a zone's clocks show a local time is that of its only instant, or lies
+/// between those of its first and its last. If the local time has no instant, no second shows it, or
+/// one that does is out of range.
+///
+/// ```
+/// let instants = new_york.from_local_datetime(&local);
+/// client_laws::shown_only(&new_york, &local, &instants);
+/// ```
+pub fn shown_only<Tz: TimeZone>(
+    zone: &Tz,
+    local: &NaiveDateTime,
+    instants: &LocalResult<DateTime<Tz>>,
+)
+    requires { IsRelocal (Tz.law zone.now) (reading local.now)
+        (map_of (λ d. zoned d) instants.now) }
+    // The second `u` shows it at the offset `l - s`, and is the instant's second `s`.
+    ensures some { let off = (Tz.law zone.now).off in let l = (reading local.now).s in
+        instants.now ≢ NoInstant → IsWallAnswer (λ u s. Shows off l u (l -ℤ s) × (s ≡ u))
+        (map_of (λ d. (zoned d).utc.s) instants.now) }
+    ensures none { let off = (Tz.law zone.now).off in let l = (reading local.now).s in
+        instants.now ≡ NoInstant → IsNeverShown (Shows off l)
+        ⊎ ((u : ℤ) × (k : ℤ) × Shows off l u k × (IsInRange u → ⊥)) }
 {}
 
 /// The instants at which the clocks of a zone show a reading are ones of that zone: their offsets are

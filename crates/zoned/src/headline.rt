@@ -52,6 +52,8 @@ pub fn one_zone()
 
 /// From the bytes of a TZif file to the types of local time whose clocks show a reading.
 ///
+/// Requires: [`Probes::has_room`].
+///
 /// # Errors
 ///
 /// Those of [`TimeZone::from_tz_data`](tz_info::TimeZone::from_tz_data).
@@ -76,6 +78,8 @@ pub fn answer_of_file(
     // Running out of memory is answered only if every piece of the file is there.
     ensures memory { IfErr result (λ e. e ≡ OutOfMemory
         → (p : FilePieces) × HasPieces bytes.now p) }
+    // An error leaves the counts as they were.
+    ensures kept { IfErr result (λ _. probes.new ≡ probes.old) }
 {
     match tz_info::TimeZone::from_tz_data(alloc, bytes) {
         Ok(zone) => Ok(answer_in(&zone, local, probes)),
@@ -84,6 +88,8 @@ pub fn answer_of_file(
 }
 
 /// From a TZ text to the types of local time whose clocks show a reading.
+///
+/// Requires: [`Probes::has_room`].
 ///
 /// # Errors
 ///
@@ -106,6 +112,11 @@ pub fn answer_of_text(
         (λ e. number_of e ≡ 17) }
     // An error is the first fault of the text, or says that memory ran out.
     ensures fault { IfErr result (λ e. (number_of e ≡ 17) ⊎ IsPosixFault text.now e) }
+    // Running out of memory is answered only for a text that gives a zone.
+    ensures memory { IfErr result (λ e. number_of e ≡ 17
+        → (z : Zone) × IsPosixZone text.now z) }
+    // An error leaves the counts as they were.
+    ensures kept { IfErr result (λ _. probes.new ≡ probes.old) }
 {
     match tz_info::TimeZone::from_posix_tz(alloc, text) {
         Ok(zone) => Ok(answer_in(&zone, local, probes)),

@@ -116,8 +116,10 @@ impl fmt::Display for KeptOffset {
 
     ghost output = { λ offset. Some (printed_offset (fixed_of offset)) };
 
+    ghost styled_output = { λ offset _. Some (printed_offset (fixed_of offset)) };
+
     fn fmt<W: fmt::Write>(&self, f: &mut fmt::Formatter<W>) -> fmt::Result {
-        write!(f, "{}", self.fixed)
+        fmt::Display::fmt(&self.fixed, f)
     }
 }
 

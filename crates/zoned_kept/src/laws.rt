@@ -5,22 +5,30 @@ ghost use Rattle.zoned_kept.specs.KeptOffset.{ahead_of, type_of};
 ghost use Rattle.zoned_kept.specs.declared.kept_offset.KeptOffset.{KeptOffset as AnyOffset};
 ghost use Rattle.zoned_kept.specs.declared.kept_zone.KeptZone.{KeptZone as AnyZone};
 
-use crate::{KeptOffset, KeptZone};
+use crate::{KeptChange, KeptOffset, KeptZone};
 use std::hash::Hash;
 
 /// Offsets are equal if and only if their types of local time are, a hash looks at the seconds, and
-/// a clone is the offset.
+/// a clone is the offset, and making it never fails.
 pub fn kept_offsets()
     ensures equal { (a b : AnyOffset) → IsTrue (⟦<KeptOffset as PartialEq>⟧.eq a b)
         ↔ (type_of a ≡ type_of b) }
     ensures hashed { (a : AnyOffset) → ⟦<KeptOffset as Hash>⟧.hash_input a
         ≡ fed.i32 (ahead_of a) }
     ensures cloned { (a b : AnyOffset) → ⟦<KeptOffset as Clone>⟧.is_clone a b ↔ (b ≡ a) }
+    ensures infallible { (a : AnyOffset) → ⟦<KeptOffset as Clone>⟧.is_infallible a }
 {
     tz_base::laws::local_time_types();
 }
 
-/// A clone is the zone.
+/// A clone is the zone, and making it never fails.
 pub fn kept_zones()
-    ensures { (a b : AnyZone) → ⟦<KeptZone as Clone>⟧.is_clone a b ↔ (b ≡ a) }
+    ensures cloned { (a b : AnyZone) → ⟦<KeptZone as Clone>⟧.is_clone a b ↔ (b ≡ a) }
+    ensures infallible { (a : AnyZone) → ⟦<KeptZone as Clone>⟧.is_infallible a }
+{}
+
+/// A clone of a change of the clocks is that change, and making it never fails.
+pub fn kept_changes(a: &KeptChange, b: &KeptChange)
+    ensures cloned { ⟦<KeptChange as Clone>⟧.is_clone a.now b.now → b.now ≡ a.now }
+    ensures infallible { ⟦<KeptChange as Clone>⟧.is_infallible a.now }
 {}
