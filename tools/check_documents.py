@@ -379,9 +379,6 @@ def readme_facts():
         yield f"{shown(README)}: it doesn't say: {due}"
 
 
-CHECKS = [
-    links, unknown_words, stale_words, index_faults, edits, unused_lemmas, unlisted_pages, map_faults, required_of_c,
-    pins_faults, number_faults, readme_facts,
 # What a client that names `zoned` alone can cite
 
 
@@ -417,6 +414,7 @@ def not_passed_on():
 
 CHECKS = [
     links, unknown_words, stale_words, index_faults, edits, unused_lemmas, unlisted_pages, map_faults, not_passed_on, required_of_c,
+    pins_faults, number_faults, readme_facts,
 ]
 
 

@@ -1,9 +1,12 @@
 use mir.Val.{SFits}
-use Rattle.std.proofs.Common.{w64, arith, rules, subst, ◌≡◌, to_z-of_z}
+use Rattle.std.proofs.Common.{w64, arith, rules, refl, ap, subst, ◌≡◌, true, ℤ, pos, neg_ℤ, ◌<ℤ◌, to_z-of_z}
 use Rattle.std.proofs.lemmas.Int.{ints}
 use Rattle.offset_core.specs.Offset.{IsWithinDay}
 use Rattle.tz_base.specs.LocalTypes.{LocalType}
-use Rattle.tz_info.specs.Rules.{Alternate, IsAlternate}
+use Rattle.tz_base.specs.declared.error.Error.TheVariants.{TransitionRule}
+use Rattle.tz_base.specs.declared.error.Expected.TheVariants.{EndWithinWeek}
+use Rattle.tz_timeline.proofs.ForCallers.{lt_true}
+use Rattle.tz_info.specs.Rules.{Alternate, IsAlternate, IsWithinWeek, is_between, expected_of_alternate}
 use Rattle.tz_info.specs.Steps.Kinds.{seconds_by_kind}
 use Rattle.tz_info.specs.declared.rule.day.DayTime.{DayTime}
 use Rattle.tz_info.proofs.rule.alternate.AlternateTime.new.Goals as goal
@@ -41,3 +44,20 @@ returns c =
     let g = c.ranges.dst_end_time in
     let e = same_shown c.args.std c.args.dst _ _ _ _ (simp to_z-of_z at c.in-Some.ensures.2) (simp to_z-of_z at c.in-Some-at.ensures.2) in
     (subst IsAlternate e (invariant_of-result c).0.within, e)
+
+between : (limit n : ℤ) → neg_ℤ limit <ℤ n → n <ℤ limit → is_between limit n ≡ true
+between limit n low high = rw (lt_true (neg_ℤ limit) n low, lt_true n limit high) refl
+
+end_expected : (a : Alternate) → IsWithinDay a.std.offset → IsWithinDay a.dst.offset → IsWithinWeek a.start.time → EndWithinWeek ≡ expected_of_alternate a
+end_expected a std dst start = rw (between (pos 86_400) a.std.offset std.0 std.1, between (pos 86_400) a.dst.offset dst.0 dst.1, between (pos 604_800) a.start.time start.0 start.1) refl
+
+pub returns-in_default-at : goal.returns-in_default-at
+returns-in_default-at c =
+    let f = c.ranges.dst_start_time in
+    let std = c.is_within_day.ensures.0 c.if-not-is_within_day.false in
+    let dst = c.is_within_day-else-not-is_within_day.ensures.0 c.if-not-is_within_day-2.false in
+    let same = simp to_z-of_z at c.in-Some.ensures.2 in
+    let g = c.ranges.dst_end_time in
+    let start = subst (λ (d : DayTime). IsWithinWeek d.time) same c.in-Some.ensures.0 in
+    let out = simp to_z-of_z at c.in_default-at.ensures in
+    (ap TransitionRule (end_expected _ std dst start), λ is. out is.end_time)
