@@ -52,6 +52,7 @@ end_expected : (a : Alternate) → IsWithinDay a.std.offset → IsWithinDay a.ds
 end_expected a std dst start = rw (between (pos 86_400) a.std.offset std.0 std.1, between (pos 86_400) a.dst.offset dst.0 dst.1, between (pos 604_800) a.start.time start.0 start.1) refl
 
 pub returns-in_default-at : goal.returns-in_default-at
+unfolding shown
 returns-in_default-at c =
     let f = c.ranges.dst_start_time in
     let std = c.is_within_day.ensures.0 c.if-not-is_within_day.false in
@@ -60,4 +61,4 @@ returns-in_default-at c =
     let g = c.ranges.dst_end_time in
     let start = subst (λ (d : DayTime). IsWithinWeek d.time) same c.in-Some.ensures.0 in
     let out = simp to_z-of_z at c.in_default-at.ensures in
-    (ap TransitionRule (end_expected _ std dst start), λ is. out is.end_time)
+    (ap TransitionRule (end_expected (shown c.args.std c.args.dst (record { day = c.args.dst_start; time = c.args.dst_start_time }) (record { day = c.args.dst_end; time = c.args.dst_end_time })) std dst start), λ is. out is.end_time)
