@@ -6,12 +6,14 @@ usage: tools/check_documents.py [--write]
 - Each relative link of a document leads to a file, and its anchor to a heading there.
 - Each word between backquotes in README.md and docs/ is a name of the code, or stands in tools/known_words.txt, which lists
   the names of chrono, of the kit and of other programs that the documents speak of.
-- The index at the end of docs/DEFINITIONS.md has a line for each word of specs/ that a public contract cites: its page and
-  its meaning, which is the comment before its definition. --write writes the index anew.
+- The index at the end of docs/DEFINITIONS.md has a line for each word of specs/ that a public contract cites, other than a pin:
+  its page and its meaning, which is the comment before its definition. --write writes the index anew.
 - No clause of a public function cites a step of a proof (specs/Steps).
 - Each must-fail edit is listed in docs/WRONG_BODIES.md, under what tries it, and each of its old texts stands once in its file.
 - A lemma that nothing names is an error, and so is a page of lemmas that its proofs/Lib.antt doesn't name.
 - docs/MAP.md names each crate and each module of a library.
+- Each wrong definition of crates/pins/wrong has its texts once in its page and names pins that there are, and docs/PINS.md has the
+  table of them (tools/try_definitions.py --write).
 - No call for C requires anything: what C passes is checked, or is what the header says.
 
 Prints a line for each fault, with its place, and ends with status 1 where there is one.
@@ -25,6 +27,7 @@ from itertools import chain
 from sources import (
     NAME, TOP, cited, crates, files, imports_of, module_of, public_clauses, shown, text_of, without_comments, words_of,
 )
+from try_definitions import faults as wrong_definitions
 
 DOCUMENTS = [*sorted(TOP.glob("*.md")), *sorted((TOP / "docs").glob("*.md"))]
 DEFINITIONS = TOP / "docs/DEFINITIONS.md"
@@ -135,7 +138,7 @@ def words_in_contracts():
     words = {(module_of(page), word.name): word for page in files("specs", ".antt") for word in words_of(page)}
     found = {}
     for clause in public_clauses():
-        for page, name in cited(clause):
+        for page, name in cited(clause) if clause.path.relative_to(TOP / "crates").parts[0] != "pins" else []:
             if (page, name) in words:
                 found.setdefault((page, name), (words[page, name], clause))
     return found
@@ -304,7 +307,7 @@ def required_of_c():
                 yield f"{shown(path, call.start())}: {call[1]} is called from C, and requires something"
 
 
-CHECKS = [links, unknown_words, stale_words, index_faults, edits, unused_lemmas, unlisted_pages, map_faults, required_of_c]
+CHECKS = [links, unknown_words, stale_words, index_faults, edits, unused_lemmas, unlisted_pages, map_faults, required_of_c, wrong_definitions]
 
 
 def main():

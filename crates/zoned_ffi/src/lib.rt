@@ -16,6 +16,7 @@ mod instants;
 mod kind;
 mod local_type;
 mod opening;
+mod pins;
 mod refusal;
 mod resolved;
 mod slot;
