@@ -6,14 +6,16 @@ usage: tools/check_documents.py [--write]
 - Each relative link of a document leads to a file, and its anchor to a heading there.
 - Each word between backquotes in README.md and docs/ is a name of the code, or stands in tools/known_words.txt, which lists
   the names of chrono, of the kit and of other programs that the documents speak of.
-- The index at the end of docs/DEFINITIONS.md has a line for each word of specs/ that a public contract cites, except those of
-  pins: its page and its meaning, which is the comment before its definition. --write writes the index anew.
+- The index at the end of docs/DEFINITIONS.md has a line for each word of specs/ that a public contract cites, other than a pin:
+  its page and its meaning, which is the comment before its definition. --write writes the index anew.
 - No clause of a public function cites a step of a proof (specs/Steps).
 - Each must-fail edit is listed in docs/WRONG_BODIES.md, under what tries it, and each of its old texts stands once in its file.
 - A lemma that nothing names is an error, and so is a page of lemmas that its proofs/Lib.antt doesn't name.
-- docs/MAP.md names each crate and each module of a library. The pages that docs/PINS.md names are there.
+- docs/MAP.md names each crate and each module of a library.
 - Each page that a public contract of the libraries of `zoned` cites is passed on by zoned/specs/Lib.antt, and each type that
   one cites is a name of `zoned`.
+- Each wrong definition of crates/pins/wrong has its texts once in its page and names pins that there are, and docs/PINS.md has the
+  table of them (tools/try_definitions.py --write).
 - No call for C requires anything: what C passes is checked, or is what the header says.
 - The numbers of tz_info::Error, 1 to 17, have the same words in docs/ZONEQ.md, in the comments of `Error`, in the texts of
   zoned_ffi, in its header and in the Python package, and these have all that C returns.
@@ -33,12 +35,12 @@ from itertools import chain
 from sources import (
     NAME, TOP, cited, crates, files, imports_of, module_of, public_clauses, shown, text_of, without_comments, words_of,
 )
+from try_definitions import faults as wrong_definitions
 
 DOCUMENTS = [*sorted(TOP.glob("*.md")), *sorted((TOP / "docs").glob("*.md"))]
 DEFINITIONS = TOP / "docs/DEFINITIONS.md"
 WRONG_BODIES = TOP / "docs/WRONG_BODIES.md"
 MAP = TOP / "docs/MAP.md"
-PINS = TOP / "docs/PINS.md"
 FACADE = TOP / "crates/zoned"
 KNOWN = TOP / "tools/known_words.txt"
 README = TOP / "README.md"
@@ -151,7 +153,7 @@ def words_in_contracts():
     words = {(module_of(page), word.name): word for page in files("specs", ".antt") for word in words_of(page)}
     found = {}
     for clause in public_clauses():
-        for page, name in cited(clause):
+        for page, name in cited(clause) if clause.path.relative_to(TOP / "crates").parts[0] != "pins" else []:
             if (page, name) in words:
                 found.setdefault((page, name), (words[page, name], clause))
     return found
@@ -321,13 +323,6 @@ def required_of_c():
                 yield f"{shown(path, call.start())}: {call[1]} is called from C, and requires something"
 
 
-def pins_faults():
-    """Pages of docs/PINS.md, `crate`: `Page`, that aren't there."""
-    for row in re.finditer(r"`(\w+)`: `([\w/]+)`", text_of(PINS)):
-        if not (TOP / "crates" / row[1] / "specs" / f"{row[2]}.antt").exists():
-            yield f"{shown(PINS, row.start())}: {row[1]} has no page {row[2]}"
-
-
 # The words of numbers
 
 
@@ -414,7 +409,7 @@ def not_passed_on():
 
 CHECKS = [
     links, unknown_words, stale_words, index_faults, edits, unused_lemmas, unlisted_pages, map_faults, not_passed_on, required_of_c,
-    pins_faults, number_faults, readme_facts,
+    number_faults, readme_facts, wrong_definitions,
 ]
 
 

@@ -6,7 +6,7 @@ use Rattle.naive_base.specs.Date.{day_number}
 use Rattle.naive_base.specs.DateOf.{year_of, month_of, day_of_month}
 use Rattle.naive_base.proofs.ForCallers.{date_only}
 
--- 2007-03-11, 2021-03-14 and 2021-11-07
+-- 2007-03-11 and 2021-03-14
 pub march_2007 : (year_of (pos 13_583) ≡ pos 2007) × (month_of (pos 13_583) ≡ 3) × (day_of_month (pos 13_583) ≡ 11)
 unfolding year_start days_of_months day_number
 march_2007 = date_only (pos 13_583) (pos 2007) 3 11 (omega arith, omega arith, omega arith, omega arith) refl
@@ -14,7 +14,3 @@ march_2007 = date_only (pos 13_583) (pos 2007) 3 11 (omega arith, omega arith, o
 pub march_2021 : (year_of (pos 18_700) ≡ pos 2021) × (month_of (pos 18_700) ≡ 3) × (day_of_month (pos 18_700) ≡ 14)
 unfolding year_start days_of_months day_number
 march_2021 = date_only (pos 18_700) (pos 2021) 3 14 (omega arith, omega arith, omega arith, omega arith) refl
-
-pub november_2021 : (year_of (pos 18_938) ≡ pos 2021) × (month_of (pos 18_938) ≡ 11) × (day_of_month (pos 18_938) ≡ 7)
-unfolding year_start days_of_months day_number
-november_2021 = date_only (pos 18_938) (pos 2021) 11 7 (omega arith, omega arith, omega arith, omega arith) refl

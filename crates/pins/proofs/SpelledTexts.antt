@@ -1,5 +1,5 @@
 -- What the texts spell, and their faults: what a reading of them comes to.
-use Rattle.std.proofs.Common.{◌≡◌, refl, ℕ, Bool, true, false, List, [], ◌∷◌, Ok, Err, inr}
+use Rattle.std.proofs.Common.{◌≡◌, refl, ap, sym, ◌∙◌, ℕ, Bool, true, false, List, [], ◌∷◌, Ok, Err, inr}
 use Rattle.tz_base.specs.Fronts.{int_at, tag_at, optional_tag_at}
 use Rattle.tz_base.specs.Grammar.{read}
 use Rattle.tz_base.proofs.ForCallers.{lawful}
@@ -13,7 +13,9 @@ use Rattle.tz_info.specs.PosixZones.{IsPosixZone}
 use Rattle.pins.specs.NewYork.{new_york_rule, new_york_zone}
 use Rattle.pins.proofs.SpelledPieces.{some_bytes}
 use Rattle.pins.specs.Zones.{hst}
-use Rattle.pins.specs.Texts.{new_york_text, no_days, foo_23, foo_23_rule, foo_24, foo_5_60, foo, fo_5, day_0, utc_text, utc_rule, jerusalem_text, jerusalem_rule, nuuk_text, nuuk_rule, foo_plus_5, foo_minus_5, foo_behind, foo_ahead, numbered_text, numbered_rule}
+use Rattle.pins.specs.Texts.{new_york_text, no_days, foo_23, foo_23_rule, foo_24, foo_5_60, foo, fo_5, day_0, utc_text, utc_rule, jerusalem_text, jerusalem_rule, nuuk_text, nuuk_rule, foo_plus_5, foo_minus_5, foo_behind, foo_ahead, numbered_text, numbered_rule, foo_5_06_07, small}
+use Rattle.std.specs.Prelude.{codes, Result}
+use Rattle.std.proofs.lemmas.Bool.{false≢true}
 
 spelled : (extended : Bool) (bytes : List ℕ) (r : TransitionRule) → read (text extended) bytes ≡ Ok (r, []) → IsTzText extended bytes r
 spelled extended bytes r = (lawful (text extended) bytes).takes (r, [])
@@ -91,3 +93,61 @@ date_0 extended = faulty extended day_0 (TransitionRule DayFromJ1ToJ365) refl
 pub hst_10 : IsTzText false (72 ∷ 83 ∷ 84 ∷ 49 ∷ 48 ∷ []) (rules.Fixed hst)
 unfolding name quoted seconds minutes_seconds optional_minutes hours_minutes_seconds sign duration offset time_sign time rule_day month_date julian_date day_number date optional_time day days next_hour more given_offset dst_offset named end fixed alternate rule text int_at tag_at optional_tag_at
 hst_10 = spelled false (72 ∷ 83 ∷ 84 ∷ 49 ∷ 48 ∷ []) (rules.Fixed hst) refl
+
+pub foo_5_06_07_spelled : (extended : Bool) → IsTzText extended (codes "FOO5:06:07") foo_5_06_07
+unfolding name quoted seconds minutes_seconds optional_minutes hours_minutes_seconds sign duration offset time_sign time rule_day month_date julian_date day_number date optional_time day days next_hour more given_offset dst_offset named end fixed alternate rule text int_at tag_at optional_tag_at
+foo_5_06_07_spelled extended = spelled extended (codes "FOO5:06:07") foo_5_06_07 refl
+
+pub small_spelled : (extended : Bool) → IsTzText extended (codes "foo5") small
+unfolding name quoted seconds minutes_seconds optional_minutes hours_minutes_seconds sign duration offset time_sign time rule_day month_date julian_date day_number date optional_time day days next_hour more given_offset dst_offset named end fixed alternate rule text int_at tag_at optional_tag_at
+small_spelled extended = spelled extended (codes "foo5") small refl
+
+-- ---- texts that a reading refuses
+abbrev has_failed : {X E : Type 0} → Result X E → Bool
+has_failed (Ok x) = false
+has_failed (Err e) = true
+
+not_spelled : (extended : Bool) (bytes : List ℕ) (r : TransitionRule) → has_failed (read (text extended) bytes) ≡ true → IsTzText extended bytes r → ⊥
+not_spelled extended bytes r failed spelled =
+    let again = (lawful (text extended) bytes).again (r, []) spelled in
+    false≢true (ap has_failed (sym again) ∙ failed)
+
+pub second_60 : (extended : Bool) (r : TransitionRule) → IsTzText extended (codes "FOO5:00:60") r → ⊥
+unfolding name quoted seconds minutes_seconds optional_minutes hours_minutes_seconds sign duration offset time_sign time rule_day month_date julian_date day_number date optional_time day days next_hour more given_offset dst_offset named end fixed alternate rule text int_at tag_at optional_tag_at
+second_60 extended r = not_spelled extended (codes "FOO5:00:60") r refl
+
+pub left_over : (extended : Bool) (r : TransitionRule) → IsTzText extended (codes "FOO5BAR,J1,J2,J3") r → ⊥
+unfolding name quoted seconds minutes_seconds optional_minutes hours_minutes_seconds sign duration offset time_sign time rule_day month_date julian_date day_number date optional_time day days next_hour more given_offset dst_offset named end fixed alternate rule text int_at tag_at optional_tag_at
+left_over extended r = not_spelled extended (codes "FOO5BAR,J1,J2,J3") r refl
+
+pub julian_366 : (extended : Bool) (r : TransitionRule) → IsTzText extended (codes "FOO5BAR,J366,J2") r → ⊥
+unfolding name quoted seconds minutes_seconds optional_minutes hours_minutes_seconds sign duration offset time_sign time rule_day month_date julian_date day_number date optional_time day days next_hour more given_offset dst_offset named end fixed alternate rule text int_at tag_at optional_tag_at
+julian_366 extended r = not_spelled extended (codes "FOO5BAR,J366,J2") r refl
+
+pub day_366 : (extended : Bool) (r : TransitionRule) → IsTzText extended (codes "FOO5BAR,366,J2") r → ⊥
+unfolding name quoted seconds minutes_seconds optional_minutes hours_minutes_seconds sign duration offset time_sign time rule_day month_date julian_date day_number date optional_time day days next_hour more given_offset dst_offset named end fixed alternate rule text int_at tag_at optional_tag_at
+day_366 extended r = not_spelled extended (codes "FOO5BAR,366,J2") r refl
+
+pub month_13 : (extended : Bool) (r : TransitionRule) → IsTzText extended (codes "FOO5BAR,M13.1.0,J2") r → ⊥
+unfolding name quoted seconds minutes_seconds optional_minutes hours_minutes_seconds sign duration offset time_sign time rule_day month_date julian_date day_number date optional_time day days next_hour more given_offset dst_offset named end fixed alternate rule text int_at tag_at optional_tag_at
+month_13 extended r = not_spelled extended (codes "FOO5BAR,M13.1.0,J2") r refl
+
+pub week_6 : (extended : Bool) (r : TransitionRule) → IsTzText extended (codes "FOO5BAR,M1.6.0,J2") r → ⊥
+unfolding name quoted seconds minutes_seconds optional_minutes hours_minutes_seconds sign duration offset time_sign time rule_day month_date julian_date day_number date optional_time day days next_hour more given_offset dst_offset named end fixed alternate rule text int_at tag_at optional_tag_at
+week_6 extended r = not_spelled extended (codes "FOO5BAR,M1.6.0,J2") r refl
+
+pub weekday_7 : (extended : Bool) (r : TransitionRule) → IsTzText extended (codes "FOO5BAR,M1.1.7,J2") r → ⊥
+unfolding name quoted seconds minutes_seconds optional_minutes hours_minutes_seconds sign duration offset time_sign time rule_day month_date julian_date day_number date optional_time day days next_hour more given_offset dst_offset named end fixed alternate rule text int_at tag_at optional_tag_at
+weekday_7 extended r = not_spelled extended (codes "FOO5BAR,M1.1.7,J2") r refl
+
+pub eight_letters : (extended : Bool) (r : TransitionRule) → IsTzText extended (codes "ABCDEFGH5") r → ⊥
+unfolding name quoted seconds minutes_seconds optional_minutes hours_minutes_seconds sign duration offset time_sign time rule_day month_date julian_date day_number date optional_time day days next_hour more given_offset dst_offset named end fixed alternate rule text int_at tag_at optional_tag_at
+eight_letters extended r = not_spelled extended (codes "ABCDEFGH5") r refl
+
+pub underscore : (extended : Bool) (r : TransitionRule) → IsTzText extended (codes "<FO_>5") r → ⊥
+unfolding name quoted seconds minutes_seconds optional_minutes hours_minutes_seconds sign duration offset time_sign time rule_day month_date julian_date day_number date optional_time day days next_hour more given_offset dst_offset named end fixed alternate rule text int_at tag_at optional_tag_at
+underscore extended r = not_spelled extended (codes "<FO_>5") r refl
+
+pub signed_time : (r : TransitionRule) → IsTzText false (codes "FOO5BAR,J1/-1,J2") r → ⊥
+unfolding name quoted seconds minutes_seconds optional_minutes hours_minutes_seconds sign duration offset time_sign time rule_day month_date julian_date day_number date optional_time day days next_hour more given_offset dst_offset named end fixed alternate rule text int_at tag_at optional_tag_at
+signed_time r = not_spelled false (codes "FOO5BAR,J1/-1,J2") r refl

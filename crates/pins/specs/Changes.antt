@@ -5,6 +5,7 @@ use Rattle.tz_base.specs.declared.change.Change.{Change}
 use Rattle.tz_info.specs.Zones.{Zone, plain_zone}
 use Rattle.pins.specs.NewYork.{est, edt}
 
+-- a change at that second, from one type to another
 abbrev pub change_at : ℤ → LocalType → LocalType → Change
 change_at at before after = record { at = at; before = before; after = after }
 

@@ -55,6 +55,21 @@ foo_behind = rules.Fixed (record {
 abbrev pub foo_ahead : TransitionRule
 foo_ahead = rules.Fixed (record { offset = pos 18_000; dst = false; name = Some (70 ∷ 79 ∷ 79 ∷ []) })
 
+-- `FOO5:06:07` and `foo5`
+abbrev pub foo_5_06_07 : TransitionRule
+foo_5_06_07 = rules.Fixed (record {
+  offset = neg_ℤ (pos 18_367);
+  dst = false;
+  name = Some (70 ∷ 79 ∷ 79 ∷ []);
+})
+
+abbrev pub small : TransitionRule
+small = rules.Fixed (record {
+  offset = neg_ℤ (pos 18_000);
+  dst = false;
+  name = Some (102 ∷ 111 ∷ 111 ∷ []);
+})
+
 -- `EST5EDT,J60,300`: from 1 March to the day 300 after 1 January
 abbrev pub numbered_text : List ℕ
 numbered_text = 69 ∷ 83 ∷ 84 ∷ 53 ∷ 69 ∷ 68 ∷ 84 ∷ 44 ∷ 74 ∷ 54 ∷ 48 ∷ 44 ∷ 51 ∷ 48 ∷ 48 ∷ []

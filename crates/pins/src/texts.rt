@@ -1,14 +1,15 @@
 //! TZ texts and the rules that they spell (POSIX.1 section 8.3, RFC 8536 section 3.3.1).
 
-ghost use Rattle.std.specs.Prelude.{◌≡◌, ℕ, [], ◌∷◌, ◌++◌, List, Bool, true, false, pos, neg_ℤ};
+ghost use Rattle.std.specs.Prelude.{◌≡◌, ℕ, [], ◌∷◌, ◌++◌, List, Bool, true, false, codes, pos, neg_ℤ};
 ghost use Rattle.tz_base.specs.Names.{IsName};
 ghost use Rattle.tz_base.specs.declared.error.Error.TheVariants.{InvalidTzString, LocalTimeType, ParseInt, TransitionRule, UnsupportedTzString};
 ghost use Rattle.tz_base.specs.declared.error.Expected.TheVariants.{DayFromJ1ToJ365, DaysWhenDaylightSavingTimeStartsAndEnds, Digit, HoursMinutesAndSecondsWithinTheirLimits, NameOfThreeToSevenBytes};
 ghost use Rattle.tz_info.specs.TzGrammar.{time_limit, seconds_of, IsTzText, IsTextFault};
 ghost use Rattle.tz_info.specs.PosixZones.{IsPosixZone, posix_zone, types_of};
 ghost use Rattle.tz_info.specs.Zones.{Zone, plain_zone};
+ghost use Rattle.tz_info.specs.declared.rule.transition_rule.TransitionRule.{TransitionRule};
 ghost use Rattle.pins.specs.NewYork.{new_york_rule, new_york_zone, est, edt};
-ghost use Rattle.pins.specs.Texts.{new_york_text, no_days, foo_23, foo_23_rule, foo_24, foo_5_60, foo, fo_5, day_0, utc_text, utc_rule, jerusalem_text, jerusalem_rule, nuuk_text, nuuk_rule, foo_plus_5, foo_minus_5, foo_behind, foo_ahead, numbered_text, numbered_rule};
+ghost use Rattle.pins.specs.Texts.{new_york_text, no_days, foo_23, foo_23_rule, foo_24, foo_5_60, foo, fo_5, day_0, utc_text, utc_rule, jerusalem_text, jerusalem_rule, nuuk_text, nuuk_rule, foo_plus_5, foo_minus_5, foo_behind, foo_ahead, foo_5_06_07, small, numbered_text, numbered_rule};
 
 /// `EST5EDT,M3.2.0,M11.1.0` spells that rule, and `UTC0` one of one type.
 pub fn rules()
@@ -84,4 +85,35 @@ pub fn limits()
     ensures hours_24 { (extended : Bool) → IsTextFault extended foo_24
         (InvalidTzString HoursMinutesAndSecondsWithinTheirLimits) }
     ensures none { (zone : Zone) → ¬ (IsPosixZone foo_24 zone) }
+{}
+
+/// Minutes and seconds come after hours, each after a colon; names have small letters too.
+pub fn clocks()
+    ensures seconds { (extended : Bool) → IsTzText extended (codes "FOO5:06:07") foo_5_06_07 }
+    ensures small_letters { (extended : Bool) → IsTzText extended (codes "foo5") small }
+{}
+
+/// These spell no rule: a second 60; bytes after a rule; days, months, weeks and weekdays above
+/// their limits; names of eight bytes, and with other bytes.
+pub fn no_rules()
+    ensures second_60 { (extended : Bool) (r : TransitionRule)
+        → ¬ (IsTzText extended (codes "FOO5:00:60") r) }
+    ensures left_over { (extended : Bool) (r : TransitionRule)
+        → ¬ (IsTzText extended (codes "FOO5BAR,J1,J2,J3") r) }
+    ensures julian_366 { (extended : Bool) (r : TransitionRule)
+        → ¬ (IsTzText extended (codes "FOO5BAR,J366,J2") r) }
+    ensures day_366 { (extended : Bool) (r : TransitionRule)
+        → ¬ (IsTzText extended (codes "FOO5BAR,366,J2") r) }
+    ensures month_13 { (extended : Bool) (r : TransitionRule)
+        → ¬ (IsTzText extended (codes "FOO5BAR,M13.1.0,J2") r) }
+    ensures week_6 { (extended : Bool) (r : TransitionRule)
+        → ¬ (IsTzText extended (codes "FOO5BAR,M1.6.0,J2") r) }
+    ensures weekday_7 { (extended : Bool) (r : TransitionRule)
+        → ¬ (IsTzText extended (codes "FOO5BAR,M1.1.7,J2") r) }
+    ensures eight_letters { (extended : Bool) (r : TransitionRule)
+        → ¬ (IsTzText extended (codes "ABCDEFGH5") r) }
+    ensures underscore { (extended : Bool) (r : TransitionRule)
+        → ¬ (IsTzText extended (codes "<FO_>5") r) }
+    ensures signed_time { (r : TransitionRule)
+        → ¬ (IsTzText false (codes "FOO5BAR,J1/-1,J2") r) }
 {}

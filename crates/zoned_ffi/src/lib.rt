@@ -20,6 +20,7 @@ mod kind;
 pub mod laws;
 mod local_type;
 mod opening;
+mod pins;
 mod refusal;
 mod resolved;
 mod slot;

@@ -1,0 +1,490 @@
+#!/usr/bin/env python3
+"""Tries wrong definitions: edits of pages of specs/ that a pin or a law must reject.
+
+usage: tools/try_definitions.py [--lanes N] [--write] [NAME ..]
+
+A wrong definition is a file crates/pins/wrong/NAME.edit: the page and the texts that it exchanges there, each of which stands once
+in the page, what the definition says then, and the pins that are not proved of it any more:
+
+    file: crates/tz_info/specs/Changes.antt
+    old: pub differ : c.before ≢ c.after
+    new: pub differ : c.before.offset ≢ c.after.offset
+    says: change: by another offset only
+    pins: clock_changes::differences
+
+A line `law: CRATE FUNCTION` in place of `pins:` names a law that must reject it, where no pin does.
+
+The pins are checked over the pages alone, in a copy of the repository: the libraries keep their types and their pages, and lose
+their functions; each of their lemmas is taken as given, with a hole for its proof. So it is the words that reject an edit, and no
+library needs to be built. First the pins are checked over the pages as they are: each must be proved there. Of a law its crate
+keeps its functions and its lemmas.
+
+Edits are tried together if none of them changes a definition that a pin of another one speaks of, also through other definitions
+and through lemmas of crates/pins. An edit doesn't count where a page can't be read any more, or where a proof misses a name.
+
+With no names all are tried, N at a time (2). It takes half an hour of a processor and more, and is run by hand. --write only
+prints the table of docs/PINS.md from the files. Ends with status 1 unless each edit is rejected.
+"""
+
+import argparse
+import re
+import shutil
+import subprocess
+import sys
+import tempfile
+from concurrent.futures import ThreadPoolExecutor
+from dataclasses import dataclass, field
+from functools import lru_cache
+from pathlib import Path
+from queue import Queue
+
+from kit import kit
+from sources import TOP, imports_of, libraries_below, text_of, uses
+
+WRONG = TOP / "crates/pins/wrong"
+PINS = TOP / "docs/PINS.md"
+TITLE = "## Wrong definitions\n"
+WORD = re.compile(r"[^\s(){}\[\],;:.λ→×≡∙|\"`?]+")
+FUNCTION = re.compile(r'( *)(?:pub(?:\([a-z]+\))? )?(?:(?:final|const|unsafe|extern "C") )*fn (\w+)')
+BLOCK = re.compile(r"(?:pub )?(?:unsafe )?(impl|trait)\b")
+SIGNATURE = re.compile(r"(?:pub )?([^\s(){}\[\],;]+) :(?: |$)")
+UNREAD = r"is not in scope|has no field|has no `|is no name|that can be named from here"
+
+
+@dataclass
+class Edit:
+    """A wrong definition."""
+
+    name: str
+    file: str = ""
+    pairs: list = field(default_factory=list)
+    says: str = ""
+    pins: list = field(default_factory=list)
+    law: tuple = ()
+
+    @property
+    def page(self):
+        return self.file.removeprefix("crates/")
+
+    def applied(self, text):
+        """The page with its texts exchanged, or None if one doesn't stand there once."""
+        for old, new in self.pairs:
+            if text.count(old) != 1:
+                return None
+            text = text.replace(old, new)
+        return text
+
+
+@lru_cache(maxsize=None)
+def edits():
+    """The wrong definitions, in the order of their pages and names."""
+    found = []
+    for path in sorted(WRONG.glob("*.edit")):
+        edit, old = Edit(path.stem), ""
+        for line in text_of(path).splitlines():
+            key, _, text = line.partition(":")
+            text = text.removeprefix(" ")
+            if key == "file":
+                edit.file = text
+            elif key == "old":
+                old = text
+            elif key == "new":
+                edit.pairs.append((old, text))
+            elif key == "says":
+                edit.says = text
+            elif key == "pins":
+                edit.pins = text.split(", ")
+            elif key == "law":
+                edit.law = tuple(text.split())
+        found.append(edit)
+    return sorted(found, key=lambda edit: (edit.file, edit.name))
+
+
+def faults():
+    """What is wrong with the files, and with the table that docs/PINS.md has of them."""
+    for edit in edits():
+        path = TOP / edit.file
+        if not path.is_file() or not edit.pairs or edit.applied(text_of(path)) is None:
+            yield f"crates/pins/wrong/{edit.name}.edit: an old text doesn't stand once in {edit.file}"
+        for pin in edit.pins:
+            module, _, function = pin.partition("::")
+            source = TOP / f"crates/pins/src/{module}.rt"
+            if not source.is_file() or f"pub fn {function}()" not in text_of(source):
+                yield f"crates/pins/wrong/{edit.name}.edit: there is no pin {pin}"
+    if table() not in text_of(PINS):
+        yield "docs/PINS.md: its table isn't that of crates/pins/wrong: run tools/try_definitions.py --write"
+
+
+# The table
+
+
+def table():
+    """The table of the wrong definitions."""
+    rows = ["| wrong definition | page | rejected by | file |", "|---|---|---|---|"]
+    for edit in edits():
+        crate, _, page = edit.page.partition("/specs/")
+        by = ", ".join(f"`{pin}`" for pin in edit.pins) or f"the law `{edit.law[1]}`"
+        rows.append(f"| {edit.says} | `{crate}`: `{page.removesuffix('.antt')}` | {by} | `{edit.name}` |")
+    return "\n".join(rows) + "\n"
+
+
+def write_table():
+    head, title, rest = PINS.read_text().partition(TITLE)
+    start = rest.index("| wrong definition |")
+    end = rest.index("\n\n", start) + 1
+    PINS.write_text(head + title + rest[:start] + table() + rest[end:])
+
+
+# Copies of crates, without code and without proofs
+
+
+def blocks(text):
+    """The text cut before each line that begins at its left side, but for closing brackets."""
+    cut = [0, *[found.start() for found in re.finditer(r"(?m)^[^\s})\]|]", text)][1:], len(text)]
+    return [text[start:end] for start, end in zip(cut, cut[1:])]
+
+
+def without_proofs(text):
+    """A page of lemmas with a hole for each proof."""
+    kept, lemma = [], None
+    for block in blocks(text):
+        signature = SIGNATURE.match(block)
+        if signature and not block.startswith("use "):
+            lemma = signature[1]
+            kept.append(f"{block.rstrip()}\n{lemma} = ?\n\n")
+        elif not (lemma and block.split(None, 1)[0] in (lemma, "unfolding")):
+            lemma = lemma if block.startswith("--") else None
+            kept.append(block)
+    return "".join(kept)
+
+
+def without_functions(text, removed):
+    """A file of code with its types and its impls of traits: functions are left out, and the others have no body."""
+    kept, lines, at, kind = [], text.split("\n"), 0, "free"
+    while at < len(lines):
+        line, function = lines[at], FUNCTION.match(lines[at])
+        if BLOCK.match(line):
+            head = " ".join(lines[at : at + 6]).split("{")[0]
+            is_trait = BLOCK.match(line)[1] == "trait" or re.search(r"\bfor\b(?!<)", head)
+            kind = "free" if line.endswith("{}") else "trait" if is_trait else "inherent"
+        elif line == "}":
+            kind = "free"
+        if not function or "const fn" in line:
+            kept.append(line)
+            at += 1
+            continue
+        end = end_of(lines, at, function[1], kind == "trait")
+        if kind == "trait":
+            kept += without_body(lines[at : end + 1], function[1])
+        else:
+            while kept and re.match(rf"{function[1]}(///|//|#\[)", kept[-1]):
+                kept.pop()
+            removed |= {function[2]} if kind == "free" else set()
+        at = end + 1
+    return "\n".join(kept)
+
+
+def end_of(lines, at, indent, may_lack_body):
+    """The last line of the function that begins at that line."""
+    if re.search(r"\{.*\}$|;$", lines[at]):
+        return at
+    for end in range(at, len(lines)):
+        if lines[end] in (f"{indent}}}", f"{indent}{{}}"):
+            return end
+        if may_lack_body and lines[end].endswith(";") and not any(is_body(line, indent, at == place) for place, line in enumerate(lines[at:end], at)):
+            return end
+    raise SystemExit(f"no end of {lines[at]}")
+
+
+def is_body(line, indent, is_first):
+    """Whether a function's body begins at the end of that line of it."""
+    return line == f"{indent}{{" or line.endswith("{") and (is_first or line.startswith(f"{indent})"))
+
+
+def without_body(lines, indent):
+    """A method of a trait whose body is not reached."""
+    for place, line in enumerate(lines):
+        if is_body(line, indent, place == 0):
+            return [*lines[: place + 1], f"{indent}    unreachable!()", f"{indent}}}"]
+    return lines
+
+
+def without_names(text, removed):
+    """A file of code whose imports don't name these functions."""
+
+    def fewer(found):
+        body = re.sub(r"(?<=[{,:\s])(\w+)(?: as \w+)?(?=\s*[,}]|\s*$)", lambda it: "" if it[1] in removed else it[0], found[2])
+        while True:
+            shorter = re.sub(r",\s*,", ",", body)
+            shorter = re.sub(r"\{\s*,", "{", re.sub(r",\s*\}", "}", shorter))
+            shorter = re.sub(r"\w+::\{\s*\}", "", shorter)
+            if shorter == body:
+                break
+            body = shorter
+        return "" if re.search(r"::\s*$", body) or body.strip() in ("", "{}") else f"{found[1]}{body};"
+
+    return re.sub(r"(?m)^( *(?:pub(?:\([a-z]+\))? )?use )([^;]*);", fewer, text)
+
+
+def lay(room, crate, with_code=False):
+    """Lays a copy of the crate and of the libraries below it: of these only types and pages, and their lemmas are taken as given.
+    A crate that calls what lies below needs the code too."""
+    removed = set()
+    for name in [*sorted(libraries_below(crate)), crate]:
+        for part in ("src", "specs", "proofs"):
+            if (TOP / "crates" / name / part).is_dir():
+                shutil.copytree(TOP / "crates" / name / part, room / name / part)
+        if name == crate:
+            continue
+        for path in (room / name / "proofs").rglob("*.antt"):
+            if path.name in ("Answers.antt", "Invariants.antt", "Proof.antt"):
+                path.unlink()
+            else:
+                path.write_text(without_proofs(path.read_text()))
+        for path in (room / name / "src").rglob("*.rt") if not with_code else []:
+            path.write_text(without_functions(path.read_text(), removed))
+    for name in libraries_below(crate):
+        for path in (room / name / "src").rglob("*.rt"):
+            path.write_text(without_names(path.read_text(), removed))
+    for path in sorted(room.rglob("*"), reverse=True):
+        if path.is_dir() and not any(path.iterdir()):
+            path.rmdir()
+
+
+def check(room, crate, functions):
+    """Checks these functions of the crate in that copy, and returns what is said."""
+    ours = sorted(libraries_below(crate))
+    of_kit = sorted({"std", *[name for library in [crate, *ours] for name in uses()[library] if name not in uses()]})
+    made = [kit() / "bin/rattle", "check", "--crate-name", crate, "src/lib.rt", "-L", f"dependency={kit()}/rlibs"]
+    for name in of_kit:
+        made += ["--extern", f"{name}={kit()}/rlibs/{name}.rlib"]
+    for name in ours:
+        made += ["--lib", f"{name}:{','.join(dict.fromkeys(['std', *uses()[name]]))}={room / name}/src/lib.rt"]
+    made += ["--antt-project", kit() / "rattle/logic/antt-project.json", "--logic-built", kit() / "logic_built"]
+    (room / "kept").mkdir(exist_ok=True)
+    made += ["--incremental", room / "kept", "--allow-holes", *[word for name in functions for word in ("--only", name)]]
+    ran = subprocess.run(made, cwd=room / crate, stdin=subprocess.DEVNULL, capture_output=True, text=True)
+    return ran.stdout + ran.stderr
+
+
+# Which edits can be tried together
+
+
+@lru_cache(maxsize=None)
+def page_of(module):
+    """The page of that name, if it is one of this repository: Rattle.tz_info.specs.Zones."""
+    crate, *rest = module.split(".")[1:] or [""]
+    path = TOP / "crates" / crate / ("/".join(rest) + ".antt")
+    root = TOP / "crates" / crate / "specs/Lib.antt"
+    if crate in uses() and not path.is_file() and root.is_file():
+        passed = re.search(rf"(?m)^pub use (\S+\.{rest[-1]})$", text_of(root))
+        return page_of(passed[1]) if passed else None
+    return path if crate in uses() and path.is_file() else None
+
+
+@lru_cache(maxsize=None)
+def definitions(path):
+    """What a page defines: each name with the words of its definitions; and what its imports name."""
+    found = {}
+    for block in blocks(text_of(path)):
+        if not block.startswith(("use ", "pub use", "unfoldable pub use", "--", "pub mod", "mod ", "infix")):
+            for name in defined(block):
+                found.setdefault(name, set()).update(WORD.findall(block))
+    return found, imports_of(text_of(path).replace("unfoldable pub use", "pub use"))
+
+
+def defined(block):
+    """The names that a block of a page defines: that of a definition, or of data with its cases."""
+    words = WORD.findall(block.split("\n")[0])
+    plain = [word for word in words if word not in ("pub", "abbrev", "unfoldable", "opaque", "record", "data", "unfolding")]
+    cases = re.findall(rf"(?m)^  ({WORD.pattern}) :", block) if "data" in words else []
+    return {*plain[:1], *cases}
+
+
+def named(words, own, imports):
+    """The definitions that these words name, as pairs of a page and a name."""
+    for word in words:
+        if own and word in definitions(own)[0]:
+            yield own, word
+        elif word in imports:
+            module, there = imports[word]
+            page = page_of(module)
+            if page and there:
+                yield from named([there], page, definitions(page)[1])
+            elif page:
+                yield from ((page, name) for name in definitions(page)[0])
+
+
+@lru_cache(maxsize=None)
+def spoken_of(pin):
+    """Each definition that the pin speaks of: in its clauses and its answers, and through other definitions and lemmas."""
+    module, _, function = pin.partition("::")
+    source = text_of(TOP / f"crates/pins/src/{module}.rt")
+    start = source.index(f"pub fn {function}()")
+    todo = set(named(WORD.findall(source[start : source.index("{}\n", start)]), None, imports_of(source)))
+    answers = TOP / f"crates/pins/proofs/{module}/{function}/Answers.antt"
+    if answers.is_file():
+        todo |= set(named(WORD.findall(text_of(answers)), answers, imports_of(text_of(answers))))
+    seen = set()
+    while todo:
+        page, name = todo.pop()
+        seen.add((page, name))
+        words, imports = definitions(page)
+        todo |= set(named(words.get(name, ()), page, imports)) - seen
+    return seen
+
+
+@lru_cache(maxsize=None)
+def changed(name):
+    """The definitions that the edit of that name changes."""
+    edit = next(edit for edit in edits() if edit.name == name)
+    path = TOP / edit.file
+    return {
+        (path, name)
+        for old, _ in edit.pairs
+        for block in blocks(text_of(path))
+        if old in block and not block.startswith(("use", "pub use"))
+        for name in defined(block)
+    }
+
+
+def are_apart(a, b):
+    spoken = [set().union(*map(spoken_of, edit.pins)) for edit in (a, b)]
+    return not (changed(a.name) & spoken[1] or changed(b.name) & spoken[0])
+
+
+def rounds(chosen):
+    """The edits in rounds, each of edits that can be tried together."""
+    found = []
+    for edit in chosen:
+        for others in found:
+            if all(are_apart(edit, other) for other in others) and made([*others, edit]) is not None:
+                others.append(edit)
+                break
+        else:
+            found.append([edit])
+    return found
+
+
+def made(chosen):
+    """The pages that the edits change, or None if a text doesn't stand once in its page."""
+    pages = {}
+    for edit in chosen:
+        text = edit.applied(pages.get(edit.page) or text_of(TOP / edit.file))
+        if text is None:
+            return None
+        pages[edit.page] = text
+    return pages
+
+
+# Trying them
+
+
+def verdicts(said, crate):
+    """What is said of each function."""
+    return dict(re.findall(rf"(?m)^fn {crate}::(\S+): (.*)$", said))
+
+
+def is_accepted(verdict):
+    return verdict.startswith(("no holes", "depends on a hole", "proved"))
+
+
+def told(edit, said, room, crate):
+    """What is said of an edit, and whether it is rejected."""
+    errors = re.findall(r"(?m)^(\S+?):\d+:\d+: error: (.*)$", said)
+    unread = [f"{path}: {text}" for path, text in errors if path.startswith(str(room)) or re.search(UNREAD, text)]
+    functions = [edit.law[1]] if edit.law else edit.pins
+    found = [next((it for path, it in verdicts(said, crate).items() if f"::{path}".endswith(f"::{name}")), "") for name in functions]
+    if unread or not all(found):
+        return f"{edit.name}: not tried: {(unread or [said[-300:]])[0][:300]}", False
+    if any(map(is_accepted, found)):
+        return f"{edit.name}: NOT REJECTED by {', '.join(n for n, it in zip(functions, found) if is_accepted(it))}", False
+    return f"{edit.name}: rejected by {', '.join(functions)}", True
+
+
+def tried(chosen, room):
+    """Tries edits of one round by pins in that copy, or each alone where they can't be told apart."""
+    pages = made(chosen)
+    for page, text in (pages or {}).items():
+        (room / page).write_text(text)
+    said = check(room, "pins", sorted({pin for edit in chosen for pin in edit.pins}))
+    for page in pages or {}:
+        (room / page).write_text(text_of(TOP / "crates" / page))
+    rows = [told(edit, said, room, "pins") for edit in chosen]
+    if len(chosen) > 1 and any(": not tried" in row for row, _ in rows):
+        return [row for edit in chosen for row in tried([edit], room)]
+    return rows
+
+
+def tried_by_law(edit):
+    """Tries an edit by a law in a copy of its crate."""
+    crate, function = edit.law
+    with tempfile.TemporaryDirectory() as folder:
+        room = Path(folder)
+        lay(room, crate, with_code=True)
+        before = verdicts(check(room, crate, [function]), crate)
+        if not before or not all(map(is_accepted, before.values())):
+            return f"{edit.name}: {function} isn't proved of the page as it is", False
+        (room / edit.page).write_text(edit.applied(text_of(TOP / edit.file)))
+        return told(edit, check(room, crate, [function]), room / "no library", crate)
+
+
+def tried_by_pins(chosen, lanes):
+    """Tries edits by pins, and says of each what came of it."""
+    with tempfile.TemporaryDirectory() as folder:
+        rooms = Queue()
+        first = Path(folder) / "0"
+        lay(first, "pins")
+        pins = sorted({pin for edit in chosen for pin in edit.pins})
+        said = check(first, "pins", pins)
+        found = verdicts(said, "pins")
+        unproved = [pin for pin in pins if not is_accepted(found.get(pin, ""))]
+        if unproved:
+            yield f"not proved of the pages as they are: {', '.join(unproved)}: {said[-900:] if not found else ''}", False
+            return
+        for lane in range(1, lanes):
+            shutil.copytree(first, Path(folder) / str(lane))
+        for lane in range(lanes):
+            rooms.put(Path(folder) / str(lane))
+
+        def one(those):
+            room = rooms.get()
+            try:
+                return tried(those, room)
+            finally:
+                rooms.put(room)
+
+        with ThreadPoolExecutor(lanes) as pool:
+            for rows in pool.map(one, rounds(chosen)):
+                yield from rows
+
+
+def main():
+    given = argparse.ArgumentParser(usage=__doc__.partition("usage: ")[2].partition("\n\n")[0])
+    given.add_argument("--lanes", type=int, default=2)
+    given.add_argument("--write", action="store_true")
+    given.add_argument("names", nargs="*")
+    given = given.parse_args()
+    if given.write:
+        write_table()
+        return 0
+    missing = set(given.names) - {edit.name for edit in edits()}
+    if missing:
+        sys.exit(f"no file of crates/pins/wrong: {', '.join(sorted(missing))}")
+    for edit in edits():
+        if not edit.pairs or edit.applied(text_of(TOP / edit.file)) is None:
+            sys.exit(f"{edit.name}: an old text doesn't stand once in {edit.file}")
+    chosen = [edit for edit in edits() if edit.name in given.names or not given.names]
+    count = rejected = 0
+    by_law = (tried_by_law(edit) for edit in chosen if edit.law)
+    by_pins = [edit for edit in chosen if edit.pins]
+    for rows in (tried_by_pins(by_pins, given.lanes) if by_pins else [], by_law):
+        for row, is_rejected in rows:
+            print(row, flush=True)
+            count, rejected = count + 1, rejected + is_rejected
+    print(f"{count} tried, {count - rejected} not rejected")
+    return 0 if count == rejected == len(chosen) else 1
+
+
+if __name__ == "__main__":
+    sys.exit(main())
