@@ -116,6 +116,9 @@ list_fault_or_valid z e (Not_rising some indexes bad) v = bad v.transitions.risi
 list_fault_or_valid z e (Other_leaps some transitions bad) v = bad v.leaps
 list_fault_or_valid z e (Other_rule some transitions leaps bad) v = bad v.agrees
 
+pub with_fault : {z : Zone} {e : Error} → ListFault z e → ListFault z e × ¬ (IsValid z)
+with_fault {z = z} {e = e} f = (f, list_fault_or_valid z e f)
+
 pub list_fault_low : (z : Zone) (e : Error) → ListFault z e → number_of e ≤ 16
 list_fault_low z e (No_type none) = omega arith
 list_fault_low z e (Other_index some bad) = omega arith

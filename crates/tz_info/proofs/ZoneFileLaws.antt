@@ -6,12 +6,11 @@ use Rattle.tz_info.specs.Zones.{Zone, IsValid, ListFault}
 use Rattle.tz_info.specs.FilePieces.{FilePieces, HasPieces}
 use Rattle.tz_info.specs.TzFiles.{IsTzFile, IsZoneFault, Not_valid, In_file, No_memory}
 use Rattle.tz_info.specs.declared.zone.time_zone.TimeZone.{TimeZone}
-use Rattle.tz_info.proofs.ListFaults.{list_fault_or_valid}
 use Rattle.tz_info.proofs.TzFileLaws.{one_zone}
 
 -- what making a zone of lists answers
 abbrev pub Makes : Zone → Result TimeZone Error → Type 0
-Makes lists r = MatchResult r (λ z. IsValid lists × (z ≡ lists)) (λ e. ListFault lists e ⊎ ((e ≡ OutOfMemory) × IsValid lists))
+Makes lists r = MatchResult r (λ z. IsValid lists × (z ≡ lists)) (λ e. (ListFault lists e × ¬ (IsValid lists)) ⊎ ((e ≡ OutOfMemory) × IsValid lists))
 
 pub made_found : (bytes : List ℕ) (lists : Zone) (r : Result TimeZone Error) → IsTzFile bytes lists → Makes lists r → IfOk r (λ z. IsTzFile bytes z × IsValid z)
 made_found bytes lists (Ok z) f m = (subst (λ y. IsTzFile bytes y) (sym m.1) f, subst (λ y. IsValid y) (sym m.1) m.0)
@@ -20,12 +19,12 @@ made_found bytes lists (Err e) f m = tt
 pub made_only : (bytes : List ℕ) (lists : Zone) (r : Result TimeZone Error) → IsTzFile bytes lists → Makes lists r
     → (z : Zone) → IsTzFile bytes z → IsValid z → MatchResult r (λ y. y ≡ z) (λ e. e ≡ OutOfMemory)
 made_only bytes lists (Ok y) f m z g v = m.1 ∙ one_zone bytes lists z f g
-made_only bytes lists (Err e) f (inl m) z g v = absurd (list_fault_or_valid lists e m (subst (λ y. IsValid y) (one_zone bytes z lists g f) v))
+made_only bytes lists (Err e) f (inl m) z g v = absurd (m.1 (subst (λ y. IsValid y) (one_zone bytes z lists g f) v))
 made_only bytes lists (Err e) f (inr m) z g v = m.0
 
 pub made_fault : (bytes : List ℕ) (lists : Zone) (r : Result TimeZone Error) → IsTzFile bytes lists → Makes lists r → IfErr r (λ e. IsZoneFault bytes e)
 made_fault bytes lists (Ok y) f m = tt
-made_fault bytes lists (Err e) f (inl m) = In_file e (Not_valid lists e f m)
+made_fault bytes lists (Err e) f (inl m) = In_file e (Not_valid lists e f m.0)
 made_fault bytes lists (Err e) f (inr m) = rw m.0 (No_memory f.0 f.1)
 
 pub made_memory : (bytes : List ℕ) (lists : Zone) (r : Result TimeZone Error) → IsTzFile bytes lists → IfErr r (λ e. e ≡ OutOfMemory → (p : FilePieces) × HasPieces bytes p)

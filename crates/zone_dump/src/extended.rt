@@ -1,7 +1,7 @@
 //! Zones of TZ strings with extensions.
 
 ghost use Rattle.std.specs.Prelude.{◌≡◌, ◌⊎◌, true, IfOk, IfErr, MatchResult};
-ghost use Rattle.tz_base.specs.Errors.{IsOutOfMemory, number_of};
+ghost use Rattle.tz_base.specs.Errors.{IsOutOfMemory};
 ghost use Rattle.tz_info.specs.PosixZones.{posix_zone, types_of};
 ghost use Rattle.tz_info.specs.TzGrammar.{IsTextFault};
 ghost use Rattle.tz_info.specs.Zones.{Zone};
@@ -23,8 +23,8 @@ pub fn extended_zone(alloc: Global, text: &str) -> Result<TimeZone, Error>
     // A string that has a zone gives it, unless there is no memory.
     ensures only { (z : Zone) → IsExtendedZone text.now z
         → MatchResult result (λ y. y ≡ z) (λ e. IsOutOfMemory e) }
-    // An error names a fault that is in the string, or says that memory ran out.
-    ensures fault { IfErr result (λ e. IsOutOfMemory e ⊎ IsTextFault true text.now (number_of e)) }
+    // An error is the first fault of the string, or says that memory ran out.
+    ensures fault { IfErr result (λ e. IsOutOfMemory e ⊎ IsTextFault true text.now e) }
 {
     match TransitionRule::from_tz_string(text.as_bytes(), true) {
         Ok(rule) => zone_of(alloc, rule),

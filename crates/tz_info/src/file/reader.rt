@@ -39,7 +39,8 @@ impl Lists {
     pub fn into_zone(self, alloc: Global) -> Result<TimeZone, Error>
         ensures { MatchResult result
             (λ z. IsValid (zone_of self) × (z ≡ zone_of self))
-            (λ e. ListFault (zone_of self) e ⊎ ((e ≡ OutOfMemory) × IsValid (zone_of self))) }
+            (λ e. (ListFault (zone_of self) e × ¬ (IsValid (zone_of self)))
+            ⊎ ((e ≡ OutOfMemory) × IsValid (zone_of self))) }
     {
         let Lists {
             transitions,

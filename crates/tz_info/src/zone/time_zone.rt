@@ -140,7 +140,8 @@ impl TimeZone {
           rule = rule;
         } in
             MatchResult result (λ z. IsValid lists × (z ≡ lists))
-            (λ e. ListFault lists e ⊎ ((e ≡ OutOfMemory) × IsValid lists)) }
+            (λ e. (ListFault lists e × ¬ (IsValid lists))
+            ⊎ ((e ≡ OutOfMemory) × IsValid lists)) }
     {
         check(&transitions, &types, &leaps, &rule)?;
         let lists = Lists {

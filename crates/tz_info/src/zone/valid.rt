@@ -25,7 +25,7 @@ pub(super) fn check(
       leaps = leaps.now;
       rule = rule.now;
     } in
-        MatchResult result (λ _. IsValid lists) (λ e. ListFault lists e) }
+        MatchResult result (λ _. IsValid lists) (λ e. ListFault lists e × ¬ (IsValid lists)) }
 {
     if types.is_empty() {
         return Err(Error::TimeZone(Expected::AtLeastOneLocalTimeType));
