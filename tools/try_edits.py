@@ -238,22 +238,16 @@ def checked(crate, edits, around, proved):
 
 def without_left_out(said, folder):
     """What is said, without the goals of bodies that are left out: they say nothing of an edit."""
-    ours = set()
-    for path in folder.joinpath("src").rglob("*.rt"):
-        lines = enumerate(path.read_text().splitlines(), 1)
-        ours |= {f"{path.relative_to(folder)}:{number}" for number, line in lines if line.strip() == LEFT_OUT}
-    places = ((re.search(r"(src/\S+?:\d+):\d+: ", line), line) for line in said.splitlines())
-    return "\n".join(line for place, line in places if not place or place[1] not in ours)
+    numbered = {path: enumerate(path.read_text().splitlines(), 1) for path in folder.joinpath("src").rglob("*.rt")}
+    places = [f"{path.relative_to(folder)}:{at}:" for path in numbered for at, line in numbered[path] if line.strip() == LEFT_OUT]
+    return "\n".join(line for line in said.splitlines() if not any(place in line for place in places))
 
 
 def kept_of(crate, folder):
     """A folder that begins with what `rt check` has kept of the crate, if it has."""
     kept = TOP / "crates" / crate / "out/incremental"
-    if kept.is_dir():
-        shutil.copytree(kept, folder)
-    else:
-        folder.mkdir()
-    return folder
+    folder.mkdir()
+    return shutil.copytree(kept, folder, dirs_exist_ok=True) if kept.is_dir() else folder
 
 
 def told(edit, said):
