@@ -12,8 +12,8 @@ use Rattle.tz_info.specs.FileContents.{HasNoZero, StandsAt}
 use Rattle.tz_write.specs.FileDesignations.{text_or_none, text_of, place_of, IsNamedIn, AreNamesIn, AreShortest}
 use Rattle.tz_write.specs.FileLayouts.{HasPlace, HavePlaces, with_text, ends, before_last, laid, before_zero, text_at, laid_from, ArePlaced, IsPlacedFrom, AreNotPlacedBefore, IsFirstPlaced, IsLaid, In_order, Otherwise}
 use Rattle.tz_write.proofs.FileMeetings.{Stands, Ends, Meeting, In_front, Behind, Is_end, Has_end, meet}
-use Rattle.tz_write.proofs.FileNames.{less, not_less, less_again, ends_of, ends_again, place_behind, place_kept, place_of_put, In, put_in, end_in, in_stands}
-use Rattle.tz_write.proofs.FileRecords.{has_text, no_zero}
+use Rattle.tz_write.proofs.FileNames.{not_less, less_again, ends_of, ends_again, place_behind, place_kept, place_of_put, In, put_in, end_in, in_stands}
+use Rattle.tz_write.proofs.FileRecords.{less, has_text, no_zero}
 use Rattle.tz_write.proofs.FileRoom.{Room, Given, room_of, no_front, before_room, before_in, before_keeps, before_filled, kept, put}
 
 -- ---- texts
@@ -33,14 +33,7 @@ whole_size bytes b x a e = omega (arith, ap length e, length-append b (x ++ (0 �
 
 -- the text at the place where a text stands
 not_same : (b : ℕ) → b ≢ 0 → (b == 0) ≡ false
-not_same b h = by_test (b == 0) refl
-  where
-    zero_is : (b : ℕ) → (b == 0) ≡ true → b ≡ 0
-    zero_is b h = grind (arith, nat_tests)
-
-    by_test : (t : Bool) → (b == 0) ≡ t → t ≡ false
-    by_test false e = refl
-    by_test true e = absurd (h (zero_is b e))
+not_same b h = grind (arith, nat_tests)
 
 front_is : (text rest : List ℕ) → HasNoZero text → before_zero (text ++ (0 ∷ rest)) ≡ text
 front_is [] rest none = refl
@@ -144,16 +137,12 @@ unfolding with_text
 kept_low designations other text h =
     low_by (nat_lt (place_of other designations) (length designations)) (nat_lt (length designations + length other) 263) designations (other ++ 0 ∷ []) text h
 
-not_in : (designations text : List ℕ) → length designations ≤ place_of text designations → nat_lt (place_of text designations) (length designations) ≡ false
-not_in designations text out = by_test (nat_lt (place_of text designations) (length designations)) refl
-  where
-    by_test : (b : Bool) → nat_lt (place_of text designations) (length designations) ≡ b → b ≡ false
-    by_test false e = refl
-    by_test true e = absurd (omega (arith, out, less (place_of text designations) (length designations) e))
+not_less_again : (a b : ℕ) → b ≤ a → nat_lt a b ≡ false
+not_less_again a b h = grind (arith, nat_tests)
 
 put_is : (designations text : List ℕ) → length designations ≤ place_of text designations → length designations + length text < 263 → with_text designations text ≡ designations ++ (text ++ 0 ∷ [])
 unfolding with_text
-put_is designations text out room = rw (not_in designations text out, less_again (length designations + length text) 263 room) refl
+put_is designations text out room = rw (not_less_again _ _ out, less_again (length designations + length text) 263 room) refl
 
 -- a text has its place in what is laid, if it stands before the last one, or else in what that ends
 in_place : (designations last : List ℕ) (t : LocalType) → length designations ≤ 256 → In designations (text_of t) → HasPlace (with_text designations last) t

@@ -19,9 +19,6 @@ both false b h k = cc
 pub less_again : (a b : ℕ) → a < b → nat_lt a b ≡ true
 less_again a b h = grind (arith, nat_tests)
 
-pub less : (a b : ℕ) → nat_lt a b ≡ true → a < b
-less a b h = grind (arith, nat_tests)
-
 pub not_less : (a b : ℕ) → nat_lt a b ≡ false → b ≤ a
 not_less a b h = grind (arith, nat_tests)
 

@@ -64,7 +64,7 @@ pub leaps_are : (leaps : List LeapSecond) → All IsEntry leaps → SpellLeapSec
 leaps_are leaps h = records_are 12 (SpellsLeapSecond 8) leap_bytes leaps (λ k d l. record { sized = leap_size _; says = leap_is _ (h k d l) })
 
 -- ---- where a text stands
-less : (a b : ℕ) → nat_lt a b ≡ true → a < b
+pub less : (a b : ℕ) → nat_lt a b ≡ true → a < b
 less a b h = grind (arith, nat_tests)
 
 is_zero : (a : ℕ) → (a == 0) ≡ true → a ≡ 0

@@ -11,7 +11,8 @@ use Rattle.tz_info.specs.FileContents.{HasNoZero}
 use Rattle.tz_write.specs.FileDesignations.{text_of, place_of}
 use Rattle.tz_write.specs.FileLayouts.{with_text, ends, with_text_of, with_texts, before_last}
 use Rattle.tz_write.proofs.FileMeetings.{Stands, Ends, Meeting, In_front, Behind, Is_end, Has_end, meet}
-use Rattle.tz_write.proofs.FileNames.{less, not_less, same_again, ends_of, ends_again, In, in_longer, put_in}
+use Rattle.tz_write.proofs.FileRecords.{less}
+use Rattle.tz_write.proofs.FileNames.{not_less, same_again, ends_of, ends_again, In, in_longer, put_in}
 
 -- what is left of other bytes when the texts that stand in the designations are cut out of them: the texts that are to come, of
 -- at most that size or at the end of the last one, still stand there

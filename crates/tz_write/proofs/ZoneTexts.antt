@@ -61,22 +61,16 @@ best_of_trimmed text bytes trimmed t best =
 pub not_empty : (rule : TransitionRule) → CanBeSpelled rule → text_of rule ≢ []
 not_empty rule h e = let f = text_first rule h in let k = ap length (sym e ∙ f.2) in omega arith
 
-no_none : (r : TransitionRule) → Some r ≡ None → ⊥
-no_none r e = cc
-
-same_rule : (r s : TransitionRule) → Some r ≡ Some s → r ≡ s
-same_rule r s e = cc
-
 of_types : (types : List LocalType) (rule s : TransitionRule) → zone_of_rule types (Some rule) ≡ posix_zone s → (s ≡ rule) × (types ≡ types_of rule)
 of_types types rule s e =
     let r : Some rule ≡ Some s = ap (λ (z : Zone). z.rule) e in
-    let k = same_rule rule s r in
+    let k : rule ≡ s = cc in
     (sym k, ap (λ (z : Zone). z.types) e ∙ ap types_of (sym k))
 
 -- a text that gives it spells the rule, but for white space at its ends
 spells_rule : (text : List ℕ) (types : List LocalType) (rule : TransitionRule) → IsPosixZone text (zone_of_rule types (Some rule)) → (trimmed : List ℕ) × IsTrimmed text trimmed × IsTzText false trimmed rule × (types ≡ types_of rule)
 spells_rule text types rule gives = elim gives [
-  | inl a ↦ absurd (no_none rule (ap (λ (z : Zone). z.rule) a.1))
+  | inl a ↦ let none : Some rule ≡ None = ap (λ (z : Zone). z.rule) a.1 in cc
   | inr b ↦
       let same = of_types types rule b.rule b.zone in
       (b.trimmed, b.trims, subst (λ (r : TransitionRule). IsTzText false b.trimmed r) same.0 b.spells, same.1)

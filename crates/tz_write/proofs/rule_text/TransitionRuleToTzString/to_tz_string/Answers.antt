@@ -1,4 +1,4 @@
-use Rattle.std.proofs.Common.{◌≡◌, List, ℕ, true, not, subst, sym, rules}
+use Rattle.std.proofs.Common.{◌≡◌, List, ℕ, true, false, not, subst, sym, rules}
 use Rattle.tz_write.specs.WrittenTexts.{CanBeSpelled, AreTimesOf, IsWrittenText}
 use Rattle.tz_write.specs.Steps.TextPieces.{text_of}
 use Rattle.tz_write.proofs.RuleTexts.{rule_spelled, times_extended, unspelled, written}
