@@ -116,11 +116,14 @@ empty_or_longer (b ∷ bs) = inr (omega arith)
 
 rule_some : (types : List LocalType) (rule : Option TransitionRule) → IsRuleOrNone rule → HasZoneText types rule → (text : List ℕ) × IsWrittenZone (zone_of_rule types rule) text
 rule_some types (Some rule) fits h = (text_of rule, written_zone types rule fits h)
-rule_some types None fits h = ([], record {
-  gives = inl (refl, ap (λ (x : List LocalType). zone_of_rule x None) h);
-  pairs = tt;
-  shortest = λ other gives pairs. empty_or_longer other;
-})
+rule_some types None fits h = (
+  [],
+  record {
+    gives = inl (refl, ap (λ (x : List LocalType). zone_of_rule x None) h);
+    pairs = tt;
+    shortest = λ other gives pairs. empty_or_longer other;
+  },
+)
 
 pub zone_text_some : (z : Zone) → IsRuleOrNone z.rule → IsOfText z → (text : List ℕ) × IsWrittenZone z text
 zone_text_some z fits h =

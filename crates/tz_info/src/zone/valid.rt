@@ -96,7 +96,9 @@ fn is_same_type(a: &LocalTimeType, b: &LocalTimeType) -> bool
 fn name_types(type_count: usize, transitions: &[Transition]) -> bool
     ensures { IsTrue result ↔ NameTypes type_count transitions.now }
 {
-    transitions.iter().all(|transition| transition.type_index < type_count)
+    transitions
+        .iter()
+        .all(|transition| transition.type_index < type_count)
 }
 
 // Whether a zone of so many types may have the transitions, in one pass over them. None is left
