@@ -5,16 +5,20 @@ writes.
 usage: tools/try_zonedump.py [ZONEDUMP]
 
 ZONEDUMP is the built program (crates/zonedump/out/zonedump). It is run on a folder, a zip, an empty file, a text file, a file
-cut short, one above the limit, one that isn't there, a wrong TZ text and wrong arguments, on a good file among wrong ones, and
-with a full standard output. Each run must end with the status, the output and the line on standard error that are due. The JSON
+cut short, one above the limit, one that isn't there, a wrong TZ text and wrong arguments, on a good file among wrong ones, on
+names that aren't UTF-8, and with a full standard output. Each run must end with the status, the output and the line on standard error that are due. The JSON
 of a file and of a TZ text must have the changes of the table. A file that is written must be told as the one that was read, and
-show the same times in Python's zoneinfo. A picture must be the one in docs/, have the changes of the table as steps of its line
+show the same times in Python's zoneinfo. A file that can't be written whole must be left as it was, without a temporary file
+beside it, and one that is written again and again must never be seen in part. A picture must be the one in docs/, have the changes of the table as steps of its line
 at their places, and the wall clocks of the table in its panels. Prints a line for each run, and ends with status 1 if an answer
 differs. It takes a few seconds and builds nothing.
 """
 
 import json
+import os
 import re
+import resource
+import signal
 import subprocess
 import sys
 import tempfile
@@ -32,11 +36,17 @@ SECONDS = 60
 LIMIT = 64 << 20
 
 
-def run(program, *words, folder=None, redirect=""):
+def run(program, *words, folder=None, redirect="", before=None):
     """Runs the program; gives its status, output and error text."""
     done = subprocess.run(["sh", "-c", f'exec "$0" "$@" {redirect}', str(program), *words], cwd=folder,
-                          capture_output=True, timeout=SECONDS, text=True)
+                          capture_output=True, timeout=SECONDS, text=True, preexec_fn=before)
     return done.returncode, done.stdout, done.stderr
+
+
+def no_large_files():
+    """Lets no file grow past 512 bytes, as on a full disk."""
+    signal.signal(signal.SIGXFSZ, signal.SIG_IGN)
+    resource.setrlimit(resource.RLIMIT_FSIZE, (512, 512))
 
 
 def refused(file, why):
@@ -106,6 +116,89 @@ def try_write(program, folder):
     check("--write into a folder", (1, "", True), (status, output, errors.startswith("zonedump: folder: ")))
     several = run(program, "--write", "again", "good", "written", folder=folder)
     check("--write of two files", (2, "", ONE_ZONE), several)
+
+
+def try_failed_writes(program, folder):
+    """Files that can't be written whole, and what they replace."""
+    place = folder / "place"
+    place.mkdir()
+    (place / "old").write_bytes(b"OLD")
+    (place / "old.0.tmp").write_bytes(b"MINE")
+    (place / "link").symlink_to("old")
+    good = (folder / "good").read_bytes()
+    (place / "zone").write_bytes(good)
+    large = "File too large (os error 27)\n"
+    for option, target in (("--write", "old"), ("--svg", "old"), ("--write", "link"), ("--write", "new"), ("--write", "zone")):
+        due = (1, "", f"zonedump: {target}: {large}")
+        check(f"{option} {target} on a full disk", due, run(program, option, target, "zone", folder=place, before=no_large_files))
+    check("  what was there stays", (b"OLD", b"MINE", good, ["link", "old", "old.0.tmp", "zone"]),
+          ((place / "old").read_bytes(), (place / "old.0.tmp").read_bytes(), (place / "zone").read_bytes(), sorted(os.listdir(place))))
+    full = run(program, "--write", "/dev/full", "zone", folder=place)
+    check("--write /dev/full", (1, "", "zonedump: /dev/full: No space left on device (os error 28)\n"), full)
+    (place / "old").chmod(0o640)
+    check("--write through a link", (0, "", ""), run(program, "--write", "link", "zone", folder=place))
+    check("  the link, the mode and the other file stay", (True, 0o640, b"MINE"),
+          ((place / "link").is_symlink(), (place / "old").stat().st_mode & 0o777, (place / "old.0.tmp").read_bytes()))
+    check("  written", good[:5], (place / "old").read_bytes()[:5])
+    check("--write onto the file that is read", (0, "", ""), run(program, "--write", "zone", "zone", folder=place))
+    check("  its clocks", clocks(folder / "good"), clocks(place / "zone"))
+    long = "n" * 255
+    check("--write to a long name", (0, "", ""), run(program, "--write", long, "zone", folder=place))
+    check("  nothing else is left", sorted(["link", "old", "old.0.tmp", "zone", long]), sorted(os.listdir(place)))
+    pipe = run(program, "--write", "/dev/stdout", "zone", folder=place, redirect="| head -c 5")
+    check("--write to a pipe", "TZif2", pipe[1])
+    try_readers(program, place)
+
+
+def try_readers(program, place):
+    """Reads a file while it is written again and again: each time it is whole."""
+    whole = (place / "old").read_bytes()
+    writes = subprocess.Popen(["sh", "-c", 'i=0; while [ $i -lt 50 ]; do "$0" --write old zone || exit 1; i=$((i+1)); done',
+                               str(program)], cwd=place)
+    reads, parts = 0, 0
+    while writes.poll() is None:
+        reads += 1
+        parts += (place / "old").read_bytes() != whole
+    check("files read while they are written", (0, True, 0), (writes.returncode, reads > 50, parts))
+
+
+def try_names(program, folder):
+    """Arguments that aren't UTF-8."""
+    (folder / "caf\udce9").write_bytes((folder / "good").read_bytes())
+    one = run(program, "good", folder=folder)[1]
+    odd = 'caf\\xe9: the name is not UTF-8\n'
+    check("a name that is not UTF-8", (1, one + one, f"zonedump: {odd}"),
+          run(program, "good", "caf\udce9", "good", folder=folder))
+    for option in ("--write", "--svg"):
+        check(f"{option} to one", (1, "", f"zonedump: {odd}"), run(program, option, "caf\udce9", "good", folder=folder))
+    check("--text of one", (1, "", "zonedump: A\\xe9B0: not a TZ text: not UTF-8\n"), run(program, "--text", "A\udce9B0"))
+    status, output, errors = run(program, "--from", "\udce9", "good", folder=folder)
+    check("--from of one", (2, "", True, False), (status, output, "'\\xe9'" in errors, "\0" in errors))
+
+
+def try_extended(program, folder):
+    """TZ strings with extensions, which are those of RFC 8536, section 3.3.1."""
+    text = "<-03>3<-02>,M3.5.0/-2,M10.5.0/-1"
+    year = ["--from", "2021", "--to", "2021"]
+    status, output, errors = run(program, "--json", *year, "--extended", "--text", text)
+    told = json.loads(output)
+    check("--extended", (0, "", -7200, -3600), (status, errors, told["rule"]["start"]["time"], told["rule"]["end"]["time"]))
+    # 01:00 UTC of the last Sundays of March and October, as in all of Europe
+    check("  its changes", [1616893200, 1635642000],
+          [change["at"] for change in told["changes"]])
+    check("  without it", 1, run(program, "--text", text)[0])
+    check("  written", (0, "", ""), run(program, "--write", "extended", "--extended", "--text", text, folder=folder))
+    check("  its version and footer", (b"TZif3", f"\n{text}\n".encode()),
+          ((folder / "extended").read_bytes()[:5], (folder / "extended").read_bytes()[-len(text) - 2:]))
+
+
+def try_help(program):
+    """What --help and --version say."""
+    status, output, errors = run(program, "--help")
+    check("--help", (0, "", True), (status, errors, all(word in output for word in HELP)))
+    version = re.search(r'version = "(.*)"', (HERE / "python" / "pyproject.toml").read_text()).group(1)
+    check("--version", (0, f"zonedump {version}\n", ""), run(program, "--version"))
+    check("no arguments name --text", True, "--text TZ" in run(program)[2])
 
 
 def shapes(picture, name):
@@ -184,6 +277,13 @@ def main():
         for file, why in WRONG.items():
             check(f"--json {file}", refused(file, why), run(program, "--json", file, folder=folder))
         try_write(program, folder)
+        try_failed_writes(program, folder)
+        try_names(program, folder)
+        try_extended(program, folder)
+        try_help(program)
+        over = "zonedump: --svg names the file that is read\n"
+        for words in (["--svg", "good", "good"], ["--svg", "./good", "good"]):
+            check(" ".join(words), (2, "", over), run(program, *words, folder=folder))
         try_svg(program, folder)
         check("a full standard output", (1, ""), run(program, "good", folder=folder, redirect=">/dev/full")[:2])
     for words in WRONG_WORDS:
@@ -211,8 +311,12 @@ WRONG_WORDS = (
     [], ["--from", "2040", "--to", "1990", "x"], ["--from", "0", "x"], ["--to", "10000", "x"], ["--from", "soon", "x"],
     ["--from", "-5", "x"], ["--from"], ["--until", "2000", "x"], ["--text"], ["--text", "UTC0", "x"],
     ["--json", "--zdump", "x"], ["--write"], ["--svg"], ["--svg", "y", "--json", "x"], ["--svg", "y", "--zdump", "x"],
-    ["--svg", "y", "--write", "z", "x"],
+    ["--svg", "y", "--write", "z", "x"], ["--write", "y", "--json", "x"], ["--write", "y", "--zdump", "x"],
+    ["--write", "y", "--from", "2000", "x"], ["--write", "y", "--to", "2000", "x"], ["--extended", "x"], ["--extended"],
+    ["--svg", "y", "--svg", "z", "x"], ["--json", "--json", "x"], ["--text", "UTC0", "--text", "UTC0"],
 )
+
+HELP = ("1 to 9999", "one zone", "--extended", "Exit status", "--text <TZ>")
 
 WRONG_TEXTS = ("EST", "EST5EDT,M13.2.0,M11.1.0", "EST5EDT", "5")
 

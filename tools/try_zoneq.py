@@ -24,19 +24,19 @@ MEGABYTE = 1 << 20
 LITTLE = 32 * MEGABYTE
 
 
-def run(program, given=b"", redirect="", memory=None):
+def run(program, given=b"", redirect="", memory=None, words=""):
     """Runs the program under a shell that redirects its ends; gives its status, output and error text."""
     limit = (lambda: resource.setrlimit(resource.RLIMIT_AS, (memory, memory))) if memory else None
     done = subprocess.run(
-        ["sh", "-c", f'exec "$0" {redirect}', program],
+        ["sh", "-c", f'exec "$0" {words} {redirect}', program],
         input=given, capture_output=True, timeout=SECONDS, preexec_fn=limit,
     )
     return done.returncode, done.stdout, done.stderr
 
 
-def try_long_line(program, name, front, answer):
+def try_long_line(program, name, front, answer, filler=b"x"):
     """Tries a line of 100 MB, of which no more than a block is to be held, and a line behind it."""
-    given = b"text UTC0\n" + front + b"x" * (100 * MEGABYTE) + b"\nat 0\n"
+    given = b"text UTC0\n" + front + filler * (100 * MEGABYTE // len(filler)) + b"\nat 0\n"
     want = (0, b"ok 0 1 0 fixed\n" + answer + b"\n0 std UTC\n", b"")
     check(name, want, run(program, given, memory=LITTLE))
 
@@ -73,6 +73,12 @@ def main():
     try_dialogue(program)
     try_long_line(program, "a long line that begins with no word", b"", b"bad line")
     try_long_line(program, "a long line of no numbers", b"wall 2021 3 14 ", b"bad line")
+    for front, filler in ((b"at ", b"9"), (b"at 1", b"0"), (b"at ", b"-"), (b"wall ", b" "), (b"wall 2021", b" 0"),
+                          (b"show 0 ", b"7"), (b"show ", b"\r")):
+        try_long_line(program, f"a long line of {front + filler} again and again", front, b"bad line", filler)
+    zeros = b"text UTC0\nat -" + b"0" * 100000 + b"12\nwall " + b"0" * 100000 + b"2021 03 014 02 030 00\n"
+    check("numbers with leading zeros", (0, b"ok 0 1 0 fixed\n0 std UTC\nsingle 0 std UTC\n", b""), run(program, zeros))
+    check("arguments are ignored", (0, answers, b""), run(program, stored, words="--help extra"))
     check("a text too long for the memory", (1, b"ok 0 1 0 fixed\n", b"zoneq: out of memory\n"),
           run(program, b"text UTC0\ntext " + b"x" * (100 * MEGABYTE) + b"\nat 0\n", memory=LITTLE))
 

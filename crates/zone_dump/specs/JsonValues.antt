@@ -2,6 +2,8 @@
 use Rattle.std.specs.Prelude.{◌≡◌, ℕ, ℤ, List, [], ◌∷◌, length, Option, Some, None, codes, decimal}
 use Rattle.std.specs.Fmt.{signed_decimal}
 use Rattle.json.specs.Json.{Json, null, number, string, document}
+use Rattle.json.specs.Print.{print}
+use Rattle.json.specs.Tree.{json_tokens}
 use Rattle.tz_info.specs.Changes.{AreChanges}
 use Rattle.tz_info.specs.Zones.{Zone, TypeAt}
 use Rattle.tz_base.specs.declared.change.Change.{Change}
@@ -54,9 +56,11 @@ zone_value name first last zone changes =
     ∷ (codes "changes", list_value change_value changes)
     ∷ [])
 
--- a JSON text of the zone, whose changes are exactly those from the first second of the first year to the last second of the last
--- year in UTC, in order
+-- the JSON text of the zone, whose changes are exactly those from the first second of the first year to the last second of the last
+-- year in UTC, in order: the printed tokens of its value, and so without white space outside its strings, in which a line feed is
+-- escaped
 pub record IsJson (zone : Zone) (name : List ℕ) (first last : ℤ) (text : List ℕ) : Type 0 where
   pub changes : List Change
   pub all : AreChanges (TypeAt zone) (year_second first) (year_until last) changes
   pub value_is : document text ≡ Some (zone_value name first last zone changes)
+  pub printed : text ≡ print (json_tokens (zone_value name first last zone changes))

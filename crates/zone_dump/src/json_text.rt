@@ -3,6 +3,7 @@
 ghost use Rattle.std.specs.Prelude.{◌≡◌, [], ◌∷◌, ◌++◌, IfOk, Some, codes, decimal, flat_map, length};
 ghost use Rattle.std.specs.Fmt.{signed_decimal};
 ghost use Rattle.json.specs.Json.{document};
+ghost use Rattle.json.specs.Print.{print};
 ghost use Rattle.json.specs.Token.{begin_object, end_object, key, string, number};
 ghost use Rattle.json.specs.Tree.{json_tokens};
 ghost use Rattle.tz_info.specs.declared.rule.day.DayForm.TheVariants.{MonthWeekday};
@@ -47,8 +48,10 @@ fn write_text(
     years: Years,
     changes: &[Change],
 ) -> Result<Vec<u8>, AllocError>
-    ensures { IfOk result (λ text. document text.items
+    ensures value { IfOk result (λ text. document text.items
         ≡ Some (zone_value name.now years.first years.last zone.now changes.now)) }
+    ensures printed { IfOk result (λ text. text.items ≡ print (json_tokens
+        (zone_value name.now years.first years.last zone.now changes.now))) }
 {
     let mut writer = Writer::new(Vec::new(alloc));
     put_zone(&mut writer, alloc, name, zone, years, changes)?;
