@@ -1,3 +1,4 @@
 mod Buckets
 pub mod ForCallers
 mod Shown
+mod FirstChange

@@ -11,6 +11,7 @@ use Rattle.naive_base.specs.Reading.{Reading}
 use Rattle.zoned_time.specs.Relocal.{IsRelocal, AreInstantsOf, HasInstant, instant_of}
 use Rattle.zoned_time.specs.Zone.{Meaning, Law, Shows}
 use Rattle.zoned_time.specs.Zoned.{Zoned}
+use Rattle.zoned.specs.Within.{IsWithin}
 
 -- the second u shows l, and is s
 abbrev pub IsSecond : (ℤ → ℤ) → ℤ → ℤ → ℤ → Type 0
@@ -91,3 +92,15 @@ pub none_shown : {T O : Type 0} (show : T → Zoned O) (off : ℤ → ℤ) (l : 
 none_shown show off l none h is = h
 none_shown show off l (Single t) h is = absurd (let e = is in cc)
 none_shown show off l (Ambiguous t u) h is = absurd (let e = is in cc)
+
+-- a second that shows l lies among them
+pub within_shown : {T O : Type 0} (show : T → Zoned O) (off : ℤ → ℤ) (l u k : ℤ) → Shows off l u k → (a : LocalResult T)
+    → AreAllSeconds off l (map_of show a) → IsWithin u (map_of (λ t. (show t).utc.s) a)
+within_shown show off l u k shows none h = tt
+within_shown show off l u k shows (Single t) h =
+    h.only u u (at_second off l u k u shows (sym (second_of off l u k shows))) ∙ sym h.shown.1
+within_shown show off l u k shows (Ambiguous t s) h =
+    let there = at_second off l u k u shows (sym (second_of off l u k shows)) in
+    let first = h.at_first.1 in let last = h.at_last.1 in
+    let from = h.not_before u u there in let to = h.not_after u u there in
+    (omega (arith, ints, first, from), omega (arith, ints, last, to))

@@ -97,3 +97,4 @@ pub use Rattle.zoned_series.specs.DailySeries
 pub use Rattle.zoned_series.specs.Numbers
 pub use Rattle.zoned_series.specs.Series
 pub mod NoZone
+pub mod Within

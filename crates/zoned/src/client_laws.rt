@@ -1,22 +1,27 @@
 //! Theorems for a client's own contracts: those that say that a question has one answer, and that an
 //! instant made of one of a zone is one of that zone, passed on; and some in the shape of a client's
 //! clauses. A call of one gives its caller's proof what it says, and does nothing when it runs.
-ghost use Rattle.std.specs.Prelude.{◌≡◌, ◌≢◌, ◌⊎◌, ℕ, ℤ, pos, ◌+ℤ◌, ◌-ℤ◌, ◌≤ℤ◌, ◌<ℤ◌, Ok, Some};
+ghost use Rattle.std.specs.Prelude.{◌≡◌, ◌≢◌, ◌⊎◌, ◌∷◌, [], ℕ, ℤ, pos, ◌+ℤ◌, ◌-ℤ◌, ◌≤ℤ◌, ◌<ℤ◌, List, MatchOption, Ok, Option, Some};
 ghost use Rattle.offset_core.specs.declared.local_result.LocalResult.TheVariants.{None as NoInstant};
 ghost use Rattle.offset_core.specs.LocalResult.{map_of};
 ghost use Rattle.offset_core.specs.TimeDelta.{nanos_of};
 ghost use Rattle.offset_core.specs.WallAnswer.{IsWallAnswer, IsNeverShown};
 ghost use Rattle.naive_base.specs.NaiveDateTime.{reading};
-ghost use Rattle.naive_base.specs.Range.{IsInRange};
+ghost use Rattle.naive_base.specs.Range.{IsInRange, last_second};
 ghost use Rattle.naive_base.specs.Reading.{Reading, total};
+ghost use Rattle.tz_base.specs.declared.change.Change.{Change};
+ghost use Rattle.tz_info.specs.Changes.{AreChanges, IsFirst};
+ghost use Rattle.tz_info.specs.Zones.{Zone, TypeAt};
 ghost use Rattle.zoned_time.specs.Choice.{IsResolved};
 ghost use Rattle.zoned_time.specs.DateTime.{zoned, wall_of, home_of, IsIn, IsDaysAdded};
 ghost use Rattle.zoned_time.specs.Relocal.{IsRelocal};
 ghost use Rattle.zoned_time.specs.Zone.{Each, Shows};
 ghost use Rattle.zoned_time.specs.Zoned.{in_seconds, IsAt};
+ghost use Rattle.zoned_ref.specs.ZoneChange.{IsAfter};
 ghost use Rattle.zoned_round.specs.Durations.{IsRoundedTo};
 ghost use Rattle.zoned_round.specs.Laws.{IsMultiple};
 ghost use Rattle.zoned_round.specs.Multiples.{multiple_below, IsItselfOr};
+ghost use Rattle.zoned.specs.Within.{IsWithin};
 
 use crate::{
     Choice, DateTime, DurationRound, LocalResult, NaiveDateTime, Offset, TimeDelta, TimeZone,
@@ -94,6 +99,19 @@ pub fn shown_only<Tz: TimeZone>(
         ⊎ ((u : ℤ) × (k : ℤ) × Shows off l u k × (IsInRange u → ⊥)) }
 {}
 
+/// A second at which a zone's clocks show a local time is that of its only instant, or isn't before
+/// the first of two, nor after the last.
+pub fn shown_within<Tz: TimeZone>(
+    zone: &Tz,
+    local: &NaiveDateTime,
+    instants: &LocalResult<DateTime<Tz>>,
+)
+    requires { IsRelocal (Tz.law zone.now) (reading local.now)
+        (map_of (λ d. zoned d) instants.now) }
+    ensures { (u k : ℤ) → Shows (Tz.law zone.now).off (reading local.now).s u k
+        → IsWithin u (map_of (λ d. (zoned d).utc.s) instants.now) }
+{}
+
 /// The instants at which the clocks of a zone show a reading are ones of that zone: their offsets are
 /// in force there, with all that they tell beside their seconds. Of what `resolve`, a series and
 /// `with_timezone` give, their own clauses say so.
@@ -162,4 +180,16 @@ pub fn in_zone_after_digits<Tz: TimeZone>(zone: &Tz, before: &DateTime<Tz>, afte
         (λ e. IsAt (home_of Tz.meaning before.now) r (zoned e))
         before.now after.now }
     ensures { IsIn (Tz.law zone.now) after.now }
+{}
+
+/// The first of the changes of a stretch is the first change from its first second on: of a stretch
+/// that ends in the range of [`DateTime`], `changes(from, until)` begins with what `next_change` gives
+/// at the second before `from`, if that comes before `until`, and is empty if it doesn't.
+pub fn first_of_changes()
+    ensures { (z : Zone) (from until : ℤ) (changes : List Change) (next : Option Change)
+        → AreChanges (TypeAt z) from until changes
+        → IsFirst (TypeAt z) (IsAfter (from -ℤ pos 1)) next
+        → until ≤ℤ (last_second +ℤ pos 1)
+        → MatchOption next (changes ≡ []) (λ c. (until ≤ℤ c.at → changes ≡ [])
+        × (c.at <ℤ until → (rest : List Change) × (changes ≡ c ∷ rest))) }
 {}

@@ -1,0 +1,42 @@
+-- The first of the changes of a stretch is the first change from its first second on.
+use Rattle.std.proofs.Common.{◌≡◌, ap, subst, refl, ℕ, zero, suc, ◌<◌, ℤ, pos, ◌+ℤ◌, ◌-ℤ◌, ◌≤ℤ◌, ◌<ℤ◌, List, [], ◌∷◌, length, get_or, Option, Some, None, arith}
+use Rattle.std.specs.Prelude.{Contains, MatchOption}
+use Rattle.std.proofs.lemmas.Int.{ints}
+use Rattle.naive_base.specs.Range.{last_second}
+use Rattle.tz_base.specs.declared.change.Change.{Change}
+use Rattle.tz_info.specs.Changes.{AreChanges, IsFirst}
+use Rattle.tz_info.specs.Zones.{Zone, TypeAt}
+use Rattle.zoned_ref.specs.ZoneChange.{IsAfter}
+
+-- the list begins with c
+abbrev pub BeginsWith : Change → List Change → Type 0
+BeginsWith c changes = (rest : List Change) × (changes ≡ c ∷ rest)
+
+no_place : (c : Change) → Contains [] c → ⊥
+no_place c (k, below, is) = omega arith
+
+at_place : (z : Zone) (from until : ℤ) (c d : Change) (rest : List Change) → AreChanges (TypeAt z) from until (d ∷ rest) → c.at ≤ℤ d.at
+    → (k : ℕ) → k < length (d ∷ rest) → get_or (d ∷ rest) k c ≡ c → BeginsWith c (d ∷ rest)
+at_place z from until c d rest h first zero inside there = (rest, ap (λ e. e ∷ rest) there)
+at_place z from until c d rest h first (suc k) inside there =
+    let later : d.at <ℤ (get_or (d ∷ rest) (suc k) c).at = h.rising 0 (suc k) c (omega arith) inside in
+    let rises : d.at <ℤ c.at = subst (λ e. d.at <ℤ e.at) there later in
+    absurd (omega (arith, ints, rises, first))
+
+pub first_listed : (z : Zone) (from until : ℤ) (changes : List Change) (next : Option Change)
+    → AreChanges (TypeAt z) from until changes → IsFirst (TypeAt z) (IsAfter (from -ℤ pos 1)) next → until ≤ℤ (last_second +ℤ pos 1)
+    → MatchOption next (changes ≡ []) (λ c. (until ≤ℤ c.at → changes ≡ []) × (c.at <ℤ until → BeginsWith c changes))
+first_listed z from until [] None h p to = refl
+first_listed z from until [] (Some c) h p to =
+    (λ _. refl, λ before. let after = p.inside.0 in absurd (no_place c ((h.each c).1 (p.is, (omega (arith, ints, after), before)))))
+first_listed z from until (d ∷ rest) None h p to =
+    let head = (h.each d).0 (0, omega arith, refl) in
+    let after = head.1.0 in let before = head.1.1 in
+    absurd (p d head.0 (omega (arith, ints, after), omega (arith, ints, before, to)))
+first_listed z from until (d ∷ rest) (Some c) h p to =
+    let head = (h.each d).0 (0, omega arith, refl) in
+    let after = head.1.0 in let before = head.1.1 in
+    let first = p.first d head.0 (omega (arith, ints, after), omega (arith, ints, before, to)) in
+    (λ late. absurd (omega (arith, ints, late, first, before)),
+    λ early. let inside = p.inside.0 in let found = (h.each c).1 (p.is, (omega (arith, ints, inside), early)) in
+    at_place z from until c d rest h first found.0 found.1 found.2)

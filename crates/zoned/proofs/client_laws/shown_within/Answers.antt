@@ -1,0 +1,12 @@
+use Rattle.offset_core.specs.LocalResult.{map_of}
+use Rattle.naive_base.specs.NaiveDateTime.{reading}
+use Rattle.zoned_time.specs.DateTime.{zoned}
+use Rattle.zoned_time.specs.declared.datetime.Instant.{Instant}
+use Rattle.zoned.proofs.Shown.{all_seconds, within_shown}
+use Rattle.zoned.proofs.client_laws.shown_within.Goals as goal
+
+pub returns : goal.returns
+returns g c =
+    let law = g.Tz.TimeZone.law c.args.zone.now in let l = reading c.args.local.now in
+    λ u k shows. within_shown {T = Instant _ _ _ _} (λ d. zoned d) law.off l.s u k shows c.args.instants.now
+    (all_seconds law l (map_of (λ d. zoned d) c.args.instants.now) c.requires)
