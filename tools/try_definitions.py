@@ -389,31 +389,36 @@ def is_accepted(verdict):
     return verdict.startswith(("no holes", "depends on a hole", "proved"))
 
 
+def unread(said, room):
+    """The faults of libraries' pages, and the names that are missed: nothing that a pin says."""
+    errors = re.findall(r"(?m)^(\S+?):\d+:\d+: error: (.*)$", said)
+    return [f"{path}: {text}" for path, text in errors if path.startswith(str(room)) or re.search(UNREAD, text)]
+
+
 def told(edit, said, room, crate):
     """What is said of an edit, and whether it is rejected."""
-    errors = re.findall(r"(?m)^(\S+?):\d+:\d+: error: (.*)$", said)
-    unread = [f"{path}: {text}" for path, text in errors if path.startswith(str(room)) or re.search(UNREAD, text)]
     functions = [edit.law[1]] if edit.law else edit.pins
     found = [next((it for path, it in verdicts(said, crate).items() if f"::{path}".endswith(f"::{name}")), "") for name in functions]
-    if unread or not all(found):
-        return f"{edit.name}: not tried: {(unread or [said[-300:]])[0][:300]}", False
+    if unread(said, room) or not all(found):
+        return f"{edit.name}: not tried: {(unread(said, room) or [said[-300:]])[0][:300]}", False
     if any(map(is_accepted, found)):
         return f"{edit.name}: NOT REJECTED by {', '.join(n for n, it in zip(functions, found) if is_accepted(it))}", False
     return f"{edit.name}: rejected by {', '.join(functions)}", True
 
 
 def tried(chosen, room):
-    """Tries edits of one round by pins in that copy, or each alone where they can't be told apart."""
-    pages = made(chosen)
-    for page, text in (pages or {}).items():
+    """Tries edits of one round by pins in that copy. If pages can't be read, those that change them are tried one by one."""
+    for page, text in made(chosen).items():
         (room / page).write_text(text)
     said = check(room, "pins", sorted({pin for edit in chosen for pin in edit.pins}))
-    for page in pages or {}:
+    for page in made(chosen):
         (room / page).write_text(text_of(TOP / "crates" / page))
-    rows = [told(edit, said, room, "pins") for edit in chosen]
-    if len(chosen) > 1 and any(": not tried" in row for row, _ in rows):
-        return [row for edit in chosen for row in tried([edit], room)]
-    return rows
+    faulty = [edit for edit in chosen if any(f"{room}/{edit.page}" in fault for fault in unread(said, room))]
+    if unread(said, room) and len(chosen) > 1:
+        apart = [[edit] for edit in (faulty or chosen)]
+        others = [edit for edit in chosen if edit not in faulty] if faulty else []
+        return [row for those in [*([others] if others else []), *apart] for row in tried(those, room)]
+    return [told(edit, said, room, "pins") for edit in chosen]
 
 
 def tried_by_law(edit):

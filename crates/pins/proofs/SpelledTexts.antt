@@ -27,6 +27,10 @@ pub new_york : (extended : Bool) → IsTzText extended new_york_text new_york_ru
 unfolding name quoted seconds minutes_seconds optional_minutes hours_minutes_seconds sign duration offset time_sign time rule_day month_date julian_date day_number date optional_time day days next_hour more given_offset dst_offset named end fixed alternate rule text int_at tag_at optional_tag_at
 new_york extended = spelled extended new_york_text new_york_rule refl
 
+pub offset_given : (extended : Bool) → IsTzText extended (codes "EST5EDT4,M3.2.0,M11.1.0") new_york_rule
+unfolding name quoted seconds minutes_seconds optional_minutes hours_minutes_seconds sign duration offset time_sign time rule_day month_date julian_date day_number date optional_time day days next_hour more given_offset dst_offset named end fixed alternate rule text int_at tag_at optional_tag_at
+offset_given extended = spelled extended (codes "EST5EDT4,M3.2.0,M11.1.0") new_york_rule refl
+
 pub new_york_gives : IsPosixZone new_york_text new_york_zone
 new_york_gives = inr (record {
   some = some_bytes _ _;

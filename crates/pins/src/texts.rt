@@ -11,9 +11,12 @@ ghost use Rattle.tz_info.specs.declared.rule.transition_rule.TransitionRule.{Tra
 ghost use Rattle.pins.specs.NewYork.{new_york_rule, new_york_zone, est, edt};
 ghost use Rattle.pins.specs.Texts.{new_york_text, no_days, foo_23, foo_23_rule, foo_24, foo_5_60, foo, fo_5, day_0, utc_text, utc_rule, jerusalem_text, jerusalem_rule, nuuk_text, nuuk_rule, foo_plus_5, foo_minus_5, foo_behind, foo_ahead, foo_5_06_07, small, numbered_text, numbered_rule};
 
-/// `EST5EDT,M3.2.0,M11.1.0` spells that rule, and `UTC0` one of one type.
+/// `EST5EDT,M3.2.0,M11.1.0` spells that rule, as it does with the offset of EDT in it; and `UTC0` one
+/// of one type.
 pub fn rules()
     ensures new_york { (extended : Bool) → IsTzText extended new_york_text new_york_rule }
+    ensures offset_given { (extended : Bool)
+        → IsTzText extended (codes "EST5EDT4,M3.2.0,M11.1.0") new_york_rule }
     ensures utc { (extended : Bool) → IsTzText extended utc_text utc_rule }
     ensures zone { IsPosixZone new_york_text new_york_zone }
 {}
