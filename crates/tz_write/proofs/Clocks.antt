@@ -11,8 +11,8 @@ use Rattle.tz_info.specs.TzGrammar as tz
 use Rattle.tz_info.specs.TzGrammar.{seconds_of, time_limit, clock_max, colon, plus, minus}
 use Rattle.tz_info.proofs.ForCallers.{within_from, within_to}
 use Rattle.tz_info.specs.Rules.{IsWithinWeek}
-use Rattle.tz_write.specs.WrittenTexts.{AreInPairs}
-use Rattle.tz_write.specs.Steps.TextPieces.{pair_text, seconds_text, minutes_text, clock_text_of, clock_text, signed_text, offset_text, time_text, is_positive, is_negative, IsPlainTime, IsTimeOf}
+use Rattle.tz_write.specs.WrittenTexts.{AreInPairs, IsPlainTime, IsTimeOf}
+use Rattle.tz_write.specs.Steps.TextPieces.{pair_text, seconds_text, minutes_text, clock_text_of, clock_text, signed_text, offset_text, time_text, is_positive, is_negative}
 use Rattle.tz_write.proofs.Shortest.{Front, front_then, front_cons, front_longer, front_nothing, front_any, pairs_after}
 use Rattle.tz_write.proofs.Decimals.{number_spelled, pair_spelled, number_front, pair_front, pairs_number, pairs_pair, first_digit, digit_least, digit_most}
 

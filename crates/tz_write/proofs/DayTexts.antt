@@ -16,8 +16,8 @@ use Rattle.tz_info.specs.Rules.{IsWithinWeek}
 use Rattle.tz_info.specs.declared.rule.day.DayForm.{DayForm}
 use Rattle.tz_info.specs.declared.rule.day.DayForm.TheVariants.{Julian1, Julian0, MonthWeekday}
 use Rattle.tz_info.specs.declared.rule.day.DayTime.{DayTime}
-use Rattle.tz_write.specs.WrittenTexts.{AreInPairs}
-use Rattle.tz_write.specs.Steps.TextPieces.{offset_text, time_text, IsPlainTime, IsTimeOf, time_after, date_text, day_text, dst_offset_text}
+use Rattle.tz_write.specs.WrittenTexts.{AreInPairs, IsPlainTime, IsTimeOf}
+use Rattle.tz_write.specs.Steps.TextPieces.{offset_text, time_text, time_after, date_text, day_text, dst_offset_text}
 use Rattle.tz_write.proofs.Shortest.{Front, front_then, front_cons, front_nothing, front_any, pairs_after}
 use Rattle.tz_write.proofs.Decimals.{number_spelled, number_front, pairs_number, first_digit, digit_most}
 use Rattle.tz_write.proofs.Clocks.{Stops, time_spelled, time_plain, time_front, time_pairs, offset_spelled, offset_front, offset_pairs, offset_first, clock_without}

@@ -1,20 +1,20 @@
 -- Where any designations have the names of the types at places that a byte can name, those that are laid have them.
-use Rattle.std.proofs.Common.{◌≡◌, ◌≢◌, ℕ, suc, ◌+◌, ◌*◌, ◌<◌, ◌≤◌, Bool, true, false, cond, nat_lt, ◌==◌, List, [], ◌∷◌, ◌++◌, length, get_or, drop, append_assoc, Option, Some, None, refl, sym, ap, ◌∙◌, subst, arith, ◌⊎◌, inl, inr}
+use Rattle.std.proofs.Common.{◌≡◌, ◌≢◌, ℕ, zero, suc, ◌+◌, ◌*◌, ◌<◌, ◌≤◌, Bool, true, false, cond, nat_lt, ◌==◌, List, [], ◌∷◌, ◌++◌, length, get_or, drop, append_assoc, Option, Some, None, refl, sym, ap, ◌∙◌, subst, arith, ◌⊎◌, inl, inr}
 use Rattle.std.proofs.Math.Seq.{drop-append_seam}
 use Rattle.std.proofs.lemmas.Bool.{cases_lt}
 use Rattle.std.proofs.lemmas.Bool.Decides.{nat_tests}
-use Rattle.std.proofs.lemmas.List.{length-append}
-use Rattle.std.proofs.lemmas.List.Elements.{All-nil, All-cons, All-head, All-weaker}
+use Rattle.std.proofs.lemmas.List.{append-nil, length-append}
+use Rattle.std.proofs.lemmas.List.Elements.{All-nil, All-cons, All-head, All-tail, All-weaker}
 use Rattle.std.specs.Prelude.{All, MatchOption}
 use Rattle.tz_base.specs.LocalTypes.{LocalType}
 use Rattle.tz_base.specs.Names.{IsNameOrNone}
 use Rattle.tz_info.specs.FileContents.{HasNoZero, StandsAt}
 use Rattle.tz_write.specs.FileDesignations.{text_or_none, text_of, place_of, IsNamedIn, AreNamesIn, AreShortest}
-use Rattle.tz_write.specs.Steps.FileLayouts.{HasPlace, HavePlaces, with_text, ends, before_last, laid, before_zero, text_at, ArePlaced, AreNotPlacedBefore, IsFirstPlaced, IsLaid, In_order, Otherwise}
+use Rattle.tz_write.specs.FileLayouts.{HasPlace, HavePlaces, with_text, ends, before_last, laid, before_zero, text_at, laid_from, ArePlaced, IsPlacedFrom, AreNotPlacedBefore, IsFirstPlaced, IsLaid, In_order, Otherwise}
 use Rattle.tz_write.proofs.FileMeetings.{Stands, Ends, Meeting, In_front, Behind, Is_end, Has_end, meet}
-use Rattle.tz_write.proofs.FileNames.{less, not_less, less_again, ends_of, ends_again, place_behind, place_kept, place_of_put, In, put_in, end_in, in_stands}
-use Rattle.tz_write.proofs.FileRecords.{has_text, no_zero}
-use Rattle.tz_write.proofs.FileRoom.{Room, Given, room_of, before_room, before_in, before_filled, kept, put}
+use Rattle.tz_write.proofs.FileNames.{not_less, less_again, ends_of, ends_again, place_behind, place_kept, place_of_put, In, put_in, end_in, in_stands}
+use Rattle.tz_write.proofs.FileRecords.{less, has_text, no_zero}
+use Rattle.tz_write.proofs.FileRoom.{Room, Given, room_of, no_front, before_room, before_in, before_keeps, before_filled, kept, put}
 
 -- ---- texts
 name_size : (name : Option (List ℕ)) → IsNameOrNone name → (length (text_or_none name) ≤ 7) × ((length (text_or_none name) ≡ 0) ⊎ (3 ≤ length (text_or_none name)))
@@ -25,10 +25,6 @@ nothing : (s : List ℕ) → length s ≡ 0 → s ≡ []
 nothing [] h = refl
 nothing (x ∷ xs) h = absurd (omega (arith, h))
 
-nothing_more : (s : List ℕ) → s ++ [] ≡ s
-nothing_more [] = refl
-nothing_more (x ∷ xs) = ap (λ (r : List ℕ). x ∷ r) (nothing_more xs)
-
 ends_itself : (text : List ℕ) → Ends text text
 ends_itself text = record { front = []; is = refl }
 
@@ -37,14 +33,7 @@ whole_size bytes b x a e = omega (arith, ap length e, length-append b (x ++ (0 �
 
 -- the text at the place where a text stands
 not_same : (b : ℕ) → b ≢ 0 → (b == 0) ≡ false
-not_same b h = by_test (b == 0) refl
-  where
-    zero_is : (b : ℕ) → (b == 0) ≡ true → b ≡ 0
-    zero_is b h = grind (arith, nat_tests)
-
-    by_test : (t : Bool) → (b == 0) ≡ t → t ≡ false
-    by_test false e = refl
-    by_test true e = absurd (h (zero_is b e))
+not_same b h = grind (arith, nat_tests)
 
 front_is : (text rest : List ℕ) → HasNoZero text → before_zero (text ++ (0 ∷ rest)) ≡ text
 front_is [] rest none = refl
@@ -117,10 +106,6 @@ pub record EndsWith (bytes : List ℕ) (m t : LocalType) : Type 0 where
   pub ends : Ends (text_of m) (text_of t)
   pub at : place_of (text_of t) bytes + length (text_of t) ≡ place_of (text_of m) bytes + length (text_of m)
 
-no_front : (m text : List ℕ) → length (m ++ text) ≤ length text → m ++ text ≡ text
-no_front [] text l = refl
-no_front (x ∷ xs) text l = absurd (omega (arith, l, length-append xs text))
-
 where_by : (bytes : List ℕ) (m t : LocalType) (sm : Served bytes m) (st : Served bytes t) → length (text_of m) ≤ 7 → key_in bytes t ≤ key_in bytes m
     → Meeting sm.stands.before (text_of m) sm.stands.after st.stands.before (text_of t) st.stands.after → Stands sm.stands.before (text_of t) ⊎ EndsWith bytes m t
 unfolding key_in
@@ -152,43 +137,38 @@ unfolding with_text
 kept_low designations other text h =
     low_by (nat_lt (place_of other designations) (length designations)) (nat_lt (length designations + length other) 263) designations (other ++ 0 ∷ []) text h
 
-not_in : (designations text : List ℕ) → length designations ≤ place_of text designations → nat_lt (place_of text designations) (length designations) ≡ false
-not_in designations text out = by_test (nat_lt (place_of text designations) (length designations)) refl
-  where
-    by_test : (b : Bool) → nat_lt (place_of text designations) (length designations) ≡ b → b ≡ false
-    by_test false e = refl
-    by_test true e = absurd (omega (arith, out, less (place_of text designations) (length designations) e))
+not_less_again : (a b : ℕ) → b ≤ a → nat_lt a b ≡ false
+not_less_again a b h = grind (arith, nat_tests)
 
 put_is : (designations text : List ℕ) → length designations ≤ place_of text designations → length designations + length text < 263 → with_text designations text ≡ designations ++ (text ++ 0 ∷ [])
 unfolding with_text
-put_is designations text out room = rw (not_in designations text out, less_again (length designations + length text) 263 room) refl
+put_is designations text out room = rw (not_less_again _ _ out, less_again (length designations + length text) 263 room) refl
 
 -- a text has its place in what is laid, if it stands before the last one, or else in what that ends
-in_place : (designations last : List ℕ) (t : LocalType) → IsNameOrNone t.name → length designations ≤ 256 → In designations (text_of t) → HasPlace (with_text designations last) t
-in_place designations last t name short h = record {
-  name = name;
+in_place : (designations last : List ℕ) (t : LocalType) → length designations ≤ 256 → In designations (text_of t) → HasPlace (with_text designations last) t
+in_place designations last t short h = record {
   stands = kept designations last (text_of t) h;
   named = omega (arith, kept_low designations last (text_of t) h, h, short);
 }
 
-at_end : (designations last : List ℕ) (t : LocalType) → IsNameOrNone t.name → Ends last (text_of t) → length designations ≤ place_of last designations → length designations + length last < 263
+at_end : (designations last : List ℕ) (t : LocalType) → Ends last (text_of t) → length designations ≤ place_of last designations → length designations + length last < 263
     → length designations + length last < 256 + length (text_of t) → HasPlace (with_text designations last) t
-at_end designations last t name e out room low =
+at_end designations last t e out room low =
     subst (λ (d : List ℕ). HasPlace d t) (sym (put_is designations last out room))
-    (record { name = name; stands = put_in designations last (text_of t) e; named = omega (arith, place_of_put designations last (text_of t) e, low) })
+    (record { stands = put_in designations last (text_of t) e; named = omega (arith, place_of_put designations last (text_of t) e, low) })
 
 at_the_end : (bytes designations : List ℕ) (m t : LocalType) (sm : Served bytes m) → Served bytes t → Room (text_of m) designations sm.stands.before 3
     → (designations ≡ []) ⊎ In designations [] → length designations ≤ place_of (text_of m) designations → length designations ≤ place_of (text_of t) designations → Ends (text_of m) (text_of t)
     → Stands sm.stands.before (text_of t) ⊎ EndsWith bytes m t → HasPlace (with_text designations (text_of m)) t
 at_the_end bytes designations m t sm st r filled out away e (inr q) =
-    at_end designations (text_of m) t st.named e out (omega (arith, r.fits, sm.stands.at, sm.low, (name_size m.name sm.named).0)) (omega (arith, r.fits, sm.stands.at, q.at, st.low))
+    at_end designations (text_of m) t e out (omega (arith, r.fits, sm.stands.at, sm.low, (name_size m.name sm.named).0)) (omega (arith, r.fits, sm.stands.at, q.at, st.low))
 at_the_end bytes designations m t sm st r filled out away e (inl s) =
     let short = (name_size m.name sm.named).0 in
-    at_end designations (text_of m) t st.named e out (omega (arith, r.fits, sm.stands.at, sm.low, short))
+    at_end designations (text_of m) t e out (omega (arith, r.fits, sm.stands.at, sm.low, short))
     (elim ((name_size t.name st.named).1) [
       | inl none ↦ elim filled [
         | inl empty ↦ omega (arith, ap length empty, short)
-        | inr zero ↦ absurd (omega (arith, away, subst (λ (x : List ℕ). In designations x) (sym (nothing (text_of t) none)) zero))
+        | inr ended ↦ absurd (omega (arith, away, subst (λ (x : List ℕ). In designations x) (sym (nothing (text_of t) none)) ended))
       ]
       | inr three ↦ omega (arith, three, short, sm.low, sm.stands.at, room_of (text_of m) designations sm.stands.before (text_of t) 3 r st.stands.ends (inr e) s away)
     ])
@@ -208,11 +188,11 @@ laid_place : (bytes designations : List ℕ) (m t : LocalType) (sm : Served byte
     → HasPlace (with_text designations (text_of m)) t
 laid_place bytes designations m t sm st r filled put_in_before where_t =
     elim (cases_lt (place_of (text_of t) designations) (length designations)) [
-      | inl l ↦ in_place designations (text_of m) t st.named (omega (arith, r.fits, sm.stands.at, sm.low)) l
+      | inl l ↦ in_place designations (text_of m) t (omega (arith, r.fits, sm.stands.at, sm.low)) l
       | inr away ↦
           let size = name_size t.name st.named in
           let e = has_end (text_of m) (text_of t) (λ free. elim size.1 [
-            | inl none ↦ free (record { front = text_of m; is = sym (ap (λ (s : List ℕ). text_of m ++ s) (nothing (text_of t) none) ∙ nothing_more (text_of m)) })
+            | inl none ↦ free (record { front = text_of m; is = sym (ap (λ (s : List ℕ). text_of m ++ s) (nothing (text_of t) none) ∙ append-nil (text_of m)) })
             | inr three ↦ absurd (omega (arith, away, put_in_before three size.0 free))
           ]) in
           elim (cases_lt (place_of (text_of m) designations) (length designations)) [
@@ -339,30 +319,104 @@ none_laid (t ∷ ts) bytes named names unplaced none =
     ]
 
 -- ---- places are names
-named_in : (designations : List ℕ) (t : LocalType) → HasPlace designations t → IsNamedIn designations t
-named_in designations t h = record { place = place_of (text_of t) designations; stands = has_text (text_of t) designations (no_zero t.name h.name) h.stands; named = h.named }
+abbrev AreNames : List LocalType → Type 0
+AreNames types = All (λ t. IsNameOrNone t.name) types
 
-pub are_named : (designations : List ℕ) (types : List LocalType) → HavePlaces designations types → AreNamesIn designations types
-are_named designations types h = All-weaker (HasPlace designations) (IsNamedIn designations) (named_in designations) types h
+named_in : (designations : List ℕ) (t : LocalType) → IsNameOrNone t.name → HasPlace designations t → IsNamedIn designations t
+named_in designations t name h = record { place = place_of (text_of t) designations; stands = has_text (text_of t) designations (no_zero t.name name) h.stands; named = h.named }
 
-shortest : (types : List LocalType) (designations : List ℕ) → 0 < length types → HavePlaces designations types → length designations ≤ length (laid [] types) → AreShortest designations types
-shortest types designations some h short = record {
-  names = are_named designations types h;
-  shortest = λ other names. omega (arith, short, in_order_short types other some names);
+shortest : (types : List LocalType) (designations : List ℕ) → 0 < length types → AreNames types → HavePlaces designations types → length designations ≤ length (laid [] types) → AreShortest designations types
+shortest types designations some names h short = record {
+  names = λ i d l. named_in designations (get_or types i d) (names i d l) (h i d l);
+  shortest = λ other named. omega (arith, short, in_order_short types other some named);
 }
 
-pub laid_in_order : (types : List LocalType) (designations : List ℕ) → 0 < length types → designations ≡ laid [] types → HavePlaces designations types
-    → HavePlaces designations types × IsLaid types designations × AreShortest designations types
-laid_in_order types designations some e h = (h, In_order h e, shortest types designations some h (omega (arith, ap length e)))
+-- the designations that are laid
+abbrev pub AreLaid : List LocalType → List ℕ → Type 0
+AreLaid types d = HavePlaces d types × IsLaid types d × AreShortest d types
 
-pub laid_with_last : (types : List LocalType) (designations : List ℕ) → 0 < length types → ¬ (HavePlaces (laid [] types) types) → IsFirstPlaced types designations
-    → HavePlaces designations types × IsLaid types designations × AreShortest designations types
-laid_with_last types designations some unplaced h =
+pub laid_in_order : (types : List LocalType) (designations : List ℕ) → 0 < length types → AreNames types → designations ≡ laid [] types → HavePlaces designations types → AreLaid types designations
+laid_in_order types designations some names e h = (h, In_order h e, shortest types designations some names h (omega (arith, ap length e)))
+
+pub laid_with_last : (types : List LocalType) (designations : List ℕ) → 0 < length types → AreNames types → ¬ (HavePlaces (laid [] types) types) → IsFirstPlaced types designations → AreLaid types designations
+laid_with_last types designations some names unplaced h =
     let p : ArePlaced designations types = subst (λ (d : List ℕ). ArePlaced d types) (sym h.laid_is) h.placed.placed in
-    (p.places, Otherwise unplaced h, shortest types designations some p.places p.short)
+    (p.places, Otherwise unplaced h, shortest types designations some names p.places p.short)
 
-pub laid_if_any : (types : List LocalType) (r : Option (List ℕ)) → 0 < length types → ¬ (HavePlaces (laid [] types) types)
+pub laid_if_any : (types : List LocalType) (r : Option (List ℕ)) → 0 < length types → AreNames types → ¬ (HavePlaces (laid [] types) types)
     → MatchOption r (AreNotPlacedBefore types (length (laid [] types))) (λ d. IsFirstPlaced types d)
-    → MatchOption r (All (λ t. IsNameOrNone t.name) types → (d : List ℕ) → ¬ (AreNamesIn d types)) (λ d. HavePlaces d types × IsLaid types d × AreShortest d types)
-laid_if_any types None some unplaced h = λ named d names. none_laid types d named names unplaced h
-laid_if_any types (Some d) some unplaced h = laid_with_last types d some unplaced h
+    → MatchOption r ((d : List ℕ) → ¬ (AreNamesIn d types)) (λ d. AreLaid types d)
+laid_if_any types None some names unplaced h = λ d named. none_laid types d names named unplaced h
+laid_if_any types (Some d) some names unplaced h = laid_with_last types d some names unplaced h
+
+-- ---- some designations are laid, if any have the names
+place_or_not : (designations : List ℕ) (t : LocalType) → HasPlace designations t ⊎ (¬ (HasPlace designations t))
+place_or_not designations t = elim (cases_lt (place_of (text_of t) designations) (length designations)) [
+  | inl l ↦ elim (cases_lt (place_of (text_of t) designations) 256) [
+    | inl m ↦ inl (record { stands = l; named = m })
+    | inr m ↦ inr (λ h. omega (arith, m, h.named))
+  ]
+  | inr l ↦ inr (λ h. omega (arith, l, h.stands))
+]
+
+places_or_not : (designations : List ℕ) (types : List LocalType) → HavePlaces designations types ⊎ (¬ (HavePlaces designations types))
+places_or_not designations [] = inl (All-nil (HasPlace designations))
+places_or_not designations (t ∷ ts) = elim (place_or_not designations t) [
+  | inl h ↦ elim (places_or_not designations ts) [
+    | inl more ↦ inl (All-cons (HasPlace designations) t ts h more)
+    | inr not ↦ inr (λ all. not (All-tail (HasPlace designations) t ts all))
+  ]
+  | inr not ↦ inr (λ all. not (All-head (HasPlace designations) t ts all))
+]
+
+placed_or_not : (types : List LocalType) (place : ℕ) → IsPlacedFrom types place ⊎ (¬ (IsPlacedFrom types place))
+placed_or_not types place = elim (cases_lt (length (text_at (laid [] types) place)) 3) [
+  | inl l ↦ inr (λ h. omega (arith, l, h.name))
+  | inr three ↦ elim (cases_lt (length (laid [] types)) (length (laid_from types place))) [
+    | inl l ↦ inr (λ h. omega (arith, l, h.placed.short))
+    | inr short ↦ elim (places_or_not (laid_from types place) types) [
+      | inl h ↦ inl (record { name = three; placed = record { places = h; short = short } })
+      | inr not ↦ inr (λ h. not h.placed.places)
+    ]
+  ]
+]
+
+first_placed : (types : List LocalType) (place : ℕ) → AreNotPlacedBefore types place ⊎ ((d : List ℕ) × IsFirstPlaced types d)
+first_placed types zero = inl (λ k l. absurd (omega (arith, l)))
+first_placed types (suc n) = elim (first_placed types n) [
+  | inr f ↦ inr f
+  | inl none ↦ elim (placed_or_not types n) [
+    | inl h ↦ inr (laid_from types n, record { place = n; placed = h; laid_is = refl; first = none })
+    | inr not ↦ inl (λ k l. elim (cases_lt k n) [
+      | inl m ↦ none k m
+      | inr m ↦ let here : n ≡ k = omega (arith, l, m) in subst (λ (p : ℕ). ¬ (IsPlacedFrom types p)) here not
+    ])
+  ]
+]
+
+pub laid_of : (types : List LocalType) (bytes : List ℕ) → 0 < length types → AreNames types → AreNamesIn bytes types → (d : List ℕ) × AreLaid types d
+laid_of types bytes some names named = elim (places_or_not (laid [] types) types) [
+  | inl h ↦ (laid [] types, laid_in_order types (laid [] types) some names refl h)
+  | inr unplaced ↦ elim (first_placed types (length (laid [] types))) [
+    | inl none ↦ absurd (none_laid types bytes names named unplaced none)
+    | inr f ↦ (f.0, laid_with_last types f.0 some names unplaced f.1)
+  ]
+]
+
+-- ---- they have room
+size_by : (p q : Bool) (designations text : List ℕ) → nat_lt (length designations + length text) 263 ≡ q → length designations ≤ 263 → length (cond p designations (cond q (designations ++ (text ++ 0 ∷ [])) designations)) ≤ 263
+size_by true q designations text e h = h
+size_by false false designations text e h = h
+size_by false true designations text e h = omega (arith, less (length designations + length text) 263 e, length-append designations (text ++ 0 ∷ []), length-append text (0 ∷ []))
+
+size_with : (designations text : List ℕ) → length designations ≤ 263 → length (with_text designations text) ≤ 263
+unfolding with_text
+size_with designations text h = size_by (nat_lt (place_of text designations) (length designations)) (nat_lt (length designations + length text) 263) designations text refl h
+
+size_laid : (last : List ℕ) (types : List LocalType) → length (laid last types) ≤ 263
+unfolding laid
+size_laid last types = size_with (before_last last types) last (before_keeps (λ d. length d ≤ 263) size_with last types (omega arith))
+
+pub laid_size : (types : List LocalType) (designations : List ℕ) → IsLaid types designations → length designations ≤ 263
+laid_size types designations (In_order h e) = omega (arith, ap length e, size_laid [] types)
+laid_size types designations (Otherwise u h) = omega (arith, ap length h.laid_is, size_laid (text_at (laid [] types) h.place) types)

@@ -4,7 +4,6 @@ use Rattle.std.proofs.lemmas.List.{length-append, length-map, get_or_append_left
 use Rattle.std.proofs.lemmas.List.Elements.{All-nil, All-cons, All-head, All-tail}
 use Rattle.std.specs.Prelude.{All}
 use Rattle.tz_base.specs.LocalTypes.{LocalType}
-use Rattle.tz_base.specs.Names.{IsNameOrNone}
 use Rattle.tz_base.specs.Grammar.{Spells, be_u32}
 use Rattle.tz_info.specs.FileBlocks.{Parts, block}
 use Rattle.tz_info.specs.FileContents.{AreRecords, SpellsLeapSecond, StandsAt, designation_of, place_in, SpellsType, SpellTypes}
@@ -22,6 +21,7 @@ use Rattle.tz_info.specs.declared.rule.transition_rule.TransitionRule.{Transitio
 use Rattle.tz_info.specs.declared.zone.transition.Transition.{Transition}
 use Rattle.tz_write.specs.FileDesignations.{text_or_none, IsNamedIn, AreNamesIn}
 use Rattle.tz_write.specs.WrittenFiles.{HasIndex, HasText, IsWritable}
+use Rattle.tz_write.proofs.RuleTexts.{rule_named}
 
 abbrev pub IsByte : ℕ → Type 0
 IsByte b = b < 256
@@ -153,8 +153,11 @@ indexes_fit ts indexes e b = by_list ts (subst Bytes e b)
 
 rule_spelled : (extended : Bool) (footer : Option (List ℕ)) (rule : Option TransitionRule) → HasRule extended footer rule → HasText rule
 rule_spelled extended footer None h = tt
-rule_spelled extended None (Some rule) h = λ u. cc
-rule_spelled extended (Some footer) (Some rule) h = λ u. u extended h.text h.says.1
+rule_spelled extended None (Some rule) h = absurd (no_rule rule h)
+  where
+    no_rule : (rule : TransitionRule) → Some rule ≡ None → ⊥
+    no_rule rule h = cc
+rule_spelled extended (Some footer) (Some rule) h = rule_named extended h.text rule h.says.1
 
 -- ---- names
 text_back : (text : List ℕ) → text_or_none (designation_of text) ≡ text
@@ -168,37 +171,26 @@ type_named designations bytes t size b h = record {
   named = b 5 0 (omega (arith, size));
 }
 
-types_named : (designations part : List ℕ) (types : List LocalType) → SpellTypes designations part types → Bytes part → AreNamesIn designations types × All (λ t. IsNameOrNone t.name) types
-types_named designations part [] h b = (All-nil (IsNamedIn designations), All-nil (λ (t : LocalType). IsNameOrNone t.name))
+types_named : (designations part : List ℕ) (types : List LocalType) → SpellTypes designations part types → Bytes part → AreNamesIn designations types
+types_named designations part [] h b = All-nil (IsNamedIn designations)
 types_named designations part (t ∷ ts) h b =
     let whole = subst Bytes h.2 b in
-    let more = types_named designations h.1 ts h.5 (behind h.0 h.1 whole) in (
-      All-cons (IsNamedIn designations) t ts (type_named designations h.0 t h.3 (front h.0 h.1 whole) h.4) more.0,
-      All-cons (λ (x : LocalType). IsNameOrNone x.name) t ts h.4.name_fits more.1,
-    )
+    All-cons (IsNamedIn designations) t ts (type_named designations h.0 t h.3 (front h.0 h.1 whole) h.4) (types_named designations h.1 ts h.5 (behind h.0 h.1 whole))
 
-pub record FileLimits (z : Zone) : Type 0 where
-  pub writable : IsWritable z
-  pub named : All (λ t. IsNameOrNone t.name) z.types
-
-pub file_limits : (bytes : List ℕ) (z : Zone) → All IsByte bytes → IsTzFile bytes z → FileLimits z
-file_limits bytes z b h =
+pub writable : (bytes : List ℕ) (z : Zone) → All IsByte bytes → IsTzFile bytes z → IsWritable z
+writable bytes z b h =
     let p = h.0 in let say = h.2 in
     let l = pieces_limits bytes p h.1 b in
     let fit = l.fit in
     let transitions : length p.parts.type_indexes ≡ length z.transitions = ap length say.transitions.indexes_are ∙ length-map z.transitions (λ t. t.type_index) in
     let types = records_length 6 (SpellsType p.parts.designations) p.parts.types z.types say.types in
     let leaps : length z.leaps ≡ p.counts.leap_seconds = same_factor (length z.leaps) p.counts.leap_seconds (p.time_size + 4) (omega arith) (sym (records_length (p.time_size + 4) (SpellsLeapSecond p.time_size) p.parts.leap_seconds z.leaps say.leaps) ∙ l.leap_seconds) in
-    let names = types_named p.parts.designations p.parts.types z.types say.types l.type_bytes in
     record {
-      writable = record {
-        room = record {
-          counts = record { transitions = omega (arith, transitions, l.type_indexes, fit.transitions); types = omega (arith, types, l.types, fit.types); leaps = omega (arith, leaps, fit.leap_seconds) };
-          indexes = indexes_fit z.transitions p.parts.type_indexes say.transitions.indexes_are l.indexes;
-          designations = p.parts.designations;
-          names = names.0;
-        };
-        rule = rule_spelled p.extended p.footer z.rule say.rule;
+      room = record {
+        counts = record { transitions = omega (arith, transitions, l.type_indexes, fit.transitions); types = omega (arith, types, l.types, fit.types); leaps = omega (arith, leaps, fit.leap_seconds) };
+        indexes = indexes_fit z.transitions p.parts.type_indexes say.transitions.indexes_are l.indexes;
+        designations = p.parts.designations;
+        names = types_named p.parts.designations p.parts.types z.types say.types l.type_bytes;
       };
-      named = names.1;
+      rule = rule_spelled p.extended p.footer z.rule say.rule;
     }

@@ -7,7 +7,7 @@ use Rattle.std.specs.Bool.{nat_eq}
 use Rattle.std.specs.List.{starts_with}
 use Rattle.tz_info.specs.FileContents.{HasNoZero}
 use Rattle.tz_write.specs.FileDesignations.{begins, place_of}
-use Rattle.tz_write.specs.Steps.FileLayouts.{ends}
+use Rattle.tz_write.specs.FileLayouts.{ends}
 use Rattle.tz_write.proofs.FileMeetings.{Stands, Ends}
 use Rattle.tz_write.proofs.FileRecords.{begins_is, has_text}
 
@@ -18,9 +18,6 @@ both false b h k = cc
 
 pub less_again : (a b : ℕ) → a < b → nat_lt a b ≡ true
 less_again a b h = grind (arith, nat_tests)
-
-pub less : (a b : ℕ) → nat_lt a b ≡ true → a < b
-less a b h = grind (arith, nat_tests)
 
 pub not_less : (a b : ℕ) → nat_lt a b ≡ false → b ≤ a
 not_less a b h = grind (arith, nat_tests)

@@ -18,8 +18,8 @@ use Rattle.tz_info.specs.declared.zone.leap_second.LeapSecond.{LeapSecond}
 use Rattle.tz_info.specs.declared.zone.transition.Transition.{Transition}
 use Rattle.tz_write.specs.FileBytes.{signed_bytes, time_bytes, index_bytes, mark_byte, type_bytes, leap_bytes}
 use Rattle.tz_write.specs.FileDesignations.{text_or_none, text_of, begins, place_of}
-use Rattle.tz_write.specs.Steps.FileLayouts.{HasPlace}
-use Rattle.tz_write.specs.Steps.FileParts.{IsTime, IsEntry, IsType}
+use Rattle.tz_write.specs.FileLayouts.{HasPlace}
+use Rattle.tz_write.specs.WrittenFiles.{IsTime, IsEntry, IsType}
 use Rattle.tz_write.proofs.FileNumbers.{size_32, size_64, signed_32, signed_64}
 
 -- ---- records laid end to end
@@ -64,7 +64,7 @@ pub leaps_are : (leaps : List LeapSecond) → All IsEntry leaps → SpellLeapSec
 leaps_are leaps h = records_are 12 (SpellsLeapSecond 8) leap_bytes leaps (λ k d l. record { sized = leap_size _; says = leap_is _ (h k d l) })
 
 -- ---- where a text stands
-less : (a b : ℕ) → nat_lt a b ≡ true → a < b
+pub less : (a b : ℕ) → nat_lt a b ≡ true → a < b
 less a b h = grind (arith, nat_tests)
 
 is_zero : (a : ℕ) → (a == 0) ≡ true → a ≡ 0

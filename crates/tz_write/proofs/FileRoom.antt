@@ -2,16 +2,17 @@
 use Rattle.std.proofs.Common.{◌≡◌, ℕ, ◌+◌, ◌<◌, ◌≤◌, Bool, true, false, cond, nat_lt, not, ◌==◌, ◌&&◌, List, [], ◌∷◌, ◌++◌, length, get_or, append_assoc, refl, sym, ap, ◌∙◌, arith, ◌⊎◌, inl, inr}
 use Rattle.std.proofs.lemmas.Bool.{cases_lt}
 use Rattle.std.proofs.lemmas.Bool.Decides.{nat_tests}
-use Rattle.std.proofs.lemmas.List.{length-append}
+use Rattle.std.proofs.lemmas.List.{append-nil, length-append}
 use Rattle.std.proofs.lemmas.List.Elements.{All-nil, All-cons, All-head, All-tail}
 use Rattle.std.specs.List.{fold}
 use Rattle.std.specs.Prelude.{All}
 use Rattle.tz_base.specs.LocalTypes.{LocalType}
 use Rattle.tz_info.specs.FileContents.{HasNoZero}
 use Rattle.tz_write.specs.FileDesignations.{text_of, place_of}
-use Rattle.tz_write.specs.Steps.FileLayouts.{with_text, ends, with_text_of, with_texts, before_last}
+use Rattle.tz_write.specs.FileLayouts.{with_text, ends, with_text_of, with_texts, before_last}
 use Rattle.tz_write.proofs.FileMeetings.{Stands, Ends, Meeting, In_front, Behind, Is_end, Has_end, meet}
-use Rattle.tz_write.proofs.FileNames.{less, not_less, same_again, ends_of, ends_again, In, in_longer, put_in}
+use Rattle.tz_write.proofs.FileRecords.{less}
+use Rattle.tz_write.proofs.FileNames.{not_less, same_again, ends_of, ends_again, In, in_longer, put_in}
 
 -- what is left of other bytes when the texts that stand in the designations are cut out of them: the texts that are to come, of
 -- at most that size or at the end of the last one, still stand there
@@ -38,7 +39,7 @@ room_of last designations others text size r none small stands out =
     omega (arith, r.fits, ap length s.whole, length-append s.before (text ++ (0 ∷ s.after)), length-append text (0 ∷ s.after))
 
 -- ---- a text is put in
-no_front : (m text : List ℕ) → length (m ++ text) ≤ length text → m ++ text ≡ text
+pub no_front : (m text : List ℕ) → length (m ++ text) ≤ length text → m ++ text ≡ text
 no_front [] text l = refl
 no_front (x ∷ xs) text l = absurd (omega (arith, l, length-append xs text))
 
@@ -124,6 +125,16 @@ types_room last others size [] designations g r = r
 types_room last others size (t ∷ ts) designations g r =
     types_room last others size ts (with_text_of last size designations t) (All-tail (Given last others) t ts g) (type_room last designations others size t (All-head (Given last others) t ts g) r)
 
+-- ---- what each text leaves as it is
+kept_if : (P : List ℕ → Type 0) → ((d text : List ℕ) → P d → P (with_text d text)) → (p : Bool) (designations text : List ℕ) → P designations → P (cond p (with_text designations text) designations)
+kept_if P step true designations text h = step designations text h
+kept_if P step false designations text h = h
+
+keeps_all : (P : List ℕ → Type 0) → ((d text : List ℕ) → P d → P (with_text d text)) → (last : List ℕ) (size : ℕ) (types : List LocalType) (designations : List ℕ) → P designations → P (fold (with_text_of last size) designations types)
+keeps_all P step last size [] designations h = h
+keeps_all P step last size (t ∷ ts) designations h =
+    keeps_all P step last size ts (with_text_of last size designations t) (kept_if P step ((length (text_of t) == size) && not (ends last (text_of t))) designations (text_of t) h)
+
 -- ---- a text that was put in stays
 kept_by : (p q : Bool) (designations more text : List ℕ) → In designations text → In (cond p designations (cond q (designations ++ more) designations)) text
 kept_by true q designations more text h = h
@@ -134,15 +145,6 @@ pub kept : (designations other text : List ℕ) → In designations text → In 
 unfolding with_text
 kept designations other text h =
     kept_by (nat_lt (place_of other designations) (length designations)) (nat_lt (length designations + length other) 263) designations (other ++ 0 ∷ []) text h
-
-kept_if : (p : Bool) (designations other text : List ℕ) → In designations text → In (cond p (with_text designations other) designations) text
-kept_if true designations other text h = kept designations other text h
-kept_if false designations other text h = h
-
-kept_all : (last : List ℕ) (size : ℕ) (types : List LocalType) (designations text : List ℕ) → In designations text → In (fold (with_text_of last size) designations types) text
-kept_all last size [] designations text h = h
-kept_all last size (t ∷ ts) designations text h =
-    kept_all last size ts (with_text_of last size designations t) text (kept_if ((length (text_of t) == size) && not (ends last (text_of t))) designations (text_of t) text h)
 
 -- a text for which there is room is put in
 put_by : (p q : Bool) (designations text : List ℕ) → nat_lt (place_of text designations) (length designations) ≡ p → nat_lt (length designations + length text) 263 ≡ q
@@ -175,7 +177,7 @@ put_all last others size (t ∷ ts) designations short g r =
     let next = with_text_of last size designations t in
     let given = All-head (Given last others) t ts g in
     All-cons (λ x. Turn last size x → In (fold (with_text_of last size) next ts) (text_of x)) t ts
-    (λ turn. kept_all last size ts next (text_of t) (first given turn))
+    (λ turn. keeps_all (λ d. In d (text_of t)) (λ d other. kept d other (text_of t)) last size ts next (first given turn))
     (put_all last others size ts next short (All-tail (Given last others) t ts g) (type_room last designations others size t given r))
   where
     first : Given last others t → Turn last size t → In (with_text_of last size designations t) (text_of t)
@@ -198,7 +200,7 @@ before_in last others types short g i d l =
     let f : (b : ℕ) (s : List ℕ) → List ℕ = λ b s. fold (with_text_of last b) s types in
     let step : (a b : ℕ) (s : List ℕ) → b ≤ a → Room last s others a → Room last (f b s) others b = λ a b s l r. types_room last others b types s g (smaller last s others a b l r) in
     let put_at : (b : ℕ) (s : List ℕ) → Room last s others b → All (λ t. Turn last b t → In (f b s) (text_of t)) types = λ b s r. put_all last others b types s short g r in
-    let k : (b : ℕ) (s text : List ℕ) → In s text → In (f b s) text = λ b s text h. kept_all last b types s text h in
+    let k : (b : ℕ) (s text : List ℕ) → In s text → In (f b s) text = λ b s text h. keeps_all (λ d. In d text) (λ d other. kept d other text) last b types s h in
     let r7 = none_put last others 7 in
     let r6 = step 7 6 _ (omega arith) (step 7 7 [] (omega arith) r7) in
     let r5 = step 6 5 _ (omega arith) r6 in
@@ -219,6 +221,12 @@ before_in last others types short g i d l =
       ])
     ]
 
+pub before_keeps : (P : List ℕ → Type 0) → ((d text : List ℕ) → P d → P (with_text d text)) → (last : List ℕ) (types : List LocalType) → P [] → P (before_last last types)
+unfolding before_last with_texts
+before_keeps P step last types h =
+    let all = keeps_all P step last in
+    all 3 types _ (all 4 types _ (all 5 types _ (all 6 types _ (all 7 types [] h))))
+
 -- ---- a 0 byte stands in designations that have bytes
 abbrev pub Filled : List ℕ → Type 0
 Filled designations = (designations ≡ []) ⊎ In designations []
@@ -226,24 +234,12 @@ Filled designations = (designations ≡ []) ⊎ In designations []
 filled_by : (p q : Bool) (designations text : List ℕ) → Filled designations → Filled (cond p designations (cond q (designations ++ (text ++ 0 ∷ [])) designations))
 filled_by true q designations text h = h
 filled_by false false designations text h = h
-filled_by false true designations text h = inr (put_in designations text [] (record { front = text; is = sym (nothing_more text) }))
-  where
-    nothing_more : (s : List ℕ) → s ++ [] ≡ s
-    nothing_more [] = refl
-    nothing_more (x ∷ xs) = ap (λ (r : List ℕ). x ∷ r) (nothing_more xs)
+filled_by false true designations text h = inr (put_in designations text [] (record { front = text; is = sym (append-nil text) }))
 
-filled_if : (p : Bool) (designations text : List ℕ) → Filled designations → Filled (cond p (with_text designations text) designations)
+filled_with : (designations text : List ℕ) → Filled designations → Filled (with_text designations text)
 unfolding with_text
-filled_if true designations text h =
+filled_with designations text h =
     filled_by (nat_lt (place_of text designations) (length designations)) (nat_lt (length designations + length text) 263) designations text h
-filled_if false designations text h = h
-
-filled_all : (last : List ℕ) (size : ℕ) (types : List LocalType) (designations : List ℕ) → Filled designations → Filled (fold (with_text_of last size) designations types)
-filled_all last size [] designations h = h
-filled_all last size (t ∷ ts) designations h =
-    filled_all last size ts (with_text_of last size designations t) (filled_if ((length (text_of t) == size) && not (ends last (text_of t))) designations (text_of t) h)
 
 pub before_filled : (last : List ℕ) (types : List LocalType) → Filled (before_last last types)
-unfolding before_last with_texts
-before_filled last types =
-    filled_all last 3 types _ (filled_all last 4 types _ (filled_all last 5 types _ (filled_all last 6 types _ (filled_all last 7 types [] (inl refl)))))
+before_filled last types = before_keeps Filled filled_with last types (inl refl)

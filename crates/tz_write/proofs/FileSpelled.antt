@@ -1,10 +1,10 @@
 -- The file that is written spells the zone.
-use Rattle.std.proofs.Common.{◌≡◌, ◌≢◌, ℕ, ◌<◌, ◌≤◌, Bool, true, false, List, [], ◌∷◌, ◌++◌, length, get_or, refl, ◌∙◌, arith, ◌+◌, ◌*◌, ◌==◌, not}
+use Rattle.std.proofs.Common.{◌≡◌, ◌≢◌, ℕ, ◌<◌, ◌≤◌, Bool, true, false, List, [], ◌∷◌, ◌++◌, length, get_or, refl, ◌∙◌, subst, arith, ◌+◌, ◌*◌, ◌==◌, not}
+use Rattle.std.proofs.lemmas.Bool.{false≢true}
 use Rattle.std.proofs.lemmas.Bool.Decides.{nat_tests}
 use Rattle.std.proofs.lemmas.Str.{IsUtf8-from_ascii}
 use Rattle.std.proofs.lemmas.Str.Ascii.{IsAscii-from_all}
-use Rattle.std.proofs.lemmas.List.Elements.{All-head, All-tail, All-weaker, All-append, All-cons, All-nil}
-use Rattle.std.specs.Char.{is_ascii_whitespace}
+use Rattle.std.proofs.lemmas.List.Elements.{All-cons, All-nil}
 use Rattle.std.specs.Prelude.{All, Option}
 use Rattle.tz_base.specs.LocalTypes.{LocalType}
 use Rattle.tz_base.specs.Grammar.{Spells}
@@ -13,54 +13,44 @@ use Rattle.tz_info.specs.FileContents.{HasNoZero}
 use Rattle.tz_info.specs.FileHeaders.{counts_agree}
 use Rattle.tz_info.specs.FilePieces.{FilePieces, later_pieces, is_extended, later_version, after_first_block, file, HasPieces}
 use Rattle.tz_info.specs.Footers.{IsFooter, SaysRule}
-use Rattle.tz_info.specs.Trims.{BeginsBare, EndsBare}
 use Rattle.tz_info.specs.TzFiles.{IsTzFile, SayZone}
 use Rattle.tz_info.specs.Zones.{Zone}
 use Rattle.tz_info.specs.declared.file.header.Counts.{Counts}
 use Rattle.tz_info.specs.declared.file.header.Place.TheVariants.{First, Second}
 use Rattle.tz_info.specs.declared.rule.transition_rule.TransitionRule.{TransitionRule}
 use Rattle.tz_write.specs.FileBytes.{number_bytes, counts_bytes, header_bytes, first_half, second_half, file_bytes, least_counts, least_block, zone_counts, zone_parts, block_bytes, footer_bytes, time_bytes, index_bytes, type_bytes, leap_bytes}
-use Rattle.tz_write.specs.Steps.FileLayouts.{HavePlaces}
-use Rattle.tz_write.specs.WrittenFiles.{HasCounts}
-use Rattle.tz_write.specs.Steps.FileParts.{IsSound}
+use Rattle.tz_write.specs.FileLayouts.{HavePlaces}
+use Rattle.tz_write.specs.WrittenFiles.{HasCounts, IsSound}
 use Rattle.tz_write.proofs.FileHeads.{CountsFit, version_of, header_is}
 use Rattle.tz_write.proofs.FileNumbers.{size_64}
+use Rattle.tz_write.proofs.TextBytes.{is_text_byte, AreTextBytes, begins_bare, ends_bare}
 use Rattle.tz_write.proofs.FileRecords.{size_of_records, transitions_are, leap_size, leaps_are, type_size, types_are}
 
 -- ---- footers
--- printing ASCII without spaces, and no colon in front
+-- letters, digits and signs of ASCII, and no colon in front
 pub record IsPlain (text : List ℕ) : Type 0 where
-  pub bytes : All (λ b. (32 < b) × (b < 127)) text
+  pub bytes : AreTextBytes text
   pub no_colon : get_or text 0 0 ≢ 58
 
-not_space : (b : ℕ) → 32 < b → is_ascii_whitespace b ≡ false
-not_space b h = grind (arith, nat_tests)
+limits : (b : ℕ) → is_text_byte b ≡ true → (b ≢ 0) × (b < 128)
+limits b h = ((λ z. not_byte (subst (λ n. is_text_byte n ≡ true) z h)), grind (arith, nat_tests))
+  where
+    not_byte : is_text_byte 0 ≡ true → ⊥
+    not_byte h = false≢true h
 
-bare_front : (text : List ℕ) → All (λ b. (32 < b) × (b < 127)) text → BeginsBare text
-bare_front [] h = tt
-bare_front (b ∷ bs) h = not_space b ((All-head (λ b. (32 < b) × (b < 127)) b bs h).0)
-
-bare_end : (text : List ℕ) → All (λ b. (32 < b) × (b < 127)) text → EndsBare text
-bare_end [] h = tt
-bare_end (b ∷ []) h = not_space b ((All-head (λ b. (32 < b) × (b < 127)) b [] h).0)
-bare_end (b ∷ c ∷ cs) h = bare_end (c ∷ cs) (All-tail (λ b. (32 < b) × (b < 127)) b (c ∷ cs) h)
-
-no_zeros : (text : List ℕ) → All (λ b. (32 < b) × (b < 127)) text → HasNoZero text
+no_zeros : (text : List ℕ) → AreTextBytes text → HasNoZero text
 no_zeros [] h = tt
-no_zeros (b ∷ bs) h =
-    let p = All-head (λ b. (32 < b) × (b < 127)) b bs h in let l = p.0 in
-    ((λ z. omega arith), no_zeros bs (All-tail (λ b. (32 < b) × (b < 127)) b bs h))
+no_zeros (b ∷ bs) h = ((limits b h.0).0, no_zeros bs h.1)
 
-ascii : (text : List ℕ) → All (λ b. (32 < b) × (b < 127)) text → All (λ b. b < 128) (footer_bytes text)
-ascii text h =
-    All-cons (λ b. b < 128) 10 (text ++ 10 ∷ []) (omega arith)
-    (All-append (λ b. b < 128) text (10 ∷ []) (All-weaker (λ b. (32 < b) × (b < 127)) (λ b. b < 128) (λ b p. let l = p.1 in omega arith) text h) (All-cons (λ b. b < 128) 10 [] (omega arith) (All-nil (λ b. b < 128))))
+ascii : (text : List ℕ) → AreTextBytes text → All (λ b. b < 128) (text ++ 10 ∷ [])
+ascii [] h = All-cons (λ b. b < 128) 10 [] (omega arith) (All-nil (λ b. b < 128))
+ascii (b ∷ bs) h = All-cons (λ b. b < 128) b (bs ++ 10 ∷ []) (limits b h.0).1 (ascii bs h.1)
 
 pub footer_is : (extended : Bool) (text : List ℕ) (rule : Option TransitionRule) → IsPlain text → SaysRule extended text rule → IsFooter extended (footer_bytes text) rule
 footer_is extended text rule p says = record {
   text = text;
   has_text = record {
-    utf8 = IsUtf8-from_ascii (footer_bytes text) (IsAscii-from_all (footer_bytes text) (ascii text p.bytes));
+    utf8 = IsUtf8-from_ascii (footer_bytes text) (IsAscii-from_all (footer_bytes text) (All-cons (λ b. b < 128) 10 (text ++ 10 ∷ []) (omega arith) (ascii text p.bytes)));
     newlines = record { after_first = text ++ 10 ∷ []; before_last = 10 ∷ text; starts = refl; ends = refl };
     trimmed = record {
       before = 10 ∷ [];
@@ -68,8 +58,8 @@ footer_is extended text rule p says = record {
       whole = refl;
       space_before = (refl, tt);
       space_after = (refl, tt);
-      first = bare_front text p.bytes;
-      last = bare_end text p.bytes;
+      first = begins_bare text p.bytes;
+      last = ends_bare text p.bytes;
     };
   };
   no_colon = p.no_colon;

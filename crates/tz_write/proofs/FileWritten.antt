@@ -1,52 +1,65 @@
 -- What is written of a zone.
-use Rattle.std.proofs.Common.{◌≡◌, ℕ, ◌<◌, Bool, List, [], length, Option, Some, None, Result, Ok, Err, sym, ap, ◌∙◌, subst, arith, inl, inr}
+use Rattle.std.proofs.Common.{◌≡◌, ℕ, ◌<◌, Bool, true, false, List, [], length, get_or, Option, Some, None, Result, Ok, Err, refl, sym, ap, ◌∙◌, subst, arith, inl, inr}
 use Rattle.std.proofs.lemmas.Bool.{cases_lt}
-use Rattle.std.proofs.lemmas.List.Elements.{All-nil}
-use Rattle.std.specs.Prelude.{All}
+use Rattle.std.proofs.lemmas.List.Elements.{All-weaker}
 use Rattle.tz_base.specs.LocalTypes.{LocalType}
 use Rattle.tz_base.specs.Names.{IsNameOrNone}
 use Rattle.tz_info.specs.Footers.{SaysRule}
-use Rattle.tz_info.specs.Zones.{Zone}
+use Rattle.tz_info.specs.Zones.{Zone, IsRuleOrNone}
 use Rattle.tz_info.specs.declared.rule.transition_rule.TransitionRule.{TransitionRule}
-use Rattle.tz_write.specs.FileBytes.{file_bytes}
-use Rattle.tz_write.specs.Steps.FileLayouts.{HavePlaces, laid_from, IsFirstPlaced, IsLaid, In_order, Otherwise}
-use Rattle.tz_write.specs.Steps.FileParts.{HasRoom, IsLaidFile, IsSound}
+use Rattle.tz_write.specs.FileBytes.{header_bytes, counts_bytes, number_bytes, first_half, second_half, file_bytes}
+use Rattle.tz_write.specs.FileLayouts.{HavePlaces, laid_from, IsFirstPlaced, IsLaid, In_order, Otherwise}
+use Rattle.tz_write.specs.Steps.FileParts.{HasRoom}
 use Rattle.tz_write.specs.declared.file.writer.Room.{Room}
-use Rattle.tz_write.specs.WrittenFiles.{FitsBlock, HasText, IsFooterText, IsInNoFile, IsWritable, IsWrittenFile}
+use Rattle.tz_write.specs.WrittenFiles.{HasText, IsFooterText, IsInNoFile, IsWritable, HaveVersion, IsWrittenFile, NeedsExtensions, IsType, IsSound}
 use Rattle.tz_info.specs.TzFiles.{IsTzFile}
 use Rattle.std.specs.Result.{IfOk, OnOk}
-use Rattle.tz_write.proofs.FileLimits.{file_limits}
+use Rattle.tz_write.proofs.FileLayouts.{laid_of, laid_size}
+use Rattle.tz_write.proofs.FileLimits.{writable}
 use Rattle.tz_write.proofs.FileSpelled.{IsPlain, file_is}
-use Rattle.tz_write.proofs.WrittenLaws.{text_once}
-use Rattle.tz_write.proofs.FileTexts.{IsPrinting, text_is_plain}
+use Rattle.tz_write.proofs.RuleTexts.{rule_named}
+use Rattle.tz_write.proofs.TextBytes.{AreTextBytes, text_are, text_first}
+use Rattle.tz_write.proofs.WrittenLaws.{text_once, text_some, rule_text, extensions}
+use Rattle.tz_write.proofs.ZoneTexts.{not_empty}
 
-plain_nil : IsPlain []
-plain_nil = record { bytes = All-nil IsPrinting; no_colon = λ e. absurd (omega (arith, e)) }
+text_is : (rule : Option TransitionRule) (text : List ℕ) (extended : Bool) → IsRuleOrNone rule → IsFooterText rule text extended → IsPlain text × SaysRule extended text rule
+text_is (Some rule) text extended fits h =
+    let named = rule_named extended text rule h.spells in
+    let same = rule_text rule text extended fits h in
+    let first = text_first rule named in (
+      record {
+        bytes = subst AreTextBytes (sym same) (text_are rule fits named);
+        no_colon = λ e. absurd (omega (arith, e, first.3, ap (λ (s : List ℕ). get_or s 0 0) (same ∙ first.2)));
+      },
+      ((λ e. not_empty rule named (sym same ∙ e)), h.spells),
+    )
+text_is None text extended fits h = (subst IsPlain (sym h.0) (record { bytes = tt; no_colon = λ e. absurd (omega (arith, e)) }), h.0)
 
-text_is : (rule : Option TransitionRule) (text : List ℕ) (extended : Bool) → IsFooterText rule text extended → IsPlain text × SaysRule extended text rule
-text_is (Some rule) text extended h = let p = text_is_plain extended text rule h.spells in (p.0, (p.1, h.spells))
-text_is None text extended h = (subst IsPlain (sym h.0) plain_nil, h.0)
+has_version : (extended : Bool) (text d : List ℕ) (z : Zone) → HaveVersion extended (file_bytes extended text d z)
+unfolding file_bytes first_half second_half header_bytes counts_bytes number_bytes
+has_version extended text d z = record { first = refl; second = refl }
 
-pub written_is : (z : Zone) (room : Room) (text : List ℕ) (extended : Bool) (bytes : List ℕ) → HasRoom z room → IsSound z → 0 < length z.types → IsFooterText z.rule text extended
+written_is : (z : Zone) (room : Room) (text : List ℕ) (extended : Bool) (bytes : List ℕ) → HasRoom z room → IsSound z → 0 < length z.types → IsRuleOrNone z.rule → IsFooterText z.rule text extended
     → bytes ≡ file_bytes extended text room.designations z → IsWrittenFile z bytes
-written_is z room text extended bytes h sound some footer e =
-    let p = text_is z.rule text extended footer in
+written_is z room text extended bytes h sound some fits footer e =
+    let p = text_is z.rule text extended fits footer in
     record {
-      spells = subst (λ (b : List ℕ). IsTzFile b z) (sym e) (file_is extended text room.designations z h.size h.counts some h.places sound p.0 p.1);
+      spells = subst (λ (b : List ℕ). IsTzFile b z) (sym e) (file_is extended text room.designations z (laid_size z.types room.designations h.laid) h.counts some h.places sound p.0 p.1);
       text = text;
       extended = extended;
       footer = footer;
+      version = subst (HaveVersion extended) (sym e) (has_version extended text room.designations z);
       designations = room.designations;
       names = h.shortest;
+      order = h.laid;
       layout = e;
     }
 
 -- the same of what a function answers
-pub file_result : {X E : Type 0} (view : X → List ℕ) (r : Result X E) (z : Zone) (room : Room) (text : List ℕ) (extended : Bool) → HasRoom z room → 0 < length z.types → IsFooterText z.rule text extended
-    → IfOk r (λ v. view v ≡ file_bytes extended text room.designations z) → OnOk r (IsSound z) → IfOk r (λ v. IsWrittenFile z (view v) × IsLaidFile z (view v))
-file_result view (Ok v) z room text extended h some footer e sound =
-    (written_is z room text extended (view v) h sound some footer e, record { text = text; extended = extended; footer = footer; designations = room.designations; laid = h.laid; layout = e })
-file_result view (Err y) z room text extended h some footer e sound = tt
+pub file_result : {X E : Type 0} (view : X → List ℕ) (r : Result X E) (z : Zone) (room : Room) (text : List ℕ) (extended : Bool) → HasRoom z room → 0 < length z.types → IsRuleOrNone z.rule → IsFooterText z.rule text extended
+    → IfOk r (λ v. view v ≡ file_bytes extended text room.designations z) → OnOk r (IsSound z) → IfOk r (λ v. IsWrittenFile z (view v))
+file_result view (Ok v) z room text extended h some fits footer e sound = written_is z room text extended (view v) h sound some fits footer e
+file_result view (Err y) z room text extended h some fits footer e sound = tt
 
 -- ---- one file of a zone
 one_footer : (rule : Option TransitionRule) (a b : List ℕ) (x y : Bool) → IsFooterText rule a x → IsFooterText rule b y → (a ≡ b) × (x ≡ y)
@@ -68,18 +81,31 @@ one_layout types a b (In_order h e) (Otherwise n k) = absurd (n (subst (λ (d : 
 one_layout types a b (Otherwise n h) (In_order k f) = absurd (n (subst (λ (d : List ℕ). HavePlaces d types) f k))
 one_layout types a b (Otherwise n h) (Otherwise o k) = one_place types a b h k
 
-pub one_file : (z : Zone) (a b : List ℕ) → IsLaidFile z a → IsLaidFile z b → a ≡ b
+pub one_file : (z : Zone) (a b : List ℕ) → IsWrittenFile z a → IsWrittenFile z b → a ≡ b
 one_file z a b h k =
     let same = one_footer z.rule h.text k.text h.extended k.extended h.footer k.footer in
-    h.layout ∙ (ap (λ (d : List ℕ). file_bytes h.extended h.text d z) (one_layout z.types h.designations k.designations h.laid k.laid)
+    h.layout ∙ (ap (λ (d : List ℕ). file_bytes h.extended h.text d z) (one_layout z.types h.designations k.designations h.order k.order)
     ∙ (ap (λ (t : List ℕ). file_bytes h.extended t k.designations z) same.0 ∙ (ap (λ (e : Bool). file_bytes e k.text k.designations z) same.1 ∙ sym k.layout)))
 
--- ---- a zone without a file
-pub no_room : (z : Zone) → (All (λ t. IsNameOrNone t.name) z.types → ¬ (FitsBlock z)) → IsInNoFile z
-no_room z no_block = λ bytes b h. let l = file_limits bytes z b h in no_block l.named l.writable.room
+-- ---- versions
+extended_is : (rule : Option TransitionRule) (text : List ℕ) (extended : Bool) → IsRuleOrNone rule → IsFooterText rule text extended → NeedsExtensions rule → extended ≡ true
+extended_is (Some rule) text extended fits h needs = (extensions rule text extended fits h).1 needs
+extended_is None text extended fits h needs = absurd needs
 
-pub no_text : (z : Zone) → ¬ (HasText z.rule) → IsInNoFile z
-no_text z none = λ bytes b h. none ((file_limits bytes z b h).writable.rule)
+plain_is : (rule : Option TransitionRule) (text : List ℕ) (extended : Bool) → IsRuleOrNone rule → IsFooterText rule text extended → ¬ (NeedsExtensions rule) → extended ≡ false
+plain_is (Some rule) text true fits h plain = absurd (plain ((extensions rule text true fits h).0 refl))
+plain_is (Some rule) text false fits h plain = refl
+plain_is None text extended fits h plain = h.1
+
+pub version_3 : (z : Zone) (bytes : List ℕ) → IsRuleOrNone z.rule → IsWrittenFile z bytes → NeedsExtensions z.rule → HaveVersion true bytes
+version_3 z bytes fits h needs = subst (λ (e : Bool). HaveVersion e bytes) (extended_is z.rule h.text h.extended fits h.footer needs) h.version
+
+pub version_2 : (z : Zone) (bytes : List ℕ) → IsRuleOrNone z.rule → IsWrittenFile z bytes → ¬ (NeedsExtensions z.rule) → HaveVersion false bytes
+version_2 z bytes fits h plain = subst (λ (e : Bool). HaveVersion e bytes) (plain_is z.rule h.text h.extended fits h.footer plain) h.version
+
+-- ---- a zone without a file
+pub no_file : (z : Zone) → ¬ (IsWritable z) → IsInNoFile z
+no_file z none = λ bytes b h. none (writable bytes z b h)
 
 -- ---- a zone that can be written
 pub can_be_written : (z : Zone) (room : Room) → HasRoom z room → HasText z.rule → IsWritable z
@@ -89,5 +115,29 @@ can_be_written z room h text = record {
 }
 
 pub footer_spelled : (rule : Option TransitionRule) (text : List ℕ) (extended : Bool) → IsFooterText rule text extended → HasText rule
-footer_spelled (Some rule) text extended h = λ u. u extended text h.spells
+footer_spelled (Some rule) text extended h = rule_named extended text rule h.spells
 footer_spelled None text extended h = tt
+
+footer_some : (rule : Option TransitionRule) → IsRuleOrNone rule → HasText rule → (text : List ℕ) × (extended : Bool) × IsFooterText rule text extended
+footer_some (Some rule) fits h = text_some rule fits h
+footer_some None fits h = ([], false, (refl, refl))
+
+pub file_some : (z : Zone) → 0 < length z.types → IsRuleOrNone z.rule → IsSound z → IsWritable z → (bytes : List ℕ) × IsWrittenFile z bytes
+file_some z some fits sound h =
+    let names = All-weaker IsType (λ t. IsNameOrNone t.name) (λ t h. h.name) z.types sound.types in
+    let d = laid_of z.types h.room.designations some names h.room.names in
+    let f = footer_some z.rule fits h.rule in
+    let room : Room = record {
+      designations = d.0;
+      sizes = record { leap_seconds = length z.leaps; transitions = length z.transitions; types = length z.types; designations = length d.0 };
+    } in (
+      file_bytes f.1 f.0 d.0 z,
+      written_is z room f.0 f.1 _ (record {
+        counts = h.room.counts;
+        indexes = h.room.indexes;
+        places = d.1.0;
+        laid = d.1.1;
+        shortest = d.1.2;
+        counts_are = refl;
+      }) sound some fits f.2 refl,
+    )

@@ -18,6 +18,5 @@ mod FileNames
 mod FileRoom
 mod FileLayouts
 mod FileSpelled
-mod FileTexts
 mod FileWritten
 mod FileLimits

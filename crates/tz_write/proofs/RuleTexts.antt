@@ -1,5 +1,5 @@
 -- The text of a rule: it spells the rule, and each other one is longer.
-use Rattle.std.proofs.Common.{◌≡◌, ℕ, ℤ, pos, ◌+ℤ◌, ◌<◌, ◌≤◌, arith, refl, ap, ◌∙◌, sym, subst, List, [], ◌∷◌, ◌++◌, append_assoc, Bool, true, false, not, inl, inr, cond, Some, IsTrue, ◌↔◌}
+use Rattle.std.proofs.Common.{◌≡◌, ℕ, ℤ, pos, ◌+ℤ◌, ◌<◌, ◌≤◌, arith, refl, ap, ◌∙◌, sym, subst, List, [], ◌∷◌, ◌++◌, append_assoc, Bool, true, false, not, inl, inr, cond, Some}
 use Rattle.std.proofs.lemmas.List.{append-nil}
 use Rattle.std.proofs.lemmas.Bool.Decides.{nat_tests}
 use Rattle.std.proofs.lemmas.Bool.{both_ways}
@@ -16,8 +16,8 @@ use Rattle.tz_info.specs.Rules.{Alternate, IsAlternateRule}
 use Rattle.tz_info.specs.RuleTypes.{IsRule}
 use Rattle.tz_info.specs.declared.rule.transition_rule.TransitionRule.{TransitionRule}
 use Rattle.tz_info.specs.declared.rule.transition_rule.TransitionRule.TheVariants as rules
-use Rattle.tz_write.specs.WrittenTexts.{AreInPairs, IsUnspelled, IsWrittenText}
-use Rattle.tz_write.specs.Steps.TextPieces.{offset_text, name_text, day_text, dst_offset_text, name_or_none, name_of, type_text, alternate_text, text_of, IsTimeOf, IsNamedType, CanBeSpelled, AreTimesOf}
+use Rattle.tz_write.specs.WrittenTexts.{AreInPairs, IsUnspelled, IsWrittenText, IsTimeOf, IsNamedType, CanBeSpelled, AreTimesOf}
+use Rattle.tz_write.specs.Steps.TextPieces.{offset_text, name_text, day_text, dst_offset_text, name_or_none, name_of, type_text, alternate_text, text_of}
 use Rattle.tz_write.proofs.Shortest.{Best, Front, front_then, front_cons, pairs_after}
 use Rattle.tz_write.proofs.Clocks.{Stops, offset_spelled, offset_front, offset_pairs, offset_first}
 use Rattle.tz_write.proofs.TextParts.{IsFixedText, IsAlternateText, parts_of, fixed_text, alternate_text_is}
@@ -172,8 +172,8 @@ pub rule_named : (extended : Bool) (bytes : List ℕ) (rule : TransitionRule) �
 rule_named extended bytes (rules.Fixed t) spelled = let h = parts_of extended bytes (rules.Fixed t) spelled in ((h.name, h.named), offset_fits h.after_name t.offset [] h.offset_spelled)
 rule_named extended bytes (rules.Alternate a) spelled = let h = parts_of extended bytes (rules.Alternate a) spelled in ((h.std_name, h.std_named), (h.dst_name, h.dst_named))
 
-pub unspelled : (rule : TransitionRule) (b : Bool) → IsTrue b ↔ CanBeSpelled rule → b ≡ false → IsUnspelled rule
-unspelled rule b answer none = λ extended bytes h. let spelled = answer.1 (rule_named extended bytes rule h) in cc
+pub unspelled : (rule : TransitionRule) → ¬ (CanBeSpelled rule) → IsUnspelled rule
+unspelled rule none = λ extended bytes h. none (rule_named extended bytes rule h)
 
 pub times_extended : (rule : TransitionRule) → IsRule rule → AreTimesOf true rule
 times_extended (rules.Fixed t) fits = tt

@@ -20,7 +20,8 @@ use Rattle.tz_info.specs.declared.rule.day.DayForm.TheVariants.{Julian1, Julian0
 use Rattle.tz_info.specs.declared.rule.day.DayTime.{DayTime}
 use Rattle.tz_info.specs.declared.rule.transition_rule.TransitionRule.{TransitionRule}
 use Rattle.tz_info.specs.declared.rule.transition_rule.TransitionRule.TheVariants as rules
-use Rattle.tz_write.specs.Steps.TextPieces.{pair_text, seconds_text, minutes_text, clock_text, signed_text, is_positive, is_negative, offset_text, time_text, time_after, name_text, date_text, day_text, days_text, dst_offset_text, name_or_none, name_of, type_text, alternate_text, text_of, IsNamedType, CanBeSpelled}
+use Rattle.tz_write.specs.WrittenTexts.{IsNamedType, CanBeSpelled}
+use Rattle.tz_write.specs.Steps.TextPieces.{pair_text, seconds_text, minutes_text, clock_text, signed_text, is_positive, is_negative, offset_text, time_text, time_after, name_text, date_text, day_text, days_text, dst_offset_text, name_or_none, name_of, type_text, alternate_text, text_of}
 use Rattle.tz_write.proofs.Decimals.{digits_of, pair_digits}
 use Rattle.tz_write.proofs.Clocks.{offset_hours, time_hours}
 use Rattle.tz_write.proofs.NameTexts.{name_bytes, name_first}
@@ -139,11 +140,11 @@ text_first (rules.Alternate a) h = type_first false a.std (name_text (name_of a.
 not_space : (b : ℕ) → is_text_byte b ≡ true → is_ascii_whitespace b ≡ false
 not_space b h = grind (arith, nat_tests)
 
-begins_bare : (text : List ℕ) → AreTextBytes text → BeginsBare text
+pub begins_bare : (text : List ℕ) → AreTextBytes text → BeginsBare text
 begins_bare [] h = tt
 begins_bare (b ∷ bs) h = not_space b h.0
 
-ends_bare : (text : List ℕ) → AreTextBytes text → EndsBare text
+pub ends_bare : (text : List ℕ) → AreTextBytes text → EndsBare text
 ends_bare [] h = tt
 ends_bare (b ∷ []) h = not_space b h.0
 ends_bare (b ∷ c ∷ cs) h = ends_bare (c ∷ cs) h.1

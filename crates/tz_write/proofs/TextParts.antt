@@ -10,7 +10,7 @@ use Rattle.tz_info.specs.declared.rule.day.DayTime.{DayTime}
 use Rattle.tz_info.specs.declared.rule.transition_rule.TransitionRule.{TransitionRule}
 use Rattle.tz_info.specs.declared.rule.transition_rule.TransitionRule.TheVariants as rules
 use Rattle.tz_info.proofs.ForCallers.{name_from, name_to}
-use Rattle.tz_write.specs.Steps.TextPieces.{IsNamed}
+use Rattle.tz_write.specs.WrittenTexts.{IsNamed}
 
 pub record IsFixedText (bytes : List ℕ) (t : LocalType) : Type 0 where
   pub name : List ℕ
@@ -48,7 +48,7 @@ parts_of extended bytes r (name, after, n, (east, end, o, inl (none, (t, _, (fit
   after_name = after;
   name_spelled = n;
   offset_spelled = subst (Spells tz.offset after east) none o;
-  named = record { allowed = name_from name fits; named = refl; mark = refl };
+  named = record { allowed = name_from name fits; named = refl; flag = refl };
 })
 parts_of extended bytes r (name, after, n, (east, end, o, inr (_, (dst_name, at_dst, d, (dst_east, at_days, f, ((x, y), last, (start, at_comma, p, (_, at_end, c, (stop, fin, q, (both, same)))), (_, _, e, (s, _, (s_fits, s_is, _), (t, _, (t_fits, t_is, _), (value, _)))))))))) =
     let none : last ≡ [] = elim e [ inl k ↦ k.0 | inr k ↦ absurd k.1 ] in
@@ -68,8 +68,8 @@ parts_of extended bytes r (name, after, n, (east, end, o, inr (_, (dst_name, at_
       dst_offset_spelled = f;
       start_spelled = subst (Spells (tz.day extended) at_days start) c p;
       end_spelled = subst (Spells (tz.day extended) at_end stop) (same ∙ none) q;
-      std_named = record { allowed = name_from name s_fits; named = refl; mark = refl };
-      dst_named = record { allowed = name_from dst_name t_fits; named = refl; mark = refl };
+      std_named = record { allowed = name_from name s_fits; named = refl; flag = refl };
+      dst_named = record { allowed = name_from dst_name t_fits; named = refl; flag = refl };
     })
 
 -- ---- what has them is a text
@@ -77,13 +77,13 @@ some_letters : (text rest : List ℕ) → 3 ≤ length text → text ++ rest ≢
 some_letters [] rest l = absurd (omega arith)
 some_letters (b ∷ bs) rest l = λ e. cc
 
-pub name_some : (bytes text rest : List ℕ) → Spells tz.name bytes text rest → IsName text → bytes ≢ []
+name_some : (bytes text rest : List ℕ) → Spells tz.name bytes text rest → IsName text → bytes ≢ []
 unfolding tz.name
 name_some bytes text rest (inl h) n = λ e. let q : less ∷ h.0 ≡ [] = sym h.1 ∙ e in cc
 name_some bytes text rest (inr h) n = λ e. some_letters text rest n.0 (sym h.1.whole ∙ e)
 
 type_is : (name : List ℕ) (dst : Bool) (t : LocalType) → IsNamed name dst t → t ≡ named_type name dst t.offset
-type_is name dst t h = same_type t.offset t.dst dst t.name (Some name) h.mark h.named
+type_is name dst t h = same_type t.offset t.dst dst t.name (Some name) h.flag h.named
   where
     same_type : (o : ℤ) (d e : Bool) (m n : Option (List ℕ)) → d ≡ e → m ≡ n → ◌≡◌ {A = LocalType} (record { offset = o; dst = d; name = m }) (record { offset = o; dst = e; name = n })
     same_type o d e m n a b = cc

@@ -1,14 +1,13 @@
 -- A rule has one text that is written.
-use Rattle.std.proofs.Common.{◌≡◌, ℕ, ◌<◌, arith, refl, sym, ℤ, pos, negsuc, List, length, Bool, true, false, inl, inr, ◌⊎◌}
+use Rattle.std.proofs.Common.{◌≡◌, ℕ, ◌<◌, arith, refl, sym, ℤ, pos, negsuc, List, length, Bool, true, false, inl, inr, ◌⊎◌, ◌↔◌}
 use Rattle.std.proofs.lemmas.Int.{ints}
 use Rattle.std.proofs.lemmas.Bool.{cases_lt, both_ways}
-use Rattle.tz_info.specs.TzGrammar.{IsTzText}
 use Rattle.tz_info.specs.RuleTypes.{IsRule}
 use Rattle.tz_info.specs.declared.rule.transition_rule.TransitionRule.{TransitionRule}
 use Rattle.tz_info.specs.declared.rule.transition_rule.TransitionRule.TheVariants as rules
-use Rattle.tz_write.specs.WrittenTexts.{IsWrittenText}
-use Rattle.tz_write.specs.Steps.TextPieces.{text_of, IsPlainTime, AreTimesOf}
-use Rattle.tz_write.proofs.RuleTexts.{rule_named, written}
+use Rattle.tz_write.specs.WrittenTexts.{CanBeSpelled, IsPlainTime, AreTimesOf, IsWrittenText}
+use Rattle.tz_write.specs.Steps.TextPieces.{text_of}
+use Rattle.tz_write.proofs.RuleTexts.{rule_spelled, rule_plain, rule_named, written}
 
 -- each of two is the shortest
 pub both_shortest : (s t : List ℕ) → (t ≡ s) ⊎ (length s < length t) → (s ≡ t) ⊎ (length t < length s) → s ≡ t
@@ -38,10 +37,20 @@ plain_times (rules.Alternate a) = elim (plain_time a.start.time) [
   | inr n ↦ inr (λ h. n h.0)
 ]
 
-pub text_some : (extended : Bool) (bytes : List ℕ) (rule : TransitionRule) → IsRule rule → IsTzText extended bytes rule → (text : List ℕ) × (needed : Bool) × IsWrittenText rule text needed
-text_some extended bytes rule fits spelled =
-    let named = rule_named extended bytes rule spelled in
-    elim (plain_times rule) [
-      | inl p ↦ (text_of rule, false, written rule true fits named (λ e. p) (λ h. refl))
-      | inr n ↦ (text_of rule, true, written rule false fits named (λ e. absurd (both_ways false refl e)) (λ h. absurd (n h)))
-    ]
+text_is : (rule : TransitionRule) → IsRule rule → CanBeSpelled rule → (needed : Bool) × IsWrittenText rule (text_of rule) needed
+text_is rule fits named = elim (plain_times rule) [
+  | inl p ↦ (false, written rule true fits named (λ e. p) (λ h. refl))
+  | inr n ↦ (true, written rule false fits named (λ e. absurd (both_ways false refl e)) (λ h. absurd (n h)))
+]
+
+pub text_some : (rule : TransitionRule) → IsRule rule → CanBeSpelled rule → (text : List ℕ) × (needed : Bool) × IsWrittenText rule text needed
+text_some rule fits named = let s = text_is rule fits named in (text_of rule, s.0, s.1)
+
+pub rule_text : (rule : TransitionRule) (text : List ℕ) (extended : Bool) → IsRule rule → IsWrittenText rule text extended → text ≡ text_of rule
+rule_text rule text extended fits h =
+    let s = text_is rule fits (rule_named extended text rule h.spells) in (text_once rule text (text_of rule) extended s.0 h s.1).0
+
+-- a text has extensions where the rule's times need them
+pub extensions : (rule : TransitionRule) (text : List ℕ) (extended : Bool) → IsRule rule → IsWrittenText rule text extended → (extended ≡ true) ↔ (¬ (AreTimesOf false rule))
+extensions rule text true fits h = ((λ e times. h.needed e (text_of rule) (rule_spelled false rule fits (rule_named true text rule h.spells) times)), λ n. refl)
+extensions rule text false fits h = ((λ e. absurd (both_ways false refl e)), λ n. absurd (n (rule_plain text rule h.spells)))

@@ -1,5 +1,5 @@
 -- The text of a zone: it gives the zone, and each other one is longer.
-use Rattle.std.proofs.Common.{◌≡◌, ◌≢◌, ℕ, ◌<◌, arith, ap, ◌∙◌, sym, subst, List, [], ◌∷◌, ◌++◌, length, length-append, Bool, true, false, IsTrue, ◌↔◌, inl, inr, ◌⊎◌, Option, Some, None, Result, Ok, Err, OnErr}
+use Rattle.std.proofs.Common.{◌≡◌, ◌≢◌, ℕ, ◌<◌, arith, ap, ◌∙◌, sym, subst, List, [], ◌∷◌, ◌++◌, length, length-append, Bool, true, false, refl, inl, inr, ◌⊎◌, Option, Some, None, Result, Ok, Err, OnErr}
 use Rattle.std.specs.Char.{is_ascii_whitespace}
 use Rattle.std.proofs.lemmas.List.{append-nil}
 use Rattle.std.proofs.lemmas.Bool.Decides.{nat_tests}
@@ -9,14 +9,15 @@ use Rattle.tz_info.specs.PosixZones.{types_of, posix_zone, IsPosixZone}
 use Rattle.tz_info.specs.RuleTypes.{IsRule}
 use Rattle.tz_info.specs.Trims.{IsSpace, IsTrimmed}
 use Rattle.tz_info.specs.TzGrammar.{IsTzText}
-use Rattle.tz_info.specs.Zones.{Zone, zone_of_rule}
+use Rattle.tz_info.specs.Zones.{Zone, zone_of_rule, IsRuleOrNone}
 use Rattle.tz_info.specs.declared.rule.transition_rule.TransitionRule.{TransitionRule}
 use Rattle.tz_info.specs.declared.zone.leap_second.LeapSecond.{LeapSecond}
 use Rattle.tz_info.specs.declared.zone.transition.Transition.{Transition}
-use Rattle.tz_write.specs.WrittenTexts.{TwoDigits, AreInPairs, IsNoPosixZone, IsWrittenZone}
-use Rattle.tz_write.specs.Steps.TextPieces.{text_of, CanBeSpelled, HasZoneText}
+use Rattle.tz_write.specs.WrittenTexts.{TwoDigits, AreInPairs, CanBeSpelled, HasZoneText, IsOfText, IsNoPosixZone, IsWrittenZone}
+use Rattle.tz_write.specs.Steps.TextPieces.{text_of}
 use Rattle.tz_write.proofs.Shortest.{Best, pairs_rest}
 use Rattle.tz_write.proofs.RuleTexts.{rule_spelled, rule_best, rule_pairs, rule_named, rule_plain}
+use Rattle.tz_write.proofs.WrittenLaws.{both_shortest}
 use Rattle.tz_write.proofs.TextBytes.{text_are, text_first, trimmed_text}
 
 -- ---- white space at the ends
@@ -57,31 +58,25 @@ best_of_trimmed text bytes trimmed t best =
     ])
 
 -- ---- the zone of types and a rule
-not_empty : (rule : TransitionRule) → CanBeSpelled rule → text_of rule ≢ []
+pub not_empty : (rule : TransitionRule) → CanBeSpelled rule → text_of rule ≢ []
 not_empty rule h e = let f = text_first rule h in let k = ap length (sym e ∙ f.2) in omega arith
-
-no_none : (r : TransitionRule) → Some r ≡ None → ⊥
-no_none r e = cc
-
-same_rule : (r s : TransitionRule) → Some r ≡ Some s → r ≡ s
-same_rule r s e = cc
 
 of_types : (types : List LocalType) (rule s : TransitionRule) → zone_of_rule types (Some rule) ≡ posix_zone s → (s ≡ rule) × (types ≡ types_of rule)
 of_types types rule s e =
     let r : Some rule ≡ Some s = ap (λ (z : Zone). z.rule) e in
-    let k = same_rule rule s r in
+    let k : rule ≡ s = cc in
     (sym k, ap (λ (z : Zone). z.types) e ∙ ap types_of (sym k))
 
 -- a text that gives it spells the rule, but for white space at its ends
 spells_rule : (text : List ℕ) (types : List LocalType) (rule : TransitionRule) → IsPosixZone text (zone_of_rule types (Some rule)) → (trimmed : List ℕ) × IsTrimmed text trimmed × IsTzText false trimmed rule × (types ≡ types_of rule)
 spells_rule text types rule gives = elim gives [
-  | inl a ↦ absurd (no_none rule (ap (λ (z : Zone). z.rule) a.1))
+  | inl a ↦ let none : Some rule ≡ None = ap (λ (z : Zone). z.rule) a.1 in cc
   | inr b ↦
       let same = of_types types rule b.rule b.zone in
       (b.trimmed, b.trims, subst (λ (r : TransitionRule). IsTzText false b.trimmed r) same.0 b.spells, same.1)
 ]
 
-pub written_zone : (types : List LocalType) (rule : TransitionRule) → IsRule rule → HasZoneText types rule → IsWrittenZone (zone_of_rule types (Some rule)) (text_of rule)
+pub written_zone : (types : List LocalType) (rule : TransitionRule) → IsRule rule → HasZoneText types (Some rule) → IsWrittenZone (zone_of_rule types (Some rule)) (text_of rule)
 written_zone types rule fits h =
     let named = h.1.0 in
     record {
@@ -99,10 +94,13 @@ written_zone types rule fits h =
           best_of_trimmed (text_of rule) other s.0 s.1 (rule_best false s.0 rule (trimmed_pairs other s.0 s.1 pairs) s.2);
     }
 
-pub no_zone_text : (types : List LocalType) (rule : TransitionRule) (b : Bool) → IsTrue b ↔ HasZoneText types rule → b ≡ false → IsNoPosixZone (zone_of_rule types (Some rule))
-no_zone_text types rule b answer none = λ text gives.
-    let s = spells_rule text types rule gives in
-    let has = answer.1 (s.3, (rule_named false s.0 rule s.2, rule_plain s.0 rule s.2)) in cc
+-- ---- which zones a text gives
+pub given : (text : List ℕ) (z : Zone) → IsPosixZone text z → IsOfText z
+given text z (inl a) = subst IsOfText (sym a.1) (record { transitions = refl; leaps = refl; rule = refl })
+given text z (inr b) = subst IsOfText (sym b.zone) (record { transitions = refl; leaps = refl; rule = (refl, (rule_named false b.trimmed b.rule b.spells, rule_plain b.trimmed b.rule b.spells)) })
+
+pub no_zone_text : (types : List LocalType) (rule : Option TransitionRule) → ¬ (HasZoneText types rule) → IsNoPosixZone (zone_of_rule types rule)
+no_zone_text types rule none = λ text gives. none ((given text (zone_of_rule types rule) gives).rule)
 
 -- ---- transitions and leap seconds
 pub zone_is : (z : Zone) (types : List LocalType) (rule : Option TransitionRule) → (z.transitions ≡ []) × (z.leaps ≡ []) → types ≡ z.types → rule ≡ z.rule → zone_of_rule types rule ≡ z
@@ -112,8 +110,31 @@ zone_is z types rule h t r =
     ∙ sym (ap (λ (x : List LeapSecond). record { transitions = []; types = z.types; leaps = x; rule = z.rule }) h.1)
     ∙ sym (ap (λ (x : List Transition). record { transitions = x; types = z.types; leaps = z.leaps; rule = z.rule }) h.0)
 
+empty_or_longer : (text : List ℕ) → (text ≡ []) ⊎ (0 < length text)
+empty_or_longer [] = inl refl
+empty_or_longer (b ∷ bs) = inr (omega arith)
+
+rule_some : (types : List LocalType) (rule : Option TransitionRule) → IsRuleOrNone rule → HasZoneText types rule → (text : List ℕ) × IsWrittenZone (zone_of_rule types rule) text
+rule_some types (Some rule) fits h = (text_of rule, written_zone types rule fits h)
+rule_some types None fits h = (
+  [],
+  record {
+    gives = inl (refl, ap (λ (x : List LocalType). zone_of_rule x None) h);
+    pairs = tt;
+    shortest = λ other gives pairs. empty_or_longer other;
+  },
+)
+
+pub zone_text_some : (z : Zone) → IsRuleOrNone z.rule → IsOfText z → (text : List ℕ) × IsWrittenZone z text
+zone_text_some z fits h =
+    let is = zone_is z z.types z.rule (h.transitions, h.leaps) refl refl in
+    subst (λ (x : Zone). (text : List ℕ) × IsWrittenZone x text) is (rule_some z.types z.rule fits h.rule)
+
+pub zone_text_once : (z : Zone) (s t : List ℕ) → IsWrittenZone z s → IsWrittenZone z t → s ≡ t
+zone_text_once z s t p q = both_shortest s t (p.shortest t q.gives q.pairs) (q.shortest s p.gives p.pairs)
+
 -- ---- running out of memory
-pub gives_same_zone : (types : List LocalType) (rule : TransitionRule) (z : Zone) → IsRule rule → HasZoneText types rule → zone_of_rule types (Some rule) ≡ z → (text : List ℕ) × IsPosixZone text z
+pub gives_same_zone : (types : List LocalType) (rule : TransitionRule) (z : Zone) → IsRule rule → HasZoneText types (Some rule) → zone_of_rule types (Some rule) ≡ z → (text : List ℕ) × IsPosixZone text z
 gives_same_zone types rule z fits h e = (text_of rule, subst (IsPosixZone (text_of rule)) e (written_zone types rule fits h).gives)
 
 pub on_err : {A E : Type 0} (r : Result A E) (P : Type 0) → P → OnErr r P

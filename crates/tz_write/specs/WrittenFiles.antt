@@ -1,12 +1,17 @@
 -- Which zones are written as files, and what is written.
-use Rattle.std.specs.Prelude.{ℕ, ◌≡◌, ◌<◌, ◌^◌, Bool, false, List, [], length, All, Option, Some, None}
+use Rattle.std.specs.Prelude.{ℕ, ◌≡◌, ◌<◌, ◌^◌, Bool, false, List, [], length, slice_index, All, FitsSigned, Option, Some, None}
+use Rattle.std.specs.Int.{w32, w64}
+use Rattle.tz_base.specs.LocalTypes.{LocalType, IsUtOffset}
+use Rattle.tz_base.specs.Names.{IsNameOrNone}
 use Rattle.tz_info.specs.TzFiles.{IsTzFile}
 use Rattle.tz_info.specs.Zones.{Zone}
 use Rattle.tz_info.specs.declared.rule.transition_rule.TransitionRule.{TransitionRule}
+use Rattle.tz_info.specs.declared.zone.leap_second.LeapSecond.{LeapSecond}
 use Rattle.tz_info.specs.declared.zone.transition.Transition.{Transition}
-use Rattle.tz_write.specs.FileBytes.{file_bytes}
+use Rattle.tz_write.specs.FileBytes.{version_byte, file_bytes}
 use Rattle.tz_write.specs.FileDesignations.{AreNamesIn, AreShortest}
-use Rattle.tz_write.specs.WrittenTexts.{IsUnspelled, IsWrittenText}
+use Rattle.tz_write.specs.FileLayouts.{IsLaid}
+use Rattle.tz_write.specs.WrittenTexts.{CanBeSpelled, AreTimesOf, IsWrittenText}
 
 -- a number of four bytes
 abbrev pub IsCount : ℕ → Type 0
@@ -30,7 +35,7 @@ pub record FitsBlock (z : Zone) : Type 0 where
 
 -- there is no rule, or some text spells it
 abbrev pub HasText : Option TransitionRule → Type 0
-HasText (Some rule) = ¬ (IsUnspelled rule)
+HasText (Some rule) = CanBeSpelled rule
 HasText None = Unit {0}
 
 -- the zone can be written
@@ -51,12 +56,46 @@ abbrev pub IsFooterText : Option TransitionRule → List ℕ → Bool → Type 0
 IsFooterText (Some rule) text extended = IsWrittenText rule text extended
 IsFooterText None text extended = (text ≡ []) × (extended ≡ false)
 
--- the file that is written of a zone: it spells the zone, and has that layout
+-- both headers give the version: the byte after `TZif`, in the first and, 51 bytes on, in the second
+pub record HaveVersion (extended : Bool) (bytes : List ℕ) : Type 0 where
+  pub first : slice_index bytes 4 ≡ version_byte extended
+  pub second : slice_index bytes 55 ≡ version_byte extended
+
+-- the one file that is written of a zone: it spells the zone; both headers have version 3 if the footer has extensions, else 2; and
+-- names and bytes are laid so
 pub record IsWrittenFile (z : Zone) (bytes : List ℕ) : Type 0 where
   pub spells : IsTzFile bytes z
   pub text : List ℕ
   pub extended : Bool
   pub footer : IsFooterText z.rule text extended
+  pub version : HaveVersion extended bytes
   pub designations : List ℕ
   pub names : AreShortest designations z.types
+  pub order : IsLaid z.types designations
   pub layout : bytes ≡ file_bytes extended text designations z
+
+-- no text without extensions has room for the times of the zone's rule
+abbrev pub NeedsExtensions : Option TransitionRule → Type 0
+NeedsExtensions (Some rule) = ¬ (AreTimesOf false rule)
+NeedsExtensions None = ⊥
+
+-- ---- what the program's types ensure
+-- a time of 64 bits
+abbrev pub IsTime : Transition → Type 0
+IsTime t = FitsSigned w64 t.unix_leap_time
+
+-- a time of 64 bits and a correction of 32
+pub record IsEntry (leap : LeapSecond) : Type 0 where
+  pub time : FitsSigned w64 leap.unix_leap_time
+  pub correction : FitsSigned w32 leap.correction
+
+-- an offset and a name that a type can have
+pub record IsType (t : LocalType) : Type 0 where
+  pub offset : IsUtOffset t.offset
+  pub name : IsNameOrNone t.name
+
+-- the numbers of each list are those of their types
+pub record IsSound (z : Zone) : Type 0 where
+  pub times : All IsTime z.transitions
+  pub types : All IsType z.types
+  pub leaps : All IsEntry z.leaps

@@ -1,8 +1,9 @@
 //! Time zone files (TZif, RFC 8536): the bytes of the file of a zone.
 
-ghost use Rattle.std.specs.Prelude.{IfOk, IfSome, MatchOption, MatchResult, OnErr, option_map, string_bytes};
+ghost use Rattle.std.specs.Prelude.{IfOk, MatchOption, MatchResult, OnErr, option_map, string_bytes};
 ghost use Rattle.tz_base.specs.Errors.{IsOutOfMemory};
-ghost use Rattle.tz_write.specs.Steps.FileParts.{HasRoom, IsLaidFile};
+ghost use Rattle.tz_info.specs.Zones.{Zone};
+ghost use Rattle.tz_write.specs.Steps.FileParts.{HasRoom};
 ghost use Rattle.tz_write.specs.WrittenFiles.{HasText, IsFooterText, IsInNoFile, IsWritable, IsWrittenFile};
 
 mod contents;
@@ -19,19 +20,36 @@ use writer::{Room, room_for, write_file};
 
 /// Zones that are written as TZif files.
 pub trait ToTzData {
+    // the zone that the value is
+    ghost zone: { Self → Zone };
+
     /// The bytes of a TZif file that spells the zone, or `None` if no file does.
     ///
     /// # Errors
     ///
     /// [`Error::OutOfMemory`] if there is no memory for the bytes.
-    fn to_tz_data(&self, alloc: Global) -> Result<Option<Vec<u8>>, Error>;
+    fn to_tz_data(&self, alloc: Global) -> Result<Option<Vec<u8>>, Error>
+        // The file is the zone's; there is none only if no file spells it.
+        ensures written { MatchResult result
+            (λ answer. MatchOption answer (IsInNoFile (zone self.now))
+            (λ bytes. IsWrittenFile (zone self.now) bytes.items))
+            (λ e. IsOutOfMemory e) }
+        // There is one if and only if the zone can be written.
+        ensures reason { IfOk result (λ answer. MatchOption answer
+            (¬ (IsWritable (zone self.now)))
+            (λ _. IsWritable (zone self.now))) }
+        // Running out of memory is answered only for a zone that can be written.
+        ensures memory { OnErr result (IsWritable (zone self.now)) };
 }
 
 impl ToTzData for TimeZone {
+    ghost zone = { λ zone. zone };
+
     /// The bytes of a TZif file of version 2 that spells the zone (RFC 8536 section 3), or of
     /// version 3 if no text without the extensions of section 3.3.1 spells its rule. The first
     /// block has the least counts, there are no indicators, and types whose names are the same, or
-    /// of which one ends the other, share bytes.
+    /// of which one ends the other, share bytes. The longest names come first, and those of one
+    /// length in the order of their types. Equal zones give the same bytes.
     ///
     /// `None` if no file spells the zone, of whatever version: if a transition names a type past
     /// 255, a count has more than 32 bits, no text spells the rule, or the names have no room in any
@@ -42,35 +60,15 @@ impl ToTzData for TimeZone {
     ///     let again = TimeZone::from_tz_data(alloc, &bytes)?;    // equal to zone
     /// }
     /// ```
-    fn to_tz_data(&self, alloc: Global) -> Result<Option<Vec<u8>>, Error>
-        // The file spells the zone; there is none only if no file does.
-        ensures written { MatchResult result
-            (λ answer. MatchOption answer (IsInNoFile self.now)
-            (λ bytes. IsWrittenFile self.now bytes.items))
-            (λ e. IsOutOfMemory e) }
-        // Running out of memory is answered only for a zone that can be written.
-        ensures memory { OnErr result (IsWritable self.now) }
-    {
-        tz_data(alloc, self)
+    fn to_tz_data(&self, alloc: Global) -> Result<Option<Vec<u8>>, Error> {
+        let Some(room) = room_for(self) else {
+            return Ok(None);
+        };
+        let Some(footer) = footer_of(alloc, self.rule())? else {
+            return Ok(None);
+        };
+        Ok(Some(file_of(alloc, self, &room, &footer)?))
     }
-}
-
-/// What `to_tz_data` answers, and how the file's names are laid.
-pub(crate) fn tz_data(alloc: Global, zone: &TimeZone) -> Result<Option<Vec<u8>>, Error>
-    ensures written { MatchResult result
-        (λ answer. MatchOption answer (IsInNoFile zone.now)
-        (λ bytes. IsWrittenFile zone.now bytes.items))
-        (λ e. IsOutOfMemory e) }
-    ensures memory { OnErr result (IsWritable zone.now) }
-    ensures laid { IfOk result (λ answer. IfSome answer (λ bytes. IsLaidFile zone.now bytes.items)) }
-{
-    let Some(room) = room_for(zone) else {
-        return Ok(None);
-    };
-    let Some(footer) = footer_of(alloc, zone.rule())? else {
-        return Ok(None);
-    };
-    Ok(Some(file_of(alloc, zone, &room, &footer)?))
 }
 
 // The text of the footer, if there is one that spells the rule. No rule has the empty text.
@@ -99,7 +97,7 @@ fn file_of(
 ) -> Result<Vec<u8>, AllocError>
     requires room { HasRoom zone.now room.now }
     requires footer { IsFooterText zone.now.rule (string_bytes footer.now.text) footer.now.extended }
-    ensures { IfOk result (λ v. IsWrittenFile zone.now v.items × IsLaidFile zone.now v.items) }
+    ensures { IfOk result (λ v. IsWrittenFile zone.now v.items) }
 {
     write_file(alloc, zone, room, footer.text.as_bytes(), footer.extended)
 }

@@ -1,20 +1,36 @@
 //! Theorems of what is written: the contract of each function is proved; none is called.
 
-ghost use Rattle.std.specs.Prelude.{◌≡◌, List, ℕ, Bool};
+ghost use Rattle.std.specs.Prelude.{◌≡◌, ◌↔◌, List, ℕ, Bool, true, false};
 ghost use Rattle.tz_info.specs.TzGrammar.{IsTzText};
+ghost use Rattle.tz_info.specs.PosixZones.{IsPosixZone};
 ghost use Rattle.tz_info.specs.RuleTypes.{IsRule};
+ghost use Rattle.tz_info.specs.Zones.{Zone, IsRuleOrNone};
 ghost use Rattle.tz_info.specs.declared.rule.transition_rule.TransitionRule.{TransitionRule as Rule};
-ghost use Rattle.tz_write.specs.WrittenTexts.{IsWrittenText};
+ghost use Rattle.tz_write.specs.WrittenTexts.{CanBeSpelled, AreTimesOf, IsWrittenText, IsOfText, IsWrittenZone};
 
 pub mod files;
 
-/// A rule that some text spells has one text that is written.
+/// A text spells a rule if and only if each type has a name and its DST flag, and a rule of one type
+/// an offset below a day. One text is written of it then, with extensions if and only if its times
+/// need them.
 pub fn one_written_text()
-    ensures some { (extended : Bool) (bytes : List ℕ) (rule : Rule) → IsRule rule
-        → IsTzText extended bytes rule
+    ensures spelled { (extended : Bool) (bytes : List ℕ) (rule : Rule)
+        → IsTzText extended bytes rule → CanBeSpelled rule }
+    ensures some { (rule : Rule) → IsRule rule → CanBeSpelled rule
         → (text : List ℕ) × (needed : Bool) × IsWrittenText rule text needed }
     ensures once { (rule : Rule) (s t : List ℕ) (d e : Bool) → IsWrittenText rule s d
         → IsWrittenText rule t e → (s ≡ t) × (d ≡ e) }
+    ensures extensions { (rule : Rule) (text : List ℕ) (extended : Bool) → IsRule rule
+        → IsWrittenText rule text extended → (extended ≡ true) ↔ (¬ (AreTimesOf false rule)) }
+{}
+
+/// A text gives a zone if and only if the zone is its rule alone, which a text without extensions
+/// spells, or UTC. One text is written of it then.
+pub fn one_zone_text()
+    ensures given { (text : List ℕ) (z : Zone) → IsPosixZone text z → IsOfText z }
+    ensures some { (z : Zone) → IsRuleOrNone z.rule → IsOfText z
+        → (text : List ℕ) × IsWrittenZone z text }
+    ensures once { (z : Zone) (s t : List ℕ) → IsWrittenZone z s → IsWrittenZone z t → s ≡ t }
 {}
 
 /// The text that is written of a rule spells no other.

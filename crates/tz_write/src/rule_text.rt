@@ -1,14 +1,15 @@
 //! The TZ text of a rule.
 
-ghost use Rattle.std.specs.Prelude.{◌≡◌, ◌∷◌, ◌++◌, List, ℕ, true, false, OnOk, IsTrue, MatchBool, ◌↔◌, MatchResult, MatchOption, OnErr, Bool, Some, None, string_bytes};
+ghost use Rattle.std.specs.Prelude.{◌≡◌, ◌∷◌, ◌++◌, List, ℕ, true, false, OnOk, IsTrue, MatchBool, ◌↔◌, MatchResult, MatchOption, IfOk, OnErr, Bool, Some, None, string_bytes};
 ghost use Rattle.tz_base.specs.Errors.{IsOutOfMemory};
 ghost use Rattle.tz_base.specs.Names.{IsName};
 ghost use Rattle.tz_info.specs.RuleTypes.{IsRule};
 ghost use Rattle.tz_info.specs.Rules.{IsAlternateRule};
+ghost use Rattle.tz_info.specs.declared.rule.transition_rule.TransitionRule.{TransitionRule as Rule};
 ghost use Rattle.offset_core.specs.Offset.{IsWithinDay};
 ghost use Rattle.tz_info.specs.TzGrammar.{IsTzText};
-ghost use Rattle.tz_write.specs.WrittenTexts.{IsWrittenText, IsUnspelled};
-ghost use Rattle.tz_write.specs.Steps.TextPieces.{name_text, name_of, type_text, days_text, alternate_text, text_of, IsNamedType, IsPlainTime, CanBeSpelled, AreTimesOf, HasPlainText};
+ghost use Rattle.tz_write.specs.WrittenTexts.{IsWrittenText, IsUnspelled, IsNamedType, IsPlainTime, CanBeSpelled, AreTimesOf, HasPlainText};
+ghost use Rattle.tz_write.specs.Steps.TextPieces.{name_text, name_of, type_text, days_text, alternate_text, text_of};
 
 use crate::pieces::day::push_day;
 use crate::pieces::name::push_name;
@@ -28,6 +29,9 @@ pub struct TzText {
 
 /// Rules that are written as TZ texts.
 pub trait ToTzString {
+    // the rule that the value is
+    ghost rule: { Self → Rule };
+
     /// The TZ text that spells the rule, or `None` if no text does: if a type has no name, or isn't
     /// marked as standard or daylight saving time as the text would say, or if a rule of one type
     /// has an offset of a day or more.
@@ -41,21 +45,27 @@ pub trait ToTzString {
     /// # Errors
     ///
     /// [`Error::OutOfMemory`] if there is no memory for the text.
-    fn to_tz_string(&self, alloc: Global) -> Result<Option<TzText>, Error>;
-}
-
-impl ToTzString for TransitionRule {
-    /// The shortest TZ text that spells the rule, with minutes and seconds in two digits.
     fn to_tz_string(&self, alloc: Global) -> Result<Option<TzText>, Error>
         // The text is the rule's, and the shortest; there is none only if no text spells the rule.
         ensures written { MatchResult result
-            (λ answer. MatchOption answer (IsUnspelled self.now)
-            (λ t. IsWrittenText self.now (string_bytes t.text) t.extended))
+            (λ answer. MatchOption answer (IsUnspelled (rule self.now))
+            (λ t. IsWrittenText (rule self.now) (string_bytes t.text) t.extended))
             (λ e. IsOutOfMemory e) }
+        // There is one if and only if each type has a name and its DST flag, and a rule of one type
+        // an offset below a day.
+        ensures reason { IfOk result (λ answer. MatchOption answer
+            (¬ (CanBeSpelled (rule self.now)))
+            (λ _. CanBeSpelled (rule self.now))) }
         // Running out of memory is answered only for a rule that some text spells.
         ensures memory { OnErr result ((extended : Bool) × (text : List ℕ)
-            × IsTzText extended text self.now) }
-    {
+            × IsTzText extended text (rule self.now)) };
+}
+
+impl ToTzString for TransitionRule {
+    ghost rule = { λ rule. rule };
+
+    /// The shortest TZ text that spells the rule, with minutes and seconds in two digits.
+    fn to_tz_string(&self, alloc: Global) -> Result<Option<TzText>, Error> {
         if !can_be_spelled(self) {
             return Ok(None);
         }
@@ -97,7 +107,7 @@ fn can_be_spelled(rule: &TransitionRule) -> bool
     }
 }
 
-// Whether both types have their names and their marks.
+// Whether both types have a name and their DST flags.
 fn are_named(alternate: &AlternateTime) -> bool
     ensures answer { IsTrue result ↔ (IsNamedType false alternate.now.std
         × IsNamedType true alternate.now.dst) }
@@ -106,7 +116,7 @@ fn are_named(alternate: &AlternateTime) -> bool
     is_named(alternate.std(), false) && is_named(alternate.dst(), true)
 }
 
-// Whether the type has a name, and that mark.
+// Whether the type has a name, and that DST flag.
 fn is_named(local: &LocalTimeType, dst: bool) -> bool
     ensures { IsTrue result ↔ IsNamedType dst local.now }
 {

@@ -1,13 +1,12 @@
 //! The TZ text of a zone.
 
-ghost use Rattle.std.specs.Prelude.{◌≡◌, [], ◌∷◌, IsTrue, ◌↔◌, MatchOption, MatchResult, OnErr, List, ℕ, Some, None, pos, true, false, string_bytes};
+ghost use Rattle.std.specs.Prelude.{◌≡◌, [], ◌∷◌, IsTrue, ◌↔◌, MatchOption, MatchResult, IfOk, OnErr, List, ℕ, Some, None, pos, true, false, string_bytes};
 ghost use Rattle.tz_base.specs.Errors.{IsOutOfMemory};
 ghost use Rattle.tz_base.specs.LocalTypes.{plain_type};
 ghost use Rattle.tz_info.specs.PosixZones.{types_of, IsPosixZone};
 ghost use Rattle.tz_info.specs.RuleTypes.{IsRule};
-ghost use Rattle.tz_info.specs.Zones.{zone_of_rule};
-ghost use Rattle.tz_write.specs.WrittenTexts.{IsWrittenZone, IsNoPosixZone};
-ghost use Rattle.tz_write.specs.Steps.TextPieces.{HasZoneText};
+ghost use Rattle.tz_info.specs.Zones.{Zone, zone_of_rule};
+ghost use Rattle.tz_write.specs.WrittenTexts.{IsOfText, IsWrittenZone, IsNoPosixZone, HasZoneText};
 
 use crate::rule_text::{has_plain_text, text_of};
 use std::alloc::Global;
@@ -15,6 +14,9 @@ use tz_info::{Error, LocalTimeType, TimeZone, TransitionRule};
 
 /// Zones that are written as TZ texts.
 pub trait ToPosixTz {
+    // the zone that the value is
+    ghost zone: { Self → Zone };
+
     /// The TZ text that gives the zone, as `TimeZone::from_posix_tz` takes one, or `None` if no
     /// text does: if the zone has transitions, leap seconds or other types than its rule's, or a
     /// rule that no text without extensions spells.
@@ -27,21 +29,27 @@ pub trait ToPosixTz {
     /// # Errors
     ///
     /// [`Error::OutOfMemory`] if there is no memory for the text.
-    fn to_posix_tz(&self, alloc: Global) -> Result<Option<String>, Error>;
-}
-
-impl ToPosixTz for TimeZone {
-    /// The shortest TZ text that gives the zone, with minutes and seconds in two digits: that of
-    /// the rule, where the zone is its rule alone, or the empty text for the zone of UTC.
     fn to_posix_tz(&self, alloc: Global) -> Result<Option<String>, Error>
         // The text is the zone's, and the shortest; there is none only if no text gives the zone.
         ensures written { MatchResult result
-            (λ answer. MatchOption answer (IsNoPosixZone self.now)
-            (λ text. IsWrittenZone self.now (string_bytes text)))
+            (λ answer. MatchOption answer (IsNoPosixZone (zone self.now))
+            (λ text. IsWrittenZone (zone self.now) (string_bytes text)))
             (λ e. IsOutOfMemory e) }
+        // There is one if and only if the zone is its rule alone, which a text without extensions
+        // spells, or UTC.
+        ensures reason { IfOk result (λ answer. MatchOption answer
+            (¬ (IsOfText (zone self.now)))
+            (λ _. IsOfText (zone self.now))) }
         // Running out of memory is answered only for a zone that some text gives.
-        ensures memory { OnErr result ((text : List ℕ) × IsPosixZone text self.now) }
-    {
+        ensures memory { OnErr result ((text : List ℕ) × IsPosixZone text (zone self.now)) };
+}
+
+impl ToPosixTz for TimeZone {
+    ghost zone = { λ zone. zone };
+
+    /// The shortest TZ text that gives the zone, with minutes and seconds in two digits: that of
+    /// the rule, where the zone is its rule alone, or the empty text for the zone of UTC.
+    fn to_posix_tz(&self, alloc: Global) -> Result<Option<String>, Error> {
         if !is_rule_alone(self) {
             return Ok(None);
         }
@@ -72,7 +80,9 @@ fn text_of_rule(
         (λ answer. MatchOption answer (IsNoPosixZone zone)
         (λ text. IsWrittenZone zone (string_bytes text)))
         (λ e. IsOutOfMemory e) }
-    ensures memory { OnErr result (HasZoneText types.now rule.now) }
+    ensures reason { let zone = zone_of_rule types.now (Some rule.now) in
+        IfOk result (λ answer. MatchOption answer (¬ (IsOfText zone)) (λ _. IsOfText zone)) }
+    ensures memory { OnErr result (HasZoneText types.now (Some rule.now)) }
 {
     if !has_zone_text(types, rule) {
         return Ok(None);
@@ -82,16 +92,18 @@ fn text_of_rule(
 
 // Whether a text gives the zone of those types and that rule.
 fn has_zone_text(types: &[LocalTimeType], rule: &TransitionRule) -> bool
-    ensures { IsTrue result ↔ HasZoneText types.now rule.now }
+    ensures { IsTrue result ↔ HasZoneText types.now (Some rule.now) }
 {
     are_types_of(types, rule) && has_plain_text(rule)
 }
 
 // The text of the zone of those types and no rule.
 fn text_of_utc(alloc: Global, types: &[LocalTimeType]) -> Option<String>
-    ensures { let zone = zone_of_rule types.now None in
+    ensures written { let zone = zone_of_rule types.now None in
         MatchOption result (IsNoPosixZone zone)
         (λ text. IsWrittenZone zone (string_bytes text)) }
+    ensures reason { let zone = zone_of_rule types.now None in
+        MatchOption result (¬ (IsOfText zone)) (λ _. IsOfText zone) }
 {
     if is_only(types, &LocalTimeType::utc()) {
         Some(String::new(alloc))

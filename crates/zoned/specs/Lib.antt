@@ -60,6 +60,7 @@ pub use Rattle.tz_info.specs.FilePieces
 pub use Rattle.tz_info.specs.TzFiles
 pub use Rattle.tz_write.specs.WrittenTexts
 pub use Rattle.tz_write.specs.FileDesignations
+pub use Rattle.tz_write.specs.FileLayouts
 pub use Rattle.tz_write.specs.FileBytes
 pub use Rattle.tz_write.specs.WrittenFiles
 pub use Rattle.zoned_time.specs.Choice

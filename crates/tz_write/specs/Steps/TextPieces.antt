@@ -1,14 +1,11 @@
 -- The texts of the pieces of a TZ text.
-use Rattle.std.specs.Prelude.{ℕ, ◌≡◌, zero, suc, ℤ, pos, negsuc, ◌+ℤ◌, ◌+◌, ◌/◌, ◌%◌, ◌==◌, ◌&&◌, ◌≤ℤ◌, ◌<ℤ◌, Bool, true, false, if◌then◌else◌, List, [], ◌∷◌, ◌++◌, decimal, Option, Some, None}
+use Rattle.std.specs.Prelude.{ℕ, zero, suc, ℤ, pos, negsuc, ◌+ℤ◌, ◌+◌, ◌/◌, ◌%◌, ◌==◌, ◌&&◌, Bool, true, false, if◌then◌else◌, List, [], ◌∷◌, ◌++◌, decimal, Option, Some, None}
 use Rattle.std.specs.Int.RustNames.{unsigned_abs}
 use Rattle.std.specs.Ordering.{int_eq}
 use Rattle.std.specs.List.{list_all}
 use Rattle.tz_base.specs.LocalTypes.{LocalType}
-use Rattle.tz_base.specs.Names.{IsName}
 use Rattle.tz_info.specs.TzGrammar.{comma, minus, dot, slash, colon, less, greater, letter_J, letter_M, is_letter}
-use Rattle.tz_info.specs.Rules.{Alternate, IsWithinWeek}
-use Rattle.offset_core.specs.Offset.{IsWithinDay}
-use Rattle.tz_info.specs.PosixZones.{types_of}
+use Rattle.tz_info.specs.Rules.{Alternate}
 use Rattle.tz_info.specs.declared.rule.day.DayForm.{DayForm}
 use Rattle.tz_info.specs.declared.rule.day.DayForm.TheVariants.{Julian1, Julian0, MonthWeekday}
 use Rattle.tz_info.specs.declared.rule.day.DayTime.{DayTime}
@@ -56,15 +53,6 @@ offset_text east = signed_text (is_positive east) (unsigned_abs east)
 unfoldable pub time_text : ℤ → List ℕ
 time_text time = signed_text (is_negative time) (unsigned_abs time)
 
--- a time that needs no extensions: from midnight on, and within 24 hours, 59 minutes and 59 seconds
-abbrev pub IsPlainTime : ℤ → Type 0
-IsPlainTime time = (pos 0 ≤ℤ time) × (time <ℤ pos 90_000)
-
--- the times of texts with extensions and without
-abbrev pub IsTimeOf : Bool → ℤ → Type 0
-IsTimeOf true time = IsWithinWeek time
-IsTimeOf false time = IsPlainTime time
-
 -- the time after a date, left out at 2 o'clock
 abbrev pub time_after : ℤ → List ℕ
 time_after time = if int_eq time (pos 7_200) then [] else slash ∷ time_text time
@@ -109,31 +97,3 @@ alternate_text a = type_text a.std ++ (name_text (name_of a.dst) ++ (dst_offset_
 abbrev pub text_of : TransitionRule → List ℕ
 text_of (rules.Fixed t) = type_text t
 text_of (rules.Alternate a) = alternate_text a
-
--- the type has that name, which is one that a type can have, and that mark
-pub record IsNamed (name : List ℕ) (dst : Bool) (t : LocalType) : Type 0 where
-  pub allowed : IsName name
-  pub named : t.name ≡ Some name
-  pub mark : t.dst ≡ dst
-
--- the type has a name that a text can spell, and that mark
-abbrev pub IsNamedType : Bool → LocalType → Type 0
-IsNamedType dst t = (name : List ℕ) × IsNamed name dst t
-
--- some text spells the rule
-abbrev pub CanBeSpelled : TransitionRule → Type 0
-CanBeSpelled (rules.Fixed t) = IsNamedType false t × IsWithinDay t.offset
-CanBeSpelled (rules.Alternate a) = IsNamedType false a.std × IsNamedType true a.dst
-
--- a text with extensions, or without, has room for the rule's times
-abbrev pub AreTimesOf : Bool → TransitionRule → Type 0
-AreTimesOf extended (rules.Fixed t) = Unit {0}
-AreTimesOf extended (rules.Alternate a) = IsTimeOf extended a.start.time × IsTimeOf extended a.end.time
-
--- a text without extensions spells the rule
-abbrev pub HasPlainText : TransitionRule → Type 0
-HasPlainText rule = CanBeSpelled rule × AreTimesOf false rule
-
--- a text gives the zone of those types and that rule
-abbrev pub HasZoneText : List LocalType → TransitionRule → Type 0
-HasZoneText types rule = (types ≡ types_of rule) × HasPlainText rule

@@ -3,8 +3,7 @@
 ghost use Rattle.std.specs.Prelude.{◌≡◌, ◌<◌, ◌↔◌, ◌++◌, length, slice_index_or, All, IsTrue, OnOk};
 ghost use Rattle.std.specs.List.{flat_map};
 ghost use Rattle.tz_write.specs.FileBytes.{time_bytes, index_bytes, leap_bytes};
-ghost use Rattle.tz_write.specs.WrittenFiles.{HasIndex};
-ghost use Rattle.tz_write.specs.Steps.FileParts.{IsTime, IsEntry};
+ghost use Rattle.tz_write.specs.WrittenFiles.{HasIndex, IsTime, IsEntry};
 ghost use Rattle.tz_info.specs.declared.zone.transition.Transition.{Transition as AnyTransition};
 
 use crate::file::numbers::{push_signed_32, push_signed_64};

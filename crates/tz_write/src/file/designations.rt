@@ -4,7 +4,7 @@
 ghost use Rattle.std.specs.Prelude.{◌≡◌, ◌<◌, ◌≤◌, ◌+◌, ◌↔◌, [], ◌∷◌, ◌++◌, length, All, IsTrue, List, ℕ, MatchOption};
 ghost use Rattle.tz_base.specs.Names.{IsNameOrNone};
 ghost use Rattle.tz_write.specs.FileDesignations.{text_of, begins, place_of, AreNamesIn, AreShortest};
-ghost use Rattle.tz_write.specs.Steps.FileLayouts.{HasPlace, HavePlaces, with_text, ends, with_text_of, with_texts, before_last, laid, text_at, laid_from, ArePlaced, IsPlacedFrom, AreNotPlacedBefore, IsFirstPlaced, IsLaid};
+ghost use Rattle.tz_write.specs.FileLayouts.{HasPlace, HavePlaces, with_text, ends, with_text_of, with_texts, before_last, laid, text_at, laid_from, ArePlaced, IsPlacedFrom, AreNotPlacedBefore, IsFirstPlaced, IsLaid};
 
 use std::marker::Model;
 use tz_info::LocalTimeType;
@@ -109,7 +109,7 @@ fn text_at(designations: &[u8], place: usize) -> &[u8]
     rest
 }
 
-#[tactic(auto, unfolding(crate::specs::Steps::FileLayouts::with_text))]
+#[tactic(auto, unfolding(crate::specs::FileLayouts::with_text))]
 fn push_text(designations: &mut Designations, text: &[u8])
     ensures { designations.new ≡ with_text designations.old text.now }
 {
@@ -122,7 +122,8 @@ fn push_text(designations: &mut Designations, text: &[u8])
 }
 
 fn push_text_of(designations: &mut Designations, last: &[u8], local: &LocalTimeType, size: usize)
-    ensures { designations.new ≡ with_text_of last.now size designations.old local.now }
+    ensures put { designations.new ≡ with_text_of last.now size designations.old local.now }
+    ensures sound { IsNameOrNone local.now.name }
 {
     let text = text_of(local);
     if text.len() == size && !last.ends_with(text) {
@@ -130,9 +131,10 @@ fn push_text_of(designations: &mut Designations, last: &[u8], local: &LocalTimeT
     }
 }
 
-#[tactic(auto, unfolding(crate::specs::Steps::FileLayouts::with_texts))]
+#[tactic(auto, unfolding(crate::specs::FileLayouts::with_texts))]
 fn push_texts(designations: &mut Designations, last: &[u8], types: &[LocalTimeType], size: usize)
-    ensures { designations.new ≡ with_texts last.now size designations.old types.now }
+    ensures put { designations.new ≡ with_texts last.now size designations.old types.now }
+    ensures sound { All (λ t. IsNameOrNone t.name) types.now }
 {
     for local in types {
         push_text_of(designations, last, local, size);
@@ -140,9 +142,10 @@ fn push_texts(designations: &mut Designations, last: &[u8], types: &[LocalTimeTy
 }
 
 // The names of the types, each followed by a 0 byte, the longest first; but that text is the last.
-#[tactic(auto, unfolding(crate::specs::Steps::FileLayouts::laid, crate::specs::Steps::FileLayouts::before_last))]
+#[tactic(auto, unfolding(crate::specs::FileLayouts::laid, crate::specs::FileLayouts::before_last))]
 fn laid(types: &[LocalTimeType], last: &[u8]) -> Designations
-    ensures { result ≡ laid last.now types.now }
+    ensures laid { result ≡ laid last.now types.now }
+    ensures sound { All (λ t. IsNameOrNone t.name) types.now }
 {
     let mut designations = Designations::new();
     push_texts(&mut designations, last, types, 7);
@@ -220,7 +223,7 @@ fn laid_otherwise(types: &[LocalTimeType], in_order: &[u8]) -> Option<Designatio
 pub fn designations_of(types: &[LocalTimeType]) -> Option<Designations>
     requires { 0 < length types.now }
     ensures { MatchOption result
-        (All (λ t. IsNameOrNone t.name) types.now → (d : List ℕ) → ¬ (AreNamesIn d types.now))
+        ((d : List ℕ) → ¬ (AreNamesIn d types.now))
         (λ d. HavePlaces d types.now × IsLaid types.now d × AreShortest d types.now) }
 {
     let in_order = laid(types, &[]);

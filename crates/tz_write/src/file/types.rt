@@ -3,8 +3,8 @@
 ghost use Rattle.std.specs.Prelude.{◌≡◌, ◌++◌, All, OnOk};
 ghost use Rattle.std.specs.List.{flat_map};
 ghost use Rattle.tz_write.specs.FileBytes.{mark_byte, type_bytes};
-ghost use Rattle.tz_write.specs.Steps.FileLayouts.{HasPlace, HavePlaces};
-ghost use Rattle.tz_write.specs.Steps.FileParts.{IsType};
+ghost use Rattle.tz_write.specs.FileLayouts.{HasPlace, HavePlaces};
+ghost use Rattle.tz_write.specs.WrittenFiles.{IsType};
 
 use crate::file::designations::{place_of, text_of};
 use crate::file::numbers::push_signed_32;

@@ -1,11 +1,11 @@
 //! A file from its first byte to its last.
 
 ghost use Rattle.std.specs.Prelude.{◌≡◌, ◌<◌, ◌≤◌, ◌++◌, [], All, OnOk, IfOk, MatchOption, length};
-ghost use Rattle.tz_base.specs.Names.{IsNameOrNone};
+ghost use Rattle.tz_info.specs.Zones.{IsValid, IsRuleOrNone};
 ghost use Rattle.tz_write.specs.FileBytes.{zone_counts, zone_parts, block_bytes, footer_bytes, second_half, file_bytes};
-ghost use Rattle.tz_write.specs.WrittenFiles.{IsCount, HasCounts, HasIndex, FitsBlock};
-ghost use Rattle.tz_write.specs.Steps.FileLayouts.{HavePlaces};
-ghost use Rattle.tz_write.specs.Steps.FileParts.{counts_in, HasRoom, IsSound};
+ghost use Rattle.tz_write.specs.WrittenFiles.{IsCount, HasCounts, HasIndex, FitsBlock, IsSound};
+ghost use Rattle.tz_write.specs.FileLayouts.{HavePlaces};
+ghost use Rattle.tz_write.specs.Steps.FileParts.{counts_in, HasRoom};
 
 use crate::file::contents::{have_indexes, push_indexes, push_leap_seconds, push_times};
 use crate::file::designations::{Designations, designations_of};
@@ -49,7 +49,7 @@ fn sizes_of(zone: &TimeZone, designations: &[u8]) -> Option<Sizes>
 /// What stands in the second block, if it has room for the zone.
 pub fn room_for(zone: &TimeZone) -> Option<Room>
     ensures { MatchOption result
-        (All (λ t. IsNameOrNone t.name) zone.now.types → ¬ (FitsBlock zone.now))
+        (¬ (FitsBlock zone.now))
         (λ room. HasRoom zone.now room) }
 {
     if !have_indexes(zone) {
@@ -119,9 +119,10 @@ pub fn write_file(
     requires { HasRoom zone.now room.now }
     ensures bytes { IfOk result (λ v. v.items ≡ file_bytes extended text.now room.now.designations zone.now) }
     ensures sound { OnOk result (IsSound zone.now) }
-    ensures some { 0 < length zone.now.types }
+    ensures valid { IsValid zone.now }
+    ensures rule { IsRuleOrNone zone.now.rule }
 {
-    let _types = zone.type_count();
+    let _types = zone.local_time_types();
     let mut bytes = Vec::new(alloc);
     push_first_half(&mut bytes, extended)?;
     push_second_half(&mut bytes, zone, room, text, extended)?;

@@ -1,28 +1,115 @@
 //! Theorems of the files that are written.
 
-ghost use Rattle.std.specs.Prelude.{◌≡◌, ℕ, List, IfOk, IfSome, MatchOption, MatchResult};
+ghost use Rattle.std.specs.Prelude.{◌≡◌, ℕ, pos, neg_ℤ, false, true, List, [], ◌∷◌, slice_index, Some, IfOk, IfSome, MatchOption, MatchResult};
 ghost use Rattle.tz_base.specs.Errors.{IsOutOfMemory};
 ghost use Rattle.tz_info.specs.TzFiles.{IsTzFile};
-ghost use Rattle.tz_info.specs.Zones.{Zone};
-ghost use Rattle.tz_write.specs.WrittenFiles.{AreBytes, IsInNoFile, IsWritable, IsWrittenFile};
+ghost use Rattle.tz_info.specs.Zones.{Zone, IsValid, IsRuleOrNone};
+ghost use Rattle.tz_write.specs.FileBytes.{counts_of, header_bytes};
+ghost use Rattle.tz_write.specs.FileLayouts.{laid};
+ghost use Rattle.tz_write.specs.WrittenFiles.{AreBytes, IsInNoFile, IsWritable, IsWrittenFile, NeedsExtensions, IsSound};
 
-use crate::file::{ToTzData, tz_data};
+use crate::ToTzData;
 use std::alloc::Global;
 use tz_info::{Error, TimeZone};
 
-/// One file is written of zones that are equal: `to_tz_data` answers what `tz_data` does.
-pub fn one_file(
+/// The header of Honolulu's file (RFC 8536 appendix B.2), of version 2, and the first one of
+/// Jerusalem's (appendix B.4), of version 3.
+#[tactic(auto, unfolding(crate::specs::FileBytes::header_bytes, crate::specs::FileBytes::counts_bytes, crate::specs::FileBytes::number_bytes))]
+pub fn headers()
+    ensures honolulu { header_bytes false (record {
+      ut_local = 6;
+      standard_wall = 6;
+      leap_seconds = 0;
+      transitions = 7;
+      types = 6;
+      designations = 20;
+    }) ≡
+        84 ∷ 90 ∷ 105 ∷ 102 ∷
+        50 ∷ 0 ∷ 0 ∷ 0 ∷ 0 ∷ 0 ∷ 0 ∷ 0 ∷ 0 ∷ 0 ∷ 0 ∷ 0 ∷ 0 ∷ 0 ∷ 0 ∷ 0 ∷
+        0 ∷ 0 ∷ 0 ∷ 6 ∷
+        0 ∷ 0 ∷ 0 ∷ 6 ∷
+        0 ∷ 0 ∷ 0 ∷ 0 ∷
+        0 ∷ 0 ∷ 0 ∷ 7 ∷
+        0 ∷ 0 ∷ 0 ∷ 6 ∷
+        0 ∷ 0 ∷ 0 ∷ 20 ∷
+        [] }
+    ensures jerusalem { header_bytes true (counts_of 0 0 1 4) ≡
+        84 ∷ 90 ∷ 105 ∷ 102 ∷
+        51 ∷ 0 ∷ 0 ∷ 0 ∷ 0 ∷ 0 ∷ 0 ∷ 0 ∷ 0 ∷ 0 ∷ 0 ∷ 0 ∷ 0 ∷ 0 ∷ 0 ∷ 0 ∷
+        0 ∷ 0 ∷ 0 ∷ 0 ∷
+        0 ∷ 0 ∷ 0 ∷ 0 ∷
+        0 ∷ 0 ∷ 0 ∷ 0 ∷
+        0 ∷ 0 ∷ 0 ∷ 0 ∷
+        0 ∷ 0 ∷ 0 ∷ 1 ∷
+        0 ∷ 0 ∷ 0 ∷ 4 ∷
+        [] }
+{}
+
+/// The names of Honolulu's file (RFC 8536 appendix B.2) stand in the order of its types, of which
+/// two have the name `HST`.
+#[tactic(auto, unfolding(crate::specs::FileLayouts::laid, crate::specs::FileLayouts::before_last, crate::specs::FileLayouts::with_texts, crate::specs::FileLayouts::with_text, crate::specs::FileDesignations::begins))]
+pub fn names()
+    ensures { laid [] (
+        record { offset = neg_ℤ (pos 37_886); dst = false; name = Some (76 ∷ 77 ∷ 84 ∷ []) } ∷
+        record { offset = neg_ℤ (pos 37_800); dst = false; name = Some (72 ∷ 83 ∷ 84 ∷ []) } ∷
+        record { offset = neg_ℤ (pos 34_200); dst = true; name = Some (72 ∷ 68 ∷ 84 ∷ []) } ∷
+        record { offset = neg_ℤ (pos 34_200); dst = true; name = Some (72 ∷ 87 ∷ 84 ∷ []) } ∷
+        record { offset = neg_ℤ (pos 34_200); dst = true; name = Some (72 ∷ 80 ∷ 84 ∷ []) } ∷
+        record { offset = neg_ℤ (pos 36_000); dst = false; name = Some (72 ∷ 83 ∷ 84 ∷ []) } ∷
+        []) ≡
+        76 ∷ 77 ∷ 84 ∷ 0 ∷
+        72 ∷ 83 ∷ 84 ∷ 0 ∷
+        72 ∷ 68 ∷ 84 ∷ 0 ∷
+        72 ∷ 87 ∷ 84 ∷ 0 ∷
+        72 ∷ 80 ∷ 84 ∷ 0 ∷
+        [] }
+{}
+
+/// Both headers of a written file have version `3` (51) if and only if the zone's rule needs the
+/// extensions of RFC 8536 section 3.3.1; else both have `2` (50).
+pub fn versions()
+    ensures extended { (z : Zone) (bytes : List ℕ) → IsRuleOrNone z.rule → IsWrittenFile z bytes
+        → NeedsExtensions z.rule
+        → (slice_index bytes 4 ≡ 51) × (slice_index bytes 55 ≡ 51) }
+    ensures plain { (z : Zone) (bytes : List ℕ) → IsRuleOrNone z.rule → IsWrittenFile z bytes
+        → ¬ (NeedsExtensions z.rule)
+        → (slice_index bytes 4 ≡ 50) × (slice_index bytes 55 ≡ 50) }
+{}
+
+/// A zone has one file that is written, if it can be written.
+pub fn one_file()
+    ensures some { (z : Zone) → IsValid z → IsRuleOrNone z.rule → IsSound z → IsWritable z
+        → (bytes : List ℕ) × IsWrittenFile z bytes }
+    ensures once { (z : Zone) (a b : List ℕ) → IsWrittenFile z a → IsWrittenFile z b → a ≡ b }
+{}
+
+/// A zone that can be written is written, unless memory runs out.
+pub fn written_if_writable<T: ToTzData>(alloc: Global, value: &T) -> Result<Vec<u8>, Error>
+    requires { IsWritable (T.zone value.now) }
+    ensures { MatchResult result
+        (λ bytes. IsWrittenFile (T.zone value.now) bytes.items)
+        (λ e. IsOutOfMemory e) }
+{
+    match value.to_tz_data(alloc)? {
+        Some(bytes) => Ok(bytes),
+        None => unreachable!(),
+    }
+}
+
+/// Of the same zone the same bytes are written.
+pub fn written_alike<T: ToTzData>(
     alloc: Global,
-    zone: &TimeZone,
-    other: &TimeZone,
+    value: &T,
+    other: &T,
 ) -> Result<Option<(Vec<u8>, Vec<u8>)>, Error>
-    requires { zone.now ≡ other.now }
+    requires { T.zone value.now ≡ T.zone other.now }
     ensures { IfOk result (λ answer. IfSome answer (λ files. files.0.items ≡ files.1.items)) }
 {
-    let Some(file) = tz_data(alloc, zone)? else {
+    one_file();
+    let Some(file) = value.to_tz_data(alloc)? else {
         return Ok(None);
     };
-    let Some(other_file) = tz_data(alloc, other)? else {
+    let Some(other_file) = other.to_tz_data(alloc)? else {
         return Ok(None);
     };
     Ok(Some((file, other_file)))

@@ -1,8 +1,6 @@
-use Rattle.tz_write.proofs.WrittenLaws.{text_some, text_once}
+use Rattle.tz_write.proofs.RuleTexts.{rule_named}
+use Rattle.tz_write.proofs.WrittenLaws.{text_some, text_once, extensions}
 use Rattle.tz_write.proofs.laws.one_written_text.Goals as goal
 
-pub returns-clause-some : goal.returns-clause-some
-returns-clause-some c = text_some
-
-pub returns-clause-once : goal.returns-clause-once
-returns-clause-once c = text_once
+pub returns : goal.returns
+returns c = record { spelled = rule_named; some = text_some; once = text_once; extensions = extensions }

@@ -1,6 +1,6 @@
 use Rattle.std.proofs.Common.{◌∙◌, [], subst, sym}
 use Rattle.std.proofs.lemmas.Bool.{false≢true}
-use Rattle.tz_write.specs.Steps.FileLayouts.{HavePlaces, laid}
+use Rattle.tz_write.specs.FileLayouts.{HavePlaces, laid}
 use Rattle.tz_write.proofs.FileLayouts.{laid_in_order, laid_if_any}
 use Rattle.tz_write.proofs.file.designations.designations_of.Goals as goal
 
@@ -8,13 +8,13 @@ pub returns-then-have_places : goal.returns-then-have_places
 returns-then-have_places c =
     let types = c.args.types.now in
     let places = c.have_places.ensures.places.0 c.if-have_places.true in
-    laid_in_order types c.laid-in_order.result c.requires c.laid-in_order.ensures (subst (λ d. HavePlaces d types) c.as_slice.ensures.bytes places)
+    laid_in_order types c.laid-in_order.result c.requires c.laid-in_order.ensures.sound c.laid-in_order.ensures.laid (subst (λ d. HavePlaces d types) c.as_slice.ensures.bytes places)
 
 pub returns : goal.returns
 returns c =
     let types = c.args.types.now in
-    let same = c.as_slice.ensures.bytes ∙ c.laid-in_order.ensures in
-    let again = c.as_slice-2.ensures.bytes ∙ c.laid-in_order.ensures in
+    let same = c.as_slice.ensures.bytes ∙ c.laid-in_order.ensures.laid in
+    let again = c.as_slice-2.ensures.bytes ∙ c.laid-in_order.ensures.laid in
     let unplaced : ¬ (HavePlaces (laid [] types) types) =
     λ h. false≢true (sym c.if-have_places.false ∙ c.have_places.ensures.places.1 (subst (λ d. HavePlaces d types) (sym same) h)) in
-    laid_if_any types c.laid_otherwise.result c.requires unplaced (rw again at c.laid_otherwise.ensures)
+    laid_if_any types c.laid_otherwise.result c.requires c.laid-in_order.ensures.sound unplaced (rw again at c.laid_otherwise.ensures)

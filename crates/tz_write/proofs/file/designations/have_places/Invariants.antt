@@ -1,5 +1,5 @@
 use Rattle.std.proofs.Common.{take}
-use Rattle.tz_write.specs.Steps.FileLayouts.{HavePlaces}
+use Rattle.tz_write.specs.FileLayouts.{HavePlaces}
 use Rattle.tz_write.proofs.file.designations.have_places.Given as goal
 
 abbrev pub invariant-loop-local : goal.invariant-loop-local

@@ -1,6 +1,6 @@
 use Rattle.std.proofs.Common.{◌≡◌, List, ℕ, true, false, not, subst, sym, rules}
-use Rattle.tz_write.specs.WrittenTexts.{IsWrittenText}
-use Rattle.tz_write.specs.Steps.TextPieces.{text_of, AreTimesOf}
+use Rattle.tz_write.specs.WrittenTexts.{CanBeSpelled, AreTimesOf, IsWrittenText}
+use Rattle.tz_write.specs.Steps.TextPieces.{text_of}
 use Rattle.tz_write.proofs.RuleTexts.{rule_spelled, times_extended, unspelled, written}
 use Rattle.tz_write.proofs.ZoneTexts.{on_err}
 use Rattle.tz_write.proofs.rule_text.TransitionRuleToTzString.to_tz_string.Goals as goal
@@ -8,9 +8,10 @@ use Rattle.tz_write.proofs.rule_text.TransitionRuleToTzString.to_tz_string.Goals
 pub returns : goal.returns
 returns c =
     let rule = c.args.self.now in
+    let named = c.can_be_spelled.ensures.answer.0 (search rules) in
     let plain : (c.is_plain.result ≡ true → AreTimesOf false rule) × (AreTimesOf false rule → c.is_plain.result ≡ true) = search (rules, c.is_plain.ensures) in
-    let text = written rule c.is_plain.result c.can_be_spelled.ensures.rule (c.can_be_spelled.ensures.answer.0 (search rules)) plain.0 plain.1 in
-    record { written = subst (λ (z : List ℕ). IsWrittenText rule z (not c.is_plain.result)) (sym c.in_ok-text.ensures) text; memory = tt }
+    let text = written rule c.is_plain.result c.can_be_spelled.ensures.rule named plain.0 plain.1 in
+    record { written = subst (λ (z : List ℕ). IsWrittenText rule z (not c.is_plain.result)) (sym c.in_ok-text.ensures) text; reason = named; memory = tt }
 
 pub returns-in_err-text-clause-memory : goal.returns-in_err-text-clause-memory
 returns-in_err-text-clause-memory c =
@@ -19,5 +20,6 @@ returns-in_err-text-clause-memory c =
     let spelled = rule_spelled true rule fits (c.can_be_spelled.ensures.answer.0 (search rules)) (times_extended rule fits) in
     on_err c.from_residual.result _ (true, text_of rule, spelled)
 
-pub returns-then-not-can_be_spelled-clause-written : goal.returns-then-not-can_be_spelled-clause-written
-returns-then-not-can_be_spelled-clause-written c = unspelled c.args.self.now c.can_be_spelled.result c.can_be_spelled.ensures.answer (search rules)
+pub returns-then-not-can_be_spelled : goal.returns-then-not-can_be_spelled
+returns-then-not-can_be_spelled c =
+    let none : ¬ (CanBeSpelled c.args.self.now) = search (rules, c.can_be_spelled.ensures.answer) in record { written = unspelled c.args.self.now none; reason = none; memory = tt }

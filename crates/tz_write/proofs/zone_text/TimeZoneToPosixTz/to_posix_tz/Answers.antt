@@ -1,8 +1,9 @@
-use Rattle.std.proofs.Common.{◌≡◌, [], rules, subst, Some, None, MatchOption, MatchResult, string_bytes}
+use Rattle.std.proofs.Common.{◌≡◌, [], rules, subst, Some, None, MatchOption, MatchResult, string_bytes, Option}
+use Rattle.std.specs.Result.{IfOk}
 use Rattle.tz_base.specs.Errors.{IsOutOfMemory}
 use Rattle.tz_info.specs.RuleTypes.{IsRule}
 use Rattle.tz_info.specs.Zones.{Zone}
-use Rattle.tz_write.specs.WrittenTexts.{IsWrittenZone, IsNoPosixZone}
+use Rattle.tz_write.specs.WrittenTexts.{IsOfText, IsWrittenZone, IsNoPosixZone}
 use Rattle.tz_write.proofs.ZoneTexts.{zone_is, gives_same_zone, on_err_to}
 use Rattle.tz_write.proofs.zone_text.TimeZoneToPosixTz.to_posix_tz.Goals as goal
 
@@ -16,12 +17,17 @@ returns-in-Some c =
     let fits : IsRule rule = search rules in
     record {
       written = subst (λ (x : Zone). MatchResult c.text_of_rule.result (λ answer. MatchOption answer (IsNoPosixZone x) (λ text. IsWrittenZone x (string_bytes text))) (λ e. IsOutOfMemory e)) is c.text_of_rule.ensures.written;
+      reason = subst (λ (x : Zone). IfOk c.text_of_rule.result (λ answer. MatchOption answer (¬ (IsOfText x)) (λ _. IsOfText x))) is c.text_of_rule.ensures.reason;
       memory = on_err_to c.text_of_rule.result _ _ c.text_of_rule.ensures.memory (λ has. gives_same_zone types rule z fits has is);
     }
 
-pub returns-in-None-clause-written : goal.returns-in-None-clause-written
-returns-in-None-clause-written c =
+pub returns-in-None : goal.returns-in-None
+returns-in-None c =
     let z = c.args.self.now in
     let alone : (z.transitions ≡ []) × (z.leaps ≡ []) = c.is_rule_alone.ensures.0 (search rules) in
     let is = zone_is z c.local_time_types-types.result.now None alone c.local_time_types-types.ensures.types c.in-None.ensures in
-    subst (λ (x : Zone). MatchOption c.text_of_utc.result (IsNoPosixZone x) (λ text. IsWrittenZone x (string_bytes text))) is c.text_of_utc.ensures
+    record {
+      written = subst (λ (x : Zone). MatchOption c.text_of_utc.result (IsNoPosixZone x) (λ text. IsWrittenZone x (string_bytes text))) is c.text_of_utc.ensures.written;
+      reason = subst (λ (x : Zone). MatchOption c.text_of_utc.result (¬ (IsOfText x)) (λ _. IsOfText x)) is c.text_of_utc.ensures.reason;
+      memory = tt;
+    }

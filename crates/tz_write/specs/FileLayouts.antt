@@ -1,15 +1,14 @@
--- How designations are laid: the texts of the types, each followed by a 0 byte, the longest first, and no text that stands there
--- already, be it as the end of a longer one. Where the last of them would begin past byte 255, another text is laid last.
+-- The order of the names in the designations that are written (RFC 8536 section 3.2 leaves it open): the longest first, those of one
+-- length in the order of their types, and none that is there already, even as the end of a longer one. If a name would begin past byte
+-- 255 then, another one is put last.
 use Rattle.std.specs.Prelude.{ℕ, ◌≡◌, ◌<◌, ◌≤◌, ◌+◌, Bool, ◌&&◌, ◌==◌, nat_lt, not, if◌then◌else◌, List, [], ◌∷◌, ◌++◌, length, drop, All}
 use Rattle.std.specs.Bool.{nat_eq}
 use Rattle.std.specs.List.{fold, ends_with}
 use Rattle.tz_base.specs.LocalTypes.{LocalType}
-use Rattle.tz_base.specs.Names.{IsNameOrNone}
 use Rattle.tz_write.specs.FileDesignations.{text_of, place_of, place_limit}
 
 -- the type's text stands in the designations, and its first place is one that a byte can name
 pub record HasPlace (designations : List ℕ) (t : LocalType) : Type 0 where
-  pub name : IsNameOrNone t.name
   pub stands : place_of (text_of t) designations < length designations
   pub named : place_of (text_of t) designations < place_limit
 

@@ -1,0 +1,5 @@
+use Rattle.tz_write.proofs.ZoneTexts.{given, zone_text_some, zone_text_once}
+use Rattle.tz_write.proofs.laws.one_zone_text.Goals as goal
+
+pub returns : goal.returns
+returns c = record { given = given; some = zone_text_some; once = zone_text_once }
