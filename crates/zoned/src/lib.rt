@@ -179,6 +179,6 @@ pub use zoned_ref::{TimeZoneRef, WallClock, ZoneChange, ZoneOffset};
 pub use zoned_round::{DurationRound, RoundingError, SubsecRound};
 pub use zoned_series::{DailyItems, DailySeries, SeriesError};
 pub use zoned_time::{
-    DateTime, MAX_DATETIME, MIN_DATETIME, NaiveZoned, Offset, OffsetsAround, ResolveError, TimeZone,
-    Utc,
+    DateTime, MAX_DATETIME, MIN_DATETIME, NaiveZoned, Offset, OffsetsAround, ResolveError,
+    TimeZone, Utc,
 };
