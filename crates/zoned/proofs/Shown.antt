@@ -9,7 +9,7 @@ use Rattle.offset_core.specs.WallAnswer.{IsWallAnswer, IsNeverShown, IsShownOnce
 use Rattle.naive_base.specs.Range.{IsInRange}
 use Rattle.naive_base.specs.Reading.{Reading}
 use Rattle.zoned_time.specs.Relocal.{IsRelocal, AreInstantsOf, HasInstant, instant_of}
-use Rattle.zoned_time.specs.Zone.{Meaning, Law, Shows}
+use Rattle.zoned_time.specs.Zone.{Meaning, Law, Each, Shows}
 use Rattle.zoned_time.specs.Zoned.{Zoned}
 use Rattle.zoned.specs.Within.{IsWithin}
 
@@ -104,3 +104,10 @@ within_shown show off l u k shows (Ambiguous t s) h =
     let first = h.at_first.1 in let last = h.at_last.1 in
     let from = h.not_before u u there in let to = h.not_after u u there in
     (omega (arith, ints, first, from), omega (arith, ints, last, to))
+
+-- what holds of each value seen as another
+pub each_seen : {T Z : Type 0} (f : T → Z) (P : Z → Type 0) (Q : T → Type 0) (a : LocalResult T)
+    → ((t : T) → P (f t) → Q t) → Each P (map_of f a) → Each Q a
+each_seen f P Q none so h = tt
+each_seen f P Q (Single t) so h = so t h
+each_seen f P Q (Ambiguous t s) so h = (so t h.0, so s h.1)

@@ -75,6 +75,17 @@ pub fn truncated<Tz: TimeZone>(instant: &DateTime<Tz>, length: TimeDelta, start:
         → IsMultiple span (total (wall_of start.now)) }
 {}
 
+/// The instants at which the clocks of a zone show a local time show it.
+pub fn shown_by_clock<Tz: TimeZone>(
+    zone: &Tz,
+    local: &NaiveDateTime,
+    instants: &LocalResult<DateTime<Tz>>,
+)
+    requires { IsRelocal (Tz.law zone.now) (reading local.now)
+        (map_of (λ d. zoned d) instants.now) }
+    ensures { Each (λ d. wall_of d ≡ reading local.now) instants.now }
+{}
+
 /// Every second at which a zone's clocks show a local time is that of its only instant, or lies
 /// between those of its first and its last. If the local time has no instant, no second shows it, or
 /// one that does is out of range.

@@ -5,6 +5,7 @@ ghost use Rattle.zoned.specs.Choice.{IsUnresolved};
 ghost use Rattle.zoned.specs.DateTime.{zoned, wall_of, IsIn};
 ghost use Rattle.zoned.specs.FixedOffset.{seconds_of, printed_offset};
 ghost use Rattle.zoned.specs.InstantFields.{IsOnly};
+ghost use Rattle.zoned.specs.KeptChange.{change_of};
 ghost use Rattle.zoned.specs.KeptOffset.{law_of};
 ghost use Rattle.zoned.specs.KeptZone.{zone_of, off_of};
 ghost use Rattle.zoned.specs.Laws.{IsMultiple};
@@ -13,15 +14,16 @@ ghost use Rattle.zoned.specs.NaiveDate.{day_of};
 ghost use Rattle.zoned.specs.NaiveDateTime.{reading};
 ghost use Rattle.zoned.specs.Range.{IsInRange};
 ghost use Rattle.zoned.specs.Reading.{reading_at, total};
+ghost use Rattle.zoned.specs.Zone.{Shows};
 ghost use Rattle.zoned.specs.Zoned.{in_seconds};
 ghost use Rattle.zoned.specs.Zones.{TypeAt};
 
 use std::alloc::{AllocError, Global};
 use zoned::tz_info::TimeZoneName;
 use zoned::{
-    Choice, DailySeries, DateTime, DurationRound, FixedOffset, KeptZone, LocalResult, Months,
-    NaiveDate, NaiveDateTime, NaiveTime, Offset, ResolveError, RoundingError, TimeDelta, TimeZone,
-    Timelike, Utc, client_laws,
+    Choice, DailySeries, DateTime, DurationRound, FixedOffset, KeptChange, KeptZone, LocalResult,
+    Months, NaiveDate, NaiveDateTime, NaiveTime, Offset, ResolveError, RoundingError, TimeDelta,
+    TimeZone, Timelike, Utc, client_laws,
 };
 
 /// The seconds from 1970-01-01 00:00:00 UTC to an instant.
@@ -100,6 +102,79 @@ pub fn offset_until<Tz: TimeZone>(
     match zone.next_change(instant) {
         Some(change) => (offset, Some(change.at)),
         None => (offset, None),
+    }
+}
+
+/// When the clocks of a zone change next, asked twice.
+pub fn next_change_twice<Tz: TimeZone>(
+    zone: &KeptZone,
+    instant: &DateTime<Tz>,
+) -> (Option<KeptChange>, Option<KeptChange>)
+    ensures { option_map change_of result.0 ≡ option_map change_of result.1 }
+{
+    client_laws::one_change();
+    (zone.next_change(instant), zone.next_change(instant))
+}
+
+/// The instant of a line of a log, by the clock of a zone and the line before it.
+pub fn place<Tz: TimeZone>(
+    zone: &Tz,
+    shown: &NaiveDateTime,
+    before: &DateTime<Tz>,
+) -> Option<DateTime<Tz>>
+    // The clock shows what the line says.
+    ensures shown { IfSome result (λ d. wall_of d ≡ reading shown.now) }
+    // It isn't earlier than the line before, if the clock shows that then or later.
+    ensures in_order { let s = (zoned before.now).utc.s in (u k : ℤ)
+        → Shows (Tz.law zone.now).off (reading shown.now).s u k → s ≤ℤ u
+        → IfSome result (λ d. s ≤ℤ (zoned d).utc.s) }
+{
+    let instants = zone.from_local_datetime(shown);
+    client_laws::shown_by_clock(zone, shown, &instants);
+    client_laws::shown_within(zone, shown, &instants);
+    match instants {
+        LocalResult::None => None,
+        LocalResult::Single(only) => Some(only),
+        LocalResult::Ambiguous(first, last) => {
+            if first.timestamp() < before.timestamp() {
+                Some(last)
+            } else {
+                Some(first)
+            }
+        }
+    }
+}
+
+/// The first instant after another one at which the clock of a zone shows a local time, of the first
+/// and the last of them.
+pub fn next_shown<Tz: TimeZone>(
+    zone: &Tz,
+    shown: &NaiveDateTime,
+    after: &DateTime<Tz>,
+) -> Option<DateTime<Tz>>
+    ensures shown { IfSome result (λ d. wall_of d ≡ reading shown.now) }
+    ensures later { IfSome result (λ d. (zoned after.now).utc.s <ℤ (zoned d).utc.s) }
+{
+    let instants = zone.from_local_datetime(shown);
+    client_laws::local_times_come_back::<Tz>();
+    match instants {
+        LocalResult::None => None,
+        LocalResult::Single(only) => {
+            if after.timestamp() < only.timestamp() {
+                Some(only)
+            } else {
+                None
+            }
+        }
+        LocalResult::Ambiguous(first, last) => {
+            if after.timestamp() < first.timestamp() {
+                Some(first)
+            } else if after.timestamp() < last.timestamp() {
+                Some(last)
+            } else {
+                None
+            }
+        }
     }
 }
 

@@ -15,8 +15,8 @@ mod readme;
 pub use borrowed::{by_clock, earliest_first, keep, line};
 pub use error::MyError;
 pub use facts::{
-    abbreviation, bucket, clock_of, elsewhere, fire, later, months_later, offset_until, on_day,
-    seconds, start_of_hour, twice,
+    abbreviation, bucket, clock_of, elsewhere, fire, later, months_later, next_change_twice,
+    next_shown, offset_until, on_day, place, seconds, start_of_hour, twice,
 };
 pub use front_page::{Alarm, alarm_at, daily, next_change, outcome, reading, shown};
 pub use own_zone::Nepal;
