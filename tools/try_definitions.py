@@ -389,18 +389,20 @@ def is_accepted(verdict):
     return verdict.startswith(("no holes", "depends on a hole", "proved"))
 
 
-def unread(said, room):
-    """The faults of libraries' pages, and the names that are missed: nothing that a pin says."""
+def unread(edit, said, room):
+    """The faults of the edit's page, and the names that pins miss: nothing that a pin says."""
     errors = re.findall(r"(?m)^(\S+?):\d+:\d+: error: (.*)$", said)
-    return [f"{path}: {text}" for path, text in errors if path.startswith(str(room)) or re.search(UNREAD, text)]
+    page = str(room / edit.page)
+    return [f"{path}: {text}" for path, text in errors if path == page or not path.startswith(str(room)) and re.search(UNREAD, text)]
 
 
 def told(edit, said, room, crate):
     """What is said of an edit, and whether it is rejected."""
     functions = [edit.law[1]] if edit.law else edit.pins
     found = [next((it for path, it in verdicts(said, crate).items() if f"::{path}".endswith(f"::{name}")), "") for name in functions]
-    if unread(said, room) or not all(found):
-        return f"{edit.name}: not tried: {(unread(said, room) or [said[-300:]])[0][:300]}", False
+    elsewhere = [it for it in found if re.search(rf"stands on `Rattle\.(?!{crate}\.)", it)]
+    if unread(edit, said, room) or elsewhere or not all(found):
+        return f"{edit.name}: not tried: {[*unread(edit, said, room), *elsewhere, said[-300:]][0][:300]}", False
     if any(map(is_accepted, found)):
         return f"{edit.name}: NOT REJECTED by {', '.join(n for n, it in zip(functions, found) if is_accepted(it))}", False
     return f"{edit.name}: rejected by {', '.join(functions)}", True
@@ -413,11 +415,10 @@ def tried(chosen, room):
     said = check(room, "pins", sorted({pin for edit in chosen for pin in edit.pins}))
     for page in made(chosen):
         (room / page).write_text(text_of(TOP / "crates" / page))
-    faulty = [edit for edit in chosen if any(f"{room}/{edit.page}" in fault for fault in unread(said, room))]
-    if unread(said, room) and len(chosen) > 1:
-        apart = [[edit] for edit in (faulty or chosen)]
-        others = [edit for edit in chosen if edit not in faulty] if faulty else []
-        return [row for those in [*([others] if others else []), *apart] for row in tried(those, room)]
+    faulty = [edit for edit in chosen if unread(edit, said, room)]
+    if faulty and len(chosen) > 1:
+        apart = [[edit for edit in chosen if edit not in faulty], *([edit] for edit in faulty)]
+        return [row for those in apart if those for row in tried(those, room)]
     return [told(edit, said, room, "pins") for edit in chosen]
 
 
@@ -431,7 +432,7 @@ def tried_by_law(edit):
         if not before or not all(map(is_accepted, before.values())):
             return f"{edit.name}: {function} isn't proved of the page as it is", False
         (room / edit.page).write_text(edit.applied(text_of(TOP / edit.file)))
-        return told(edit, check(room, crate, [function]), room / "no library", crate)
+        return told(edit, check(room, crate, [function]), room, crate)
 
 
 def tried_by_pins(chosen, lanes):
