@@ -120,7 +120,7 @@ def faults():
 
 def table():
     """The table of the wrong definitions."""
-    rows = ["| wrong definition | page | rejected by | file |", "|---|---|---|---|"]
+    rows = ["| wrong definition | page | must be rejected by | file |", "|---|---|---|---|"]
     for edit in edits():
         crate, _, page = edit.page.partition("/specs/")
         by = ", ".join(f"`{pin}`" for pin in edit.pins) or f"the law `{edit.law[1]}`"
