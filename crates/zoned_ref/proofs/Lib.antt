@@ -7,4 +7,3 @@ pub mod Walls
 pub mod Gaps
 pub mod Choices
 pub mod Changes
-mod OneChange
