@@ -6,7 +6,7 @@ use Rattle.std.proofs.lemmas.List.{take-append-drop, drop_more}
 use Rattle.std.proofs.Math.Nat.{pow-succ', pow-le-pow_right, mul-le-mul_right}
 use Rattle.std.specs.Char.{digit_value}
 use Rattle.std.specs.Str.Parse.{AllDigits, digits_value, digits_value_after}
-use Rattle.std.specs.Prelude.{ℤ, pos, neg_ℤ, FitsSigned, codes}
+use Rattle.std.specs.Prelude.{ℤ, pos, neg_ℤ, FitsSigned}
 use Rattle.std.specs.Int.{w64}
 use Rattle.zone_query.specs.Numerals.{IsInteger, IsNatural}
 use Rattle.zone_query.specs.Words.{AreNumbers}
