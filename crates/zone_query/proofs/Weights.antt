@@ -76,16 +76,6 @@ weight_within line start end =
     let whole = weight_of_front (take end line) (drop end line) false in
     omega (arith, rw (take-append-drop start (take end line)) at front, rw (take-append-drop end line) at whole)
 
--- ---- where the bytes are looked at one by one
-pub zero_at : (bytes : List ℕ) (i : ℕ) → i < length bytes → get_or bytes i 0 ≡ 48 → weight false (drop i bytes) ≡ weight false (drop (i + 1) bytes)
-zero_at bytes i h e = ap (weight false) (drop_more bytes i 0 h) ∙ leading (get_or bytes i 0) (drop (i + 1) bytes) (rw e refl)
-
-pub other_at : (bytes : List ℕ) (i : ℕ) (in_number : Bool) → i < length bytes → (get_or bytes i 0 ≢ 48) ⊎ (in_number ≡ true)
-    → weight in_number (drop i bytes) ≡ 1 + weight (nat_lt (digit_value (get_or bytes i 0)) 10) (drop (i + 1) bytes)
-other_at bytes i true h e = ap (weight true) (drop_more bytes i 0 h) ∙ inside (get_or bytes i 0) (drop (i + 1) bytes)
-other_at bytes i false h (inl e) = ap (weight false) (drop_more bytes i 0 h) ∙ other (get_or bytes i 0) (drop (i + 1) bytes) (ne_eqb (get_or bytes i 0) 48 e)
-other_at bytes i false h (inr e) = absurd (true≢false (sym e))
-
 -- ---- digits
 -- more digits make a number ten times as large, at least
 grown : (n : ℕ) (digits : List ℕ) → n * 10 ^ length digits ≤ digits_value_after 10 n digits
