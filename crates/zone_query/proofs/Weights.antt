@@ -1,12 +1,12 @@
 -- How many bytes of a text are no leading zeros, and how many of a question on numbers.
-use Rattle.std.proofs.Common.{◌≡◌, ℕ, zero, suc, ◌+◌, ◌*◌, ◌^◌, ◌<◌, ◌≤◌, ◌==◌, ◌⊎◌, inl, inr, true, false, Bool, refl, sym, ap, ◌∙◌, subst, arith, List, [], ◌∷◌, ◌++◌, length, get_or, take, drop, ◌≢◌}
+use Rattle.std.proofs.Common.{◌≡◌, ℕ, zero, suc, ◌+◌, ◌*◌, ◌^◌, ◌<◌, ◌≤◌, ◌==◌, ◌⊎◌, inl, inr, true, false, Bool, refl, sym, ap, subst, arith, List, [], ◌∷◌, ◌++◌, length, take, drop}
 use Rattle.std.specs.Prelude.{nat_lt}
-use Rattle.std.proofs.lemmas.Bool.{cases_lt, ne_eqb, eqb-true, true≢false}
-use Rattle.std.proofs.lemmas.List.{take-append-drop, drop_more}
+use Rattle.std.proofs.lemmas.Bool.{cases_lt, eqb-true}
+use Rattle.std.proofs.lemmas.List.{take-append-drop}
 use Rattle.std.proofs.Math.Nat.{pow-succ', pow-le-pow_right, mul-le-mul_right}
 use Rattle.std.specs.Char.{digit_value}
 use Rattle.std.specs.Str.Parse.{AllDigits, digits_value, digits_value_after}
-use Rattle.std.specs.Prelude.{ℤ, pos, neg_ℤ, FitsSigned, codes}
+use Rattle.std.specs.Prelude.{ℤ, pos, neg_ℤ, FitsSigned}
 use Rattle.std.specs.Int.{w64}
 use Rattle.zone_query.specs.Numerals.{IsInteger, IsNatural}
 use Rattle.zone_query.specs.Words.{AreNumbers}
@@ -75,16 +75,6 @@ weight_within line start end =
     let front = weight_of_end (take start (take end line)) (drop start (take end line)) false in
     let whole = weight_of_front (take end line) (drop end line) false in
     omega (arith, rw (take-append-drop start (take end line)) at front, rw (take-append-drop end line) at whole)
-
--- ---- where the bytes are looked at one by one
-pub zero_at : (bytes : List ℕ) (i : ℕ) → i < length bytes → get_or bytes i 0 ≡ 48 → weight false (drop i bytes) ≡ weight false (drop (i + 1) bytes)
-zero_at bytes i h e = ap (weight false) (drop_more bytes i 0 h) ∙ leading (get_or bytes i 0) (drop (i + 1) bytes) (rw e refl)
-
-pub other_at : (bytes : List ℕ) (i : ℕ) (in_number : Bool) → i < length bytes → (get_or bytes i 0 ≢ 48) ⊎ (in_number ≡ true)
-    → weight in_number (drop i bytes) ≡ 1 + weight (nat_lt (digit_value (get_or bytes i 0)) 10) (drop (i + 1) bytes)
-other_at bytes i true h e = ap (weight true) (drop_more bytes i 0 h) ∙ inside (get_or bytes i 0) (drop (i + 1) bytes)
-other_at bytes i false h (inl e) = ap (weight false) (drop_more bytes i 0 h) ∙ other (get_or bytes i 0) (drop (i + 1) bytes) (ne_eqb (get_or bytes i 0) 48 e)
-other_at bytes i false h (inr e) = absurd (true≢false (sym e))
 
 -- ---- digits
 -- more digits make a number ten times as large, at least

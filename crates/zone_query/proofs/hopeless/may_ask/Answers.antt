@@ -1,6 +1,6 @@
-use Rattle.std.proofs.Common.{ℕ, List, ◌+◌, ◌<◌, ◌∙◌, ap, arith, drop, get_or, false, subst, take}
+use Rattle.std.proofs.Common.{ℕ, List, ◌+◌, ◌<◌, ◌∙◌, ap, arith, drop, get_or, subst}
 use Rattle.std.proofs.lemmas.List.{get_or-drop, get_or-take}
-use Rattle.zone_query.specs.Steps.Hopeless.{IsForeign, weight}
+use Rattle.zone_query.specs.Steps.Hopeless.{IsForeign}
 use Rattle.zone_query.proofs.HopelessLaws.{wordless, numberless, overweight}
 use Rattle.zone_query.proofs.hopeless.may_ask.Goals as goal
 
