@@ -1,5 +1,5 @@
 -- What is read, decided: its value is what is meant, or its error is that of the fault. And how such laws go together.
-use Rattle.std.proofs.Common.{◌≡◌, ℕ, ◌≤◌, arith, List, Bool, true, false, cond, Ok, Err, Result, refl, sym, ap, ◌∙◌, inl, inr, ◌⊎◌}
+use Rattle.std.proofs.Common.{◌≡◌, ℕ, ◌≤◌, List, Bool, true, false, cond, Ok, Err, Result, refl, sym, ap, ◌∙◌, inl, inr, ◌⊎◌}
 use Rattle.std.specs.Bool.{Decides}
 use Rattle.tz_base.specs.Errors.{number_of}
 use Rattle.tz_base.specs.Fronts.{◌>>=◌}

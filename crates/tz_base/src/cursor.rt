@@ -120,6 +120,8 @@ impl<'a> Cursor<'a> {
     }
 
     /// The longest run of bytes for which `f` holds.
+    ///
+    /// Requires: `f` may be called with every byte.
     pub fn read_while<F: Fn(u8) -> bool + Drop>(&mut self, f: F) -> &'a [u8]
         requires { F.IsAlwaysCallable f }
         ensures whole { result.now ++ self.new ≡ self.old }
@@ -137,6 +139,8 @@ impl<'a> Cursor<'a> {
     }
 
     /// The longest run of bytes for which `f` fails.
+    ///
+    /// Requires: `f` may be called with every byte.
     pub fn read_until<F: Fn(u8) -> bool + Drop>(&mut self, f: F) -> &'a [u8]
         requires { F.IsAlwaysCallable f }
         ensures whole { result.now ++ self.new ≡ self.old }

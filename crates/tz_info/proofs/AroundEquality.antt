@@ -1,5 +1,5 @@
 -- Gaps, and what shows a local time, are equal by `==` exactly if they are equal.
-use Rattle.std.proofs.Common.{rules, ℤ, int_eq, ◌≡◌, ◌↔◌, IsTrue, refl, ap, ◌&&◌}
+use Rattle.std.proofs.Common.{rules, int_eq, ◌≡◌, IsTrue, refl, ap}
 use Rattle.tz_base.proofs.ForCallers.{IsExact, and_left, and_right, and_both, type_exact}
 use Rattle.tz_base.specs.LocalTypes.{LocalType}
 use Rattle.tz_base.specs.contracts.local_time_type.LocalTimeTypePartialEq.TheImpl.{eq-value as type_eq}

@@ -1,5 +1,5 @@
 -- Lists make a zone or have one first fault.
-use Rattle.std.proofs.Common.{◌≡◌, ◌≢◌, ℕ, zero, suc, ◌+◌, ◌<◌, ◌≤◌, List, [], ◌∷◌, length, get_or, All, AllPairs, ℤ, pos, ◌+ℤ◌, ◌-ℤ◌, ◌≤ℤ◌, ◌<ℤ◌, int_le, int_eq, Bool, true, false, refl, ap, subst, add-one, arith, ◌⊎◌, inl, inr}
+use Rattle.std.proofs.Common.{◌≡◌, ℕ, zero, suc, ◌<◌, ◌≤◌, List, [], ◌∷◌, length, All, AllPairs, ℤ, pos, ◌+ℤ◌, ◌-ℤ◌, ◌≤ℤ◌, ◌<ℤ◌, int_le, int_eq, true, false, refl, add-one, arith, ◌⊎◌, inl, inr}
 use Rattle.std.proofs.lemmas.Bool.{cases_lt}
 use Rattle.std.proofs.lemmas.Bool.Decides.{Decides-int_eq}
 use Rattle.std.proofs.lemmas.Int.{ints, by_lt_z}
@@ -10,8 +10,8 @@ use Rattle.tz_base.specs.declared.error.Error.{Error}
 use Rattle.tz_base.specs.declared.error.Error.TheVariants.{TimeZone}
 use Rattle.tz_base.specs.declared.error.Expected.TheVariants.{AtLeastOneLocalTimeType, TypeIndexesWithinTypes, TransitionTimesThatRise, LeapSecondsInOrder, RuleThatAgreesWithLastTransition}
 use Rattle.tz_info.specs.Leaps.{IsOneStep, IsFirstLeap, IsNextLeap, AreLeapSeconds}
-use Rattle.tz_info.specs.Transitions.{NameTypes, AreRising, AreTransitions}
-use Rattle.tz_info.specs.Zones.{Zone, IsValid, RuleAgrees, ListFault, No_type, Other_index, Not_rising, Other_leaps, Other_rule}
+use Rattle.tz_info.specs.Transitions.{AreTransitions}
+use Rattle.tz_info.specs.Zones.{Zone, IsValid, ListFault, No_type, Other_index, Not_rising, Other_leaps, Other_rule}
 use Rattle.tz_info.specs.declared.zone.leap_second.LeapSecond.{LeapSecond}
 use Rattle.tz_info.specs.declared.zone.transition.Transition.{Transition}
 

@@ -1,5 +1,5 @@
 -- The law of a whole file, and what it says of a reader: a file is a zone's or has one first fault.
-use Rattle.std.proofs.Common.{◌≡◌, ◌⊎◌, ℕ, ◌≤◌, arith, refl, sym, ap, ◌∙◌, subst, List, Result, Ok, Err, Option, Some, None, Bool, IfOk, IfErr, MatchResult, inl, inr}
+use Rattle.std.proofs.Common.{◌≡◌, ◌⊎◌, ℕ, ◌≤◌, arith, refl, sym, ap, subst, List, Result, Ok, Err, Option, Some, None, Bool, IfOk, IfErr, MatchResult, inl, inr}
 use Rattle.std.specs.Result.{IsErrAnd}
 use Rattle.tz_base.specs.Errors.{number_of, IsOutOfMemory}
 use Rattle.tz_base.specs.LocalTypes.{LocalType}

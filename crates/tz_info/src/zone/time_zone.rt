@@ -251,7 +251,7 @@ impl TimeZone {
         &self.local_types
     }
 
-    /// The transition at that place, from 0 in the order of time, or `None` if there are no so many.
+    /// The transition at that place, from 0 in the order of time, or `None` if the zone has fewer.
     pub fn transition_at(&self, place: usize) -> Option<Transition>
         ensures { result ≡ slice_get self.now.transitions place }
     {
@@ -276,7 +276,7 @@ impl TimeZone {
         self.leap_seconds.len()
     }
 
-    /// The rule that says what follows the last transition, if the zone has one.
+    /// The rule that says what follows the last transition, or `None` if the zone has none.
     pub fn rule(&self) -> Option<&TransitionRule>
         ensures { option_map (λ r. r.now) result ≡ self.now.rule }
     {

@@ -1,4 +1,4 @@
-use Rattle.std.proofs.Common.{arith, ◌<◌, length, List, ℕ, Bool, true, false, ◌≡◌, ◌==◌}
+use Rattle.std.proofs.Common.{arith, ◌<◌, length, List, Bool, true, false, ◌≡◌, ◌==◌}
 use Rattle.std.proofs.lemmas.Bool.Decides.{nat_tests}
 use Rattle.tz_base.specs.LocalTypes.{LocalType}
 use Rattle.tz_info.specs.Zones.{No_type, Other_index, Not_rising, Other_leaps, Other_rule}
