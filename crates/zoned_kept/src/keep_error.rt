@@ -5,7 +5,7 @@ ghost use Rattle.zoned_kept.specs.KeepError.{given_back};
 use thiserror::Error;
 use tz_info::TimeZone;
 
-/// Why a zone isn't kept. It has the zone: nothing of it is lost, and no memory was taken.
+/// Why a zone isn't kept. It owns the zone, unchanged. By design no memory was taken.
 #[derive(Debug, Drop, Error)]
 pub enum KeepError {
     /// An offset of the zone is a day or more, as [`TimeZoneRef::new`](zoned_ref::TimeZoneRef::new)

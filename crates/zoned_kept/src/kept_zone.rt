@@ -34,8 +34,8 @@ impl KeptZone {
     /// # Errors
     ///
     /// Each gives the zone back, with nothing kept. [`KeepError::WideZone`] if a type that the zone
-    /// lists, or a type of its rule, is a day (86,400 seconds) or more away from UTC; no memory was
-    /// asked for. [`KeepError::OutOfMemory`] if there is none.
+    /// lists, or a type of its rule, is a day (86,400 seconds) or more away from UTC; by design no
+    /// memory is asked for then. [`KeepError::OutOfMemory`] if there is none.
     pub fn keep(alloc: Global, parsed: tz_info::TimeZone) -> Result<KeptZone, KeepError>
         ensures kept { MatchResult result
             (λ kept. IsNarrow parsed × (zone_of kept ≡ parsed))
