@@ -4,7 +4,7 @@ use Rattle.tz_base.specs.Fronts.{int_at, tag_at, optional_tag_at}
 use Rattle.tz_base.specs.Grammar.{read}
 use Rattle.tz_base.proofs.ForCallers.{lawful}
 use Rattle.tz_base.specs.declared.error.Error.{Error}
-use Rattle.tz_base.specs.declared.error.Error.TheVariants.{InvalidTzString, LocalTimeType, ParseInt, TransitionRule, UnsupportedTzString}
+use Rattle.tz_base.specs.declared.error.Error.TheVariants.{InvalidTzString, LocalTimeType, ParseInt, TransitionRule as RuleError, UnsupportedTzString}
 use Rattle.tz_base.specs.declared.error.Expected.TheVariants.{DayFromJ1ToJ365, DaysWhenDaylightSavingTimeStartsAndEnds, Digit, HoursMinutesAndSecondsWithinTheirLimits, NameOfThreeToSevenBytes}
 use Rattle.tz_info.specs.TzGrammar.{name, quoted, seconds, minutes_seconds, optional_minutes, hours_minutes_seconds, sign, duration, offset, time_sign, time, rule_day, month_date, julian_date, day_number, date, optional_time, day, days, next_hour, more, given_offset, dst_offset, named, end, fixed, alternate, rule, text, IsTzText, IsTextFault}
 use Rattle.tz_info.specs.declared.rule.transition_rule.TransitionRule.{TransitionRule}
@@ -89,9 +89,9 @@ pub two_letters : (extended : Bool) → IsTextFault extended fo_5 (LocalTimeType
 unfolding name quoted seconds minutes_seconds optional_minutes hours_minutes_seconds sign duration offset time_sign time rule_day month_date julian_date day_number date optional_time day days next_hour more given_offset dst_offset named end fixed alternate rule text int_at tag_at optional_tag_at
 two_letters extended = faulty extended fo_5 (LocalTimeType NameOfThreeToSevenBytes) refl
 
-pub date_0 : (extended : Bool) → IsTextFault extended day_0 (TransitionRule DayFromJ1ToJ365)
+pub date_0 : (extended : Bool) → IsTextFault extended day_0 (RuleError DayFromJ1ToJ365)
 unfolding name quoted seconds minutes_seconds optional_minutes hours_minutes_seconds sign duration offset time_sign time rule_day month_date julian_date day_number date optional_time day days next_hour more given_offset dst_offset named end fixed alternate rule text int_at tag_at optional_tag_at
-date_0 extended = faulty extended day_0 (TransitionRule DayFromJ1ToJ365) refl
+date_0 extended = faulty extended day_0 (RuleError DayFromJ1ToJ365) refl
 
 -- `HST10`
 pub hst_10 : IsTzText false (72 ∷ 83 ∷ 84 ∷ 49 ∷ 48 ∷ []) (rules.Fixed hst)

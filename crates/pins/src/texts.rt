@@ -2,7 +2,7 @@
 
 ghost use Rattle.std.specs.Prelude.{◌≡◌, ℕ, [], ◌∷◌, ◌++◌, List, Bool, true, false, codes, pos, neg_ℤ};
 ghost use Rattle.tz_base.specs.Names.{IsName};
-ghost use Rattle.tz_base.specs.declared.error.Error.TheVariants.{InvalidTzString, LocalTimeType, ParseInt, TransitionRule, UnsupportedTzString};
+ghost use Rattle.tz_base.specs.declared.error.Error.TheVariants.{InvalidTzString, LocalTimeType, ParseInt, TransitionRule as RuleError, UnsupportedTzString};
 ghost use Rattle.tz_base.specs.declared.error.Expected.TheVariants.{DayFromJ1ToJ365, DaysWhenDaylightSavingTimeStartsAndEnds, Digit, HoursMinutesAndSecondsWithinTheirLimits, NameOfThreeToSevenBytes};
 ghost use Rattle.tz_info.specs.TzGrammar.{time_limit, seconds_of, IsTzText, IsTextFault};
 ghost use Rattle.tz_info.specs.PosixZones.{IsPosixZone, posix_zone, types_of};
@@ -79,7 +79,7 @@ pub fn fault_numbers()
     ensures two_letters { (extended : Bool) → IsTextFault extended fo_5
         (LocalTimeType NameOfThreeToSevenBytes) }
     ensures date_0 { (extended : Bool) → IsTextFault extended day_0
-        (TransitionRule DayFromJ1ToJ365) }
+        (RuleError DayFromJ1ToJ365) }
 {}
 
 /// The hours of an offset go to 23, and not to 24 as POSIX.1 allows.
