@@ -47,6 +47,13 @@ impl Kind {
     }
 }
 
+/// Whether the kind of that number is a TZif file.
+pub fn is_file(number: u32) -> bool
+    ensures { IsTrue result ↔ (number ≡ number_of File) }
+{
+    number == 0
+}
+
 // The zone of a TZif file.
 fn read_file(alloc: Global, bytes: &[u8]) -> Result<TimeZone, Refusal>
     ensures found { IfOk result (λ z. Spells File bytes.now z) }

@@ -28,7 +28,7 @@ mod texts;
 mod wall_clock;
 
 use instants::write_offsets;
-use kind::{Kind, read_zone};
+use kind::{is_file, read_zone};
 use refusal::detail_number;
 use std::alloc::Global;
 use tz_info::TimeZone;
@@ -62,9 +62,10 @@ pub extern "C" fn zoned_fault(alloc: Global, kind: u32, zone: &[u8]) -> u32
     // The zone that is spelled is read, unless memory runs out.
     ensures only { (z : Zone) → IsZoneOf kind zone.now z → (result ≡ 0) ⊎ (result ≡ 17) }
 {
-    match Kind::from_number(kind) {
-        Some(Kind::File) => file_fault(alloc, zone),
-        _ => zoned_parse(alloc, kind, zone),
+    if is_file(kind) {
+        file_fault(alloc, zone)
+    } else {
+        zoned_parse(alloc, kind, zone)
     }
 }
 

@@ -65,8 +65,8 @@ impl WallClock {
         // Of a file that has a valid zone it is told, unless memory runs out.
         ensures only { (z : Zone) → IsTzFile bytes.now z → IsValid z
             → MatchResult result (λ told. Tells z (reading local.now) told) (λ e. e ≡ OutOfMemory) }
-        // Where the file has a fault, what the number says stands in it.
-        ensures fault { IfErr result (λ e. IsZoneFault bytes.now (number_of e)) }
+        // An error is the first fault of the file, or says that memory ran out.
+        ensures fault { IfErr result (λ e. IsZoneFault bytes.now e) }
         // Memory runs out only where every piece of the file is there.
         ensures memory { IfErr result (λ e. e ≡ OutOfMemory
             → (p : FilePieces) × HasPieces bytes.now p) }
@@ -101,9 +101,9 @@ impl WallClock {
             → MatchResult result
             (λ told. Tells z (reading local.now) told)
             (λ e. number_of e ≡ 17) }
-        // Where the text has a fault, what the number says stands in it, or memory runs out.
+        // An error is the first fault of the text, or says that memory ran out.
         ensures fault { IfErr result
-            (λ e. (number_of e ≡ 17) ⊎ IsPosixFault text.now (number_of e)) }
+            (λ e. (number_of e ≡ 17) ⊎ IsPosixFault text.now e) }
         // Memory runs out only for a text that has a zone.
         ensures memory { IfErr result
             (λ e. number_of e ≡ 17 → (z : Zone) × IsPosixZone text.now z) }
