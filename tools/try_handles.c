@@ -137,6 +137,8 @@ static void try_open(struct tried *to) {
     void *before = to->zone.zone;
     uint32_t number = zoned_open(bytes.kind, bytes.at, bytes.len, &to->zone);
     EXPECT(number == zoned_parse(bytes.kind, bytes.at, bytes.len));
+    uint32_t fault = zoned_fault(bytes.kind, bytes.at, bytes.len);
+    EXPECT(number == ZONED_TIME_ZONE ? fault >= ZONED_OTHER_TYPE_INDEX && fault <= ZONED_OTHER_RULE : fault == number);
     if (number) {
         EXPECT(to->zone.zone == before);
         free(bytes.at);

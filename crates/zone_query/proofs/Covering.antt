@@ -4,6 +4,7 @@ use Rattle.std.specs.List.{flat_map}
 use Rattle.std.proofs.lemmas.Bool.{cases_eq}
 use Rattle.std.proofs.lemmas.List.{append-nil, length-append}
 use Rattle.std.proofs.lemmas.List.Elements.{All-nil, All-cons, All-head, All-tail}
+use Rattle.tz_base.specs.declared.error.Error.TheVariants as errors
 use Rattle.tz_info.specs.Zones.{Zone, IsValid, IsRuleOrNone}
 use Rattle.tz_info.proofs.ForCallers.{type_decided, file_rule_fits, posix_zone_valid, wall_decided}
 use Rattle.zone_query.specs.Answers.{AnswersLine, AnswersLines, type_text, wall_text, refusal_text}
@@ -40,8 +41,8 @@ lines_give z (line ∷ lines) output after given h = lines_give h.1 lines h.2 af
 
 -- each line has an answer that leaves the zone
 query_covered : (z : Option Zone) (line : List ℕ) (query : Query) → IsGiven z → Asks line query → (answer : List ℕ) × AnswersLine z line answer z
-query_covered z line (Text text) given asks = (refusal_text 17, inl (Text text, asks, inr (17, inl refl, refl, refl)))
-query_covered z line (Data bytes) given asks = (refusal_text 17, inl (Data bytes, asks, inr (17, inl refl, refl, refl)))
+query_covered z line (Text text) given asks = (refusal_text 17, inl (Text text, asks, inr (errors.OutOfMemory, inl refl, refl, refl)))
+query_covered z line (Data bytes) given asks = (refusal_text 17, inl (Data bytes, asks, inr (errors.OutOfMemory, inl refl, refl, refl)))
 query_covered None line (At seconds) given asks = (codes "no zone", inl (At seconds, asks, (refl, refl)))
 query_covered (Some zone) line (At seconds) given asks = elim (type_decided zone seconds given.0 given.1) [
   | inl found ↦ (type_text found.0, inl (At seconds, asks, (inl (found.0, found.1, refl), refl)))
