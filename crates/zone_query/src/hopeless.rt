@@ -36,17 +36,18 @@ pub fn may_ask(front: &[u8], judged: usize) -> bool
     // The last bytes may be those of a choice, of the earlier beginning too. Bytes that were judged
     // with others before are judged again with those after them.
     let end = front.len().saturating_sub(LONGEST_CHOICE);
-    let start = judged
-        .saturating_sub(LONGEST_CHOICE + 2 * HEAVIEST)
-        .max(LONGEST_WORD);
+    let first = judged.saturating_sub(LONGEST_CHOICE + 2 * HEAVIEST);
+    let start = first.max(LONGEST_WORD);
     if end <= start {
         return true;
     }
-    let (numbers, _) = front.split_at(end);
-    let (_, unjudged) = numbers.split_at(start);
-    if !may_be_numbers(unjudged) {
+    let (whole, _) = front.split_at(end);
+    let (_, numbers) = whole.split_at(start);
+    if !may_be_numbers(numbers) {
         return false;
     }
+    // A number may begin before the longest word ends, as in "at 1".
+    let (_, unjudged) = whole.split_at(first);
     is_light(unjudged)
 }
 

@@ -22,8 +22,8 @@ returns-then-not-may_be_numbers c = λ _.
 
 pub returns : goal.returns
 returns c = λ heavy.
-    let start = c.max-start.result in
+    let first = c.saturating_sub-first.result in
     let end = c.saturating_sub-end.result in
-    let bytes = c.split_at-2.ensures.back ∙ ap (drop start) c.split_at.ensures.front in
+    let bytes = c.split_at-3.ensures.back ∙ ap (drop first) c.split_at.ensures.front in
     let long = c.if-front-le-LONGEST_WORD.false in
-    overweight c.args.front.now start end (omega (arith, long)) (omega (arith, long, c.saturating_sub-end.ensures)) (rw bytes at c.is_light.ensures heavy) (c.begins_with.ensures c.if-begins_with.false) (c.begins_with-2.ensures c.if-begins_with-2.false)
+    overweight c.args.front.now first end (omega (arith, long)) (omega (arith, long, c.saturating_sub-end.ensures)) (rw bytes at c.is_light.ensures heavy) (c.begins_with.ensures c.if-begins_with.false) (c.begins_with-2.ensures c.if-begins_with-2.false)
