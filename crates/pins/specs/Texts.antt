@@ -55,7 +55,14 @@ foo_behind = rules.Fixed (record {
 abbrev pub foo_ahead : TransitionRule
 foo_ahead = rules.Fixed (record { offset = pos 18_000; dst = false; name = Some (70 ∷ 79 ∷ 79 ∷ []) })
 
--- `FOO5:06:07` and `foo5`
+-- `FOO5:30`, `FOO5:06:07` and `foo5`
+abbrev pub foo_5_30 : TransitionRule
+foo_5_30 = rules.Fixed (record {
+  offset = neg_ℤ (pos 19_800);
+  dst = false;
+  name = Some (70 ∷ 79 ∷ 79 ∷ []);
+})
+
 abbrev pub foo_5_06_07 : TransitionRule
 foo_5_06_07 = rules.Fixed (record {
   offset = neg_ℤ (pos 18_367);

@@ -9,7 +9,7 @@ ghost use Rattle.tz_info.specs.PosixZones.{IsPosixZone, posix_zone, types_of};
 ghost use Rattle.tz_info.specs.Zones.{Zone, plain_zone};
 ghost use Rattle.tz_info.specs.declared.rule.transition_rule.TransitionRule.{TransitionRule};
 ghost use Rattle.pins.specs.NewYork.{new_york_rule, new_york_zone, est, edt};
-ghost use Rattle.pins.specs.Texts.{new_york_text, no_days, foo_23, foo_23_rule, foo_24, foo_5_60, foo, fo_5, day_0, utc_text, utc_rule, jerusalem_text, jerusalem_rule, nuuk_text, nuuk_rule, foo_plus_5, foo_minus_5, foo_behind, foo_ahead, foo_5_06_07, small, numbered_text, numbered_rule};
+ghost use Rattle.pins.specs.Texts.{new_york_text, no_days, foo_23, foo_23_rule, foo_24, foo_5_60, foo, fo_5, day_0, utc_text, utc_rule, jerusalem_text, jerusalem_rule, nuuk_text, nuuk_rule, foo_plus_5, foo_minus_5, foo_behind, foo_ahead, foo_5_06_07, foo_5_30, small, numbered_text, numbered_rule};
 
 /// `EST5EDT,M3.2.0,M11.1.0` spells that rule, as it does with the offset of EDT in it; and `UTC0` one
 /// of one type.
@@ -90,8 +90,10 @@ pub fn limits()
     ensures none { (zone : Zone) → ¬ (IsPosixZone foo_24 zone) }
 {}
 
-/// Minutes and seconds come after hours, each after a colon; names have small letters too.
+/// Minutes and seconds come after hours, each after a colon, and seconds may be left out; names have
+/// small letters too.
 pub fn clocks()
+    ensures minutes { (extended : Bool) → IsTzText extended (codes "FOO5:30") foo_5_30 }
     ensures seconds { (extended : Bool) → IsTzText extended (codes "FOO5:06:07") foo_5_06_07 }
     ensures small_letters { (extended : Bool) → IsTzText extended (codes "foo5") small }
 {}
