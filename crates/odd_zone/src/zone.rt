@@ -1,13 +1,11 @@
 //! The odd zone.
 ghost use Rattle.std.specs.Prelude.{◌≡◌, refl};
-ghost use Rattle.naive_base.specs.NaiveDateTime.{reading};
-ghost use Rattle.zoned_time.specs.Zone.{midnight_of};
 ghost use Rattle.odd_zone.specs.Odd.{odd_offset};
 ghost use Rattle.odd_zone.specs.OddOffset.{ahead_of, meaning_of, law_of};
 ghost use Rattle.std.proofs.Common.{rules};
 
 use crate::OddOffset;
-use naive_base::{NaiveDate, NaiveDateTime, NaiveTime};
+use naive_base::NaiveDateTime;
 use offset_core::LocalResult;
 use zoned_time::TimeZone;
 
@@ -42,19 +40,11 @@ impl TimeZone for Odd {
         offset_at(utc.secs_since_epoch())
     }
 
-    fn offset_from_utc_date(&self, utc: &NaiveDate) -> OddOffset {
-        self.offset_from_utc_datetime(&midnight(utc))
-    }
-
     fn offset_from_local_datetime(&self, local: &NaiveDateTime) -> LocalResult<OddOffset> {
         match offset_at(local.secs_since_epoch()) {
             OddOffset::Even => LocalResult::Ambiguous(OddOffset::Odd, OddOffset::Even),
             OddOffset::Odd => LocalResult::None,
         }
-    }
-
-    fn offset_from_local_date(&self, local: &NaiveDate) -> LocalResult<OddOffset> {
-        self.offset_from_local_datetime(&midnight(local))
     }
 
     fn offset_before_gap(&self, local: &NaiveDateTime) -> Option<OddOffset> {
@@ -73,11 +63,4 @@ fn offset_at(second: i64) -> OddOffset
     } else {
         OddOffset::Odd
     }
-}
-
-// The reading at which a day begins.
-fn midnight(date: &NaiveDate) -> NaiveDateTime
-    ensures { (reading result).s ≡ midnight_of date.now }
-{
-    date.and_time(NaiveTime::MIN)
 }

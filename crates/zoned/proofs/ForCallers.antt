@@ -1,2 +1,2 @@
 -- Lemmas for those who implement the trait `TimeZone`.
-pub use Rattle.zoned_time.proofs.ForCallers.{same_itself, wall_by_seconds, gap_by_seconds, constant_wall, constant_no_gap, midnight_wide}
+pub use Rattle.zoned_time.proofs.ForCallers.{same_itself, wall_by_seconds, gap_by_seconds, constant_wall, constant_no_gap}

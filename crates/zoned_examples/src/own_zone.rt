@@ -4,7 +4,7 @@ ghost use Rattle.std.proofs.Common.{rules};
 ghost use Rattle.zoned.specs.FixedOffset.{seconds_of};
 ghost use Rattle.zoned_examples.specs.Nepal.{ahead_of_utc, meaning_of, law_of};
 
-use zoned::{FixedOffset, LocalResult, NaiveDate, NaiveDateTime, TimeZone};
+use zoned::{FixedOffset, LocalResult, NaiveDateTime, TimeZone};
 
 /// Nepal's clocks since 1986: 5 hours and 45 minutes ahead of UTC.
 #[derive(Clone, Copy, Debug)]
@@ -29,15 +29,7 @@ impl TimeZone for Nepal {
         ahead()
     }
 
-    fn offset_from_utc_date(&self, _utc: &NaiveDate) -> FixedOffset {
-        ahead()
-    }
-
     fn offset_from_local_datetime(&self, _local: &NaiveDateTime) -> LocalResult<FixedOffset> {
-        LocalResult::Single(ahead())
-    }
-
-    fn offset_from_local_date(&self, _local: &NaiveDate) -> LocalResult<FixedOffset> {
         LocalResult::Single(ahead())
     }
 

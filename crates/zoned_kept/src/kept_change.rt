@@ -6,9 +6,16 @@ ghost use Rattle.zoned_time.specs.DateTime.{zoned};
 ghost use Rattle.zoned_kept.specs.KeptChange.{IsOfZone, change_of};
 ghost use Rattle.zoned_kept.specs.KeptZone.{zone_of, off_of};
 ghost use Rattle.zoned_ref.specs.ZoneChange as borrowed;
+ghost use Rattle.zoned_kept.specs.KeptOffset.{type_of, law_of};
+ghost use Rattle.zoned_time.specs.Zoned.{IsAt};
+ghost use Rattle.offset_core.specs.Offset.{IsWithinDay};
+ghost use Rattle.naive_base.specs.Range.{IsInRange};
+ghost use Rattle.naive_base.specs.NaiveDateTime.{reading};
 ghost use Rattle.zoned_ref.specs.ZoneChange.{IsAfter, IsUpTo, StandWithin};
 
-use crate::KeptZone;
+use crate::{KeptOffset, KeptZone};
+use naive_base::NaiveDateTime;
+use tz_info::LocalTimeType;
 use zoned_ref::ZoneChange;
 use zoned_time::{DateTime, TimeZone};
 
@@ -84,8 +91,24 @@ impl KeptZone {
         ensures instants { IsOfZone self.now result }
     {
         KeptChange {
-            before: change.before.with_timezone(self),
-            at: change.at.with_timezone(self),
+            before: self.made(
+                &change.before.naive_utc(),
+                change.before.offset().local_type(),
+            ),
+            at: self.made(&change.at.naive_utc(), change.at.offset().local_type()),
         }
+    }
+
+    // The instant of a reading of UTC at which that type is in force.
+    fn made(&self, utc: &NaiveDateTime, local_type: &LocalTimeType) -> DateTime<KeptZone>
+        requires in_range { IsInRange (reading utc.now).s }
+        requires narrow { IsWithinDay local_type.now.offset }
+        requires offset { local_type.now.offset ≡ off_of self.now (reading utc.now).s }
+        requires in_force { TypeAt (zone_of self.now) (reading utc.now).s local_type.now }
+        ensures at { IsAt (law_of self.now) (reading utc.now) (zoned result) }
+        ensures local_type { type_of (zoned result).offset ≡ local_type.now }
+    {
+        let offset = KeptOffset::of(self, local_type);
+        DateTime::of_parts(utc, &offset)
     }
 }

@@ -134,9 +134,7 @@ around_by law u d e before at =
 abbrev change_at : ℤ → LocalType → LocalType → Change
 change_at u s t = record { at = u; before = s; after = t }
 
-pub change_is : {O : Type 0} (type_of : O → LocalType) (z : Zone) (c : Change) (d e : Zoned O) → e.utc.s ≡ c.at
-    → TypeAt z (c.at -ℤ pos 1) (type_of d.offset) → TypeAt z c.at (type_of e.offset) → IsChange (TypeAt z) c → change_between type_of d e ≡ c
-change_is type_of z c d e same before after is =
-    ap (λ u. change_at u (type_of d.offset) (type_of e.offset)) same
-    ∙ ap (λ t. change_at c.at t (type_of e.offset)) (type_once z (c.at -ℤ pos 1) (type_of d.offset) c.before before is.before)
-    ∙ ap (λ t. change_at c.at c.before t) (type_once z c.at (type_of e.offset) c.after after is.after)
+pub change_is : {O : Type 0} (type_of : O → LocalType) (c : Change) (d e : Zoned O) → e.utc.s ≡ c.at
+    → type_of d.offset ≡ c.before → type_of e.offset ≡ c.after → change_between type_of d e ≡ c
+change_is type_of c d e at before after =
+    ap (λ u. change_at u (type_of d.offset) (type_of e.offset)) at ∙ ap (λ t. change_at c.at t (type_of e.offset)) before ∙ ap (change_at c.at c.before) after

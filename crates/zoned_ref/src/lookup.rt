@@ -7,14 +7,15 @@ ghost use Rattle.tz_info.specs.Gaps.{IsBeforeGap, IsShown};
 ghost use Rattle.tz_info.specs.WallClocks.{Shows};
 ghost use Rattle.tz_info.specs.Zones.{TypeAt};
 ghost use Rattle.zoned_time.specs.Choice.{AreOffsetsAround, IsOffsetBeforeGap};
-ghost use Rattle.zoned_time.specs.Zone.{IsZoneSecond, IsOffsetAt, AreOffsetsFor, midnight_of};
-ghost use Rattle.zoned_ref.specs.TimeZoneRef.{zone_of};
+ghost use Rattle.zoned_time.specs.Zone.{IsZoneSecond, IsOffsetAt, AreOffsetsFor};
+ghost use Rattle.zoned_ref.specs.Offsets.{AreOffsetsOf};
+ghost use Rattle.zoned_ref.specs.TimeZoneRef.{zone_of, off_of};
 ghost use Rattle.zoned_ref.specs.ZoneOffset.{meaning_of, law_of, type_of};
 
 use crate::{TimeZoneRef, ZoneOffset};
-use naive_base::{NaiveDate, NaiveDateTime, NaiveTime};
+use naive_base::NaiveDateTime;
 use offset_core::LocalResult;
-use tz_info::TypesAround;
+use tz_info::{LocalTimeType, TypesAround};
 use zoned_time::{OffsetsAround, TimeZone};
 
 impl<'a> TimeZone for TimeZoneRef<'a> {
@@ -40,13 +41,6 @@ impl<'a> TimeZone for TimeZoneRef<'a> {
         self.offset_at(utc.secs_since_epoch())
     }
 
-    fn offset_from_utc_date(&self, utc: &NaiveDate) -> ZoneOffset<'a>
-        ensures offset { IsOffsetAt (law_of self.now) (midnight_of utc.now) result }
-        ensures local_type { TypeAt (zone_of self.now) (midnight_of utc.now) (type_of result) }
-    {
-        self.offset_from_utc_datetime(&midnight(utc))
-    }
-
     fn offset_from_local_datetime(&self, local: &NaiveDateTime) -> LocalResult<ZoneOffset<'a>>
         ensures offsets { AreOffsetsFor (law_of self.now) (reading local.now).s result }
         // They are the offsets of the types in force.
@@ -65,14 +59,6 @@ impl<'a> TimeZone for TimeZoneRef<'a> {
                 ZoneOffset::new(*self, &last),
             ),
         }
-    }
-
-    fn offset_from_local_date(&self, local: &NaiveDate) -> LocalResult<ZoneOffset<'a>>
-        ensures offsets { AreOffsetsFor (law_of self.now) (midnight_of local.now) result }
-        ensures local_types { IsWallAnswer (Shows (TypeAt (zone_of self.now)) (midnight_of local.now))
-            (map_of type_of result) }
-    {
-        self.offset_from_local_datetime(&midnight(local))
     }
 
     fn offsets_around(&self, local: &NaiveDateTime) -> OffsetsAround<ZoneOffset<'a>>
@@ -110,15 +96,19 @@ impl<'a> TimeZoneRef<'a> {
         ensures local_type { TypeAt (zone_of self.now) second (type_of result) }
     {
         match self.zone().find_local_time_type(second) {
-            Ok(found) => ZoneOffset::new(*self, found),
+            Ok(found) => self.offset_of(second, found),
             Err(_) => unreachable!(),
         }
     }
-}
 
-// The reading at which a day begins.
-fn midnight(date: &NaiveDate) -> NaiveDateTime
-    ensures { (reading result).s ≡ midnight_of date.now }
-{
-    date.and_time(NaiveTime::MIN)
+    // The offset of that type, which is in force at the second.
+    pub(crate) fn offset_of(&self, second: i64, local_type: &LocalTimeType) -> ZoneOffset<'a>
+        requires second { IsZoneSecond second }
+        requires in_force { TypeAt (zone_of self.now) second local_type.now }
+        requires offsets { AreOffsetsOf (zone_of self.now) (off_of self.now) }
+        ensures offset { IsOffsetAt (law_of self.now) second result }
+        ensures local_type { type_of result ≡ local_type.now }
+    {
+        ZoneOffset::new(*self, local_type)
+    }
 }

@@ -7,12 +7,14 @@ ghost use Rattle.tz_info.specs.Changes.{IsChange, IsFirst, IsLast};
 ghost use Rattle.tz_info.specs.Zones.{TypeAt};
 ghost use Rattle.zoned_time.specs.DateTime.{zoned};
 ghost use Rattle.zoned_time.specs.Zoned.{IsAt};
+ghost use Rattle.zoned_ref.specs.Offsets.{AreOffsetsOf};
 ghost use Rattle.zoned_ref.specs.TimeZoneRef.{zone_of, off_of};
 ghost use Rattle.zoned_ref.specs.ZoneChange.{IsOfZone, IsAfter, IsUpTo, StandWithin, change_of};
 ghost use Rattle.zoned_ref.specs.ZoneOffset.{law_of, type_of};
 
 use crate::TimeZoneRef;
-use tz_info::Change;
+use naive_base::NaiveDateTime;
+use tz_info::{Change, LocalTimeType};
 use zoned_time::{DateTime, TimeZone};
 
 /// A change of the clocks of a borrowed zone: the last second before it, and its first one.
@@ -96,25 +98,35 @@ impl<'a> TimeZoneRef<'a> {
         self.instants_around(&change)
     }
 
-    // A change of the zone's types as instants, where both are in range.
+    // A change of the zone's types as instants, if both are in range.
     fn instants_around(&self, change: &Change) -> Option<ZoneChange<'a>>
-        requires { IsChange (TypeAt (zone_of self.now)) change.now }
+        requires change { IsChange (TypeAt (zone_of self.now)) change.now }
+        requires offsets { AreOffsetsOf (zone_of self.now) (off_of self.now) }
         ensures { MatchOption result
             (IsInRange (change.now.at -ℤ pos 1) → IsInRange change.now.at → ⊥)
             (λ c. (change_of c ≡ change.now) × IsOfZone self.now c
             × IsInRange (change.now.at -ℤ pos 1) × IsInRange change.now.at) }
     {
-        let before = self.instant(change.at - 1)?;
-        let at = self.instant(change.at)?;
+        let before = self.instant_of(change.at - 1, &change.before)?;
+        let at = self.instant_of(change.at, &change.after)?;
         Some(ZoneChange { before, at })
     }
 
-    // The instant of a second, where it is in range.
-    fn instant(&self, second: i64) -> Option<DateTime<TimeZoneRef<'a>>>
+    // The instant of a second, if it is in range; that type is in force then.
+    fn instant_of(
+        &self,
+        second: i64,
+        local_type: &LocalTimeType,
+    ) -> Option<DateTime<TimeZoneRef<'a>>>
+        requires in_force { TypeAt (zone_of self.now) second local_type.now }
+        requires offsets { AreOffsetsOf (zone_of self.now) (off_of self.now) }
         ensures { MatchOption result (IsInRange second → ⊥)
-            (λ d. IsInRange second × IsAt (law_of self.now) (of_secs second 0) (zoned d)) }
+            (λ d. IsInRange second × IsAt (law_of self.now) (of_secs second 0) (zoned d)
+            × (type_of (zoned d).offset ≡ local_type.now)) }
     {
-        self.timestamp_opt(second, 0).single()
+        let utc = NaiveDateTime::from_timestamp_opt(second, 0)?;
+        let offset = self.offset_of(second, local_type);
+        Some(DateTime::of_parts(&utc, &offset))
     }
 }
 

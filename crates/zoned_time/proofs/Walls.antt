@@ -6,11 +6,10 @@ use Rattle.offset_core.specs.declared.local_result.LocalResult.TheVariants.{Sing
 use Rattle.offset_core.specs.LocalResult.{map_of}
 use Rattle.offset_core.specs.Offset.{IsWithinDay}
 use Rattle.offset_core.specs.WallAnswer.{IsWallAnswer, IsShownOnce}
-use Rattle.naive_base.specs.declared.date.NaiveDate.{NaiveDate}
 use Rattle.naive_base.specs.Range.{IsWide}
 use Rattle.std.specs.Prelude.{Some, None as none}
 use Rattle.zoned_time.specs.Choice.{IsBeforeGap, IsOffsetBeforeGap}
-use Rattle.zoned_time.specs.Zone.{Meaning, home_law, law_by_seconds, Shows, Each, SameLaw, AreOffsetsFor, midnight_of}
+use Rattle.zoned_time.specs.Zone.{Meaning, home_law, law_by_seconds, Shows, Each, SameLaw, AreOffsetsFor}
 
 -- the offsets of the seconds that show a wall clock are in force then, where seconds are all that is told of them
 shown_in_force : (off : ℤ → ℤ) (l u k : ℤ) → Shows off l u k → k ≡ off (l -ℤ k)
@@ -53,7 +52,3 @@ constant_wall m offset k l is same day wide =
 pub constant_no_gap : {O : Type 0} (m : Meaning O) (k l : ℤ)
     → IsWithinDay k → IsWide l → IsOffsetBeforeGap {m = m} (law_by_seconds (λ _. k)) l none
 constant_no_gap m k l day wide = let once = shown_once k l day wide in (once.second, k, once.shown)
-
--- the midnight of a date is a reading's second
-pub midnight_wide : (date : NaiveDate) → IsWide (midnight_of date)
-midnight_wide date = let day = date.in_range in (omega (arith, ints, day), omega (arith, ints, day))

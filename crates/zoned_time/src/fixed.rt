@@ -4,7 +4,7 @@ ghost use Rattle.offset_core.specs.FixedOffset.{seconds_of};
 ghost use Rattle.zoned_time.specs.Zone.{meaning_by_seconds, law_by_seconds};
 
 use crate::{Offset, TimeZone};
-use naive_base::{NaiveDate, NaiveDateTime};
+use naive_base::NaiveDateTime;
 use offset_core::{FixedOffset, LocalResult};
 
 impl Offset for FixedOffset {
@@ -34,19 +34,11 @@ impl TimeZone for FixedOffset {
         *self
     }
 
-    fn offset_from_utc_date(&self, _utc: &NaiveDate) -> FixedOffset {
-        *self
-    }
-
     fn offset_from_local_datetime(&self, _local: &NaiveDateTime) -> LocalResult<FixedOffset> {
         LocalResult::Single(*self)
     }
 
     fn offset_before_gap(&self, _local: &NaiveDateTime) -> Option<FixedOffset> {
         None
-    }
-
-    fn offset_from_local_date(&self, _local: &NaiveDate) -> LocalResult<FixedOffset> {
-        LocalResult::Single(*self)
     }
 }

@@ -16,14 +16,15 @@ ghost use Rattle.zoned_time.specs.Zoned.{shown, IsAt};
 
 use crate::resolve::{instant_by, shifted};
 use crate::{DateTime, Offset, OffsetsAround, ResolveError, Utc};
-use naive_base::{NaiveDate, NaiveDateTime};
+use naive_base::{NaiveDate, NaiveDateTime, NaiveTime};
 use offset_core::{Choice, FoldChoice, GapChoice, LocalResult};
 
 /// A time zone: an offset for each second.
 ///
-/// An implementation writes [`TimeZone::from_offset`], the four `offset_from_*` and
-/// [`TimeZone::offset_before_gap`], and [`TimeZone::offsets_around`] where the zone has a shorter
-/// way to it. It can't replace the other calls, which mean the same in every zone.
+/// An implementation writes [`TimeZone::from_offset`], [`TimeZone::offset_from_utc_datetime`],
+/// [`TimeZone::offset_from_local_datetime`] and [`TimeZone::offset_before_gap`]. It may replace
+/// [`TimeZone::offsets_around`] and the lookups of a date if the zone has a shorter way to them.
+/// It can't replace the other calls, which mean the same in every zone.
 ///
 /// A wall clock needn't show each reading once. In New York clocks were set forward on 2021-03-14
 /// at 02:00:00, to 03:00:00: no clock showed 02:30:00, which lies in a gap. On 2021-11-07 they were
@@ -50,7 +51,10 @@ pub trait TimeZone: Sized + Copy {
 
     /// The offset at the midnight of UTC that begins a date.
     fn offset_from_utc_date(&self, utc: &NaiveDate) -> Self::Offset
-        ensures { IsOffsetAt (law self.now) (midnight_of utc.now) result };
+        ensures { IsOffsetAt (law self.now) (midnight_of utc.now) result }
+    {
+        self.offset_from_utc_datetime(&midnight(utc))
+    }
 
     /// The offset at the instant when the zone's clocks show a reading: none in a gap, and in a
     /// fold those at the first and at the last such instant.
@@ -59,7 +63,10 @@ pub trait TimeZone: Sized + Copy {
 
     /// [`TimeZone::offset_from_local_datetime`] of the midnight that begins a date.
     fn offset_from_local_date(&self, local: &NaiveDate) -> LocalResult<Self::Offset>
-        ensures { AreOffsetsFor (law self.now) (midnight_of local.now) result };
+        ensures { AreOffsetsFor (law self.now) (midnight_of local.now) result }
+    {
+        self.offset_from_local_datetime(&midnight(local))
+    }
 
     /// In a gap the offset before it: that at the second before the first one at which a clock of
     /// the zone shows a later reading. `None` if and only if a clock shows the reading.
@@ -249,4 +256,11 @@ pub trait TimeZone: Sized + Copy {
     {
         DateTime::<Utc>::from_timestamp_nanos(nanos).with_timezone(self)
     }
+}
+
+// The local time at which a date begins.
+fn midnight(date: &NaiveDate) -> NaiveDateTime
+    ensures { (reading result).s ≡ midnight_of date.now }
+{
+    date.and_time(NaiveTime::MIN)
 }

@@ -4,7 +4,7 @@ ghost use Rattle.std.proofs.Common.{rules};
 ghost use Rattle.zoned_time.specs.Zone.{meaning_by_seconds, law_by_seconds};
 
 use crate::{Offset, TimeZone};
-use naive_base::{NaiveDate, NaiveDateTime};
+use naive_base::NaiveDateTime;
 use offset_core::{FixedOffset, LocalResult};
 use std::fmt;
 
@@ -41,20 +41,12 @@ impl TimeZone for Utc {
         Utc
     }
 
-    fn offset_from_utc_date(&self, _utc: &NaiveDate) -> Utc {
-        Utc
-    }
-
     fn offset_from_local_datetime(&self, _local: &NaiveDateTime) -> LocalResult<Utc> {
         LocalResult::Single(Utc)
     }
 
     fn offset_before_gap(&self, _local: &NaiveDateTime) -> Option<Utc> {
         None
-    }
-
-    fn offset_from_local_date(&self, _local: &NaiveDate) -> LocalResult<Utc> {
-        LocalResult::Single(Utc)
     }
 }
 

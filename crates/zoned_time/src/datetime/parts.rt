@@ -30,6 +30,14 @@ impl<Tz: TimeZone> DateTime<Tz> {
         }
     }
 
+    /// The instant of a UTC reading in range, with a copy of that offset.
+    pub fn of_parts(datetime: &NaiveDateTime, offset: &Tz::Offset) -> DateTime<Tz>
+        requires { IsInRange (reading datetime.now).s }
+        ensures { zoned result ≡ shown datetime.now offset.now }
+    {
+        DateTime::from_naive_utc_and_offset(*datetime, *offset)
+    }
+
     /// chrono's older name of [`DateTime::from_naive_utc_and_offset`].
     ///
     /// Requires: the reading is in range.
