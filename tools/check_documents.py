@@ -19,6 +19,8 @@ usage: tools/check_documents.py [--write]
 - No call for C requires anything: what C passes is checked, or is what the header says.
 - The numbers of tz_info::Error, 1 to 17, have the same words in docs/ZONEQ.md, in the comments of `Error`, in the texts of
   zoned_ffi, in its header and in the Python package, and these have all that C returns.
+- Turns of phrase that CONTRIBUTING.md asks to avoid aren't more often in documents and doc comments than tools/habits.py allows.
+- No document has a line that a merge left behind.
 - README.md names the version of the kit that `rt version` prints (where there is rt), and how many functions idioms_utc and
   its kin have.
 
@@ -32,6 +34,7 @@ import sys
 from functools import lru_cache
 from itertools import chain
 
+from habits import faults as habits
 from sources import (
     NAME, TOP, cited, crates, files, imports_of, module_of, public_clauses, shown, text_of, without_comments, words_of,
 )
@@ -87,6 +90,12 @@ def links():
                 yield f"{shown(path, link.start())}: the link {link[1]} leads nowhere"
             elif place and place not in anchors(file):
                 yield f"{shown(path, link.start())}: {file.name} has no heading for #{place}"
+
+
+def merge_lines():
+    for path in DOCUMENTS:
+        for found in re.finditer(r"(?m)^(?:<{7}|>{7}) ", text_of(path)):
+            yield f"{shown(path, found.start())}: a line that a merge left behind"
 
 
 # Words
@@ -408,8 +417,8 @@ def not_passed_on():
 
 
 CHECKS = [
-    links, unknown_words, stale_words, index_faults, edits, unused_lemmas, unlisted_pages, map_faults, not_passed_on, required_of_c,
-    number_faults, readme_facts, wrong_definitions,
+    links, merge_lines, habits, unknown_words, stale_words, index_faults, edits, unused_lemmas, unlisted_pages, map_faults,
+    not_passed_on, required_of_c, number_faults, readme_facts, wrong_definitions,
 ]
 
 
