@@ -178,7 +178,7 @@ def draw_head(picture, text):
         picture.bar(x, picture.height + 20, BAR, colour)
         picture.text(x + BAR + 6, picture.height + 32, meaning)
     picture.text(MARGIN, picture.height + 54, words, "faint")
-    picture.text(MARGIN, picture.height + 70, f"Measured on {measured(text)}; other work ran on the machine.", "faint")
+    picture.text(MARGIN, picture.height + 70, f"Measured on {measured(text)}; SPEED.md says what else ran then.", "faint")
     picture.height += 86
 
 
