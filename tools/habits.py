@@ -43,8 +43,8 @@ def without_blocks(text):
 
 def counts():
     """Each habit with its counts in documents and in doc comments."""
-    texts = [list(documents()), list(doc_comments())]
-    return {habit[0]: [len(list(places(habit[2], each))) for each in texts] for habit in HABITS}
+    texts = ["\n".join(text for _, text in each) for each in (documents(), doc_comments())]
+    return {habit[0]: [len(re.findall(habit[2], text, re.I)) for text in texts] for habit in HABITS}
 
 
 def documents():
