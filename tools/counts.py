@@ -12,7 +12,7 @@ def how_often(pattern, paths):
 
 
 def counts():
-    """What a row begins with, behind its number: `| 468 | tests in Rattle ..`."""
+    """The words after the number at the start of a row: `| 468 | tests in Rattle ..`."""
     pins = [*files("src", ".rt", ["pins"]), TOP / "crates/zoned_ffi/src/pins.rt"]
     in_part, by_hand = files("must-fail-in-part", ".edit"), files("must-fail-by-hand", ".edit")
     return {
