@@ -3,59 +3,79 @@
 
 usage: bench/draw.py TABLES PICTURE     TABLES is docs/SPEED.md, or what print_tables.py printed
 
-Above, for each question and zone, this library's time by that of the fastest peer whose answers are the same; below, times by
-the number of transitions. Where a table is missing, its part is left out. It measures nothing.
+Above, for each question and zone, this library's time divided by that of the fastest peer whose answers are the same, by one call
+for each question if the table has that column; below, times for each number of transitions. The date and the machine are those of
+the tables. If a table is missing, its part is left out. It measures nothing.
 """
 
 import math
+import re
 import sys
 from pathlib import Path
 from xml.sax.saxutils import escape
 
 OURS = "Sahvumbi"
+ONE_CALL = "one call a question"
 # The panels of each row.
 RATIOS = [
     {
-        "An instant, 1900 to 2099": "an instant, 1900 to 2099",
-        "An instant, 2020 to 2029": "an instant, 2020 to 2029",
-        "Reading a zone": "reading the zone",
+        "An instant, 1900 to 2099": "by instant, 1900 to 2099",
+        "An instant, 2020 to 2029": "by instant, 2020 to 2029",
+        "Reading a zone": "parsing the zone",
     },
     {
-        "A wall clock, 1900 to 2099": "a wall clock, 1900 to 2099",
-        "A wall clock, 2020 to 2029": "a wall clock, 2020 to 2029",
+        "A wall clock, 1900 to 2099": "by local time, 1900 to 2099",
+        "A wall clock, 2020 to 2029": "by local time, 2020 to 2029",
     },
 ]
 PANELS = 3
 WORK = "Instants at work"
 GROWTH = {
-    "An instant, by the number of transitions": "an instant",
-    "A wall clock, by the number of transitions": "a wall clock",
+    "An instant, by the number of transitions": "by instant",
+    "A wall clock, by the number of transitions": "by local time",
 }
 UNITS = {"ns": 1, "µs": 1e3, "ms": 1e6}
 WIDTH, MARGIN, LABELS, WORK_LABELS, BAR, GAP, PANEL_GAP = 960, 24, 118, 270, 15, 7, 22
 PLOT_HEIGHT = 300
-# How wide a letter of a bar's words is, at the most.
-LETTER = 6.2
-STYLE = """
-svg { --paper: #ffffff; --ink: #1f2328; --faint: #59636e; --grid: #d1d9e0; --good: #0969da; --bad: #bc4c00;
-  --l0: #0969da; --l1: #bc4c00; --l2: #1a7f37; --l3: #8250df; --l4: #9a6700; --l5: #bf3989 }
-@media (prefers-color-scheme: dark) {
-  svg { --paper: #0d1117; --ink: #f0f6fc; --faint: #9198a1; --grid: #3d444d; --good: #4493f8; --bad: #f0883e;
-    --l0: #4493f8; --l1: #f0883e; --l2: #3fb950; --l3: #ab7df8; --l4: #d29922; --l5: #db61a2 }
+# The ratio at the right end of an axis; its left end has the inverse.
+FARTHEST = 24
+# The colours of each class on a light and on a dark page: literal ones, since many viewers know no variables.
+COLOURS = {
+    "paper": ("fill: #ffffff", "fill: #0d1117"),
+    "ink": ("fill: #1f2328", "fill: #f0f6fc"),
+    "faint": ("fill: #59636e", "fill: #9198a1"),
+    "grid": ("stroke: #d1d9e0", "stroke: #3d444d"),
+    "mark": ("stroke: #1f2328", "stroke: #f0f6fc"),
+    "over": ("stroke: #ffffff", "stroke: #0d1117"),
+    "half": ("stroke: #59636e", "stroke: #9198a1"),
+    "good": ("fill: #0969da", "fill: #4493f8"),
+    "bad": ("fill: #bc4c00", "fill: #f0883e"),
 }
-text { font: 12px system-ui, -apple-system, "Segoe UI", "Noto Sans", Helvetica, Arial, sans-serif; fill: var(--ink) }
+LINES = [
+    ("#0969da", "#4493f8"), ("#bc4c00", "#f0883e"), ("#1a7f37", "#3fb950"), ("#8250df", "#ab7df8"), ("#9a6700", "#d29922"),
+    ("#bf3989", "#db61a2"),
+]
+COLOURS |= {f"s{number}": (f"stroke: {light}", f"stroke: {dark}") for number, (light, dark) in enumerate(LINES)}
+COLOURS |= {f"l{number}": (f"fill: {light}", f"fill: {dark}") for number, (light, dark) in enumerate(LINES)}
+STYLE = """
+text { font: 12px system-ui, -apple-system, "Segoe UI", "Noto Sans", Helvetica, Arial, sans-serif }
 .title { font-size: 15px; font-weight: 600 }
-.faint { fill: var(--faint); font-size: 11px }
+.faint { font-size: 11px }
 .end { text-anchor: end }
 .middle { text-anchor: middle }
-.grid { stroke: var(--grid); stroke-width: 1 }
-.mark { stroke: var(--ink); stroke-width: 1; stroke-dasharray: 3 3 }
-.half { stroke: var(--faint); stroke-width: 1; stroke-dasharray: 1 3 }
+.grid, .mark, .half { stroke-width: 1 }
+.half { stroke-dasharray: 1 3 }
+.over { paint-order: stroke; stroke-width: 3px }
 .line { fill: none; stroke-width: 1.6 }
 .ours { stroke-width: 3.2 }
-.good { fill: var(--good) }
-.bad { fill: var(--bad) }
 """
+
+
+def rules(shade):
+    return "".join(f".{kind} {{ {colours[shade]} }}\n" for kind, colours in COLOURS.items())
+
+
+STYLE += rules(0) + "@media (prefers-color-scheme: dark) {\n" + rules(1) + "}\n"
 
 
 def tables(text):
@@ -76,20 +96,29 @@ def nanoseconds(cell):
     return float(words[0]) * UNITS[words[1]] if len(words) > 1 and words[1] in UNITS else None
 
 
-def ratio(cell):
-    """The number and the peer of `0.23 (java.time)`, and None where there is none."""
-    number, _, peer = cell.partition(" (")
-    return (float(number), peer.rstrip(")")) if peer else None
+def ratio(row):
+    """This library's time divided by that of the peer which the row names as fastest, and that peer; None if it names none."""
+    number, _, peer = row["ratio"].partition(" (")
+    peer = peer.rstrip(")")
+    one_call = nanoseconds(row.get(ONE_CALL, "-"))
+    if not peer:
+        return None
+    return (one_call / nanoseconds(row[peer]), peer) if one_call else (float(number), peer)
+
+
+def measured(text):
+    """The day and the machine of the tables, as they say it in a line of their own."""
+    found = re.search(r"(?m)^(\d{4}-\d\d-\d\d), (.*?), (\d+ processors)", text)
+    return f"{found[1]}, {found[2].replace('(R)', '')}, {found[3]}" if found else "no date"
 
 
 class Picture:
     def __init__(self):
         self.parts, self.height = [], MARGIN
 
-    def text(self, x, y, words, kind="", style=""):
-        mark = f' class="{kind}"' if kind else ""
-        look = f' style="{style}"' if style else ""
-        self.parts.append(f'<text x="{x:.1f}" y="{y:.1f}"{mark}{look}>{escape(words)}</text>')
+    def text(self, x, y, words, kind=""):
+        colour = "" if re.search(r"faint|l\d", kind) else "ink "
+        self.parts.append(f'<text x="{x:.1f}" y="{y:.1f}" class="{(colour + kind).strip()}">{escape(words)}</text>')
 
     def line(self, x1, y1, x2, y2, kind):
         self.parts.append(f'<line x1="{x1:.1f}" y1="{y1:.1f}" x2="{x2:.1f}" y2="{y2:.1f}" class="{kind}"/>')
@@ -101,39 +130,56 @@ class Picture:
         height = self.height + MARGIN
         head = (
             f'<svg xmlns="http://www.w3.org/2000/svg" viewBox="0 0 {WIDTH} {height:.0f}" width="{WIDTH}" height="{height:.0f}" role="img">\n'
-            "<title>How fast lookups of Sahvumbi are, beside other libraries</title>\n"
+            "<title>Times of Sahvumbi's lookups, compared with other libraries</title>\n"
             f"<style>{STYLE}</style>\n"
-            '<rect width="100%" height="100%" style="fill: var(--paper)"/>\n'
+            '<rect width="100%" height="100%" class="paper"/>\n'
         )
         return head + "\n".join(self.parts) + "\n</svg>\n"
 
 
-def ratio_bar(picture, x, y, width, cell):
-    """A bar of this length where 1 is as wide as the panel; one that is longer is cut off."""
-    found = ratio(cell)
+def place(x, width, number):
+    """Where a ratio lies on an axis of logarithms with 1 in its middle. A ratio beyond the axis lies at its end."""
+    return x + width * (0.5 + max(-1, min(1, math.log(number) / math.log(FARTHEST))) / 2)
+
+
+def ratio_bar(picture, x, y, width, row):
+    """A bar from 1 to the ratio, with words on the other side of 1."""
+    middle = place(x, width, 1)
+    found = ratio(row) if row else None
     if not found:
-        picture.text(x + 4, y + BAR - 3, "no peer", "faint")
+        picture.text(middle + 5, y + BAR - 3, "no other library", "faint")
         return
     number, peer = found
-    length = min(number, 1) * width
-    picture.bar(x, y, length, "good" if number <= 1 else "bad")
-    words = f"{number:.2f} {peer}" + ("" if number <= 1 else " →")
-    if length < LETTER * len(words) + 8:
-        picture.text(x + length + 4, y + BAR - 3, words, "faint")
-    else:
-        picture.text(x + length - 4, y + BAR - 3, words, "faint end", "fill: var(--paper)")
+    end = place(x, width, number)
+    picture.bar(min(middle, end), y, max(abs(end - middle), 1), "good" if number <= 1 else "bad")
+    words = f"{number:.2f} {peer}"
+    side = (middle + 5, "faint over") if number <= 1 else (middle - 5, "faint over end")
+    picture.text(side[0], y + BAR - 3, words, side[1])
 
 
-def panel(picture, x, top, width, head, cells):
-    """Bars from the top on, and lines where the peer is as fast, and where it takes twice as long."""
-    bottom = top + len(cells) * (BAR + GAP)
+def panel(picture, x, top, width, head, rows):
+    """Bars from the top on, and lines for a few ratios."""
+    bottom = top + len(rows) * (BAR + GAP)
     picture.text(x, top - 14, head)
-    for number, kind in ((0, "grid"), (0.5, "half"), (1, "mark")):
-        picture.line(x + number * width, top - 4, x + number * width, bottom, kind)
-        picture.text(x + number * width, bottom + 13, f"{number:g}", "faint middle")
-    for i, cell in enumerate(cells):
-        ratio_bar(picture, x, top + i * (BAR + GAP), width, cell)
+    for number, words in ((1 / 16, "1/16"), (1 / 4, "1/4"), (1 / 2, "1/2"), (1, "1"), (4, "4"), (16, "16")):
+        kind = {1: "mark", 1 / 2: "half"}.get(number, "grid")
+        picture.line(place(x, width, number), top - 4, place(x, width, number), bottom, kind)
+        picture.text(place(x, width, number), bottom + 13, words, "faint middle")
+    for i, row in enumerate(rows):
+        ratio_bar(picture, x, top + i * (BAR + GAP), width, row)
     return bottom + 22
+
+
+def draw_head(picture, text):
+    """What the bars mean, and when and where they were measured."""
+    picture.text(MARGIN, picture.height + 8, "Sahvumbi's time divided by that of the fastest library with the same answers", "title")
+    words = "1: as fast (solid line); 1/2: half the time (dotted). Logarithmic axis; the other library is named. One call for each question."
+    for colour, x, meaning in (("good", MARGIN, "Sahvumbi is faster"), ("bad", MARGIN + 150, "Sahvumbi is slower")):
+        picture.bar(x, picture.height + 20, BAR, colour)
+        picture.text(x + BAR + 6, picture.height + 32, meaning)
+    picture.text(MARGIN, picture.height + 54, words, "faint")
+    picture.text(MARGIN, picture.height + 70, f"Measured on {measured(text)}; SPEED.md says what else ran then.", "faint")
+    picture.height += 86
 
 
 def labels(picture, top, width, words):
@@ -146,17 +192,15 @@ def draw_ratios(picture, found):
     rows = [{title: head for title, head in row.items() if title in found} for row in RATIOS]
     if not any(rows):
         return
-    picture.text(MARGIN, picture.height + 8, "Time by that of the fastest peer that answers alike (less is faster)", "title")
-    picture.height += 24
     width = (WIDTH - 2 * MARGIN - LABELS - (PANELS - 1) * PANEL_GAP) / PANELS
     for row in filter(None, rows):
         zones = [each["zone"] for each in found[next(iter(row))]]
         top = end = picture.height + 28
         labels(picture, top, LABELS, [zone.replace("_", " ") for zone in zones])
         for i, (title, head) in enumerate(row.items()):
-            cells = {each["zone"]: each["ratio"] for each in found[title]}
+            of_zone = {each["zone"]: each for each in found[title]}
             x = MARGIN + LABELS + i * (width + PANEL_GAP)
-            end = panel(picture, x, top, width, head, [cells.get(zone, "-") for zone in zones])
+            end = panel(picture, x, top, width, head, [of_zone.get(zone) for zone in zones])
         picture.height = end + 8
     picture.height += 16
 
@@ -166,10 +210,10 @@ def draw_work(picture, found):
         return
     rows = found[WORK]
     top = picture.height + 44
-    picture.text(MARGIN, picture.height + 8, WORK + ", New York (less is faster)", "title")
+    picture.text(MARGIN, picture.height + 8, "The same ratio for work with instants, New York 2020 to 2029, in Rattle", "title")
     labels(picture, top, WORK_LABELS, [row["question"].replace("`", "") for row in rows])
     width = (WIDTH - 2 * MARGIN - WORK_LABELS) * 0.6
-    picture.height = panel(picture, MARGIN + WORK_LABELS, top, width, "", [row["ratio"] for row in rows]) + 24
+    picture.height = panel(picture, MARGIN + WORK_LABELS, top, width, "", rows) + 24
 
 
 def ticks(least, greatest):
@@ -194,7 +238,7 @@ def spread(places, least):
 
 
 def draw_lines(picture, x, top, width, head, rows, peers, times):
-    """A line for each peer over axes of logarithms."""
+    """A line for each library over axes of logarithms."""
     counts = [int(row["transitions"].replace(",", "")) for row in rows]
     least, greatest = min(times) / 1.3, max(times) * 1.3
     first, last = math.log2(counts[0]), math.log2(counts[-1])
@@ -219,17 +263,17 @@ def draw_lines(picture, x, top, width, head, rows, peers, times):
             continue
         path = " ".join(f"{a:.1f},{b:.1f}" for a, b in points)
         kind = "line ours" if peer == OURS else "line"
-        picture.parts.append(f'<polyline points="{path}" class="{kind}" style="stroke: var(--l{number})"/>')
+        picture.parts.append(f'<polyline points="{path}" class="{kind} s{number}"/>')
         ends.append((peer, number, points[-1][1]))
     for (peer, number, _), height in zip(ends, spread([end for _, _, end in ends], 14)):
-        picture.text(x + width + 6, height + 4, peer, style=f"fill: var(--l{number})")
+        picture.text(x + width + 6, height + 4, peer, f"l{number}")
 
 
 def draw_growth(picture, found):
     shown = {title: head for title, head in GROWTH.items() if title in found}
     if not shown:
         return
-    picture.text(MARGIN, picture.height + 8, "Time of a question by the number of the zone's transitions", "title")
+    picture.text(MARGIN, picture.height + 8, "Time of one lookup, for zones with this many transitions (one call each, logarithmic axes)", "title")
     columns = [column for title in shown for column in found[title][0] if column != "transitions"]
     peers = list(dict.fromkeys(columns))
     rows = [row for title in shown for row in found[title]]
@@ -243,8 +287,10 @@ def draw_growth(picture, found):
 
 def main():
     tables_path, picture_path = map(Path, sys.argv[1:3])
-    found = tables(tables_path.read_text())
+    text = tables_path.read_text()
+    found = tables(text)
     picture = Picture()
+    draw_head(picture, text)
     draw_ratios(picture, found)
     draw_work(picture, found)
     draw_growth(picture, found)

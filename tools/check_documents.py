@@ -7,7 +7,7 @@ usage: tools/check_documents.py [--write]
 - Each word between backquotes in README.md and docs/ is a name of the code, or stands in tools/known_words.txt, which lists
   the names of chrono, of the kit and of other programs that the documents speak of.
 - The index at the end of docs/DEFINITIONS.md has a line for each word of specs/ that a public contract cites, other than a pin:
-  its page and its meaning, which is the comment before its definition. --write writes the index anew.
+  its page and its meaning, which is the comment before its definition. --write writes the index.
 - No clause of a public function cites a step of a proof (specs/Steps).
 - Each must-fail edit is listed in docs/WRONG_BODIES.md, under what tries it, and each of its old texts stands once in its file.
 - A lemma that nothing names is an error, and so is a page of lemmas that its proofs/Lib.antt doesn't name.
@@ -19,10 +19,15 @@ usage: tools/check_documents.py [--write]
 - No call for C requires anything: what C passes is checked, or is what the header says.
 - The numbers of tz_info::Error, 1 to 17, have the same words in docs/ZONEQ.md, in the comments of `Error`, in the texts of
   zoned_ffi, in its header and in the Python package, and these have all that C returns.
-- README.md names the version of the kit that `rt version` prints (where there is rt), and how many functions idioms_utc and
-  its kin have.
+- Turns of phrase that CONTRIBUTING.md asks to avoid aren't more often in documents and doc comments than tools/habits.py allows.
+- No document has a line that a merge left behind.
+- The code blocks in Rattle are code of the crates (tools/try_documents.py).
+- README.md and docs/TESTING.md have the counts of tests, planted bugs and wrong definitions (tools/counts.py). --write puts them
+  there, and lowers the counts of tools/habits.py.
+- README.md names the version of the kit that `rt version` prints (if there is rt), and docs/FROM_CHRONO.md how many functions
+  idioms_utc and the crates like it have.
 
-Prints a line for each fault, with its place, and ends with status 1 where there is one.
+Prints a line for each fault, with its place, and ends with status 1 if there is one.
 """
 
 import re
@@ -32,10 +37,13 @@ import sys
 from functools import lru_cache
 from itertools import chain
 
+from counts import count_faults, write_counts
+from habits import faults as habits, lower
 from sources import (
     NAME, TOP, cited, crates, files, imports_of, module_of, public_clauses, shown, text_of, without_comments, words_of,
 )
 from try_definitions import faults as wrong_definitions
+from try_documents import rattle as rattle_blocks
 
 DOCUMENTS = [*sorted(TOP.glob("*.md")), *sorted((TOP / "docs").glob("*.md"))]
 DEFINITIONS = TOP / "docs/DEFINITIONS.md"
@@ -44,6 +52,7 @@ MAP = TOP / "docs/MAP.md"
 FACADE = TOP / "crates/zoned"
 KNOWN = TOP / "tools/known_words.txt"
 README = TOP / "README.md"
+FROM_CHRONO = TOP / "docs/FROM_CHRONO.md"
 ZONEQ = TOP / "docs/ZONEQ.md"
 ERROR = TOP / "crates/tz_base/src/error.rt"
 TEXTS = TOP / "crates/zoned_ffi/specs/Texts.antt"
@@ -87,6 +96,12 @@ def links():
                 yield f"{shown(path, link.start())}: the link {link[1]} leads nowhere"
             elif place and place not in anchors(file):
                 yield f"{shown(path, link.start())}: {file.name} has no heading for #{place}"
+
+
+def merge_lines():
+    for path in DOCUMENTS:
+        for found in re.finditer(r"(?m)^(?:<{7}|>{7}) ", text_of(path)):
+            yield f"{shown(path, found.start())}: a line that a merge left behind"
 
 
 # Words
@@ -359,10 +374,10 @@ def number_faults():
                 yield f"{shown(path)}: {number} is {said.get(number)!r}, and {words.get(number)!r} in {shown(ZONEQ)}"
 
 
-# What README says of the kit and of the code
+# What README and FROM_CHRONO say of the kit and of the code
 
 
-def readme_facts():
+def facts_of_documents():
     text = text_of(README)
     version = subprocess.run(["rt", "version"], capture_output=True, text=True).stdout.strip() if shutil.which("rt") else ""
     if version and f"`{version}`" not in text:
@@ -370,8 +385,8 @@ def readme_facts():
     idioms = ["idioms_utc", "idioms_borrowed", "idioms_kept"]
     counts = [str(sum(len(re.findall(r"(?m)^ *pub fn ", text_of(path))) for path in files("src", ".rt", [crate]))) for crate in idioms]
     due = f"`crates/{idioms[0]}`, `{idioms[1]}` and `{idioms[2]}` have {counts[0]}, {counts[1]} and {counts[2]} "
-    if due not in text:
-        yield f"{shown(README)}: it doesn't say: {due}"
+    if due not in text_of(FROM_CHRONO):
+        yield f"{shown(FROM_CHRONO)}: it doesn't say: {due}"
 
 
 # What a client that names `zoned` alone can cite
@@ -408,14 +423,17 @@ def not_passed_on():
 
 
 CHECKS = [
-    links, unknown_words, stale_words, index_faults, edits, unused_lemmas, unlisted_pages, map_faults, not_passed_on, required_of_c,
-    number_faults, readme_facts, wrong_definitions,
+    links, merge_lines, habits, unknown_words, stale_words, index_faults, edits, unused_lemmas, unlisted_pages, map_faults,
+    not_passed_on, required_of_c, number_faults, facts_of_documents, count_faults,
+    rattle_blocks, wrong_definitions,
 ]
 
 
 def main():
     if sys.argv[1:] == ["--write"]:
         write_index()
+        write_counts()
+        lower()
         text_of.cache_clear()
     elif sys.argv[1:]:
         sys.exit(__doc__)

@@ -7,8 +7,8 @@
 # Debian's packages below, for Debian's own python3. What of them is missing is installed by
 # apt-get, as root. Nothing else is fetched. It tries, in a minute or less,
 #
-# - the lines of README.md that build the library and install the package, in an environment of its
-#   own;
+# - the lines of python/README.md that build the library and install the package, in an environment
+#   of its own;
 # - the tests of python/tests, by pytest and hypothesis, with the same examples in each run;
 # - the examples in docstrings;
 # - examples/at_scale.py on 100,000 rows, with one of its workers ended midway.
@@ -55,11 +55,10 @@ trap 'rm -rf "$room"' EXIT
 install_packages
 [ -f "$ARCHIVE" ] || fail "$ARCHIVE is missing: (cd crates/zoned_ffi && rt lib)"
 
-# The lines of README, with an environment that is thrown away.
+# The lines of python/README.md, with an environment that is thrown away.
 line() {
   local found
-  found=$(grep -m 1 "^$1" README.md) || fail "README.md has no line: $1"
-  grep -qxF -- "$found" python/README.md || fail "python/README.md has not the line: $found"
+  found=$(grep -m 1 "^$1" python/README.md) || fail "python/README.md has no line: $1"
   sed "s|\.venv|$room/venv|" <<<"$found"
 }
 for start in 'gcc -shared -o python/' '/usr/bin/python3 -m venv' '\.venv/bin/pip install'; do

@@ -1,0 +1,102 @@
+#!/usr/bin/env python3
+"""Counts turns of phrase that documents and doc comments should lose.
+
+usage: tools/habits.py [WORD .. | --lower]
+
+HABITS has for each of them how often it may still occur in documents (README.md, CONTRIBUTING.md, docs/, python/README.md;
+without code blocks and without the index of DEFINITIONS.md) and in doc comments (`///`, `//!` and the header for C). Each count
+is the highest that is allowed: tools/check_documents.py reports an error if there are more. Lower a count when you mend a
+sentence: `--lower` does it. With words, prints each place of the habits whose name has one of them; without, the counts.
+"""
+
+import re
+import sys
+
+from sources import TOP, files, text_of
+
+INDEX = "## Index of the words that contracts cite\n"
+HEADER = TOP / "crates/zoned_ffi/include/zoned_ffi.h"
+# A habit, what to write in its place, its pattern, and the counts allowed in documents and in doc comments.
+HABITS = [
+    ("told, tells", "returned, reported, shows, says", r"\b(?:told|tells?)\b", 14, 37),
+    ("stands", "is, means, is listed", r"\b(?:stands?|stood)\b", 21, 39),
+    ("anew, once more", "again", r"\b(?:anew|once more)\b", 2, 3),
+    ("want of", "lack of, out of", r"\bwant of\b", 0, 0),
+    ("be they", "whether", r"\bbe (?:they|it)\b", 0, 4),
+    ("so many, such a one", "n, one", r"\b(?:so many|such a one|no more do)\b", 6, 72),
+    ("is none", "does not count, is not one", r"\b(?:is|are) none\b", 22, 15),
+    ("alone after a noun", "only", r"\balone\b", 15, 22),
+    ("beside", "with, compared with, as well as", r"\bbeside\b", 69, 12),
+    ("behind", "after", r"\bbehind\b", 7, 13),
+    ("refused", "rejected, returns an error", r"\brefus\w+", 14, 28),
+    ("reading for a local time", "local time, local date-time", r"\breadings?\b", 86, 124),
+    ("TZ text", "TZ string", r"\bTZ texts?\b", 16, 48),
+    ("wrong body", "planted bug", r"\bwrong bod\w+", 1, 0),
+]
+
+
+def without_blocks(text):
+    """The text with its code blocks and code spans blanked, on the same lines."""
+    blank = lambda found: re.sub(r"[^\n]", " ", found[0])
+    return re.sub(r"`[^`\n]+`", blank, re.sub(r"(?ms)^ *```.*?^ *```", blank, text))
+
+
+def counts():
+    """Each habit with its counts in documents and in doc comments."""
+    texts = ["\n".join(text for _, text in each) for each in (documents(), doc_comments())]
+    return {habit[0]: [len(re.findall(habit[2], text, re.I)) for text in texts] for habit in HABITS}
+
+
+def documents():
+    pages = [TOP / "README.md", TOP / "CONTRIBUTING.md", *sorted((TOP / "docs").glob("*.md")), TOP / "python/README.md"]
+    for path in pages:
+        yield path, without_blocks(text_of(path).partition(INDEX)[0])
+
+
+def doc_comments():
+    for path in files("src", ".rt"):
+        lines = text_of(path).splitlines()
+        yield path, without_blocks("\n".join(line if re.match(r"\s*//[/!]", line) else "" for line in lines))
+    text = text_of(HEADER)
+    yield HEADER, re.sub(r"(?s)\*/.*?(?=/\*|\Z)", lambda code: "\n" * code[0].count("\n"), text)
+
+
+def places(pattern, texts):
+    for path, text in texts:
+        for number, line in enumerate(text.splitlines(), 1):
+            yield from (f"{path.relative_to(TOP)}:{number}: {line.strip()}" for _ in re.finditer(pattern, line, re.I))
+
+
+def faults():
+    """The habits that occur more often than their counts allow."""
+    found = counts()
+    for name, better, _, *allowed in HABITS:
+        for kind, count, most in zip(("documents", "doc comments"), found[name], allowed):
+            if count > most:
+                yield f'tools/habits.py: "{name}" is {count} times in {kind}, and {most} are allowed; write: {better}'
+
+
+def lower():
+    """Lowers each count of the table to that of the day."""
+    path = TOP / "tools/habits.py"
+    text = path.read_text()
+    for name, found in counts().items():
+        row = re.compile(rf'(?m)^(    \("{re.escape(name)}", .*, )(\d+), (\d+)\),$')
+        text = row.sub(lambda old: f"{old[1]}{min(int(old[2]), found[0])}, {min(int(old[3]), found[1])}),", text)
+    path.write_text(text)
+
+
+def main():
+    words = sys.argv[1:]
+    if words == ["--lower"]:
+        return lower()
+    texts, found = [*documents(), *doc_comments()], counts()
+    for name, better, pattern, *allowed in HABITS:
+        if not words:
+            print(f"{name}: {found[name]} of {allowed}")
+        elif any(word in name for word in words):
+            print(f"== {name}: write {better}", *places(pattern, texts), sep="\n")
+
+
+if __name__ == "__main__":
+    main()

@@ -1,0 +1,145 @@
+#!/usr/bin/env python3
+"""Tries the code blocks of the documents, without a proof.
+
+usage: tools/try_documents.py [rattle | programs | c | python ..]
+
+Without words all four are tried:
+
+- rattle: each line of a `rust` block of README.md, docs/FROM_CHRONO.md and docs/OWN_ZONE.md is code of crates/*/src, which `rt ci`
+  proves, or of crates/*/tried, which tools/try_tests.py runs; and so is each span of the column *here* of FROM_CHRONO's tables.
+  Comments, white space and commas before a closing bracket don't count. The lines of FROM_CHRONO's block for crates.txt are lines
+  of crates.txt. (tools/check_documents.py tries this too.)
+- programs: each command of a `console` block (a line that begins with `$ `) prints what follows it there. It needs the built
+  zoneq and zonedump.
+- c: each `c` block, under the name that the line before it gives, and the `console` block that compiles it and runs it. It needs
+  the static library, gcc and rt.
+- python: each `pycon` block, by doctest. It needs python/src/sahvumbi/libzoned_ffi.so, which tools/python_tests.sh builds, and
+  Debian's python3 with numpy and pandas.
+
+`sh` blocks aren't run here: tools/python_tests.sh runs those that install the package, and the gate proves what `rt run` proves.
+It takes seconds. Prints what differs, and ends with status 1 if anything does.
+"""
+
+import os
+import re
+import subprocess
+import sys
+import tempfile
+from pathlib import Path
+
+from sources import TOP, files, shown, text_of, without_comments
+
+PAGES = [TOP / "README.md", *sorted((TOP / "docs").glob("*.md")), TOP / "python/README.md"]
+FROM_CHRONO = TOP / "docs/FROM_CHRONO.md"
+WITH_RATTLE = [TOP / "README.md", FROM_CHRONO, TOP / "docs/OWN_ZONE.md"]
+OURS = "| task | chrono 0.4.45 | here |"
+PYTHON = "/usr/bin/python3"
+
+
+def blocks(path, language):
+    """The code blocks of a page in that language: the place, the line before it and the text of each."""
+    for block in re.finditer(rf"(?ms)^([^\n]*)\n+```{language}\n(.*?)^```", text_of(path)):
+        yield block.start(2), block[1], block[2]
+
+
+# Rattle
+
+
+def bare(text):
+    """Code without white space, and without the commas that rt fmt puts before a closing bracket."""
+    return re.sub(r",(?=[)}\]])", "", re.sub(r"\s+", "", text))
+
+
+def code():
+    paths = [*files("src", ".rt"), *files("tried", ".txt")]
+    return "".join(bare(without_comments(text_of(path), "//")) for path in paths)
+
+
+def ours(text):
+    """The spans of code in the last column of the tables of FROM_CHRONO, each with its place."""
+    for table in re.finditer(rf"(?m)^{re.escape(OURS)}\n(?:\|.*\n)*", text):
+        for row in re.finditer(r"(?m)^\|.* \| (.*) \|$", table[0]):
+            for span in re.finditer(r"`([^`]+)`", row[1]):
+                yield table.start() + row.start(1) + span.start(), span[1]
+
+
+def rattle():
+    known = code()
+    for path in WITH_RATTLE:
+        for place, _, text in blocks(path, "rust"):
+            for line in re.finditer(r"(?m)^.*$", without_comments(text, "//")):
+                if bare(line[0]) not in known:
+                    yield f"{shown(path, place + line.start())}: no code has the line: {line[0].strip()}"
+    for place, span in ours(text_of(FROM_CHRONO)):
+        if bare(span) not in known:
+            yield f"{shown(FROM_CHRONO, place)}: no code has: {span}"
+    listed = text_of(TOP / "crates.txt").splitlines()
+    for place, _, text in blocks(FROM_CHRONO, "text"):
+        for line in text.splitlines():
+            if line not in listed and not line.startswith("my_app:"):
+                yield f"{shown(FROM_CHRONO, place)}: crates.txt has no line: {line}"
+
+
+# Programs, C and Python
+
+
+def commands(text):
+    """The commands of a `console` block, each with what it prints."""
+    return re.findall(r"(?m)^\$ ((?:.*\\\n)*.*)\n((?:(?!\$ ).*\n)*)", text)
+
+
+def printed(path, place, text, folder):
+    """What commands print that isn't what follows them. A folder is the top of the repository, or has a link to its crates."""
+    for command, due in commands(text):
+        done = subprocess.run(["bash", "-c", command], cwd=folder, stdin=subprocess.DEVNULL, capture_output=True, text=True)
+        if done.stdout + done.stderr != due:
+            yield f"{shown(path, place)}: {command}\n  due:\n{due}  printed:\n{done.stdout}{done.stderr}"
+
+
+def programs():
+    for path in PAGES:
+        for place, _, text in blocks(path, "console"):
+            if "gcc" not in text:
+                yield from printed(path, place, text, TOP)
+
+
+def c():
+    for path in PAGES:
+        with tempfile.TemporaryDirectory() as folder:
+            (Path(folder) / "crates").symlink_to(TOP / "crates")
+            for place, before, text in blocks(path, "c"):
+                name = re.search(r"`(\w+\.c)`:$", before)
+                if name:
+                    (Path(folder) / name[1]).write_text(text)
+            for place, _, text in blocks(path, "console"):
+                if "gcc" in text:
+                    yield from printed(path, place, text, folder)
+
+
+def python():
+    environment = {**os.environ, "PYTHONPATH": str(TOP / "python/src"), "PYTHONDONTWRITEBYTECODE": "1"}
+    for path in PAGES:
+        for place, _, text in blocks(path, "pycon"):
+            with tempfile.NamedTemporaryFile("w", suffix=".txt") as file:
+                file.write(text)
+                file.flush()
+                made = [PYTHON, "-m", "doctest", file.name]
+                done = subprocess.run(made, cwd="/", env=environment, capture_output=True, text=True)
+            if done.returncode != 0:
+                yield f"{shown(path, place)}: {done.stdout}{done.stderr}"
+
+
+TRIED = {"rattle": rattle, "programs": programs, "c": c, "python": python}
+
+
+def main():
+    words = sys.argv[1:] or list(TRIED)
+    if not set(words) <= set(TRIED):
+        sys.exit(__doc__)
+    faults = [fault for word in words for fault in TRIED[word]()]
+    print("\n".join(faults) or f"{', '.join(words)}: the documents' code does what they say")
+    sys.exit(bool(faults))
+
+
+if __name__ == "__main__":
+    main()
