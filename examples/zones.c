@@ -50,7 +50,7 @@ static void print_clock(int64_t second, const zoned_wall_clock *clock) {
 }
 
 /* Asks the zone of each second: what a call refuses, or ZONED_OK. */
-static uint32_t answer(struct zoned_zone *zone, int count, char **seconds) {
+static uint32_t answer(const struct zoned_zone *zone, int count, char **seconds) {
     for (int i = 0; i < count; i++) {
         int64_t second = strtoll(seconds[i], NULL, 10);
         zoned_local_type type;
