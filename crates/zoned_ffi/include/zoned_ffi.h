@@ -81,7 +81,7 @@
    of 8 million transitions was opened.
 
    The kit's c/liblibc_c.a defines the three functions by which the library takes memory. Link your own in its place to use
-   another allocator. `align` is a power of two up to 16 that divides `size`; `p` must not be NULL, also if `ok` is false.
+   another allocator (`HEAP=own.a tools/install.sh`). `align` is a power of two up to 16 that divides `size`; `p` must not be NULL, also if `ok` is false.
 
      struct tried { bool ok; void *p; };
      struct tried rattle_alloc(size_t size, size_t align);          // size may be 0
@@ -90,10 +90,19 @@
 
    Link
    ----
-   crates/zoned_ffi/out/libzoned_ffi.a, which `rt lib` builds, and after it the kit's c/liblibc_c.a. The code is for Linux on
-   x86-64-v2 processors (with SSE4.2 and popcnt) or later ones. It has neither frame pointers nor .eh_frame, so debuggers and
-   profilers can't unwind a stack through it. A shared library made of both archives also exports rattle_alloc, rattle_realloc
-   and rattle_dealloc, unless it is linked with -Wl,--exclude-libs,liblibc_c.a. */
+   tools/install.sh installs libzoned.a, libzoned.so, the headers zoned.h and zoned.hpp (C++17), zoned.pc for pkg-config, a CMake
+   config and the man page zoned(3), after `rt lib` in crates/zoned_ffi has built the archive:
+
+     PREFIX=/usr/local tools/install.sh
+     cc program.c $(pkg-config --cflags --libs zoned)
+
+   Both libraries need malloc, realloc, free, memcpy, memmove and memset only, and define the calls below only. Without them, link
+   crates/zoned_ffi/out/libzoned_ffi.a and after it the kit's c/liblibc_c.a. A shared library made of these two archives also
+   exports rattle_alloc, rattle_realloc and rattle_dealloc, unless it is linked with -Wl,--exclude-libs,liblibc_c.a.
+
+   The code is for Linux on x86-64-v2 processors (with SSE4.2 and popcnt) or later ones. It has neither frame pointers nor
+   .eh_frame: debuggers, profilers and backtrace() can't unwind a stack through it. It has no note for Intel's CET, so a program
+   can't be linked with -z cet-report=error. */
 #ifndef ZONED_FFI_H
 #define ZONED_FFI_H
 
@@ -103,6 +112,9 @@
 #ifdef __cplusplus
 extern "C" {
 #endif
+
+/* The version of this header. The library's soname changes with its first number. */
+#define ZONED_VERSION "0.3.0"
 
 /* How bytes are read: `kind`. */
 enum {
