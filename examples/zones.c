@@ -1,12 +1,12 @@
-/* What the clocks of a zone show, and when: an example of zoned_ffi.h, with a handle. From the top of the repository, after
+/* What the clocks of a zone show, and when: an example of zoned.h, with a handle. From the top of the repository, after
    `rt lib` in crates/zoned_ffi:
 
-     gcc -O2 -o ./zones_c examples/zones.c crates/zoned_ffi/out/libzoned_ffi.a "$(dirname "$(rt doc)")/c/liblibc_c.a"
+     gcc -O2 -Icrates/zoned_ffi/include -o ./zones_c examples/zones.c crates/zoned_ffi/out/libzoned_ffi.a "$(dirname "$(rt doc)")/c/liblibc_c.a"
      ./zones_c /usr/share/zoneinfo/America/New_York 1615705200 1615689000 1636248600
 
    Of each number it says what is in force at that Unix second, when a clock shows as many seconds since 1970-01-01 00:00:00,
    and which instant is taken for that local time: in a gap the one shifted forward, in a fold the earliest. */
-#include "../crates/zoned_ffi/include/zoned_ffi.h"
+#include <zoned.h>
 
 #include <inttypes.h>
 #include <stdio.h>
@@ -50,7 +50,7 @@ static void print_clock(int64_t second, const zoned_wall_clock *clock) {
 }
 
 /* Asks the zone of each second: what a call refuses, or ZONED_OK. */
-static uint32_t answer(struct zoned_zone *zone, int count, char **seconds) {
+static uint32_t answer(const struct zoned_zone *zone, int count, char **seconds) {
     for (int i = 0; i < count; i++) {
         int64_t second = strtoll(seconds[i], NULL, 10);
         zoned_local_type type;

@@ -1,7 +1,7 @@
 """What the clocks of a zone show, and when: `zones.c` in Python, with arrays. From the top of the repository, after `rt lib` in
 crates/zoned_ffi:
 
-  gcc -shared -o ./libzoned_ffi.so -Wl,--whole-archive crates/zoned_ffi/out/libzoned_ffi.a -Wl,--no-whole-archive "$(dirname "$(rt doc)")/c/liblibc_c.a"
+  gcc -shared -o ./libzoned_ffi.so -Wl,--whole-archive crates/zoned_ffi/out/libzoned_ffi.a -Wl,--no-whole-archive,--exclude-libs,liblibc_c.a "$(dirname "$(rt doc)")/c/liblibc_c.a"
   python3 examples/zones.py ./libzoned_ffi.so /usr/share/zoneinfo/America/New_York 1615705200 1615689000 1636248600
 """
 

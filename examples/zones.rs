@@ -51,11 +51,10 @@ const NO_OFFSET: i32 = i32::MIN;
 
 extern "C" {
     fn zoned_open(kind: u32, zone: *const u8, zone_len: usize, out: *mut RawZone) -> u32;
-    fn zoned_share(zone: *mut RawZone, out: *mut RawZone) -> u32;
     fn zoned_close(zone: *mut RawZone);
-    fn zoned_zone_type(zone: *mut RawZone, instant: i64, local_type: *mut LocalType) -> u32;
-    fn zoned_zone_wall_clock(zone: *mut RawZone, local: i64, clock: *mut WallClock) -> u32;
-    fn zoned_zone_instant(zone: *mut RawZone, gap: u32, fold: u32, local: i64, resolved: *mut Resolved) -> u32;
+    fn zoned_zone_type(zone: *const RawZone, instant: i64, local_type: *mut LocalType) -> u32;
+    fn zoned_zone_wall_clock(zone: *const RawZone, local: i64, clock: *mut WallClock) -> u32;
+    fn zoned_zone_instant(zone: *const RawZone, gap: u32, fold: u32, local: i64, resolved: *mut Resolved) -> u32;
     fn zoned_error_text(number: u32, text: *mut u8, text_len: usize) -> usize;
 }
 
@@ -81,11 +80,14 @@ fn status(number: u32) -> Result<(), Refused> {
     }
 }
 
-/// A zone that is open. Each call takes it by `&mut`, since a call writes the handle.
+/// A zone that is open.
 struct Zone(RawZone);
 
 // SAFETY: the header lets a handle go to another thread, ordered as a move orders it.
 unsafe impl Send for Zone {}
+
+// SAFETY: the header lets any number of threads ask one handle. Only `open` and `drop` write to it, and they have it to themselves.
+unsafe impl Sync for Zone {}
 
 impl Zone {
     /// The zone of a TZif file.
@@ -96,33 +98,25 @@ impl Zone {
         Ok(zone)
     }
 
-    /// The same zone for another thread, without reading it anew.
-    fn share(&mut self) -> Result<Zone, Refused> {
-        let mut zone = Zone(RawZone { zone: null_mut() });
-        // SAFETY: these are two handles.
-        status(unsafe { zoned_share(&mut self.0, &mut zone.0) })?;
-        Ok(zone)
-    }
-
     /// What is in force at an instant.
-    fn local_type(&mut self, instant: i64) -> Result<LocalType, Refused> {
+    fn local_type(&self, instant: i64) -> Result<LocalType, Refused> {
         let mut local_type = LocalType::default();
         // SAFETY: the answer overlaps nothing. So it is below.
-        status(unsafe { zoned_zone_type(&mut self.0, instant, &mut local_type) })?;
+        status(unsafe { zoned_zone_type(&self.0, instant, &mut local_type) })?;
         Ok(local_type)
     }
 
     /// When clocks show a local time.
-    fn wall_clock(&mut self, local: i64) -> Result<WallClock, Refused> {
+    fn wall_clock(&self, local: i64) -> Result<WallClock, Refused> {
         let mut clock = WallClock::default();
-        status(unsafe { zoned_zone_wall_clock(&mut self.0, local, &mut clock) })?;
+        status(unsafe { zoned_zone_wall_clock(&self.0, local, &mut clock) })?;
         Ok(clock)
     }
 
     /// The instant of a local time: shifted forward in a gap, the earliest in a fold.
-    fn instant(&mut self, local: i64) -> Result<Option<Resolved>, Refused> {
+    fn instant(&self, local: i64) -> Result<Option<Resolved>, Refused> {
         let mut resolved = Resolved::default();
-        status(unsafe { zoned_zone_instant(&mut self.0, SHIFT_FORWARD, EARLIEST, local, &mut resolved) })?;
+        status(unsafe { zoned_zone_instant(&self.0, SHIFT_FORWARD, EARLIEST, local, &mut resolved) })?;
         Ok((resolved.number == 0).then_some(resolved))
     }
 }
@@ -134,7 +128,7 @@ impl Drop for Zone {
     }
 }
 
-fn told_of_instant(zone: &mut Zone, second: i64) -> Result<String, Refused> {
+fn told_of_instant(zone: &Zone, second: i64) -> Result<String, Refused> {
     let LocalType { offset, is_dst, abbreviation } = zone.local_type(second)?;
     if offset == NO_OFFSET {
         return Ok(format!("instant {second}: no offset"));
@@ -144,7 +138,7 @@ fn told_of_instant(zone: &mut Zone, second: i64) -> Result<String, Refused> {
     Ok(format!("instant {second}: {offset} {name}{}", if is_dst == 1 { " dst" } else { "" }))
 }
 
-fn told_of_clock(zone: &mut Zone, second: i64) -> Result<String, Refused> {
+fn told_of_clock(zone: &Zone, second: i64) -> Result<String, Refused> {
     let WallClock { shown, first_offset, last_offset, first, last } = zone.wall_clock(second)?;
     Ok(match shown {
         0 => format!("wall clock {second}: never"),
@@ -156,11 +150,10 @@ fn told_of_clock(zone: &mut Zone, second: i64) -> Result<String, Refused> {
     })
 }
 
-/// What is told of instants is asked in another thread, by a share of the zone.
-fn print_answers(zone: &mut Zone, seconds: &[i64]) -> Result<(), Refused> {
-    let mut share = zone.share()?;
+/// Another thread asks the same zone for what is in force at each instant.
+fn print_answers(zone: &Zone, seconds: &[i64]) -> Result<(), Refused> {
     let instants: Result<Vec<String>, Refused> = thread::scope(|scope| {
-        let asked = scope.spawn(move || seconds.iter().map(|second| told_of_instant(&mut share, *second)).collect());
+        let asked = scope.spawn(|| seconds.iter().map(|second| told_of_instant(zone, *second)).collect());
         asked.join().expect("the thread ends")
     });
     for (second, instant) in seconds.iter().zip(instants?) {
@@ -194,6 +187,6 @@ fn answer(words: &[String]) -> Result<(), String> {
         .map(|number| number.parse().map_err(|error| format!("{number}: {error}")))
         .collect::<Result<Vec<i64>, String>>()?;
     Zone::open(&bytes)
-        .and_then(|mut zone| print_answers(&mut zone, &seconds))
+        .and_then(|zone| print_answers(&zone, &seconds))
         .map_err(|refused| format!("{path} is refused: {refused}"))
 }

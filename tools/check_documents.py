@@ -287,7 +287,7 @@ def unused_lemmas():
                 whole.setdefault(page, []).append((here, text))
     for path in proofs:
         module = module_of(path)
-        if path.stem in ("Answers", "Invariants", "Proof", "Send", "Lib", "ForCallers"):
+        if path.stem in ("Answers", "Invariants", "Proof", "Send", "Sync", "Lib", "ForCallers"):
             continue
         text = without_comments(text_of(path), "--")
         blocks = list(definitions(text))

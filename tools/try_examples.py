@@ -4,10 +4,10 @@
 usage: tools/try_examples.py [ZONEINFO]
 
 ZONEINFO is a tz database (/usr/share/zoneinfo). It needs crates/zoned_ffi/out/libzoned_ffi.a, which `rt lib` builds in
-crates/zoned_ffi, and gcc, rustc and python3. Three things are tried:
+crates/zoned_ffi, and gcc, g++, rustc and python3. Three things are tried:
 
 - each program of examples/ is built and run by the two lines in its head, and what it prints is compared with Python's
-  zoneinfo: zones.c, zones.rs and zones.py on files, rule.c on TZ texts;
+  zoneinfo: zones.c, zones.cc, zones.rs and zones.py on files, rule.c on TZ strings;
 - each call that the header declares is called by a program of examples/ or by try_handles.c, and defined in the archive;
 - tools/header_pins.c, which pins the header's sizes, places and numbers, compiles, and finds them in the archive's answers,
   over the kit's heap and over one of its own.
@@ -27,7 +27,7 @@ from zoneinfo import ZoneInfo
 
 TOP = Path(__file__).resolve().parent.parent
 # Each program, and what the line in its head makes.
-BUILT = {"zones.c": "./zones_c", "zones.rs": "./zones_rs", "zones.py": "./libzoned_ffi.so", "rule.c": "./rule_c"}
+BUILT = {"zones.c": "./zones_c", "zones.rs": "./zones_rs", "zones.py": "./libzoned_ffi.so", "rule.c": "./rule_c", "zones.cc": "./zones_cc"}
 ZONES = ["America/New_York", "Europe/London", "Asia/Tehran", "America/Sao_Paulo", "Pacific/Apia", "Antarctica/Troll"]
 EPOCH = datetime(1970, 1, 1)
 DAY = 86_400
@@ -48,7 +48,7 @@ def recipe(name):
     """The line that builds a program, and the one that runs it."""
     head = (TOP / "examples" / name).read_text().splitlines()[:9]
     lines = [line.removeprefix("//!").strip() for line in head]
-    return [line for line in lines if line.startswith(("gcc ", "rustc ", "python3 ", "./"))]
+    return [line for line in lines if line.startswith(("gcc ", "g++ ", "rustc ", "python3 ", "./"))]
 
 
 def shown(zone, local):

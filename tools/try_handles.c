@@ -5,16 +5,21 @@
    Random calls: handles are opened on zones, on parts of their bytes and on bytes with faults, by kinds that are and that
    aren't, shared, closed and asked, with counts that fit and that don't. What a handle answers is compared with what the
    calls without a handle say of the bytes that it was opened on, and the changes of a stretch with what stepping through
-   them comes to. Then eight threads ask one zone, each by a share of its own; the shares of a zone are closed in every
-   order; and each request for memory of a call that opens is refused in turn. It prints a line, and ends with 0 if nothing
-   differs. Linked with --wrap=malloc and --wrap=realloc. */
+   them comes to. Then eight threads ask one handle in a read-only page, and shares of it; a question is left by siglongjmp;
+   the shares of a zone are closed in every order; and each request for memory of a call that opens is refused in turn. It
+   prints a line, and ends with 0 if nothing differs. Linked with --wrap=malloc and --wrap=realloc. */
+#define _GNU_SOURCE
 #include "../crates/zoned_ffi/include/zoned_ffi.h"
 
 #include <inttypes.h>
 #include <pthread.h>
+#include <setjmp.h>
+#include <signal.h>
 #include <stdio.h>
 #include <stdlib.h>
 #include <string.h>
+#include <sys/mman.h>
+#include <unistd.h>
 
 #define EXPECT(what)                                                                                                       \
     do {                                                                                                                   \
@@ -424,67 +429,141 @@ static void try_calls(uint64_t count) {
     for (size_t i = 0; i < HANDLES; i++) try_close(&tried[i]);
 }
 
-struct worker {
-    struct zoned_zone zone;
-    pthread_t thread;
-    uint64_t seed, count;
-    int64_t sum;
-    char apart[64];
-};
+/* What the threads share: a handle in a read-only page, and the sum of its answers that one thread found. */
+static const struct zoned_zone *asked;
+static uint64_t rounds, expected_sum;
+static pthread_barrier_t asked_by_all, closed;
 
-static int64_t ask(struct zoned_zone *zone, uint64_t seed, uint64_t count) {
-    int64_t sum = 0;
-    for (uint64_t i = 0; i < count; i++) {
-        seed = seed * 6364136223846793005u + 1442695040888963407u;
-        int64_t at = (int64_t)(seed >> 31) - 2147483648;
-        int32_t offset;
-        zoned_wall_clock clock;
-        if (zoned_zone_offset(zone, at, &offset) || zoned_zone_wall_clock(zone, at, &clock)) return INT64_MIN;
-        sum += offset + clock.first;
+static uint64_t mix(uint64_t sum, const void *answer, size_t size) {
+    const uint8_t *bytes = answer;
+    for (size_t i = 0; i < size; i++) sum = (sum ^ bytes[i]) * 1099511628211u;
+    return sum;
+}
+
+static uint64_t mix_clock(uint64_t sum, const zoned_wall_clock *clock) {
+    int64_t numbers[] = {clock->shown, clock->first_offset, clock->last_offset, clock->first, clock->last};
+    return mix(sum, numbers, sizeof numbers);
+}
+
+/* A sum of the answers to one instant and one local time. */
+static uint64_t ask_one(const struct zoned_zone *zone, int64_t at, uint64_t sum) {
+    int32_t offset;
+    zoned_local_type type;
+    zoned_change next = {0}, previous = {0};
+    zoned_wall_clock clock;
+    zoned_resolved resolved;
+    uint32_t numbers[] = {zoned_zone_offset(zone, at, &offset),
+                          zoned_zone_type(zone, at, &type),
+                          zoned_zone_next_change(zone, at, &next),
+                          zoned_zone_previous_change(zone, at, &previous),
+                          zoned_zone_wall_clock(zone, at, &clock),
+                          zoned_zone_instant(zone, ZONED_GAP_SHIFT_FORWARD, ZONED_FOLD_LATEST, at, &resolved)};
+    sum = mix(mix(mix(sum, numbers, sizeof numbers), &offset, sizeof offset), &type, sizeof type);
+    sum = mix(mix(sum, &next, sizeof next), &previous, sizeof previous);
+    return mix(mix_clock(sum, &clock), &resolved, sizeof resolved);
+}
+
+/* The same of several, and of the changes of a stretch. */
+static uint64_t ask_many(const struct zoned_zone *zone, const int64_t *at, uint64_t sum) {
+    int32_t offsets[MOST], triples[3 * MOST];
+    zoned_local_type types[MOST];
+    zoned_wall_clock clocks[MOST];
+    zoned_resolved resolved[MOST];
+    zoned_change changes[MOST] = {{0}};
+    size_t count;
+    uint32_t numbers[] = {zoned_zone_at(zone, at, MOST, offsets, MOST),
+                          zoned_zone_types(zone, at, MOST, types, MOST),
+                          zoned_zone_wall_instants(zone, at, MOST, clocks, MOST),
+                          zoned_zone_wall(zone, at, MOST, triples, 3 * MOST),
+                          zoned_zone_resolve(zone, ZONED_GAP_REFUSE, ZONED_FOLD_EARLIEST, at, MOST, resolved, MOST),
+                          zoned_zone_changes(zone, at[0], at[0] + 100000000, changes, MOST, &count)};
+    sum = mix(mix(mix(sum, numbers, sizeof numbers), offsets, sizeof offsets), triples, sizeof triples);
+    for (int i = 0; i < MOST; i++) sum = mix_clock(sum, &clocks[i]);
+    sum = mix(mix(sum, types, sizeof types), resolved, sizeof resolved);
+    return mix(mix(sum, &count, sizeof count), changes, sizeof changes);
+}
+
+/* A sum of the answers of all twelve questions by handle. */
+static uint64_t ask(const struct zoned_zone *zone) {
+    uint64_t sum = 14695981039346656037u, seed = 1;
+    for (uint64_t i = 0; i < rounds; i++) {
+        int64_t at[MOST];
+        for (int k = 0; k < MOST; k++) {
+            seed = seed * 6364136223846793005u + 1442695040888963407u;
+            at[k] = (int64_t)(seed >> 31) - 2147483648;
+        }
+        sum = ask_many(zone, at, ask_one(zone, at[0], sum));
     }
     return sum;
 }
 
+/* Asks the handle of all, and shares of it, which come and go meanwhile; then a share that outlives it. */
 static void *work(void *given) {
-    struct worker *worker = given;
-    for (int round = 0; round < 8; round++) { /* shares come and go while others ask */
-        struct zoned_zone more = {0};
-        if (zoned_share(&worker->zone, &more)) return worker;
-        worker->sum += ask(round % 2 ? &more : &worker->zone, worker->seed + (uint64_t)round, worker->count / 8);
-        if (round % 3 == 0) {
-            zoned_close(&worker->zone);
-            worker->zone = more;
-        } else
-            zoned_close(&more);
+    struct zoned_zone last = {0};
+    EXPECT(ask(asked) == expected_sum);
+    for (int i = 0; i < 8; i++) {
+        struct zoned_zone share = {0};
+        int32_t offset;
+        EXPECT(zoned_share(asked, &share) == ZONED_OK && zoned_zone_offset(&share, 0, &offset) == ZONED_OK);
+        zoned_close(&share);
     }
-    zoned_close(&worker->zone);
-    return NULL;
+    EXPECT(zoned_share(asked, &last) == ZONED_OK);
+    pthread_barrier_wait(&asked_by_all);
+    pthread_barrier_wait(&closed);
+    EXPECT(ask(&last) == expected_sum);
+    zoned_close(&last);
+    return given;
 }
 
 static void try_threads(uint64_t count) {
-    static struct worker workers[THREADS];
+    size_t page = (size_t)sysconf(_SC_PAGESIZE);
+    struct zoned_zone *zone = mmap(NULL, page, PROT_READ | PROT_WRITE, MAP_PRIVATE | MAP_ANONYMOUS, -1, 0);
+    EXPECT(zone != MAP_FAILED);
+    rounds = count;
     for (size_t z = 0; z < zone_count; z += 3) {
-        struct zoned_zone zone = {0};
-        EXPECT(zoned_open(zones[z].kind, zones[z].at, zones[z].len, &zone) == ZONED_OK);
-        for (uint64_t i = 0; i < THREADS; i++) {
-            workers[i] = (struct worker){.seed = 100 * i, .count = count};
-            EXPECT(zoned_share(&zone, &workers[i].zone) == ZONED_OK);
-        }
-        for (int i = 0; i < THREADS; i++) EXPECT(pthread_create(&workers[i].thread, NULL, work, &workers[i]) == 0);
-        if (z % 2) zoned_close(&zone); /* before the threads end, or after it */
-        for (int i = 0; i < THREADS; i++) {
-            void *failed;
-            EXPECT(pthread_join(workers[i].thread, &failed) == 0 && failed == NULL && workers[i].zone.zone == NULL);
-        }
-        zoned_close(&zone);
-        EXPECT(zoned_open(zones[z].kind, zones[z].at, zones[z].len, &zone) == ZONED_OK);
-        for (uint64_t i = 0; i < THREADS; i++) {
-            int64_t sum = 0;
-            for (uint64_t round = 0; round < 8; round++) sum += ask(&zone, 100 * i + round, count / 8);
-            EXPECT(sum == workers[i].sum);
-        }
-        zoned_close(&zone);
+        pthread_t threads[THREADS];
+        EXPECT(zoned_open(zones[z].kind, zones[z].at, zones[z].len, zone) == ZONED_OK);
+        EXPECT(mprotect(zone, page, PROT_READ) == 0);
+        expected_sum = ask(zone);
+        asked = zone;
+        EXPECT(pthread_barrier_init(&asked_by_all, NULL, THREADS + 1) == 0);
+        EXPECT(pthread_barrier_init(&closed, NULL, THREADS + 1) == 0);
+        for (int i = 0; i < THREADS; i++) EXPECT(pthread_create(&threads[i], NULL, work, NULL) == 0);
+        pthread_barrier_wait(&asked_by_all);
+        EXPECT(mprotect(zone, page, PROT_READ | PROT_WRITE) == 0);
+        zoned_close(zone);
+        pthread_barrier_wait(&closed);
+        for (int i = 0; i < THREADS; i++) EXPECT(pthread_join(threads[i], NULL) == 0);
+        pthread_barrier_destroy(&asked_by_all);
+        pthread_barrier_destroy(&closed);
     }
+    munmap(zone, page);
+}
+
+static sigjmp_buf left;
+
+static void leave(int signal) {
+    (void)signal;
+    siglongjmp(left, 1);
+}
+
+/* A question that is left by siglongjmp leaves the zone open. (To list all of 64 bits would take minutes.) */
+static void try_leaving(void) {
+    static struct zoned_zone zone;
+    zoned_change change;
+    size_t count;
+    int32_t offset;
+    EXPECT(zoned_open(ZONED_TEXT, (const uint8_t *)TEXTS[1], strlen(TEXTS[1]), &zone) == ZONED_OK);
+    const void *before = zone.zone;
+    signal(SIGALRM, leave);
+    if (sigsetjmp(left, 1) == 0) {
+        ualarm(1000, 0);
+        zoned_zone_changes(&zone, 0, INT64_MAX, &change, 1, &count);
+        EXPECT(!"left");
+    }
+    signal(SIGALRM, SIG_DFL);
+    EXPECT(zone.zone == before && zoned_zone_offset(&zone, 1615705200, &offset) == ZONED_OK && offset == -14400);
+    zoned_close(&zone);
 }
 
 /* Four shares of a zone, closed in each of the 24 orders: those that are left still answer. */
@@ -566,7 +645,8 @@ int main(int count, char **words) {
     try_calls(wanted);
     try_orders();
     try_refusals();
-    try_threads(wanted / 100);
+    try_leaving();
+    try_threads(wanted / 500);
     for (size_t i = 0; i < zone_count; i++) free(zones[i].at);
     printf("%" PRIu64 " random calls, %d threads, 24 orders, and each request refused\n", wanted, THREADS);
     return 0;

@@ -4,9 +4,10 @@
 usage: tools/try_handles.py [CALLS [SEED]]
 
 CALLS random calls are made (a million), by SEED (1). It needs crates/zoned_ffi/out/libzoned_ffi.a, which `rt lib` builds in
-crates/zoned_ffi, gcc, and a tz database in /usr/share/zoneinfo. The program is built and run three times: as it is; with
-AddressSanitizer, which finds leaks, and UndefinedBehaviorSanitizer, a tenth as often; and, where valgrind is there, under it,
-with fewer calls. It takes half a minute. The gate runs it. Ends with status 1 where anything differs or leaks.
+crates/zoned_ffi, gcc, and a tz database in /usr/share/zoneinfo. The program is built and run as it is; with AddressSanitizer,
+which finds leaks, and UndefinedBehaviorSanitizer, and with ThreadSanitizer, a tenth as often; and, if valgrind is installed,
+under memcheck, helgrind and drd, with fewer calls. (The archive isn't instrumented: ThreadSanitizer sees what the program and the
+heap do, helgrind and drd see all.) It takes a minute. The gate runs it. Ends with status 1 if anything differs, leaks or races.
 """
 
 import shutil
@@ -21,7 +22,9 @@ ARCHIVE = TOP / "crates/zoned_ffi/out/libzoned_ffi.a"
 DATABASE = Path("/usr/share/zoneinfo")
 ZONES = ["America/New_York", "Europe/Dublin", "Asia/Tehran", "Africa/Casablanca", "Pacific/Apia", "Antarctica/Troll", "Etc/UTC"]
 SANITIZERS = ["-g", "-fsanitize=address,undefined", "-fno-sanitize-recover=all"]
-VALGRIND = ["valgrind", "--quiet", "--leak-check=full", "--error-exitcode=9"]
+THREAD_SANITIZER = ["-g", "-fsanitize=thread"]
+VALGRIND = ["valgrind", "--quiet", "--error-exitcode=9"]
+TOOLS = {"memcheck": ["--leak-check=full"], "helgrind": [], "drd": []}
 
 
 def build(name, folder, flags):
@@ -46,12 +49,15 @@ def main():
     with tempfile.TemporaryDirectory() as folder:
         plain = build("plain", Path(folder), [])
         checked = build("checked", Path(folder), SANITIZERS)
+        raced = build("raced", Path(folder), THREAD_SANITIZER)
         results = [
             failed("handles", [plain, str(calls), str(seed), *files]),
             failed("handles, with sanitizers", [checked, str(calls // 10), str(seed + 1), *files]),
+            failed("handles, with ThreadSanitizer", [raced, str(calls // 10), str(seed + 1), *files]),
         ]
-        if shutil.which("valgrind"):
-            results.append(failed("handles, under valgrind", [*VALGRIND, plain, str(calls // 500), str(seed + 2), *files]))
+        for tool, flags in TOOLS.items() if shutil.which("valgrind") else ():
+            words = [*VALGRIND, f"--tool={tool}", *flags, plain, str(calls // 500), str(seed + 2)]
+            results.append(failed(f"handles, under {tool}", [*words, *files]))
     sys.exit(any(results))
 
 

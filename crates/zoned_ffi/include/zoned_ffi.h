@@ -28,36 +28,24 @@
    -------
    A handle is a struct zoned_zone in your memory. Start it as {0}: no zone is open, and every call takes that too.
 
-   - Its field is the library's: compare it with NULL if you like, and write it never but to make the struct {0}.
+   - Its field is the library's. Compare it with NULL if you like; never write to it except to make the struct {0}.
    - It may be moved. But after `b = a` only one of the two may be used again: make the other {0}.
    - An open handle that is overwritten or forgotten leaks its zone. A call that opens a handle closes what it had open.
-   - One call at a time has a handle, and nothing else reads or writes it meanwhile: every call writes it, also one that only
-     asks. Threads that ask at once have a handle each, by `zoned_share`.
-   - A handle may go to another thread. Order the calls of the two by a lock, by the start or the join of a thread, or by a
-     sequentially consistent atomic.
-   - Handles of busy threads lie best in different cache lines (64 bytes apart).
+   - A call that takes `const struct zoned_zone *` writes nothing to the handle. Any number of threads may make such calls with
+     one handle at once, while nobody opens, closes, moves or writes to it.
+   - A question that is left by longjmp or by the end of its thread loses nothing: the zone stays open.
+   - Order the call that opens or closes a handle and the calls of other threads by a lock, by the start or the join of a
+     thread, or by a sequentially consistent atomic.
+   - `zoned_share` gives a zone a second owner: a handle that is closed on its own. The last close frees the zone.
 
-   A pool of threads that share one zone:
+   Threads that ask one zone:
 
-     struct worker { struct zoned_zone zone; char apart[56]; };
+     static struct zoned_zone zone;                  // opened before the threads start, closed after they are joined
 
      static void *work(void *given) {
-         struct worker *worker = given;              // its handle is its own
-         .. zoned_zone_offset(&worker->zone, instant, &offset) ..
-         zoned_close(&worker->zone);                 // the last close frees the zone
+         .. zoned_zone_offset(&zone, instant, &offset) ..
          return NULL;
      }
-
-     int started = 0;                                // `workers` starts as zeros
-     while (started < count && zoned_share(&zone, &workers[started].zone) == ZONED_OK) {
-         if (pthread_create(&threads[started], NULL, work, &workers[started]) != 0) {
-             zoned_close(&workers[started].zone);
-             break;
-         }
-         started++;
-     }
-     zoned_close(&zone);
-     .. join threads[0] to threads[started - 1]: fewer than `count` if a share or a thread failed ..
 
    Arrays
    ------
@@ -80,11 +68,11 @@
 
    Threads
    -------
-   Calls share nothing but the zones that handles share, which no call changes. So several threads may call at once, each with
-   answers and handles of its own. (That is by design: no clause speaks of threads.) Don't call from a signal handler. In the
-   forked child of a process with threads only ask open handles that no other thread was using: asking takes neither memory nor
-   a lock, but zoned_open, zoned_share, zoned_close and the calls without a handle use the heap. A call that is left by longjmp
-   or by the end of its thread loses the zone of its handle.
+   Calls share nothing but open zones, which no call changes. So several threads may call at once, each with answers of its own.
+   This is tested and not proved, since no clause speaks of threads: tools/try_handles.py has eight threads ask one handle that
+   lies in a read-only page. Don't call from a signal handler. In the forked child of a process with threads only ask open
+   handles that no other thread was opening or closing: asking takes neither memory nor a lock, but zoned_open, zoned_share,
+   zoned_close and the calls without a handle use the heap.
 
    Memory
    ------
@@ -93,7 +81,7 @@
    of 8 million transitions was opened.
 
    The kit's c/liblibc_c.a defines the three functions by which the library takes memory. Link your own in its place to use
-   another allocator. `align` is a power of two up to 16 that divides `size`; `p` must not be NULL, also if `ok` is false.
+   another allocator (`HEAP=own.a tools/install.sh`). `align` is a power of two up to 16 that divides `size`; `p` must not be NULL, also if `ok` is false.
 
      struct tried { bool ok; void *p; };
      struct tried rattle_alloc(size_t size, size_t align);          // size may be 0
@@ -102,10 +90,19 @@
 
    Link
    ----
-   crates/zoned_ffi/out/libzoned_ffi.a, which `rt lib` builds, and after it the kit's c/liblibc_c.a. The code is for Linux on
-   x86-64-v2 processors (with SSE4.2 and popcnt) or later ones. It has neither frame pointers nor .eh_frame, so debuggers and
-   profilers can't unwind a stack through it. A shared library made of both archives also exports rattle_alloc, rattle_realloc
-   and rattle_dealloc, unless it is linked with -Wl,--exclude-libs,liblibc_c.a. */
+   tools/install.sh installs libzoned.a, libzoned.so, the headers zoned.h and zoned.hpp (C++17), zoned.pc for pkg-config, a CMake
+   config and the man page zoned(3), after `rt lib` in crates/zoned_ffi has built the archive:
+
+     PREFIX=/usr/local tools/install.sh
+     cc program.c $(pkg-config --cflags --libs zoned)
+
+   Both libraries need malloc, realloc, free, memcpy, memmove and memset only, and define the calls below only. Without them, link
+   crates/zoned_ffi/out/libzoned_ffi.a and after it the kit's c/liblibc_c.a. A shared library made of these two archives also
+   exports rattle_alloc, rattle_realloc and rattle_dealloc, unless it is linked with -Wl,--exclude-libs,liblibc_c.a.
+
+   The code is for Linux on x86-64-v2 processors (with SSE4.2 and popcnt) or later ones. It has neither frame pointers nor
+   .eh_frame: debuggers, profilers and backtrace() can't unwind a stack through it. It has no note for Intel's CET, so a program
+   can't be linked with -z cet-report=error. */
 #ifndef ZONED_FFI_H
 #define ZONED_FFI_H
 
@@ -115,6 +112,9 @@
 #ifdef __cplusplus
 extern "C" {
 #endif
+
+/* The version of this header. The library's soname changes with its first number. */
+#define ZONED_VERSION "0.3.0"
 
 /* How bytes are read: `kind`. */
 enum {
@@ -226,7 +226,7 @@ uint32_t zoned_open(uint32_t kind, const uint8_t *zone, size_t zone_len, struct 
 
 /* Opens the zone of `zone` in `out` too, another struct, without reading it anew: ZONED_OK, ZONED_NOT_OPEN, or 17 where there
    is no memory, and then `out` is as it was. */
-uint32_t zoned_share(struct zoned_zone *zone, struct zoned_zone *out);
+uint32_t zoned_share(const struct zoned_zone *zone, struct zoned_zone *out);
 
 /* Closes the zone, if one is open. The last handle that is closed frees it. To close twice does no harm. */
 void zoned_close(struct zoned_zone *zone);
@@ -234,8 +234,8 @@ void zoned_close(struct zoned_zone *zone);
 /* *offset is the offset in force at the instant, and offsets[i] that at instants[i], as in zoned_at.
 
    offsets_len is instants_len. */
-uint32_t zoned_zone_offset(struct zoned_zone *zone, int64_t instant, int32_t *offset);
-uint32_t zoned_zone_at(struct zoned_zone *zone,
+uint32_t zoned_zone_offset(const struct zoned_zone *zone, int64_t instant, int32_t *offset);
+uint32_t zoned_zone_at(const struct zoned_zone *zone,
                        const int64_t *instants, size_t instants_len,
                        int32_t *offsets, size_t offsets_len);
 
@@ -250,8 +250,8 @@ typedef struct zoned_local_type {
 /* *local_type is the type in force at the instant, and types[i] that at instants[i].
 
    types_len is instants_len. */
-uint32_t zoned_zone_type(struct zoned_zone *zone, int64_t instant, zoned_local_type *local_type);
-uint32_t zoned_zone_types(struct zoned_zone *zone,
+uint32_t zoned_zone_type(const struct zoned_zone *zone, int64_t instant, zoned_local_type *local_type);
+uint32_t zoned_zone_types(const struct zoned_zone *zone,
                           const int64_t *instants, size_t instants_len,
                           zoned_local_type *types, size_t types_len);
 
@@ -270,8 +270,8 @@ typedef struct zoned_change {
    begins or ends to have a type is no change either: the last change of the rule EST5EDT,M3.2.0,M11.1.0, which answers up to the
    year 2147483645, is that of November of that year, 67767976165557600, also before INT64_MAX. The calls step over transitions
    that change nothing one by one. */
-uint32_t zoned_zone_next_change(struct zoned_zone *zone, int64_t after, zoned_change *change);
-uint32_t zoned_zone_previous_change(struct zoned_zone *zone, int64_t before_or_at, zoned_change *change);
+uint32_t zoned_zone_next_change(const struct zoned_zone *zone, int64_t after, zoned_change *change);
+uint32_t zoned_zone_previous_change(const struct zoned_zone *zone, int64_t before_or_at, zoned_change *change);
 
 /* *count is how many changes there are from the second `from` on and before the second `until`: none where `until` is `from` or
    comes before it. The first of them, as many as changes_len, are written to `changes`, in the order of time; what stood behind
@@ -279,21 +279,21 @@ uint32_t zoned_zone_previous_change(struct zoned_zone *zone, int64_t before_or_a
    0. ZONED_NOT_OPEN: neither is written. See "Lists of changes" above.
 
    A change at INT64_MAX comes before no second: zoned_zone_previous_change tells it. */
-uint32_t zoned_zone_changes(struct zoned_zone *zone, int64_t from, int64_t until,
+uint32_t zoned_zone_changes(const struct zoned_zone *zone, int64_t from, int64_t until,
                             zoned_change *changes, size_t changes_len, size_t *count);
 
 /* *clock says when the zone's clocks show the local time, and clocks[i] when they show locals[i], as in zoned_wall_instants.
 
    clocks_len is locals_len. */
-uint32_t zoned_zone_wall_clock(struct zoned_zone *zone, int64_t local, zoned_wall_clock *clock);
-uint32_t zoned_zone_wall_instants(struct zoned_zone *zone,
+uint32_t zoned_zone_wall_clock(const struct zoned_zone *zone, int64_t local, zoned_wall_clock *clock);
+uint32_t zoned_zone_wall_instants(const struct zoned_zone *zone,
                                   const int64_t *locals, size_t locals_len,
                                   zoned_wall_clock *clocks, size_t clocks_len);
 
 /* Three numbers for each local time, as in zoned_wall.
 
    answers_len is 3 * locals_len. */
-uint32_t zoned_zone_wall(struct zoned_zone *zone,
+uint32_t zoned_zone_wall(const struct zoned_zone *zone,
                          const int64_t *locals, size_t locals_len,
                          int32_t *answers, size_t answers_len);
 
@@ -328,8 +328,8 @@ typedef struct zoned_resolved {
 /* *resolved is the instant of the local time under the choice, and resolved[i] that of locals[i].
 
    resolved_len is locals_len. */
-uint32_t zoned_zone_instant(struct zoned_zone *zone, uint32_t gap, uint32_t fold, int64_t local, zoned_resolved *resolved);
-uint32_t zoned_zone_resolve(struct zoned_zone *zone, uint32_t gap, uint32_t fold,
+uint32_t zoned_zone_instant(const struct zoned_zone *zone, uint32_t gap, uint32_t fold, int64_t local, zoned_resolved *resolved);
+uint32_t zoned_zone_resolve(const struct zoned_zone *zone, uint32_t gap, uint32_t fold,
                             const int64_t *locals, size_t locals_len,
                             zoned_resolved *resolved, size_t resolved_len);
 

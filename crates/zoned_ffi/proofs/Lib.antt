@@ -1,5 +1,6 @@
 pub mod ChangesWritten
 pub mod Handles
+pub mod Lending
 pub mod Slices
 pub mod Slots
 pub mod Reading

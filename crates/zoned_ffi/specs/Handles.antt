@@ -7,6 +7,7 @@ use Rattle.std.specs.declared.option.Option.TheVariants.{None, Some}
 use Rattle.std.specs.declared.sync.Arc.{Arc}
 use Rattle.tz_info.specs.Zones.{Zone}
 use Rattle.zoned_ffi.specs.declared.handle.Handle.{Handle}
+use Rattle.zoned_ffi.specs.declared.lent.Lent.{Lent}
 
 -- the zone of a share
 abbrev pub zone_of : Option (Arc Zone Global) → Option Zone
@@ -21,7 +22,15 @@ IsOpen handle z = zone_of handle.shared ≡ Some z
 abbrev pub IsClosed : Handle → Type 0
 IsClosed handle = handle.shared ≡ None
 
+-- the zone of a handle that is only read
+abbrev pub IsLent : Lent → Zone → Type 0
+IsLent lent z = zone_of lent.shared ≡ Some z
+
+-- a handle that is only read has none
+abbrev pub IsNoneLent : Lent → Type 0
+IsNoneLent lent = lent.shared ≡ None
+
 -- why a question is refused: no zone is open; or as many answers are wanted, and there is room for another count of them
-abbrev pub IsUnanswered : Handle → ℕ → ℕ → ℕ → Type 0
-IsUnanswered handle wanted room n =
-    ((n ≡ 33) × IsClosed handle) ⊎ ((n ≡ 32) × ((z : Zone) × IsOpen handle z) × (wanted ≢ room))
+abbrev pub IsUnanswered : Lent → ℕ → ℕ → ℕ → Type 0
+IsUnanswered lent wanted room n =
+    ((n ≡ 33) × IsNoneLent lent) ⊎ ((n ≡ 32) × ((z : Zone) × IsLent lent z) × (wanted ≢ room))

@@ -1,8 +1,11 @@
 -- What a handle owns: nothing where it is null, and else the block at its pointer, in which a share of a zone lies.
-use base.Fml.{Fml, ftrue, fex}
+-- What a handle that is only read has: nothing where it is null, and else some part of the token of a lifetime for which what lies at
+-- its pointer is lent. Parts can be parted again, so any number of readers have one, and the lifetime ends once all are back.
+use base.Fml.{Fml, Share, ftrue, fex, fsep, flft}
 use denote.RattleType.{RattleType}
-use denote.RawPtr.{Ptr, null_ptr}
-use Rattle.std.specs.Prelude.{◌≡◌}
+use denote.RawPtr.{Ptr, null_ptr, Testable}
+use denote.Struct.Lending.{lent_at}
+use Rattle.std.specs.Prelude.{◌≡◌, ℕ, [], ◌∷◌}
 use Rattle.std.specs.Box.Ownership.{box_owns}
 use Rattle.std.specs.contracts.alloc.Global as heap
 use Rattle.std.specs.contracts.impls.GlobalAllocator.TheImpl.{ghosts}
@@ -23,3 +26,11 @@ module _ (R : RattleType) (a : Global) where
   abbrev pub held : Ptr → Option R.Denot → Fml
   held p None = fex (p ≡ null_ptr) (λ _. ftrue)
   held p (Some x) = boxed p x
+
+module _ (R : RattleType) (life : ℕ) (p : Ptr) where
+  abbrev pub loan : R.Denot → Share → Fml
+  loan x part = fsep (flft (life ∷ []) part) (lent_at R p x (life ∷ []))
+
+  abbrev pub lent : Option R.Denot → Fml
+  lent None = fex (p ≡ null_ptr) (λ _. ftrue)
+  lent (Some x) = fex (Testable p) (λ _. fex Share (loan x))

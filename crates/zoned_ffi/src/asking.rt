@@ -4,7 +4,7 @@ ghost use Rattle.std.specs.Prelude.{◌≡◌, ◌≢◌, ◌*◌, ◌⊎◌, �
 ghost use Rattle.offset_core.specs.declared.choice.Choice.{Choice as AnyChoice};
 ghost use Rattle.tz_info.specs.Changes.{HasNoChange};
 ghost use Rattle.tz_info.specs.Zones.{Zone, TypeAt};
-ghost use Rattle.zoned_ffi.specs.Handles.{IsClosed, IsOpen, IsUnanswered};
+ghost use Rattle.zoned_ffi.specs.Handles.{IsLent, IsNoneLent, IsUnanswered};
 ghost use Rattle.zoned_ffi.specs.Instants.{AreOffsetsAt, IsOffsetAt};
 ghost use Rattle.zoned_ffi.specs.Resolved.{AreResolved, IsChoice, IsChoiceOf, IsResolvedAt};
 ghost use Rattle.zoned_ffi.specs.WallClocks.{AreTriples, AreWallClocks, IsWallClockAt};
@@ -12,184 +12,130 @@ ghost use Rattle.zoned_ffi.specs.WrittenChanges.{AreWrittenChanges, IsFirstWritt
 ghost use Rattle.zoned_ffi.specs.WrittenTypes.{AreWrittenTypesAt, IsWrittenTypeAt};
 
 use crate::changes::{WrittenChange, answer_next, answer_previous, write_changes};
-use crate::handle::Handle;
 use crate::instants::{answer_instants, offset_at};
+use crate::lent::Lent;
 use crate::local_type::{WrittenType, answer_types};
 use crate::refusal::{NOT_OPEN, UNKNOWN_CHOICE};
 use crate::resolved::{Resolved, answer_resolved, choice_of};
 use crate::wall_clock::{WallClock, answer_triples, answer_wall_clocks};
-use std::alloc::Global;
 
 /// Writes the offset in force at the instant, as [`crate::zoned_at`] does.
 #[unsafe(no_mangle)]
-pub extern "C" fn zoned_zone_offset(
-    alloc: Global,
-    zone: &mut Handle,
-    instant: i64,
-    offset: &mut i32,
-) -> u32
+pub extern "C" fn zoned_zone_offset(zone: &Lent, instant: i64, offset: &mut i32) -> u32
     // 0: what is written is told of the zone.
-    ensures answered { result ≡ 0 → (z : Zone) × IsOpen zone.old z × IsOffsetAt z instant offset.new }
+    ensures answered { result ≡ 0 → (z : Zone) × IsLent zone.now z × IsOffsetAt z instant offset.new }
     // 33: no zone is open, and nothing is written.
-    ensures refused { result ≢ 0 → (result ≡ 33) × IsClosed zone.old × (offset.new ≡ offset.old) }
-    ensures kept { zone.new.shared ≡ zone.old.shared }
+    ensures refused { result ≢ 0 → (result ≡ 33) × IsNoneLent zone.now × (offset.new ≡ offset.old) }
 {
-    let Some(share) = zone.take(alloc) else {
+    let Some(share) = zone.share() else {
         return NOT_OPEN;
     };
-    let found = offset_at(&share, instant);
-    zone.put(share);
-    *offset = found;
+    *offset = offset_at(share, instant);
     0
 }
 
 /// Writes the offset in force at each instant, as [`crate::zoned_at`] does.
 #[unsafe(no_mangle)]
-pub extern "C" fn zoned_zone_at(
-    alloc: Global,
-    zone: &mut Handle,
-    instants: &[i64],
-    offsets: &mut [i32],
-) -> u32
+pub extern "C" fn zoned_zone_at(zone: &Lent, instants: &[i64], offsets: &mut [i32]) -> u32
     // 0: each answer is told of the zone.
     ensures answered { result ≡ 0
-        → (z : Zone) × IsOpen zone.old z × AreOffsetsAt z instants.now offsets.new }
+        → (z : Zone) × IsLent zone.now z × AreOffsetsAt z instants.now offsets.new }
     // Another number says what is wrong, and nothing is written.
-    ensures refused { result ≢ 0 → IsUnanswered zone.old (length instants.now) (length offsets.old) result
+    ensures refused { result ≢ 0 → IsUnanswered zone.now (length instants.now) (length offsets.old) result
         × (offsets.new ≡ offsets.old) }
-    ensures kept { zone.new.shared ≡ zone.old.shared }
 {
-    let Some(share) = zone.take(alloc) else {
+    let Some(share) = zone.share() else {
         return NOT_OPEN;
     };
-    let number = answer_instants(&share, instants, offsets);
-    zone.put(share);
-    number
+    answer_instants(share, instants, offsets)
 }
 
 /// Writes the local time type in force at the instant.
 #[unsafe(no_mangle)]
-pub extern "C" fn zoned_zone_type(
-    alloc: Global,
-    zone: &mut Handle,
-    instant: i64,
-    local_type: &mut WrittenType,
-) -> u32
+pub extern "C" fn zoned_zone_type(zone: &Lent, instant: i64, local_type: &mut WrittenType) -> u32
     // 0: what is written is told of the zone.
-    ensures answered { result ≡ 0 → (z : Zone) × IsOpen zone.old z × IsWrittenTypeAt z instant local_type.new }
+    ensures answered { result ≡ 0 → (z : Zone) × IsLent zone.now z × IsWrittenTypeAt z instant local_type.new }
     // 33: no zone is open, and nothing is written.
-    ensures refused { result ≢ 0 → (result ≡ 33) × IsClosed zone.old × (local_type.new ≡ local_type.old) }
-    ensures kept { zone.new.shared ≡ zone.old.shared }
+    ensures refused { result ≢ 0 → (result ≡ 33) × IsNoneLent zone.now × (local_type.new ≡ local_type.old) }
 {
-    let Some(share) = zone.take(alloc) else {
+    let Some(share) = zone.share() else {
         return NOT_OPEN;
     };
-    let found = WrittenType::at(&share, instant);
-    zone.put(share);
-    *local_type = found;
+    *local_type = WrittenType::at(share, instant);
     0
 }
 
 /// Writes the local time type in force at each instant.
 #[unsafe(no_mangle)]
-pub extern "C" fn zoned_zone_types(
-    alloc: Global,
-    zone: &mut Handle,
-    instants: &[i64],
-    types: &mut [WrittenType],
-) -> u32
+pub extern "C" fn zoned_zone_types(zone: &Lent, instants: &[i64], types: &mut [WrittenType]) -> u32
     // 0: each answer is told of the zone.
     ensures answered { result ≡ 0
-        → (z : Zone) × IsOpen zone.old z × AreWrittenTypesAt z instants.now types.new }
+        → (z : Zone) × IsLent zone.now z × AreWrittenTypesAt z instants.now types.new }
     // Another number says what is wrong, and nothing is written.
-    ensures refused { result ≢ 0 → IsUnanswered zone.old (length instants.now) (length types.old) result
+    ensures refused { result ≢ 0 → IsUnanswered zone.now (length instants.now) (length types.old) result
         × (types.new ≡ types.old) }
-    ensures kept { zone.new.shared ≡ zone.old.shared }
 {
-    let Some(share) = zone.take(alloc) else {
+    let Some(share) = zone.share() else {
         return NOT_OPEN;
     };
-    let number = answer_types(&share, instants, types);
-    zone.put(share);
-    number
+    answer_types(share, instants, types)
 }
 
 /// Writes when the zone's clocks show the local time.
 #[unsafe(no_mangle)]
-pub extern "C" fn zoned_zone_wall_clock(
-    alloc: Global,
-    zone: &mut Handle,
-    local: i64,
-    clock: &mut WallClock,
-) -> u32
+pub extern "C" fn zoned_zone_wall_clock(zone: &Lent, local: i64, clock: &mut WallClock) -> u32
     // 0: what is written is told of the zone.
-    ensures answered { result ≡ 0 → (z : Zone) × IsOpen zone.old z × IsWallClockAt z local clock.new }
+    ensures answered { result ≡ 0 → (z : Zone) × IsLent zone.now z × IsWallClockAt z local clock.new }
     // 33: no zone is open, and nothing is written.
-    ensures refused { result ≢ 0 → (result ≡ 33) × IsClosed zone.old × (clock.new ≡ clock.old) }
-    ensures kept { zone.new.shared ≡ zone.old.shared }
+    ensures refused { result ≢ 0 → (result ≡ 33) × IsNoneLent zone.now × (clock.new ≡ clock.old) }
 {
-    let Some(share) = zone.take(alloc) else {
+    let Some(share) = zone.share() else {
         return NOT_OPEN;
     };
-    let found = WallClock::at(&share, local);
-    zone.put(share);
-    *clock = found;
+    *clock = WallClock::at(share, local);
     0
 }
 
 /// Writes when the zone's clocks show each local time.
 #[unsafe(no_mangle)]
 pub extern "C" fn zoned_zone_wall_instants(
-    alloc: Global,
-    zone: &mut Handle,
+    zone: &Lent,
     locals: &[i64],
     clocks: &mut [WallClock],
 ) -> u32
     // 0: each answer is told of the zone.
     ensures answered { result ≡ 0
-        → (z : Zone) × IsOpen zone.old z × AreWallClocks z locals.now clocks.new }
+        → (z : Zone) × IsLent zone.now z × AreWallClocks z locals.now clocks.new }
     // Another number says what is wrong, and nothing is written.
-    ensures refused { result ≢ 0 → IsUnanswered zone.old (length locals.now) (length clocks.old) result
+    ensures refused { result ≢ 0 → IsUnanswered zone.now (length locals.now) (length clocks.old) result
         × (clocks.new ≡ clocks.old) }
-    ensures kept { zone.new.shared ≡ zone.old.shared }
 {
-    let Some(share) = zone.take(alloc) else {
+    let Some(share) = zone.share() else {
         return NOT_OPEN;
     };
-    let number = answer_wall_clocks(&share, locals, clocks);
-    zone.put(share);
-    number
+    answer_wall_clocks(share, locals, clocks)
 }
 
 /// Writes three numbers for each local time, as [`crate::zoned_wall`] does.
 #[unsafe(no_mangle)]
-pub extern "C" fn zoned_zone_wall(
-    alloc: Global,
-    zone: &mut Handle,
-    locals: &[i64],
-    answers: &mut [i32],
-) -> u32
+pub extern "C" fn zoned_zone_wall(zone: &Lent, locals: &[i64], answers: &mut [i32]) -> u32
     // 0: each answer is told of the zone.
     ensures answered { result ≡ 0
-        → (z : Zone) × IsOpen zone.old z × AreTriples z locals.now answers.new }
+        → (z : Zone) × IsLent zone.now z × AreTriples z locals.now answers.new }
     // Another number says what is wrong, and nothing is written.
-    ensures refused { result ≢ 0 → IsUnanswered zone.old (3 * length locals.now) (length answers.old) result
+    ensures refused { result ≢ 0 → IsUnanswered zone.now (3 * length locals.now) (length answers.old) result
         × (answers.new ≡ answers.old) }
-    ensures kept { zone.new.shared ≡ zone.old.shared }
 {
-    let Some(share) = zone.take(alloc) else {
+    let Some(share) = zone.share() else {
         return NOT_OPEN;
     };
-    let number = answer_triples(&share, locals, answers);
-    zone.put(share);
-    number
+    answer_triples(share, locals, answers)
 }
 
 /// Writes the instant that a choice takes for the local time.
 #[unsafe(no_mangle)]
 pub extern "C" fn zoned_zone_instant(
-    alloc: Global,
-    zone: &mut Handle,
+    zone: &Lent,
     gap: u32,
     fold: u32,
     local: i64,
@@ -197,29 +143,25 @@ pub extern "C" fn zoned_zone_instant(
 ) -> u32
     // 0: what is written is told of the zone, under the choice of those numbers.
     ensures answered { result ≡ 0 → (choice : AnyChoice) × IsChoiceOf gap fold choice
-        × ((z : Zone) × IsOpen zone.old z × IsResolvedAt z choice local resolved.new) }
+        × ((z : Zone) × IsLent zone.now z × IsResolvedAt z choice local resolved.new) }
     // 34: no choice has these numbers. 33: no zone is open. Nothing is written.
     ensures refused { result ≢ 0 → (((result ≡ 34) × ¬ (IsChoice gap fold))
-        ⊎ ((result ≡ 33) × IsChoice gap fold × IsClosed zone.old)) × (resolved.new ≡ resolved.old) }
-    ensures kept { zone.new.shared ≡ zone.old.shared }
+        ⊎ ((result ≡ 33) × IsChoice gap fold × IsNoneLent zone.now)) × (resolved.new ≡ resolved.old) }
 {
     let Some(choice) = choice_of(gap, fold) else {
         return UNKNOWN_CHOICE;
     };
-    let Some(share) = zone.take(alloc) else {
+    let Some(share) = zone.share() else {
         return NOT_OPEN;
     };
-    let found = Resolved::at(&share, choice, local);
-    zone.put(share);
-    *resolved = found;
+    *resolved = Resolved::at(share, choice, local);
     0
 }
 
 /// Writes the instant that a choice takes for each local time.
 #[unsafe(no_mangle)]
 pub extern "C" fn zoned_zone_resolve(
-    alloc: Global,
-    zone: &mut Handle,
+    zone: &Lent,
     gap: u32,
     fold: u32,
     locals: &[i64],
@@ -227,99 +169,81 @@ pub extern "C" fn zoned_zone_resolve(
 ) -> u32
     // 0: each answer is told of the zone, under the choice of those numbers.
     ensures answered { result ≡ 0 → (choice : AnyChoice) × IsChoiceOf gap fold choice
-        × ((z : Zone) × IsOpen zone.old z × AreResolved z choice locals.now resolved.new) }
+        × ((z : Zone) × IsLent zone.now z × AreResolved z choice locals.now resolved.new) }
     // 34: no choice has these numbers. Others as in the calls above. Nothing is written.
     ensures refused { result ≢ 0 → (((result ≡ 34) × ¬ (IsChoice gap fold))
         ⊎ (IsChoice gap fold
-        × IsUnanswered zone.old (length locals.now) (length resolved.old) result))
+        × IsUnanswered zone.now (length locals.now) (length resolved.old) result))
         × (resolved.new ≡ resolved.old) }
-    ensures kept { zone.new.shared ≡ zone.old.shared }
 {
     let Some(choice) = choice_of(gap, fold) else {
         return UNKNOWN_CHOICE;
     };
-    let Some(share) = zone.take(alloc) else {
+    let Some(share) = zone.share() else {
         return NOT_OPEN;
     };
-    let number = answer_resolved(&share, choice, locals, resolved);
-    zone.put(share);
-    number
+    answer_resolved(share, choice, locals, resolved)
 }
 
 /// Writes the first change of the zone's clocks after that second.
 #[unsafe(no_mangle)]
-pub extern "C" fn zoned_zone_next_change(
-    alloc: Global,
-    zone: &mut Handle,
-    after: i64,
-    change: &mut WrittenChange,
-) -> u32
+pub extern "C" fn zoned_zone_next_change(zone: &Lent, after: i64, change: &mut WrittenChange) -> u32
     // 0: it is written.
     ensures answered { result ≡ 0
-        → (z : Zone) × IsOpen zone.old z × IsFirstWritten z (λ u. after <ℤ u) change.new }
+        → (z : Zone) × IsLent zone.now z × IsFirstWritten z (λ u. after <ℤ u) change.new }
     // 33: no zone is open. 35: there is no such change. Nothing is written.
-    ensures refused { result ≢ 0 → (((result ≡ 33) × IsClosed zone.old)
-        ⊎ ((result ≡ 35) × ((z : Zone) × IsOpen zone.old z × HasNoChange (TypeAt z) (λ u. after <ℤ u))))
+    ensures refused { result ≢ 0 → (((result ≡ 33) × IsNoneLent zone.now)
+        ⊎ ((result ≡ 35) × ((z : Zone) × IsLent zone.now z × HasNoChange (TypeAt z) (λ u. after <ℤ u))))
         × (change.new ≡ change.old) }
-    ensures kept { zone.new.shared ≡ zone.old.shared }
 {
-    let Some(share) = zone.take(alloc) else {
+    let Some(share) = zone.share() else {
         return NOT_OPEN;
     };
-    let number = answer_next(&share, after, change);
-    zone.put(share);
-    number
+    answer_next(share, after, change)
 }
 
 /// Writes the last change of the zone's clocks at that second or before it.
 #[unsafe(no_mangle)]
 pub extern "C" fn zoned_zone_previous_change(
-    alloc: Global,
-    zone: &mut Handle,
+    zone: &Lent,
     before_or_at: i64,
     change: &mut WrittenChange,
 ) -> u32
     // 0: it is written.
     ensures answered { result ≡ 0
-        → (z : Zone) × IsOpen zone.old z × IsLastWritten z (λ u. u ≤ℤ before_or_at) change.new }
+        → (z : Zone) × IsLent zone.now z × IsLastWritten z (λ u. u ≤ℤ before_or_at) change.new }
     // 33: no zone is open. 35: there is no such change. Nothing is written.
-    ensures refused { result ≢ 0 → (((result ≡ 33) × IsClosed zone.old)
+    ensures refused { result ≢ 0 → (((result ≡ 33) × IsNoneLent zone.now)
         ⊎ ((result ≡ 35)
-        × ((z : Zone) × IsOpen zone.old z × HasNoChange (TypeAt z) (λ u. u ≤ℤ before_or_at))))
+        × ((z : Zone) × IsLent zone.now z × HasNoChange (TypeAt z) (λ u. u ≤ℤ before_or_at))))
         × (change.new ≡ change.old) }
-    ensures kept { zone.new.shared ≡ zone.old.shared }
 {
-    let Some(share) = zone.take(alloc) else {
+    let Some(share) = zone.share() else {
         return NOT_OPEN;
     };
-    let number = answer_previous(&share, before_or_at, change);
-    zone.put(share);
-    number
+    answer_previous(share, before_or_at, change)
 }
 
 /// Writes the changes of the zone's clocks from the second `from` on and before `until`, as many as
 /// there is room for, and how many there are.
 #[unsafe(no_mangle)]
 pub extern "C" fn zoned_zone_changes(
-    alloc: Global,
-    zone: &mut Handle,
+    zone: &Lent,
     from: i64,
     until: i64,
     changes: &mut [WrittenChange],
     count: &mut usize,
 ) -> u32
     // 0: they are written, in their order, and counted. What stood behind them is as it was.
-    ensures answered { result ≡ 0 → (z : Zone) × IsOpen zone.old z
+    ensures answered { result ≡ 0 → (z : Zone) × IsLent zone.now z
         × AreWrittenChanges z from until changes.old changes.new count.new }
     // 33: no zone is open, and nothing is written.
-    ensures refused { result ≢ 0 → (result ≡ 33) × IsClosed zone.old
+    ensures refused { result ≢ 0 → (result ≡ 33) × IsNoneLent zone.now
         × (changes.new ≡ changes.old) × (count.new ≡ count.old) }
-    ensures kept { zone.new.shared ≡ zone.old.shared }
 {
-    let Some(share) = zone.take(alloc) else {
+    let Some(share) = zone.share() else {
         return NOT_OPEN;
     };
-    *count = write_changes(&share, from, until, changes);
-    zone.put(share);
+    *count = write_changes(share, from, until, changes);
     0
 }

@@ -11,7 +11,6 @@ ghost use Rattle.zoned_ffi.specs.Owned.{held, shared_row};
 use crate::slot::Slot;
 use std::alloc::Global;
 use std::marker::Model;
-use std::mem::replace;
 use std::ptr::null_mut;
 use std::sync::Arc;
 use tz_info::TimeZone;
@@ -67,29 +66,6 @@ impl Handle {
                 at: at.cast::<Arc<TimeZone>>(),
                 alloc,
             })
-        }
-    }
-
-    /// Takes the zone out, if one is open: none is open then.
-    pub fn take(&mut self, alloc: Global) -> Option<Box<Arc<TimeZone>>>
-        ensures taken { MatchOption result (self.old.shared ≡ None)
-            (λ b. self.old.shared ≡ Some b.value) }
-        ensures closed { self.new.shared ≡ None }
-    {
-        match replace(self, Handle::closed(alloc)).into_slot() {
-            Some(slot) => Some(slot.into_box()),
-            None => None,
-        }
-    }
-
-    /// Puts a zone in where none is open.
-    pub fn put(&mut self, shared: Box<Arc<TimeZone>>)
-        requires { self.old.shared ≡ None }
-        ensures { self.new.shared ≡ Some shared.value }
-    {
-        match replace(self, Handle::of(shared)).into_slot() {
-            Some(_) => unreachable!(),
-            None => {}
         }
     }
 }

@@ -18,6 +18,7 @@ mod handle;
 mod instants;
 mod kind;
 pub mod laws;
+mod lent;
 mod local_type;
 mod opening;
 mod pins;

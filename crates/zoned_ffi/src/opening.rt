@@ -3,12 +3,13 @@
 ghost use Rattle.std.specs.Prelude.{◌≡◌, ◌≢◌, ◌⊎◌, IfErr, IfOk, IfSome};
 ghost use Rattle.std.specs.Arc.{arc_value};
 ghost use Rattle.tz_info.specs.Zones.{Zone};
-ghost use Rattle.zoned_ffi.specs.Handles.{IsClosed, IsOpen};
+ghost use Rattle.zoned_ffi.specs.Handles.{IsClosed, IsLent, IsNoneLent, IsOpen};
 ghost use Rattle.zoned_ffi.specs.Kinds.{IsZoneOf};
 ghost use Rattle.zoned_ffi.specs.Refusals.{IsRefusal, refusal_number};
 
 use crate::handle::Handle;
 use crate::kind::read_zone;
+use crate::lent::Lent;
 use crate::refusal::{NOT_OPEN, OUT_OF_MEMORY, Refusal};
 use std::alloc::Global;
 use std::sync::Arc;
@@ -61,20 +62,17 @@ fn boxed(alloc: Global, zone: TimeZone) -> Option<Handle>
 /// Opens the zone of `zone` in `out` too, without reading it anew. A zone that `out` had open is
 /// closed.
 #[unsafe(no_mangle)]
-pub extern "C" fn zoned_share(alloc: Global, zone: &mut Handle, out: &mut Handle) -> u32
+pub extern "C" fn zoned_share(alloc: Global, zone: &Lent, out: &mut Handle) -> u32
     // 0: both have the zone open.
-    ensures shared { result ≡ 0 → (z : Zone) × IsOpen zone.old z × IsOpen out.new z }
+    ensures shared { result ≡ 0 → (z : Zone) × IsLent zone.now z × IsOpen out.new z }
     // Another number: 33 where none is open, 17 where memory ran out; `out` is as it was.
-    ensures refused { result ≢ 0 → ((result ≡ 33) × IsClosed zone.old
-        ⊎ (result ≡ 17) × ((z : Zone) × IsOpen zone.old z)) × (out.new ≡ out.old) }
-    ensures kept { zone.new.shared ≡ zone.old.shared }
+    ensures refused { result ≢ 0 → ((result ≡ 33) × IsNoneLent zone.now
+        ⊎ (result ≡ 17) × ((z : Zone) × IsLent zone.now z)) × (out.new ≡ out.old) }
 {
-    let Some(share) = zone.take(alloc) else {
+    let Some(share) = zone.share() else {
         return NOT_OPEN;
     };
-    let second = second(alloc, &share);
-    zone.put(share);
-    match second {
+    match second(alloc, share) {
         Some(handle) => {
             *out = handle;
             0

@@ -15,7 +15,7 @@ ghost use Rattle.zoned_ffi.specs.Resolved.{IsChoice, IsChoiceOf, IsNoneTaken, un
 ghost use Rattle.zoned_ffi.specs.WallClocks.{written, out_of_range};
 ghost use Rattle.zoned_ffi.specs.WrittenChanges.{written_change, written_into};
 ghost use Rattle.zoned_ffi.specs.WrittenTypes.{mark, no_type, written_type, zero_ended, zeros};
-ghost use Rattle.zoned_ffi.specs.declared.handle.Handle.{Handle};
+ghost use Rattle.zoned_ffi.specs.declared.lent.Lent.{Lent};
 ghost use Rattle.zoned_ffi.specs.declared.kind.Kind.TheVariants as kinds;
 
 /// A file is of kind 0 and a TZ string of kind 1; there is no kind 2.
@@ -115,6 +115,6 @@ pub fn refusal_numbers()
     ensures fold { (z : Zone) (local : ℤ) (n : ℕ)
         → IsNoneTaken z local (record { gap = gaps.ShiftForward; fold = folds.Refuse }) n
         → n ≡ 22 }
-    ensures unanswered { (handle : Handle) (wanted n : ℕ)
+    ensures unanswered { (handle : Lent) (wanted n : ℕ)
         → IsUnanswered handle wanted wanted n → n ≡ 33 }
 {}

@@ -99,7 +99,7 @@ impl KeptZone {
         }
     }
 
-    // The instant of a reading of UTC at which that type is in force.
+    // The instant of a UTC date-time at which that type is in force.
     fn made(&self, utc: &NaiveDateTime, local_type: &LocalTimeType) -> DateTime<KeptZone>
         requires in_range { IsInRange (reading utc.now).s }
         requires narrow { IsWithinDay local_type.now.offset }

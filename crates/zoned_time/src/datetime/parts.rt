@@ -30,7 +30,7 @@ impl<Tz: TimeZone> DateTime<Tz> {
         }
     }
 
-    /// The instant of a UTC reading in range, with a copy of that offset.
+    /// Returns the instant of a UTC date-time in range, with a copy of that offset.
     pub fn of_parts(datetime: &NaiveDateTime, offset: &Tz::Offset) -> DateTime<Tz>
         requires { IsInRange (reading datetime.now).s }
         ensures { zoned result ≡ shown datetime.now offset.now }

@@ -1,10 +1,10 @@
 use Rattle.std.proofs.Common.{FitsSigned, rules, to_z-of_z, w64}
-use Rattle.zoned_ffi.specs.Handles.{IsOpen}
+use Rattle.zoned_ffi.specs.Handles.{IsLent}
 use Rattle.zoned_ffi.proofs.asking.zoned_zone_instant.Goals as goal
 
 pub returns-clause-answered : goal.returns-clause-answered
 returns-clause-answered c = λ zero.
-    let zone = c.deref-2.result.now in
+    let zone = c.deref.result.now in
     let local : FitsSigned w64 c.args.local = c.ranges.local in
-    let kept : IsOpen c.args.zone.now zone = search rules in
-    (c.in-Some.choice, c.in-Some.ensures, (zone, kept, simp to_z-of_z at c.at-found.ensures))
+    let kept : IsLent c.args.zone.now zone = search rules in
+    (c.in-Some.choice, c.in-Some.ensures, (zone, kept, simp to_z-of_z at c.at.ensures))

@@ -1,0 +1,225 @@
+// zoned.hpp: time zones for C++17, over zoned.h. Names and meanings follow the time zones of C++20's std::chrono.
+//
+//   const auto paris = zoned::time_zone::locate("Europe/Paris");
+//   auto local = paris.to_local(zoned::sys_seconds(std::chrono::seconds(1615705200)));
+//   auto instant = paris.to_sys(local, {zoned::gap::shift_forward, zoned::fold::earliest});
+//
+// A zone may be asked by any number of threads at once, by its const members. A copy shares what was read.
+// Errors are thrown: zoned::error has the number of zoned.h, and std::bad_alloc is thrown if memory runs out.
+#pragma once
+
+#include "zoned_ffi.h"
+
+#include <chrono>
+#include <cstdio>
+#include <memory>
+#include <new>
+#include <optional>
+#include <stdexcept>
+#include <string>
+#include <string_view>
+#include <type_traits>
+#include <utility>
+#include <vector>
+
+namespace zoned {
+
+using std::chrono::seconds;
+
+struct local_t {}; // C++20 has std::chrono::local_t
+template <class Duration> using sys_time = std::chrono::time_point<std::chrono::system_clock, Duration>;
+template <class Duration> using local_time = std::chrono::time_point<local_t, Duration>;
+using sys_seconds = sys_time<seconds>;
+using local_seconds = local_time<seconds>;
+
+// What to do with a local time that the clocks skipped, and with one that they show several times.
+enum class gap : uint32_t { refuse = ZONED_GAP_REFUSE, shift_forward = ZONED_GAP_SHIFT_FORWARD };
+enum class fold : uint32_t { refuse = ZONED_FOLD_REFUSE, earliest = ZONED_FOLD_EARLIEST, latest = ZONED_FOLD_LATEST };
+struct policy {
+    enum gap gap = gap::refuse;
+    enum fold fold = fold::refuse;
+};
+
+// An error of the library, with its number. `row` is the first row of a column that has it, else 0.
+class error : public std::runtime_error {
+public:
+    const uint32_t number;
+    const size_t row;
+    explicit error(uint32_t number, size_t row = 0) : std::runtime_error(text(number)), number(number), row(row) {}
+
+private:
+    static std::string text(uint32_t number) {
+        char words[128];
+        zoned_error_text(number, reinterpret_cast<uint8_t *>(words), sizeof words);
+        return words;
+    }
+};
+
+inline void check(uint32_t number, size_t row = 0) {
+    if (number == ZONED_OUT_OF_MEMORY) throw std::bad_alloc();
+    if (number != ZONED_OK) throw error(number, row);
+}
+
+// What is in force from `begin` on and before `end`. Without a clock change on that side it is the least or the greatest
+// second.
+struct sys_info {
+    sys_seconds begin, end;
+    seconds offset;
+    bool is_dst;
+    std::string abbrev;
+};
+
+// How a zone shows a local time. `first` is what is in force at the only or the first instant that shows it, and `second` at
+// the last; in a gap they are what is in force before it and after it.
+struct local_info {
+    enum { unique, nonexistent, ambiguous } result;
+    sys_info first, second;
+};
+
+class time_zone {
+public:
+    // The zone of a TZif file, given its bytes.
+    static time_zone from_bytes(const void *bytes, size_t count) { return open(ZONED_FILE, bytes, count); }
+
+    // The zone of a TZ string, such as EST5EDT,M3.2.0,M11.1.0.
+    static time_zone from_string(std::string_view text) { return open(ZONED_TEXT, text.data(), text.size()); }
+
+    // The zone of that name in a folder of TZif files. Throws std::runtime_error if there is no such file.
+    static time_zone locate(std::string_view name, const std::string &folder = "/usr/share/zoneinfo") {
+        auto is_inside = !name.empty() && name[0] != '/' && name.find("..") == name.npos && name.find('\0') == name.npos;
+        auto path = folder + '/' + std::string(name);
+        std::unique_ptr<std::FILE, int (*)(std::FILE *)> file(nullptr, std::fclose);
+        if (is_inside) file.reset(std::fopen(path.c_str(), "rb"));
+        if (!file) throw std::runtime_error("no time zone " + std::string(name));
+        std::vector<unsigned char> bytes;
+        size_t count = 0, read = 0;
+        do {
+            bytes.resize(2 * count + 4096);
+            read = std::fread(bytes.data() + count, 1, bytes.size() - count, file.get());
+            count += read;
+        } while (read != 0);
+        if (std::ferror(file.get())) throw std::runtime_error("can't read " + path);
+        return from_bytes(bytes.data(), count);
+    }
+
+    time_zone(time_zone &&other) noexcept : zone(std::exchange(other.zone, {})) {}
+    time_zone(const time_zone &other) { check(zoned_share(&other.zone, &zone)); }
+    time_zone &operator=(time_zone other) noexcept {
+        std::swap(zone, other.zone);
+        return *this;
+    }
+    ~time_zone() { zoned_close(&zone); }
+
+    // The offset in force at an instant, east of UTC.
+    seconds get_offset(sys_seconds at) const {
+        int32_t offset;
+        check(zoned_zone_offset(&zone, count(at), &offset));
+        return seconds(known(offset));
+    }
+
+    sys_info get_info(sys_seconds at) const {
+        zoned_local_type type;
+        zoned_change change;
+        check(zoned_zone_type(&zone, count(at), &type));
+        sys_info info{sys_seconds::min(), sys_seconds::max(), seconds(known(type.offset)), type.is_dst != 0, type.abbreviation};
+        if (zoned_zone_previous_change(&zone, count(at), &change) == ZONED_OK) info.begin = sys(change.at);
+        if (zoned_zone_next_change(&zone, count(at), &change) == ZONED_OK) info.end = sys(change.at);
+        return info;
+    }
+
+    // The local time of an instant.
+    template <class Duration> auto to_local(sys_time<Duration> at) const {
+        auto offset = get_offset(std::chrono::floor<seconds>(at));
+        return local_time<std::common_type_t<Duration, seconds>>(at.time_since_epoch() + offset);
+    }
+
+    // The instant of a local time. Throws error with ZONED_IN_GAP, ZONED_IN_FOLD or ZONED_INSTANT_OUT_OF_RANGE.
+    template <class Duration> auto to_sys(local_time<Duration> local, policy choice = {}) const {
+        auto whole = std::chrono::floor<seconds>(local);
+        zoned_resolved resolved;
+        check(zoned_zone_instant(&zone, uint32_t(choice.gap), uint32_t(choice.fold), count(whole), &resolved));
+        check(resolved.number);
+        return sys_time<std::common_type_t<Duration, seconds>>(sys(resolved.instant) + (local - whole));
+    }
+
+    local_info get_info(local_seconds local) const {
+        zoned_wall_clock clock;
+        check(zoned_zone_wall_clock(&zone, count(local), &clock));
+        if (clock.shown == ZONED_OUT_OF_RANGE) throw error(ZONED_INSTANT_OUT_OF_RANGE);
+        if (clock.shown == ZONED_ONCE) return {local_info::unique, get_info(sys(clock.first)), {}};
+        if (clock.shown == ZONED_SEVERAL_TIMES)
+            return {local_info::ambiguous, get_info(sys(clock.first)), get_info(sys(clock.last))};
+        // The clock change that skipped it is the last one before the instant by the offset before it, or an earlier one.
+        auto change = before(to_sys(local, {gap::shift_forward, fold::refuse}));
+        while (count(local) < change.at + change.before.offset || change.at + change.after.offset <= count(local))
+            change = before(sys(change.at - 1));
+        return {local_info::nonexistent, get_info(sys(change.at - 1)), get_info(sys(change.at))};
+    }
+
+    // Columns: vectors, std::span or whatever else has data() and size(), of sys_seconds and local_seconds. The second is as
+    // long as the first. Throws error with the first row that has no answer.
+    template <class Instants, class Locals> void to_local_column(const Instants &instants, Locals &&locals) const {
+        std::vector<int32_t> offsets(instants.size());
+        check_size(instants, locals);
+        check(zoned_zone_at(&zone, numbers(instants), instants.size(), offsets.data(), offsets.size()));
+        for (size_t row = 0; row < offsets.size(); row++)
+            locals.data()[row] = local_seconds(instants.data()[row].time_since_epoch() + seconds(known(offsets[row], row)));
+    }
+
+    template <class Locals, class Instants>
+    void to_sys_column(const Locals &locals, Instants &&instants, policy choice = {}) const {
+        std::vector<zoned_resolved> resolved(locals.size());
+        check_size(locals, instants);
+        check(zoned_zone_resolve(&zone, uint32_t(choice.gap), uint32_t(choice.fold), numbers(locals), locals.size(),
+                                 resolved.data(), resolved.size()));
+        for (size_t row = 0; row < resolved.size(); row++) {
+            check(resolved[row].number, row);
+            instants.data()[row] = sys(resolved[row].instant);
+        }
+    }
+
+    // The handle, for calls of zoned.h. It stays this zone's.
+    const zoned_zone *handle() const { return &zone; }
+
+private:
+    zoned_zone zone{};
+
+    time_zone() = default;
+
+    static time_zone open(uint32_t kind, const void *bytes, size_t count) {
+        time_zone opened;
+        const unsigned char none = 0;
+        auto first = count == 0 ? &none : static_cast<const unsigned char *>(bytes);
+        check(zoned_open(kind, first, count, &opened.zone));
+        return opened;
+    }
+
+    zoned_change before(sys_seconds at) const {
+        zoned_change change;
+        check(zoned_zone_previous_change(&zone, count(at), &change));
+        return change;
+    }
+
+    template <class Time> static int64_t count(Time at) { return at.time_since_epoch().count(); }
+    static sys_seconds sys(int64_t at) { return sys_seconds(seconds(at)); }
+
+    static int32_t known(int32_t offset, size_t row = 0) {
+        if (offset == ZONED_NO_OFFSET) throw error(ZONED_INSTANT_OUT_OF_RANGE, row);
+        return offset;
+    }
+
+    template <class One, class Other> static void check_size(const One &one, const Other &other) {
+        if (one.size() != other.size()) throw error(ZONED_OTHER_SIZE);
+    }
+
+    // A time point of whole seconds is the number of them, and nothing else.
+    template <class Column> static const int64_t *numbers(const Column &column) {
+        using time = std::remove_cv_t<std::remove_pointer_t<decltype(column.data())>>;
+        static_assert(std::is_same_v<typename time::duration, seconds> && sizeof(time) == sizeof(int64_t));
+        static_assert(std::is_same_v<seconds::rep, int64_t> && std::is_standard_layout_v<time>);
+        static const int64_t none = 0;
+        return column.size() == 0 ? &none : reinterpret_cast<const int64_t *>(column.data());
+    }
+};
+
+} // namespace zoned

@@ -1,0 +1,24 @@
+use base.Shift.{Keyless}
+use denote.Param.Send.{IsSend, owning_send, struct_send, sendable}
+use denote.Builtin.{RawPtr}
+use denote.RawPtr.{Ptr}
+use denote.Struct.Struct.{exits_of}
+use denote.Struct.Owning.{shape, fields, to}
+use Rattle.std_alloc.proofs.SendSync.{quiet, seen}
+use Rattle.std.proofs.Crossing as crossing
+use Rattle.std.specs.Prelude.{ℕ, [], ◌∷◌}
+use Rattle.std.specs.declared.option.Option.{Option}
+use Rattle.std.specs.declared.option.Option.TheVariants.{None, Some}
+use Rattle.tz_info.proofs.zone.time_zone.TimeZone.TheSendSync as zone_crosses
+use Rattle.tz_info.specs.contracts.zone.time_zone.TimeZone as zone
+use Rattle.zoned_ffi.specs.Owned.{lent, shared_row}
+use Rattle.zoned_ffi.specs.contracts.lent.Lent.{the_row, the_type}
+
+lent_keyless : (a : ℕ) (p : Ptr) (k : Option shared_row.Denot) → Keyless (lent shared_row a p k)
+lent_keyless a p None = λ e. tt
+lent_keyless a p (Some x) = λ may e. (tt, seen shared_row (crossing.Arc-sync zone.the_row zone_crosses.the_send zone_crosses.the_sync) p x (a ∷ []))
+
+pub send : IsSend the_row
+send = let O = the_type in let ps : IsSend RawPtr = search sendable in
+    owning_send O (ps, tt) (λ d. lent_keyless d.life d.at d.shared)
+    (λ k. quiet (to O) (exits_of k (fields O)) ((struct_send (shape O) (ps, tt)).leaving k))

@@ -1,0 +1,7 @@
+use denote.Param.Send.{IsSync, part_keyless}
+use Rattle.zoned_ffi.specs.contracts.lent.Lent.{the_row}
+use Rattle.zoned_ffi.proofs.lent.Lent.TheSendSync.Send.{send}
+
+-- a `&` to it is a part of all that it has, and that may cross
+pub sync : IsSync the_row
+sync = record { shared = λ d b o κ q. part_keyless the_row send q d b o }

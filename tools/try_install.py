@@ -1,0 +1,144 @@
+#!/usr/bin/env python3
+"""Tries the installed library for C: tools/install.sh into an empty folder, and programs over what it puts there.
+
+usage: tools/try_install.py
+
+It needs crates/zoned_ffi/out/libzoned_ffi.a, which `rt lib` builds in crates/zoned_ffi, gcc, g++ and binutils; pkg-config and
+CMake are used if they are installed. It tries that
+
+- libzoned.a and libzoned.so define the calls of the header and nothing else, and need six functions of the C library;
+- libzoned.so has the SONAME of the header's version;
+- examples/zones.c and zones.cc are built over each library, with pkg-config and with CMake, and all print the same lines;
+- a program that has a function rattle_alloc of its own keeps it to itself;
+- the man page names each call of the header.
+
+It takes a few seconds. The gate runs it. Ends with status 1 if anything differs.
+"""
+
+import os
+import re
+import shutil
+import subprocess
+import sys
+import tempfile
+from pathlib import Path
+
+TOP = Path(__file__).resolve().parent.parent
+PREFIX = "/usr/local"
+HEADER = TOP / "crates/zoned_ffi/include/zoned_ffi.h"
+EXAMPLES = TOP / "examples"
+NEEDED = {"malloc", "realloc", "free", "memcpy", "memmove", "memset"}
+ASKED = ["/usr/share/zoneinfo/America/New_York", "1615705200", "1615689000", "1636248600"]
+WARNINGS = ["-O2", "-Wall", "-Wextra", "-Werror"]
+OWN_HEAP = """
+#include <zoned.h>
+int calls;
+struct tried { _Bool ok; void *p; };
+struct tried rattle_alloc(size_t size, size_t align) { (void)size, (void)align; calls++; return (struct tried){0, 0}; }
+int main(void) { return zoned_parse(ZONED_TEXT, (const uint8_t *)"EST5EDT,M3.2.0,M11.1.0", 22) != ZONED_OK || calls != 0; }
+"""
+CMAKE = """
+cmake_minimum_required(VERSION 3.10)
+project(tried C CXX)
+set(CMAKE_CXX_STANDARD 17)
+find_package(zoned {version} REQUIRED)
+add_executable(by_cmake {examples}/zones.c)
+target_link_libraries(by_cmake zoned::zoned)
+add_executable(by_cmake_static {examples}/zones.cc)
+target_link_libraries(by_cmake_static zoned::static)
+"""
+
+
+def run(*words, **more):
+    ended = subprocess.run([str(word) for word in words], capture_output=True, text=True, **more)
+    if ended.returncode:
+        raise SystemExit(f"{' '.join(map(str, words))} ends with {ended.returncode}: {ended.stdout}{ended.stderr}")
+    return ended.stdout
+
+
+def declared():
+    text = re.sub(r"/\*.*?\*/", "", HEADER.read_text(), flags=re.S)
+    return set(re.findall(r"^(?:\w+ )*(zoned_\w+)\(", text, re.M))
+
+
+def version():
+    return re.search(r'^#define ZONED_VERSION "(.*)"$', HEADER.read_text(), re.M)[1]
+
+
+def names(library, *flags):
+    """The names that the library defines, and those that it needs."""
+    rows = [line.split() for line in run("nm", "-g", *flags, library).splitlines()]
+    rows = [[row[-1].split("@")[0], row[-2]] for row in rows if len(row) >= 2]
+    return {name for name, kind in rows if kind not in "UA"}, {name for name, kind in rows if kind == "U"}
+
+
+def complaints_of_names(lib):
+    for library, flags in ((lib / "libzoned.a", []), (lib / "libzoned.so", ["-D"])):
+        defined, needed = names(library, *flags)
+        if defined != declared():
+            yield f"{library.name} and the header differ in {sorted(defined ^ declared())}"
+        if needed != NEEDED:
+            yield f"{library.name} needs {sorted(needed)}"
+    if f"Library soname: [libzoned.so.{version().split('.')[0]}]" not in run("readelf", "-d", lib / "libzoned.so"):
+        yield "libzoned.so has another SONAME"
+
+
+def programs(root, room):
+    """Builds the examples in each way. Returns the programs."""
+    include, lib = root / f"{PREFIX[1:]}/include", root / f"{PREFIX[1:]}/lib"
+    shared = ["-L", lib, "-lzoned", f"-Wl,-rpath,{lib}"]
+    run("gcc", *WARNINGS, "-I", include, "-o", room / "shared", EXAMPLES / "zones.c", *shared)
+    run("gcc", *WARNINGS, "-I", include, "-o", room / "static", EXAMPLES / "zones.c", lib / "libzoned.a")
+    run("g++", *WARNINGS, "-std=c++17", "-I", include, "-o", room / "cpp", EXAMPLES / "zones.cc", *shared)
+    made = ["shared", "static", "cpp"]
+    if shutil.which("pkg-config"):
+        sysroot = {**os.environ, "PKG_CONFIG_PATH": str(lib / "pkgconfig"), "PKG_CONFIG_SYSROOT_DIR": str(root)}
+        flags = run("pkg-config", "--cflags", "--libs", f"zoned >= {version()}", env=sysroot).split()
+        run("gcc", *WARNINGS, "-o", room / "by_pkg_config", EXAMPLES / "zones.c", *flags, f"-Wl,-rpath,{lib}")
+        made.append("by_pkg_config")
+    if shutil.which("cmake"):
+        (room / "CMakeLists.txt").write_text(CMAKE.format(version=version(), examples=EXAMPLES))
+        run("cmake", f"-Dzoned_DIR={lib}/cmake/zoned", "-S", room, "-B", room / "cmake")
+        run("cmake", "--build", room / "cmake")
+        made += ["cmake/by_cmake", "cmake/by_cmake_static"]
+    return [room / name for name in made]
+
+
+def complaints_of_programs(root, room):
+    made = programs(root, room)
+    wanted = run(made[0], *ASKED)
+    if "instant 1615705200: -14400 EDT dst" not in wanted.splitlines():
+        yield f"{made[0].name} prints {wanted}"
+    for program in made[1:]:
+        if run(program, *ASKED) != wanted:
+            yield f"{program.name} prints other lines than {made[0].name}"
+    lib = root / f"{PREFIX[1:]}/lib"
+    (room / "own_heap.c").write_text(OWN_HEAP)
+    shared = ["-L", lib, "-lzoned", f"-Wl,-rpath,{lib}"]
+    for name, library in (("own_heap", shared), ("own_heap_static", [lib / "libzoned.a"])):
+        run("gcc", *WARNINGS, "-rdynamic", "-I", lib.parent / "include", "-o", room / name, room / "own_heap.c", *library)
+        run(room / name)
+    print(f"{len(made)} programs over the installed library")
+
+
+def complaints_of_man_page(root):
+    named = set(re.findall(r"\bzoned_\w+", (root / f"{PREFIX[1:]}/share/man/man3/zoned.3").read_text()))
+    for call in sorted(declared() - named):
+        yield f"the man page doesn't name {call}"
+
+
+def main():
+    with tempfile.TemporaryDirectory() as folder:
+        root, room = Path(folder) / "root", Path(folder) / "room"
+        room.mkdir()
+        run(TOP / "tools/install.sh", env={**os.environ, "DESTDIR": str(root), "PREFIX": PREFIX})
+        lib = root / f"{PREFIX[1:]}/lib"
+        found = [*complaints_of_names(lib), *complaints_of_programs(root, room), *complaints_of_man_page(root)]
+    for complaint in found:
+        print(complaint)
+    print(f"the installed library: {len(found)} differences")
+    sys.exit(bool(found))
+
+
+if __name__ == "__main__":
+    main()
