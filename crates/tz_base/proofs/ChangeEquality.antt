@@ -1,8 +1,10 @@
--- Types of local time, and changes of the clocks, are equal by `==` exactly where they are equal.
-use Rattle.std.proofs.Common.{rules, ℤ, int_eq, ◌≡◌, ◌↔◌, IsTrue, refl, ap, Bool, true, false, ◌&&◌}
+-- Types of local time, changes of the clocks and spans are equal by `==` if and only if they are equal.
+use Rattle.std.proofs.Common.{rules, ℤ, int_eq, ◌≡◌, ◌↔◌, IsTrue, refl, ap, Bool, true, false, ◌&&◌, Option, Some, None}
+use Rattle.std.specs.Option.{option_eq}
 use Rattle.tz_base.specs.LocalTypes.{LocalType}
 use Rattle.tz_base.specs.contracts.local_time_type.LocalTimeTypePartialEq.TheImpl.{eq-value as type_eq}
 use Rattle.tz_base.specs.declared.change.Change.{Change}
+use Rattle.tz_base.specs.declared.span.Span.{Span}
 
 abbrev pub IsExact : {X : Type 0} → (X → X → Bool) → Type 0
 IsExact {X} E = (a b : X) → IsTrue (E a b) ↔ (a ≡ b)
@@ -41,4 +43,29 @@ change_exact a b = (
   λ e.
       and_both (int_eq a.at b.at) _ ((second_exact a.at b.at).1 (ap (λ (x : Change). x.at) e))
       (and_both (type_eq.it a.before b.before) _ ((type_exact a.before b.before).1 (ap (λ (x : Change). x.before) e)) ((type_exact a.after b.after).1 (ap (λ (x : Change). x.after) e))),
+)
+
+end_exact : IsExact (option_eq int_eq)
+end_exact None None = (λ h. refl, λ e. refl)
+end_exact None (Some v) = (λ h. cc, λ e. cc)
+end_exact (Some u) None = (λ h. cc, λ e. cc)
+end_exact (Some u) (Some v) = (λ h. ap (λ w. Some w) ((second_exact u v).0 h), λ e. (second_exact u v).1 (search rules))
+
+abbrev the_span : LocalType → Option ℤ → Option ℤ → Span
+the_span t from until = record { local_time_type = t; from = from; until = until }
+
+same_span : (s t : LocalType) (u v w x : Option ℤ) → s ≡ t → u ≡ v → w ≡ x → the_span s u w ≡ the_span t v x
+same_span s t u v w x a b c = cc
+
+pub span_exact : (a b : Span) → IsTrue (type_eq.it a.local_time_type b.local_time_type && (option_eq int_eq a.from b.from && option_eq int_eq a.until b.until)) ↔ (a ≡ b)
+span_exact a b = (
+  λ h.
+      let ends = and_right (type_eq.it a.local_time_type b.local_time_type) _ h in
+      same_span a.local_time_type b.local_time_type a.from b.from a.until b.until
+      ((type_exact a.local_time_type b.local_time_type).0 (and_left (type_eq.it a.local_time_type b.local_time_type) _ h))
+      ((end_exact a.from b.from).0 (and_left (option_eq int_eq a.from b.from) _ ends))
+      ((end_exact a.until b.until).0 (and_right (option_eq int_eq a.from b.from) _ ends)),
+  λ e.
+      and_both (type_eq.it a.local_time_type b.local_time_type) _ ((type_exact a.local_time_type b.local_time_type).1 (ap (λ (x : Span). x.local_time_type) e))
+      (and_both (option_eq int_eq a.from b.from) _ ((end_exact a.from b.from).1 (ap (λ (x : Span). x.from) e)) ((end_exact a.until b.until).1 (ap (λ (x : Span). x.until) e))),
 )

@@ -5,11 +5,13 @@ ghost use Rattle.tz_base.specs.LocalTypes.{LocalType};
 ghost use Rattle.tz_base.specs.declared.change.Change.{Change as ClockChange};
 ghost use Rattle.tz_base.specs.declared.error.Error.{Error as Refusal};
 ghost use Rattle.tz_base.specs.declared.error.Expected.{Expected as Wanted};
+ghost use Rattle.tz_base.specs.declared.span.Span.{Span as Stretch};
 
 use crate::change::Change;
 use crate::error::{Error, Expected};
 use crate::local_time_type::LocalTimeType;
 use crate::name::TimeZoneName;
+use crate::span::Span;
 
 /// Names are equal if and only if their bytes are. A clone is the value, and does not fail.
 pub fn names()
@@ -32,6 +34,14 @@ pub fn changes()
     ensures equal { (a b : ClockChange) → IsTrue (⟦<Change as PartialEq>⟧.eq a b) ↔ (a ≡ b) }
     ensures clone { (a b : ClockChange) → ⟦<Change as Clone>⟧.is_clone a b ↔ (b ≡ a) }
     ensures infallible { (a : ClockChange) → ⟦<Change as Clone>⟧.is_infallible a }
+{}
+
+/// Spans are equal if and only if their types and both of their ends are. A clone is the value, and
+/// does not fail.
+pub fn spans()
+    ensures equal { (a b : Stretch) → IsTrue (⟦<Span as PartialEq>⟧.eq a b) ↔ (a ≡ b) }
+    ensures clone { (a b : Stretch) → ⟦<Span as Clone>⟧.is_clone a b ↔ (b ≡ a) }
+    ensures infallible { (a : Stretch) → ⟦<Span as Clone>⟧.is_infallible a }
 {}
 
 /// What was expected is equal where it is the same. A clone is the value, and does not fail.

@@ -2,11 +2,12 @@
 use Rattle.tz_info.specs.Steps.Extremes.{AreExtremes}
 use Rattle.tz_info.specs.WallPieces.{WallIndex, IsIndex}
 use Rattle.tz_info.specs.Windows.{offsets}
-use Rattle.tz_info.specs.Zones.{Zone, IsValid}
+use Rattle.tz_info.specs.Zones.{Zone, IsValid, IsRuleOrNone}
 use Rattle.tz_info.specs.declared.zone.extremes.Extremes.{Extremes}
 
 -- a valid zone with its least and greatest offset and its index, which were made from its lists when it was
 pub record IsPrepared (z : Zone) (found : Extremes) (made : WallIndex) : Type 0 where
   pub valid : IsValid z
+  pub limits : IsRuleOrNone z.rule
   pub extremes : AreExtremes (offsets z.types z.rule) found
   pub index : IsIndex z made

@@ -39,7 +39,7 @@ impl TimeZone {
     pub fn changes(&self, from: i64, until: i64) -> Changes<'_>
         ensures { AreChanges (TypeAt self.now) from until (changes_left result) }
     {
-        let _types = self.local_time_types();
+        let _ = &self.table;
         Changes {
             zone: self,
             from,

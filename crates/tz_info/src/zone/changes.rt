@@ -37,7 +37,7 @@ impl TimeZone {
     pub fn next_change(&self, after: i64) -> Option<Change>
         ensures { IsFirst (TypeAt self.now) (λ u. after <ℤ u) result }
     {
-        let _types = self.local_time_types();
+        let _ = &self.table;
         match self.next_in_table(after) {
             Some(change) => Some(change),
             None => self.next_by_rule(after),
@@ -48,7 +48,7 @@ impl TimeZone {
     fn next_in_table(&self, after: i64) -> Option<Change>
         ensures { IsFirst (TypeAt self.now) (IsInTable self.now (λ u. after <ℤ u)) result }
     {
-        let _types = self.local_time_types();
+        let _ = &self.table;
         let count = self.transition_count();
         let Some(first) = self.come_at(after) else {
             return None;
@@ -66,7 +66,7 @@ impl TimeZone {
     fn next_by_rule(&self, after: i64) -> Option<Change>
         ensures { IsFirst (TypeAt self.now) (IsByRule self.now (λ u. after <ℤ u)) result }
     {
-        let _types = self.local_time_types();
+        let _ = &self.table;
         let Some(turns) = self.turns() else {
             return None;
         };
@@ -89,7 +89,7 @@ impl TimeZone {
     pub fn previous_change(&self, before_or_at: i64) -> Option<Change>
         ensures { IsLast (TypeAt self.now) (λ u. u ≤ℤ before_or_at) result }
     {
-        let _types = self.local_time_types();
+        let _ = &self.table;
         match self.previous_by_rule(before_or_at) {
             Some(change) => Some(change),
             None => self.previous_in_table(before_or_at),
@@ -100,7 +100,7 @@ impl TimeZone {
     fn previous_in_table(&self, last: i64) -> Option<Change>
         ensures { IsLast (TypeAt self.now) (IsInTable self.now (λ u. u ≤ℤ last)) result }
     {
-        let _types = self.local_time_types();
+        let _ = &self.table;
         match self.come_at(last) {
             Some(count) => self.last_with(count, last),
             None => self.last_of_all(last),
@@ -128,7 +128,7 @@ impl TimeZone {
         requires { IsLeapTimeRefused self.now.leaps last }
         ensures { IsLast (TypeAt self.now) (IsInTable self.now (λ u. u ≤ℤ last)) result }
     {
-        let _types = self.local_time_types();
+        let _ = &self.table;
         let all = self.transition_count();
         self.last_with(all, last)
     }
@@ -139,7 +139,7 @@ impl TimeZone {
         requires { AreAhead self.now last count }
         ensures { IsLast (TypeAt self.now) (IsInTable self.now (λ u. u ≤ℤ last)) result }
     {
-        let _types = self.local_time_types();
+        let _ = &self.table;
         for back in 0..count {
             match self.change_with(count - 1 - back) {
                 Some(change) => return Some(change),
@@ -153,7 +153,7 @@ impl TimeZone {
     fn previous_by_rule(&self, last: i64) -> Option<Change>
         ensures { IsLast (TypeAt self.now) (IsByRule self.now (λ u. u ≤ℤ last)) result }
     {
-        let _types = self.local_time_types();
+        let _ = &self.table;
         let Some(turns) = self.turns() else {
             return None;
         };
@@ -184,7 +184,6 @@ impl TimeZone {
         ensures { MatchOption result (HasNoneAt self.now place)
             (λ c. IsChange (TypeAt self.now) c × ComesAt self.now place c.at) }
     {
-        let _types = self.local_time_types();
         if self.leap_seconds.is_empty() {
             return self.change_without_leaps(place);
         }
@@ -203,7 +202,7 @@ impl TimeZone {
         ensures { MatchOption result (HasNoneAt self.now place)
             (λ c. IsChange (TypeAt self.now) c × ComesAt self.now place c.at) }
     {
-        let _types = self.local_time_types();
+        let _ = &self.table;
         let mut probes = Probes::new();
         let here = self.transition(place, &mut probes);
         if here.unix_leap_time == i64::MIN {
@@ -262,7 +261,6 @@ impl TimeZone {
         ensures comes { ComesAt self.now place result }
         ensures bound { neg_ℤ (pos 9_223_372_036_854_775_808) ≤ℤ result }
     {
-        let _types = self.local_time_types();
         let mut probes = Probes::new();
         let transition = self.transition(place, &mut probes);
         first_second(&self.leap_seconds, transition.unix_leap_time)

@@ -2,7 +2,9 @@
 
 ghost use Rattle.std.specs.Prelude.{◌<◌, length};
 ghost use Rattle.tz_info.specs.Steps.Extremes.{AreExtremes, AreJoined, AreJoinedByRule, offsets_of};
+ghost use Rattle.tz_info.specs.RuleTypes.{IsRule};
 ghost use Rattle.tz_info.specs.Windows.{offsets};
+ghost use Rattle.tz_info.specs.Zones.{IsRuleOrNone};
 
 use crate::rule::TransitionRule;
 use tz_base::LocalTimeType;
@@ -34,7 +36,8 @@ impl Extremes {
 
     // Those of the offsets of the rule's types more.
     fn with_rule(self, rule: &TransitionRule) -> Extremes
-        ensures { AreJoinedByRule self rule.now result }
+        ensures joined { AreJoinedByRule self rule.now result }
+        ensures limits { IsRule rule.now }
     {
         match rule {
             TransitionRule::Fixed(only) => self.with(only.offset()),
@@ -49,7 +52,8 @@ impl Extremes {
 // Those of the offsets of the types and of the rule, in one pass.
 pub(super) fn extremes_of(types: &[LocalTimeType], rule: &Option<TransitionRule>) -> Extremes
     requires { 0 < length types.now }
-    ensures { AreExtremes (offsets types.now rule.now) result }
+    ensures extremes { AreExtremes (offsets types.now rule.now) result }
+    ensures limits { IsRuleOrNone rule.now }
 {
     let found = extremes_of_types(types);
     match rule {

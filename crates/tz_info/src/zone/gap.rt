@@ -121,7 +121,6 @@ impl TimeZone {
         ensures gap { HasGap (TypeAt self.now) local result.before result.after result.at }
         ensures cost { RoseWithin probes.old probes.new 1 0 }
     {
-        let _types = self.local_time_types();
         let _reach = self.reach(local);
         let transition = self.transition(jump.place - 1, probes);
         Gap {
@@ -135,7 +134,6 @@ impl TimeZone {
         requires { IsWide local }
         ensures { IsReach self.now local result.low result.high }
     {
-        let _types = self.local_time_types();
         Reach {
             low: second_showing(local, self.extremes.greatest),
             high: second_showing(local, self.extremes.least),
@@ -151,7 +149,6 @@ impl TimeZone {
         requires before { IsTypeBefore self.now (table_count self.now) before }
         ensures { HasGap (TypeAt self.now) local result.before result.after result.at }
     {
-        let _types = self.local_time_types();
         let _reach = self.reach(local);
         match &self.last_rule {
             None => unreachable!(),
@@ -169,7 +166,7 @@ impl TimeZone {
         requires before { IsTypeBefore self.now (length self.now.transitions) before }
         ensures { HasGap (TypeAt self.now) local result.before result.after result.at }
     {
-        let _types = self.local_time_types();
+        let _ = &self.table;
         let reach = self.reach(local);
         let first = self.rule_first(local, reach);
         let here = type_near(rule, first);
@@ -193,7 +190,6 @@ impl TimeZone {
         requires reach { IsReach self.now local reach.low reach.high }
         ensures { IsBehindTable self.now local reach.low result }
     {
-        let _types = self.local_time_types();
         later(reach.low, self.index.rule_from())
     }
 
@@ -206,7 +202,7 @@ impl TimeZone {
         requires passed { IsPassed self.now local first }
         ensures { HasGap (TypeAt self.now) local result.before result.after result.at }
     {
-        let _types = self.local_time_types();
+        let _ = &self.table;
         let mut last = first;
         let mut next = turns.next_moment(last);
         while shown_at(turns.type_at(next), next) <= local {

@@ -244,10 +244,6 @@ impl TimeZone {
         ensures valid { IsValid self.now }
         ensures rule { IsRuleOrNone self.now.rule }
     {
-        // Only the rule's own calls tell that its numbers are in their limits.
-        if let Some(TransitionRule::Alternate(turns)) = &self.last_rule {
-            let _rule = turns.std();
-        }
         &self.local_types
     }
 

@@ -115,7 +115,7 @@ impl TimeZone {
         ensures cost { RoseWithin probes.old probes.new 1 0 }
     {
         if passed == 0 {
-            let _types = self.type_count();
+            let _ = &self.table;
             return Transition::new(i64::MIN, 0);
         }
         self.transition(passed - 1, probes)
@@ -202,7 +202,6 @@ impl TimeZone {
         ensures counted { IsAskedFor self.now local
             probes.old.rule_questions probes.new.rule_questions }
     {
-        let _types = self.local_time_types();
         match &self.last_rule {
             None => self.try_from(local, current, answer),
             Some(rule) => self.try_rule(rule, local, answer, probes),

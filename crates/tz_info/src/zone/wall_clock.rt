@@ -160,7 +160,6 @@ impl TimeZone {
         ensures counted { IsAskedFor self.now local
             probes.old.rule_questions probes.new.rule_questions }
     {
-        let _types = self.local_time_types();
         let by_rule = rule.answer_from(self.index.rule_from(), local, probes);
         joined(answer, by_rule)
     }

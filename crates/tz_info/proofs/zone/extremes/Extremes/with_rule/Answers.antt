@@ -3,13 +3,13 @@ use mir.Val.{SFits}
 use Rattle.std.proofs.lemmas.Int.{ints}
 use Rattle.tz_info.proofs.zone.extremes.Extremes.with_rule.Goals as goal
 
-pub returns-in-Fixed : goal.returns-in-Fixed
-returns-in-Fixed c =
+pub returns-in-Fixed-clause-joined : goal.returns-in-Fixed-clause-joined
+returns-in-Fixed-clause-joined c =
     let ft : SFits w32 c.offset.result = let b = c.offset.ensures.bound in let v = c.offset.ensures.value in omega (arith, ints) in
     rw c.in-Fixed.is (rw c.offset.ensures.value at (simp to_z-of_z at c.with.ensures))
 
-pub returns-in-Alternate : goal.returns-in-Alternate
-returns-in-Alternate c =
+pub returns-in-Alternate-clause-joined : goal.returns-in-Alternate-clause-joined
+returns-in-Alternate-clause-joined c =
     let fs : SFits w32 c.offset-in-Alternate.result = let b = c.offset-in-Alternate.ensures.bound in let v = c.offset-in-Alternate.ensures.value in omega (arith, ints) in
     let fd : SFits w32 c.offset-in-Alternate-2.result = let b = c.offset-in-Alternate-2.ensures.bound in let v = c.offset-in-Alternate-2.ensures.value in omega (arith, ints) in
     rw c.in-Alternate.is (

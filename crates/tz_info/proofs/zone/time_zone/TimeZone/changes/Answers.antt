@@ -6,4 +6,4 @@ pub returns : goal.returns
 returns c =
     let ff = c.ranges.from in
     let fu = c.ranges.until in
-    simp to_z-of_z (all_left (record { zone = c.args.self; from = c.args.from; until = c.args.until }) c.local_time_types-types.ensures.valid c.local_time_types-types.ensures.rule)
+    simp to_z-of_z (all_left (record { zone = c.args.self; from = c.args.from; until = c.args.until }) (rw (← c.self.view_is) c.self.invariant.valid) (rw (← c.self.view_is) c.self.invariant.limits))

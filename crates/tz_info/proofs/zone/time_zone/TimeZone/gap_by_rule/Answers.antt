@@ -11,9 +11,8 @@ returns-then-local-shown_at c =
     let fl = c.ranges.local in
     let fm : SFits w64 c.rule_first-first.result = search rules in
     let fs : SFits w64 c.shown_at.result = search rules in
-    let known = c.local_time_types-types.ensures in
     let shown = simp to_z-of_z at c.shown_at.ensures in
-    simp to_z-of_z (gap_at_rule c.args.self.now c.args.rule.now c.args.local c.reach-reach.result.low c.reach-reach.result.high c.rule_first-first.result c.args.before c.type_near-here.result.now c.listed.result.now known.valid known.rule c.requires.rule c.requires.never
+    simp to_z-of_z (gap_at_rule c.args.self.now c.args.rule.now c.args.local c.reach-reach.result.low c.reach-reach.result.high c.rule_first-first.result c.args.before c.type_near-here.result.now c.listed.result.now (rw (← c.self.view_is) c.self.invariant.valid) (rw (← c.self.view_is) c.self.invariant.limits) c.requires.rule c.requires.never
     (simp to_z-of_z at c.reach-reach.ensures) (simp to_z-of_z at c.rule_first-first.ensures) c.requires.before c.listed.ensures (simp to_z-of_z at c.type_near-here.ensures) (omega (arith, ints)))
 
 -- up to there clocks show less
@@ -24,13 +23,12 @@ passed c =
     let fs : SFits w64 c.shown_at.result = search rules in
     let shown = simp to_z-of_z at c.shown_at.ensures in
     let b = simp to_z-of_z at c.rule_first-first.ensures in
-    passed_at_rule c.args.self.now c.args.rule.now c.args.local c.rule_first-first.result c.type_near-here.result.now c.local_time_types-types.ensures.valid c.requires.rule c.requires.never b.near b.behind b.less (simp to_z-of_z at c.type_near-here.ensures) (omega (arith, ints))
+    passed_at_rule c.args.self.now c.args.rule.now c.args.local c.rule_first-first.result c.type_near-here.result.now (rw (← c.self.view_is) c.self.invariant.valid) c.requires.rule c.requires.never b.near b.behind b.less (simp to_z-of_z at c.type_near-here.ensures) (omega (arith, ints))
 
 pub unreachable-requires : goal.unreachable-requires
 unreachable-requires c =
     let fl = c.ranges.local in
-    let known = c.local_time_types-types.ensures in
-    fixed_ends c.args.self.now _ c.args.local _ _ _ known.valid known.rule c.requires.never (c.requires.rule ∙ ap Some c.in-Fixed.is) (simp to_z-of_z at c.reach-reach.ensures) (passed (goal.at.unreachable-requires c).Else-local-shown_at)
+    fixed_ends c.args.self.now _ c.args.local _ _ _ (rw (← c.self.view_is) c.self.invariant.valid) (rw (← c.self.view_is) c.self.invariant.limits) c.requires.never (c.requires.rule ∙ ap Some c.in-Fixed.is) (simp to_z-of_z at c.reach-reach.ensures) (passed (goal.at.unreachable-requires c).Else-local-shown_at)
 
 pub gap_by_turns-requires-clause-never : goal.gap_by_turns-requires-clause-never
 gap_by_turns-requires-clause-never c = let fl = c.ranges.local in simp to_z-of_z c.requires.never

@@ -11,8 +11,7 @@ loop-last-init c =
     let fc = c.ranges.local in
     let ff = c.ranges.first in
     let fn : SFits w64 c.next_moment-next.result = search rules in
-    let known = c.local_time_types-types.ensures in
-    simp to_z-of_z (turn_next c.args.self.now c.args.turns.now c.args.local c.args.reach.low c.args.reach.high c.args.first c.next_moment-next.result known.valid known.rule c.requires.rule c.requires.never c.requires.reach c.requires.passed (simp to_z-of_z at c.next_moment-next.ensures))
+    simp to_z-of_z (turn_next c.args.self.now c.args.turns.now c.args.local c.args.reach.low c.args.reach.high c.args.first c.next_moment-next.result (rw (← c.self.view_is) c.self.invariant.valid) (rw (← c.self.view_is) c.self.invariant.limits) c.requires.rule c.requires.never c.requires.reach c.requires.passed (simp to_z-of_z at c.next_moment-next.ensures))
 
 pub loop-last-smaller : goal.loop-last-smaller
 loop-last-smaller c =
@@ -26,17 +25,15 @@ loop-last-preserved c =
     let fs : SFits w64 c.shown_at.result = search rules in
     let fn : SFits w64 c.next_moment-next-in-loop-last.result = search rules in
     let shown = c.shown_at.ensures in
-    let known = c.local_time_types-types.ensures in
     let turn = simp to_z-of_z at c.loop-last.invariant in
-    let passed = passed_more c.args.self.now c.args.turns.now c.args.local _ _ _ c.type_at.result.now known.valid c.requires.rule c.requires.never turn c.type_at.ensures (omega (arith, ints)) in
-    simp to_z-of_z (turn_next c.args.self.now c.args.turns.now c.args.local c.args.reach.low c.args.reach.high _ c.next_moment-next-in-loop-last.result known.valid known.rule c.requires.rule c.requires.never c.requires.reach passed c.next_moment-next-in-loop-last.ensures)
+    let passed = passed_more c.args.self.now c.args.turns.now c.args.local _ _ _ c.type_at.result.now (rw (← c.self.view_is) c.self.invariant.valid) c.requires.rule c.requires.never turn c.type_at.ensures (omega (arith, ints)) in
+    simp to_z-of_z (turn_next c.args.self.now c.args.turns.now c.args.local c.args.reach.low c.args.reach.high _ c.next_moment-next-in-loop-last.result (rw (← c.self.view_is) c.self.invariant.valid) (rw (← c.self.view_is) c.self.invariant.limits) c.requires.rule c.requires.never c.requires.reach passed c.next_moment-next-in-loop-last.ensures)
 
 pub returns : goal.returns
 returns c =
     let fl = c.ranges.local in
     let fs : SFits w64 c.shown_at.result = search rules in
     let shown = c.shown_at.ensures in
-    let known = c.local_time_types-types.ensures in
     let turn = simp to_z-of_z at c.loop-last.invariant in
     let same : c.type_at.result.now ≡ c.type_at-3.result.now = rule_once (Alternate c.args.turns.now) _ c.type_at.result.now c.type_at-3.result.now c.type_at.ensures c.type_at-3.ensures in
-    rw (← same) (gap_of_turn c.args.self.now c.args.turns.now c.args.local c.args.reach.low c.args.reach.high _ _ c.type_at.result.now c.type_at-2.result.now known.valid c.requires.rule c.requires.never c.requires.reach turn c.type_at.ensures (omega (arith, ints)) c.type_at-2.ensures)
+    rw (← same) (gap_of_turn c.args.self.now c.args.turns.now c.args.local c.args.reach.low c.args.reach.high _ _ c.type_at.result.now c.type_at-2.result.now (rw (← c.self.view_is) c.self.invariant.valid) c.requires.rule c.requires.never c.requires.reach turn c.type_at.ensures (omega (arith, ints)) c.type_at-2.ensures)

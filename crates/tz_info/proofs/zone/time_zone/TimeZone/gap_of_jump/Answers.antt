@@ -4,7 +4,7 @@ use Rattle.tz_info.specs.Steps.Gaps.{IsReach}
 use Rattle.tz_info.specs.Steps.Segments.{index_of}
 use Rattle.tz_info.specs.Steps.Starts.{IsReachedFrom}
 use Rattle.tz_info.specs.WallPieces.{IsStart}
-use Rattle.tz_info.specs.Zones.{Zone, HasType}
+use Rattle.tz_info.specs.Zones.{Zone, HasType, IsValid}
 use Rattle.tz_info.specs.declared.zone.transition.Transition.{Transition}
 use Rattle.tz_info.proofs.GapLaws.{jump_found}
 use Rattle.tz_info.proofs.OnePass.{within_table}
@@ -15,7 +15,6 @@ use Rattle.tz_info.proofs.zone.time_zone.TimeZone.gap_of_jump.Goals as goal
 pub returns-clause-gap : goal.returns-clause-gap
 returns-clause-gap c =
     let z = c.args.self.now in
-    let known = c.local_time_types-types.ensures in
     let fl = c.ranges.local in
     let fw : SFits w64 c.reach-reach.result.low = search rules in
     let fh : SFits w64 c.reach-reach.result.high = search rules in
@@ -31,7 +30,8 @@ returns-clause-gap c =
     let item = c.transition-transition.ensures.item in
     let reached = rw c.deref.ensures.value at (simp to_z-of_z at c.first_second.ensures) in
     let leaps : c.self.inside.leap_seconds.items ≡ z.leaps = ap (λ (y : Zone). y.leaps) c.self.view_is in
-    let start : IsStart z.transitions z.leaps place s = start_found z.transitions z.leaps place t s known.valid.transitions.rising some within (subst (λ (x : Transition). IsReachedFrom z.leaps x.unix_leap_time s) item (subst (λ es. IsReachedFrom es t.unix_leap_time s) leaps reached)) in
+    let valid : IsValid z = rw (← c.self.view_is) c.self.invariant.valid in
+    let start : IsStart z.transitions z.leaps place s = start_found z.transitions z.leaps place t s valid.transitions.rising some within (subst (λ (x : Transition). IsReachedFrom z.leaps x.unix_leap_time s) item (subst (λ es. IsReachedFrom es t.unix_leap_time s) leaps reached)) in
     let index : index_of z.transitions place ≡ t.type_index = rw back at (index_next z.transitions (place - 1) t (omega arith)) ∙ sym (ap (λ (x : Transition). x.type_index) item) in
     let has : HasType z (index_of z.transitions place) c.listed-2.result.now = rw index c.listed-2.ensures in
-    simp to_z-of_z (jump_found z c.args.local c.reach-reach.result.low c.reach-reach.result.high s c.args.jump c.listed-2.result.now c.listed.result.now known.valid known.rule c.requires.never reach c.requires.jump start has c.listed.ensures)
+    simp to_z-of_z (jump_found z c.args.local c.reach-reach.result.low c.reach-reach.result.high s c.args.jump c.listed-2.result.now c.listed.result.now valid (rw (← c.self.view_is) c.self.invariant.limits) c.requires.never reach c.requires.jump start has c.listed.ensures)

@@ -13,7 +13,7 @@ returns-in-Some c =
     let fa = c.ranges.last in
     let k = c.in-Some.ensures in
     let e : c.args.count - c.loop-back.back ≡ (c.args.count - 1 - c.loop-back.back) + 1 = omega arith in
-    table_last c.args.self.now c.args.last (c.args.count - 1 - c.loop-back.back) c.in-Some.change c.local_time_types-types.ensures.valid (rw e at (simp to_z-of_z at c.loop-back.invariant)) k.0 k.1
+    table_last c.args.self.now c.args.last (c.args.count - 1 - c.loop-back.back) c.in-Some.change (rw (← c.self.view_is) c.self.invariant.valid) (rw e at (simp to_z-of_z at c.loop-back.invariant)) k.0 k.1
 
 pub loop-back-preserved : goal.loop-back-preserved
 loop-back-preserved c =

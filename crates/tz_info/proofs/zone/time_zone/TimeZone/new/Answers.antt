@@ -9,6 +9,7 @@ pub invariant_of-result : goal.invariant_of-result
 invariant_of-result c =
     rw c.in_ok-new.ensures (record {
       valid = rw (c.deref.ensures.value, c.deref-2.ensures.value, c.deref-3.ensures.value) at c.in_ok-check.ensures;
-      extremes = rw c.deref-7.ensures.value at c.extremes_of-extremes.ensures;
+      limits = c.extremes_of-extremes.ensures.limits;
+      extremes = rw c.deref-7.ensures.value at c.extremes_of-extremes.ensures.extremes;
       index = rw (c.deref-4.ensures.value, c.deref-5.ensures.value, c.deref-6.ensures.value) at c.in_ok-index.ensures;
     })

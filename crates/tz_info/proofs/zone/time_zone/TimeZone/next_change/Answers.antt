@@ -3,7 +3,7 @@ use Rattle.tz_info.proofs.ZoneChanges.{table_first, rule_first}
 use Rattle.tz_info.proofs.zone.time_zone.TimeZone.next_change.Goals as goal
 
 pub returns-in-Some : goal.returns-in-Some
-returns-in-Some c = let fa = c.ranges.after in table_first c.args.self.now (λ u. c.args.after <ℤ u) c.in-Some.change c.local_time_types-types.ensures.valid (simp to_z-of_z at c.in-Some.ensures)
+returns-in-Some c = let fa = c.ranges.after in table_first c.args.self.now (λ u. c.args.after <ℤ u) c.in-Some.change (rw (← c.self.view_is) c.self.invariant.valid) (simp to_z-of_z at c.in-Some.ensures)
 
 pub returns-in-None : goal.returns-in-None
-returns-in-None c = let fa = c.ranges.after in rule_first c.args.self.now (λ u. c.args.after <ℤ u) c.next_by_rule.result c.local_time_types-types.ensures.valid (simp to_z-of_z at c.in-None.ensures) (simp to_z-of_z at c.next_by_rule.ensures)
+returns-in-None c = let fa = c.ranges.after in rule_first c.args.self.now (λ u. c.args.after <ℤ u) c.next_by_rule.result (rw (← c.self.view_is) c.self.invariant.valid) (simp to_z-of_z at c.in-None.ensures) (simp to_z-of_z at c.next_by_rule.ensures)

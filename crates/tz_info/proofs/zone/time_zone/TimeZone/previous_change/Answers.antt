@@ -3,7 +3,7 @@ use Rattle.tz_info.proofs.ZoneChanges.{rule_is_last, table_is_last}
 use Rattle.tz_info.proofs.zone.time_zone.TimeZone.previous_change.Goals as goal
 
 pub returns-in-Some : goal.returns-in-Some
-returns-in-Some c = let fa = c.ranges.before_or_at in rule_is_last c.args.self.now (λ u. u ≤ℤ c.args.before_or_at) c.in-Some.change c.local_time_types-types.ensures.valid (simp to_z-of_z at c.in-Some.ensures)
+returns-in-Some c = let fa = c.ranges.before_or_at in rule_is_last c.args.self.now (λ u. u ≤ℤ c.args.before_or_at) c.in-Some.change (rw (← c.self.view_is) c.self.invariant.valid) (simp to_z-of_z at c.in-Some.ensures)
 
 pub returns-in-None : goal.returns-in-None
-returns-in-None c = let fa = c.ranges.before_or_at in table_is_last c.args.self.now (λ u. u ≤ℤ c.args.before_or_at) c.previous_in_table.result c.local_time_types-types.ensures.valid (simp to_z-of_z at c.in-None.ensures) (simp to_z-of_z at c.previous_in_table.ensures)
+returns-in-None c = let fa = c.ranges.before_or_at in table_is_last c.args.self.now (λ u. u ≤ℤ c.args.before_or_at) c.previous_in_table.result (rw (← c.self.view_is) c.self.invariant.valid) (simp to_z-of_z at c.in-None.ensures) (simp to_z-of_z at c.previous_in_table.ensures)

@@ -5,7 +5,7 @@ use Rattle.tz_info.proofs.zone.time_zone.TimeZone.previous_in_table.Goals as goa
 pub last_with-requires : goal.last_with-requires
 last_with-requires c =
     let fa = c.ranges.last in
-    simp to_z-of_z (ahead_first c.args.self.now c.args.last c.in-Some.count c.local_time_types-types.ensures.valid (simp to_z-of_z at c.in-Some.ensures))
+    simp to_z-of_z (ahead_first c.args.self.now c.args.last c.in-Some.count (rw (← c.self.view_is) c.self.invariant.valid) (simp to_z-of_z at c.in-Some.ensures))
 
 pub last_of_all-requires : goal.last_of_all-requires
 last_of_all-requires c = let fa = c.ranges.last in simp to_z-of_z (simp to_z-of_z at c.in-None.ensures)

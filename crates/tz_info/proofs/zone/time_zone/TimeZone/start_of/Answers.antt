@@ -15,5 +15,5 @@ returns-clause-comes c =
     let fs : SFits w128 s = search rules in
     let reached = rw c.deref.ensures.value at (simp to_z-of_z at c.first_second.ensures.reached) in
     let same : c.self.inside.leap_seconds.items ≡ z.leaps = ap (λ (y : Zone). y.leaps) c.self.view_is in
-    simp to_z-of_z (comes_at z c.args.place t s c.local_time_types-types.ensures.valid c.requires c.transition-transition.ensures.item
+    simp to_z-of_z (comes_at z c.args.place t s (rw (← c.self.view_is) c.self.invariant.valid) c.requires c.transition-transition.ensures.item
     (subst (λ es. (u y : ℤ) → IsLeapTime es u y → (t.unix_leap_time ≤ℤ y) ↔ (s ≤ℤ u)) same reached))

@@ -4,6 +4,7 @@ use Rattle.tz_info.specs.Steps.RuleSeconds.{TypeFrom}
 use Rattle.tz_info.specs.Steps.Walk.{IsShownIn}
 use Rattle.tz_info.specs.WallClocks.{Shows}
 use Rattle.tz_info.specs.WallPieces.{IsStart}
+use Rattle.tz_info.specs.Zones.{IsValid}
 use Rattle.tz_info.proofs.AnswerLaws.{joined_answer}
 use Rattle.tz_info.proofs.QuestionLaws.{asked_by_zone}
 use Rattle.tz_info.proofs.WalkLaws.{with_rule}
@@ -20,7 +21,7 @@ pub returns-clause-found : goal.returns-clause-found
 returns-clause-found c =
     let (fl, ff, start) = begun (goal.at.returns-clause-found c).After-rule_from in
     let z = c.args.self.now in
-    let valid = c.local_time_types-types.ensures.valid in
+    let valid : IsValid z = rw (← c.self.view_is) c.self.invariant.valid in
     rw c.joined.ensures (joined_answer (IsShownIn z c.args.local (length z.transitions)) (Shows (TypeFrom c.args.rule.now c.rule_from.result) c.args.local) _ c.args.answer c.answer_from-by_rule.result
     (with_rule z c.args.rule.now c.rule_from.result c.args.local valid c.requires.rule start c.requires.local c.answer_from-by_rule.ensures.offsets)
     c.requires.seen (simp to_z-of_z at c.answer_from-by_rule.ensures.found))
@@ -28,5 +29,5 @@ returns-clause-found c =
 pub returns-clause-counted : goal.returns-clause-counted
 returns-clause-counted c =
     let (fl, ff, start) = begun (goal.at.returns-clause-counted c).After-rule_from in
-    asked_by_zone c.args.self.now c.args.rule.now c.rule_from.result c.args.local _ _ c.local_time_types-types.ensures.valid c.requires.rule start c.requires.local c.answer_from-by_rule.ensures.offsets
+    asked_by_zone c.args.self.now c.args.rule.now c.rule_from.result c.args.local _ _ (rw (← c.self.view_is) c.self.invariant.valid) c.requires.rule start c.requires.local c.answer_from-by_rule.ensures.offsets
     (simp to_z-of_z at c.answer_from-by_rule.ensures.counted)

@@ -9,6 +9,7 @@ pub invariant_of-result : goal.invariant_of-result
 invariant_of-result c =
     rw (c.none.ensures, c.new-leaps.ensures.items) (record {
       valid = zone_of_rule_valid c.args.types.items c.args.rule c.requires;
-      extremes = rw c.deref-4.ensures.value at c.extremes_of-extremes.ensures;
+      limits = c.extremes_of-extremes.ensures.limits;
+      extremes = rw c.deref-4.ensures.value at c.extremes_of-extremes.ensures.extremes;
       index = rw (c.deref.ensures.value, c.new-transitions.ensures.items, c.deref-2.ensures.value, c.deref-3.ensures.value, c.new-leaps.ensures.items) at c.without_pieces-index.ensures;
     })
