@@ -6,7 +6,7 @@ ghost use Rattle.tz_base.specs.declared.error.Error.TheVariants.{InvalidTzFile, 
 ghost use Rattle.tz_base.specs.declared.error.Expected.TheVariants.{OffsetAboveI32Min, TzTextInFooter, ZeroOrOneAsIsDst};
 ghost use Rattle.tz_info.specs.FileContents.{IsMark, SpellsType, TypeFault, SpellsLeapSecond, IndicatorsAgree, time_of};
 ghost use Rattle.tz_base.specs.Grammar.{Spells, be_u32};
-ghost use Rattle.tz_info.specs.FileHeaders.{version, six_counts, counts_agree};
+ghost use Rattle.tz_info.specs.FileHeaders.{version, six_counts, CountsAgree};
 ghost use Rattle.tz_info.specs.FilePieces.{FilePieces, after_first_block, is_extended};
 ghost use Rattle.tz_info.specs.FileBlocks.{block, Parts};
 ghost use Rattle.tz_info.specs.declared.file.header.Place.{Place};
@@ -49,11 +49,11 @@ pub fn counts()
 
 /// There is a type, and a byte of designations; indicators are given for no type, or for each.
 pub fn counts_that_agree()
-    ensures indicators { counts_agree (of_types 6 6 20) ≡ true }
-    ensures no_indicators { counts_agree (of_types 0 6 20) ≡ true }
-    ensures some_indicators { counts_agree (of_types 5 6 20) ≡ false }
-    ensures no_types { counts_agree (of_types 0 0 20) ≡ false }
-    ensures no_designations { counts_agree (of_types 6 6 0) ≡ false }
+    ensures indicators { CountsAgree (of_types 6 6 20) }
+    ensures no_indicators { CountsAgree (of_types 0 6 20) }
+    ensures some_indicators { ¬ (CountsAgree (of_types 5 6 20)) }
+    ensures no_types { ¬ (CountsAgree (of_types 0 0 20)) }
+    ensures no_designations { ¬ (CountsAgree (of_types 6 6 0)) }
 {}
 
 /// The isdst byte is 0 or 1.

@@ -37,9 +37,12 @@ low (UnsupportedTzString x) = omega arith
 nothing_read : {X : Type 0} (v : X) → Reads (λ bytes. Ok (v, bytes)) (λ bytes x rest. (x ≡ v) × (bytes ≡ rest)) (λ bytes e. ⊥)
 nothing_read v bytes = said (done (v, bytes)) (λ p h. (sym (ap (λ q. q.0) h), ap (λ q. q.1) h)) (λ p h. same_pair _ _ _ _ (sym h.0) h.1)
 
-check_read : {X : Type 0} (test : Bool) (refusal : Refusal) (v : X) → Lawful (Check test refusal v)
-check_read true refusal v bytes = like (nothing_read v bytes) (λ p h. (refl, h.0, h.1)) (λ p h. (h.1, h.2)) (λ n h. absurd h) (λ n h. let e = h.0 in cc)
-check_read false refusal v bytes = like (refused (error refusal) (low refusal)) (λ p h. absurd h) (λ p h. let e = h.0 in cc) (λ n h. (refl, h)) (λ n h. h.1)
+check_read : {X : Type 0} (P : Type 0) (passes : Bool) (decides : Decides passes P) (refusal : Refusal) (v : X)
+    → Lawful (Check P (record { passes = passes; decides = decides }) refusal v)
+check_read P true decides refusal v bytes = like (nothing_read v bytes)
+    (λ p h. (decides.0 refl, h.0, h.1)) (λ p h. (h.1, h.2)) (λ n h. absurd h) (λ n h. absurd (h.0 (decides.0 refl)))
+check_read P false decides refusal v bytes = like (refused (error refusal) (low refusal))
+    (λ p h. absurd h) (λ p h. let e = decides.1 h.0 in cc) (λ n h. (λ holds. let e = decides.1 holds in cc, h)) (λ n h. h.1)
 
 refused_read : {X : Type 0} (refusal : Refusal) → Lawful (Refused {X = X} refusal)
 refused_read refusal bytes = like (refused (error refusal) (low refusal)) (λ p h. absurd h) (λ p h. absurd h) (λ n h. h) (λ n h. h)
@@ -162,4 +165,4 @@ lawful (Number max) bytes = number_read max bytes
 lawful (Exact n) bytes = exact_read n bytes
 lawful Rest bytes = rest_read bytes
 lawful (Refused refusal) bytes = refused_read refusal bytes
-lawful (Check test refusal v) bytes = check_read test refusal v bytes
+lawful (Check P test refusal v) bytes = check_read P test.passes test.decides refusal v bytes

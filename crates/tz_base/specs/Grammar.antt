@@ -6,6 +6,7 @@ use Rattle.std.specs.Int.{w32, from_be_bytes}
 use Rattle.tz_base.specs.Fronts.{is_digit, value_from, AllOf, NoneFirst, AllDigits, optional_tag_at, tag_at, int_at, exact_at, run_of, after_run}
 use Rattle.tz_base.specs.Fronts as fronts
 use Rattle.tz_base.specs.Refusals.{Refusal, error}
+use Rattle.tz_base.specs.Tests.{Test}
 use Rattle.tz_base.specs.declared.error.Error.{Error}
 use Rattle.tz_base.specs.declared.error.Error.TheVariants.{UnexpectedEnd, MissingTag, ParseInt}
 use Rattle.tz_base.specs.declared.error.Expected.TheVariants.{MoreBytes, Tag, OtherBytes, Digit, NumberWithinItsLimit}
@@ -31,8 +32,8 @@ pub data Grammar : Type 0 → Type 1 where
   Rest : Grammar (List ℕ)
   -- no value, whatever bytes are left
   Refused : {X : Type 0} → Refusal → Grammar X
-  -- no bytes, which spell that value if the test holds, and are rejected with that error if it does not
-  Check : {X : Type 0} → Bool → Refusal → X → Grammar X
+  -- no bytes, which spell that value if P holds, and are rejected with that error if it does not
+  Check : {X : Type 0} (P : Type 0) → Test P → Refusal → X → Grammar X
 
 infixl 10 ◌>>=◌
 abbrev pub ◌>>=◌ : {X Y : Type 0} → Grammar X → (X → Grammar Y) → Grammar Y
@@ -84,7 +85,7 @@ Spells (Number max) bytes n rest = IsNumber max bytes n rest
 Spells (Exact count) bytes some rest = (bytes ≡ some ++ rest) × (length some ≡ count)
 Spells Rest bytes some rest = (some ≡ bytes) × (rest ≡ [])
 Spells (Refused refusal) bytes x rest = ⊥
-Spells (Check test refusal v) bytes x rest = (test ≡ true) × (x ≡ v) × (bytes ≡ rest)
+Spells (Check P test refusal v) bytes x rest = P × (x ≡ v) × (bytes ≡ rest)
 
 -- ---- its faults: the first parts are spelled, and the next one is rejected with the error
 abbrev pub ByteFault : ℕ → List ℕ → Error → Type 0
@@ -111,7 +112,7 @@ HasFault (Number max) bytes e = NumberFault max bytes e
 HasFault (Exact count) bytes e = (length bytes < count) × (e ≡ UnexpectedEnd MoreBytes)
 HasFault Rest bytes e = ⊥
 HasFault (Refused refusal) bytes e = e ≡ error refusal
-HasFault (Check test refusal v) bytes e = (test ≡ false) × (e ≡ error refusal)
+HasFault (Check P test refusal v) bytes e = (P → ⊥) × (e ≡ error refusal)
 
 -- ---- what a reader reads: the value with the bytes after it, or the error
 abbrev pub is_end : List ℕ → Bool
@@ -132,7 +133,7 @@ read (Number max) bytes = int_at max bytes
 read (Exact count) bytes = exact_at count bytes
 read Rest bytes = Ok (bytes, [])
 read (Refused refusal) bytes = Err (error refusal)
-read (Check test refusal v) bytes = fronts.◌>>=◌ (checked test refusal v) (λ x. Ok (x, bytes))
+read (Check P test refusal v) bytes = fronts.◌>>=◌ (checked test.passes refusal v) (λ x. Ok (x, bytes))
 
 -- ---- a big-endian number of four bytes
 unfoldable pub be_u32 : Grammar ℕ

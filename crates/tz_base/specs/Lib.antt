@@ -1,4 +1,5 @@
 pub mod Errors
+pub mod Tests
 pub mod Names
 pub mod LocalTypes
 pub mod Fronts

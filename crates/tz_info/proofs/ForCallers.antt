@@ -10,5 +10,4 @@ pub use Rattle.tz_timeline.proofs.ForCallers.{le_is, le_true}
 pub use Rattle.tz_info.proofs.RuleLaws.{rule_year}
 pub use Rattle.tz_info.proofs.WallTimes.{wall_decided}
 pub use Rattle.tz_info.proofs.ZoneLaws.{type_once, type_not_refused, type_decided, type_listed}
-pub use Rattle.tz_info.proofs.NamedTypes.{name_from, name_to}
-pub use Rattle.tz_info.proofs.TextFits.{within_from, within_to, rule_day_from, rule_day_to, offset_fits}
+pub use Rattle.tz_info.proofs.TextFits.{offset_fits}

@@ -8,28 +8,11 @@ use Rattle.tz_base.specs.LocalTypes.{LocalType}
 use Rattle.tz_info.specs.Rules.{IsWithinWeek, IsAlternateRule}
 use Rattle.tz_info.specs.RuleDays.{IsRuleDay}
 use Rattle.tz_info.specs.RuleTypes.{IsRule}
-use Rattle.tz_info.specs.TzGrammar.{seconds_of, is_within, duration, offset, time_limit, time, optional_time, is_rule_day, rule_day, month_date, julian_date, day_number, date, day, days, next_hour, given_offset, dst_offset, named_type, named, fixed, alternate, rule, text, IsTzText}
+use Rattle.tz_info.specs.TzGrammar.{seconds_of, duration, offset, time_limit, time, optional_time, rule_day, month_date, julian_date, day_number, date, day, days, next_hour, given_offset, dst_offset, named_type, named, fixed, alternate, rule, text, IsTzText}
 use Rattle.tz_info.specs.declared.rule.day.DayForm.{DayForm}
 use Rattle.tz_info.specs.declared.rule.day.DayForm.TheVariants.{Julian1, Julian0, MonthWeekday}
 use Rattle.tz_info.specs.declared.rule.day.DayTime.{DayTime}
 use Rattle.tz_info.specs.declared.rule.transition_rule.TransitionRule.{TransitionRule}
-
--- ---- what the tests say
-pub within_from : (limit h m s : ℕ) → is_within limit h m s ≡ true → (h ≤ limit) × (m ≤ 59) × (s ≤ 59)
-within_from limit h m s t = (grind (arith, nat_tests), grind (arith, nat_tests), grind (arith, nat_tests))
-
-pub within_to : (limit h m s : ℕ) → h ≤ limit → m ≤ 59 → s ≤ 59 → is_within limit h m s ≡ true
-within_to limit h m s a b c = grind (arith, nat_tests)
-
-pub rule_day_from : (form : DayForm) → is_rule_day form ≡ true → IsRuleDay form
-rule_day_from (Julian1 n) h = (grind (arith, nat_tests), grind (arith, nat_tests))
-rule_day_from (Julian0 n) h = grind (arith, nat_tests)
-rule_day_from (MonthWeekday m w d) h = (grind (arith, nat_tests), grind (arith, nat_tests), grind (arith, nat_tests), grind (arith, nat_tests), grind (arith, nat_tests))
-
-pub rule_day_to : (form : DayForm) → IsRuleDay form → is_rule_day form ≡ true
-rule_day_to (Julian1 n) h = let a = h.0 in let b = h.1 in grind (arith, nat_tests)
-rule_day_to (Julian0 n) h = grind (arith, nat_tests)
-rule_day_to (MonthWeekday m w d) h = let a = h.0 in let b = h.1 in let c = h.2 in let e = h.3 in let f = h.4 in grind (arith, nat_tests)
 
 -- ---- offsets and times
 within_day : (negative : Bool) (h m s : ℕ) → (h ≤ 23) × (m ≤ 59) × (s ≤ 59) → IsWithinDay (seconds_of negative h m s)
@@ -44,28 +27,25 @@ within_week false false h m s (a, b, c) = (omega (arith, ints), omega (arith, in
 
 pub offset_fits : (bytes : List ℕ) (z : ℤ) (rest : List ℕ) → Spells offset bytes z rest → IsWithinDay z
 unfolding offset duration
-offset_fits bytes z rest (is_minus, _, _, ((h, m, s), _, _, (is, value, _))) = subst IsWithinDay (sym value) (within_day (not is_minus) h m s (within_from 23 h m s is))
+offset_fits bytes z rest (is_minus, _, _, ((h, m, s), _, _, (is, value, _))) = subst IsWithinDay (sym value) (within_day (not is_minus) h m s is)
 
 time_fits : (extended : Bool) (bytes : List ℕ) (z : ℤ) (rest : List ℕ) → Spells (optional_time extended) bytes z rest → IsWithinWeek z
 unfolding optional_time time duration
-time_fits extended bytes z rest (inl (_, _, (is_minus, _, _, ((h, m, s), _, _, (is, value, _))))) = subst IsWithinWeek (sym value) (within_week extended is_minus h m s (within_from (time_limit extended) h m s is))
+time_fits extended bytes z rest (inl (_, _, (is_minus, _, _, ((h, m, s), _, _, (is, value, _))))) = subst IsWithinWeek (sym value) (within_week extended is_minus h m s is)
 time_fits extended bytes z rest (inr (_, (value, _))) = subst IsWithinWeek (sym value) (omega (arith, ints), omega (arith, ints))
-
-at_most : (z limit : ℤ) → int_le z limit ≡ true → z ≤ℤ limit
-at_most z limit t = grind (arith, ints)
 
 next_hour_fits : (std : ℤ) → IsWithinDay std → (std +ℤ pos 3_600) ≤ℤ pos 86_399 → IsWithinDay (std +ℤ pos 3_600)
 next_hour_fits std w l = let a = w.0 in (omega (arith, ints), omega (arith, ints))
 
 dst_offset_fits : (std : ℤ) (bytes : List ℕ) (z : ℤ) (rest : List ℕ) → IsWithinDay std → Spells (dst_offset std) bytes z rest → IsWithinDay z
 unfolding dst_offset next_hour given_offset
-dst_offset_fits std bytes z rest w (inl (_, _, (is, value, _))) = subst IsWithinDay (sym value) (next_hour_fits std w (at_most (std +ℤ pos 3_600) (pos 86_399) is))
+dst_offset_fits std bytes z rest w (inl (_, _, (is, value, _))) = subst IsWithinDay (sym value) (next_hour_fits std w is)
 dst_offset_fits std bytes z rest w (inr (_, (_, here, _, (east, after, o, (_, _, _, (_, _, _, (value, _))))))) = subst IsWithinDay (sym value) (offset_fits here east after o)
 
 -- ---- days
 form_fits : (form : DayForm) (bytes : List ℕ) (x : DayForm) (rest : List ℕ) → Spells (rule_day form) bytes x rest → IsRuleDay x
 unfolding rule_day
-form_fits form bytes x rest (is, value, _) = subst IsRuleDay (sym value) (rule_day_from form is)
+form_fits form bytes x rest (is, value, _) = subst IsRuleDay (sym value) is
 
 date_fits : (bytes : List ℕ) (form : DayForm) (rest : List ℕ) → Spells date bytes form rest → IsRuleDay form
 unfolding date month_date julian_date day_number

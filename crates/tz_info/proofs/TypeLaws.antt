@@ -7,14 +7,13 @@ use Rattle.std.proofs.lemmas.List.{take-append-drop, length-take, length-append}
 use Rattle.std.proofs.Math.Seq.{take-append_seam}
 use Rattle.std.specs.List.{position_from}
 use Rattle.tz_base.specs.LocalTypes.{LocalType, IsUtOffset, expected_of_type}
-use Rattle.tz_base.specs.Names.{IsNameOrNone}
+use Rattle.tz_base.specs.Names.{IsNameOrNone, name_test}
 use Rattle.tz_base.specs.Fronts.{Gives}
 use Rattle.tz_base.specs.declared.error.Error.{Error}
 use Rattle.tz_base.specs.declared.error.Error.TheVariants.{InvalidTzFile, LocalTimeType, OutOfMemory}
 use Rattle.tz_base.specs.declared.error.Expected.TheVariants.{ZeroOrOneAsIsDst, NameWithinDesignations, ZeroByteAfterName}
 use Rattle.tz_info.specs.FileContents.{HasNoZero, StandsAt, designation_of, IsMark, offset_in, mark_in, place_in, least_offset, SpellsType, SpellTypes, expected_of_place, TypeFault, Other_mark, No_text, Other_type, HasTypeFault}
 use Rattle.tz_info.specs.Steps.ContentReading.{record_at, values_below, is_name_or_none, type_of, mark_of, front_of, text_before_zero, designation_at, type_of_record, with_next_type, type_in, is_zero}
-use Rattle.tz_info.proofs.NamedTypes.{name_from, name_to}
 use Rattle.tz_base.proofs.ForCallers.{bind_err, drop_front, false_unless}
 use Rattle.tz_info.proofs.ListLaws.{first_refusal}
 use Rattle.tz_info.proofs.RecordLaws.{records}
@@ -79,11 +78,11 @@ text_law names i = by_error (InvalidTzFile (expected_of_place names i)) (choice 
 -- ---- a type
 named_is : (o : Option (List ℕ)) → is_name_or_none o ≡ true → IsNameOrNone o
 named_is None h = tt
-named_is (Some text) h = name_from text h
+named_is (Some text) h = (name_test text).decides.0 h
 
 named_again : (o : Option (List ℕ)) → IsNameOrNone o → is_name_or_none o ≡ true
 named_again None h = refl
-named_again (Some text) h = name_to text h
+named_again (Some text) h = (name_test text).decides.1 h
 
 mark_again : (b : ℕ) (d : Bool) → IsMark b d → ((b ≡ 0) × (false ≡ d)) ⊎ (¬ (b ≡ 0) × ((b ≡ 1) × (true ≡ d)))
 mark_again b true h = inr (λ z. absurd (omega arith), (h, refl))

@@ -1,5 +1,8 @@
 -- The days on which a rule changes the clock (POSIX.1 section 8.3, the forms `Jn`, `n` and `Mm.w.d` of a date).
-use Rattle.std.specs.Prelude.{ℕ, ◌≡◌, ◌≤◌, ◌<◌, ◌+◌, ◌-◌, ◌*◌, nat_le, ◌&&◌, if◌then◌else◌, false, ℤ, pos, ◌+ℤ◌, ◌⊎◌}
+use Rattle.std.specs.Prelude.{ℕ, ◌≡◌, ◌≤◌, ◌<◌, ◌+◌, ◌-◌, ◌*◌, nat_le, Bool, ◌&&◌, if◌then◌else◌, true, false, ℤ, pos, ◌+ℤ◌, ◌⊎◌}
+use Rattle.std.proofs.Common.{arith}
+use Rattle.std.proofs.lemmas.Bool.Decides.{nat_tests}
+use Rattle.tz_base.specs.Tests.{Test}
 use Rattle.naive_base.specs.Month.{days_in_month, days_of_months}
 use Rattle.naive_base.specs.Date.{IsDate, day_number}
 use Rattle.naive_base.specs.Weekday.{weekday_of}
@@ -13,6 +16,25 @@ abbrev pub IsRuleDay : DayForm → Type 0
 IsRuleDay (Julian1 n) = (1 ≤ n) × (n ≤ 365)
 IsRuleDay (Julian0 n) = n ≤ 365
 IsRuleDay (MonthWeekday month week weekday) = (1 ≤ month) × (month ≤ 12) × (1 ≤ week) × (week ≤ 5) × (weekday ≤ 6)
+
+-- the test of them
+abbrev pub is_rule_day : DayForm → Bool
+is_rule_day (Julian1 n) = nat_le 1 n && nat_le n 365
+is_rule_day (Julian0 n) = nat_le n 365
+is_rule_day (MonthWeekday month week weekday) = nat_le 1 month && nat_le month 12 && nat_le 1 week && nat_le week 5 && nat_le weekday 6
+
+pub rule_day_from : (form : DayForm) → is_rule_day form ≡ true → IsRuleDay form
+rule_day_from (Julian1 n) h = (grind (arith, nat_tests), grind (arith, nat_tests))
+rule_day_from (Julian0 n) h = grind (arith, nat_tests)
+rule_day_from (MonthWeekday m w d) h = (grind (arith, nat_tests), grind (arith, nat_tests), grind (arith, nat_tests), grind (arith, nat_tests), grind (arith, nat_tests))
+
+pub rule_day_to : (form : DayForm) → IsRuleDay form → is_rule_day form ≡ true
+rule_day_to (Julian1 n) h = let a = h.0 in let b = h.1 in grind (arith, nat_tests)
+rule_day_to (Julian0 n) h = grind (arith, nat_tests)
+rule_day_to (MonthWeekday m w d) h = let a = h.0 in let b = h.1 in let c = h.2 in let e = h.3 in let f = h.4 in grind (arith, nat_tests)
+
+abbrev pub rule_day_test : (form : DayForm) → Test (IsRuleDay form)
+rule_day_test form = record { passes = is_rule_day form; decides = (rule_day_from form, rule_day_to form) }
 
 -- what is expected of numbers that no date may have: of a month, a week and a weekday the first that is out of its limits
 abbrev pub expected_of_day : DayForm → Expected

@@ -1,15 +1,18 @@
 -- TZ texts, stdoffset[dst[offset],start[/time],end[/time]] (POSIX.1 section 8.3, "TZ"), with the extensions of RFC 8536
 -- section 3.3.1 where `extended` holds. Each line is a piece of the text, in the order in which it stands there.
-use Rattle.std.specs.Prelude.{ℕ, ℤ, pos, neg_ℤ, ◌+ℤ◌, ◌+◌, ◌*◌, ◌==◌, nat_le, int_le, Bool, true, false, not, ◌&&◌, ◌||◌, if◌then◌else◌, List, [], length, Some}
-use Rattle.std.specs.List.{list_all}
-use Rattle.tz_base.specs.Names.{is_name_byte, expected_of_name}
+use Rattle.std.specs.Prelude.{ℕ, ℤ, pos, neg_ℤ, ◌+ℤ◌, ◌+◌, ◌*◌, ◌≡◌, ◌≤◌, ◌≤ℤ◌, ◌==◌, nat_le, int_le, Bool, true, false, not, ◌&&◌, ◌||◌, if◌then◌else◌, List, [], Some}
+use Rattle.std.proofs.Common.{arith}
+use Rattle.std.proofs.lemmas.Bool.Decides.{nat_tests}
+use Rattle.std.proofs.lemmas.Int.{ints}
+use Rattle.tz_base.specs.Names.{IsName, name_test, expected_of_name}
+use Rattle.tz_base.specs.Tests.{Test}
 use Rattle.tz_base.specs.LocalTypes.{LocalType}
 use Rattle.tz_base.specs.Grammar.{Grammar, Nothing, Marked, Optional, Ended, End, Byte, Run, Number, Check, ◌>>=◌, ◌>>◌, Spells, HasFault}
 use Rattle.tz_base.specs.Grammar as grammar
 use Rattle.tz_base.specs.Refusals as refused
 use Rattle.tz_base.specs.declared.error.Error.{Error}
 use Rattle.tz_base.specs.declared.error.Expected.TheVariants as expected
-use Rattle.tz_info.specs.RuleDays.{expected_of_day}
+use Rattle.tz_info.specs.RuleDays.{IsRuleDay, rule_day_test, expected_of_day}
 use Rattle.tz_info.specs.declared.rule.day.DayForm.{DayForm}
 use Rattle.tz_info.specs.declared.rule.day.DayForm.TheVariants.{Julian1, Julian0, MonthWeekday}
 use Rattle.tz_info.specs.declared.rule.day.DayTime.{DayTime}
@@ -91,14 +94,27 @@ sign = Marked plus (Nothing false) (Marked minus (Nothing true) (Nothing false))
 abbrev pub seconds_of : Bool → ℕ → ℕ → ℕ → ℤ
 seconds_of negative h m s = if negative then neg_ℤ (pos (3600 * h + 60 * m + s)) else pos (3600 * h + 60 * m + s)
 
-abbrev pub is_within : ℕ → ℕ → ℕ → ℕ → Bool
-is_within limit h m s = nat_le h limit && nat_le m 59 && nat_le s 59
+-- hours up to the limit, minutes and seconds up to 59
+abbrev pub AreWithin : ℕ → ℕ → ℕ → ℕ → Type 0
+AreWithin limit h m s = (h ≤ limit) × (m ≤ 59) × (s ≤ 59)
 
--- seconds of a duration without its sign: hours up to the limit, minutes and seconds up to 59
+abbrev pub are_within : ℕ → ℕ → ℕ → ℕ → Bool
+are_within limit h m s = nat_le h limit && nat_le m 59 && nat_le s 59
+
+pub within_from : (limit h m s : ℕ) → are_within limit h m s ≡ true → AreWithin limit h m s
+within_from limit h m s t = (grind (arith, nat_tests), grind (arith, nat_tests), grind (arith, nat_tests))
+
+pub within_to : (limit h m s : ℕ) → AreWithin limit h m s → are_within limit h m s ≡ true
+within_to limit h m s (a, b, c) = grind (arith, nat_tests)
+
+abbrev pub within_test : (limit h m s : ℕ) → Test (AreWithin limit h m s)
+within_test limit h m s = record { passes = are_within limit h m s; decides = (within_from limit h m s, within_to limit h m s) }
+
+-- the seconds of a duration without its sign
 unfoldable pub duration : ℕ → Bool → Grammar ℤ
 duration limit negative = do
   (h, m, s) ← hours_minutes_seconds
-  Check (is_within limit h m s) (refused.InvalidTzString expected.HoursMinutesAndSecondsWithinTheirLimits) (seconds_of negative h m s)
+  Check (AreWithin limit h m s) (within_test limit h m s) (refused.InvalidTzString expected.HoursMinutesAndSecondsWithinTheirLimits) (seconds_of negative h m s)
 
 -- an offset, in seconds east of UTC: a text counts west, and so a minus leads east; its hours go to 23 (POSIX allows 24)
 unfoldable pub offset : Grammar ℤ
@@ -133,13 +149,8 @@ unfoldable pub name : Grammar (List ℕ)
 name = Marked less quoted (Run is_letter)
 
 -- ---- dates
-abbrev pub is_rule_day : DayForm → Bool
-is_rule_day (Julian1 n) = nat_le 1 n && nat_le n 365
-is_rule_day (Julian0 n) = nat_le n 365
-is_rule_day (MonthWeekday month week weekday) = nat_le 1 month && nat_le month 12 && nat_le 1 week && nat_le week 5 && nat_le weekday 6
-
 unfoldable pub rule_day : DayForm → Grammar DayForm
-rule_day form = Check (is_rule_day form) (refused.TransitionRule (expected_of_day form)) form
+rule_day form = Check (IsRuleDay form) (rule_day_test form) (refused.TransitionRule (expected_of_day form)) form
 
 -- after `M`: month, week and weekday
 unfoldable pub month_date : Grammar DayForm
@@ -184,9 +195,22 @@ days extended = do
   Nothing (start, end)
 
 -- ---- the offset of daylight saving time, and the comma after it
--- left out, it is an hour more than that of standard time, which must still be less than a day
+-- an hour more than that is still less than a day
+abbrev pub IsHourMoreWithinDay : ℤ → Type 0
+IsHourMoreWithinDay std = (std +ℤ pos 3_600) ≤ℤ pos 86_399
+
+pub hour_more_from : (std : ℤ) → int_le (std +ℤ pos 3_600) (pos 86_399) ≡ true → IsHourMoreWithinDay std
+hour_more_from std t = grind (arith, ints)
+
+pub hour_more_to : (std : ℤ) → IsHourMoreWithinDay std → int_le (std +ℤ pos 3_600) (pos 86_399) ≡ true
+hour_more_to std l = grind (arith, ints)
+
+abbrev pub hour_more_test : (std : ℤ) → Test (IsHourMoreWithinDay std)
+hour_more_test std = record { passes = int_le (std +ℤ pos 3_600) (pos 86_399); decides = (hour_more_from std, hour_more_to std) }
+
+-- left out, the offset is an hour more than that of standard time
 unfoldable pub next_hour : ℤ → Grammar ℤ
-next_hour std = Check (int_le (std +ℤ pos 3_600) (pos 86_399)) (refused.InvalidTzString expected.OffsetOfDaylightSavingTimeWithinDay) (std +ℤ pos 3_600)
+next_hour std = Check (IsHourMoreWithinDay std) (hour_more_test std) (refused.InvalidTzString expected.OffsetOfDaylightSavingTimeWithinDay) (std +ℤ pos 3_600)
 
 -- a text that ends before the days is none that is supported
 unfoldable pub more : Grammar (Unit {0})
@@ -204,16 +228,12 @@ unfoldable pub dst_offset : ℤ → Grammar ℤ
 dst_offset std = Marked comma (next_hour std) given_offset
 
 -- ---- the whole
--- three to seven letters, digits, `+` or `-`
-abbrev pub is_name : List ℕ → Bool
-is_name text = nat_le 3 (length text) && nat_le (length text) 7 && list_all is_name_byte text
-
 abbrev pub named_type : List ℕ → Bool → ℤ → LocalType
 named_type text dst offset = record { offset = offset; dst = dst; name = Some text }
 
 -- the type of that name, if a type can have it
 unfoldable pub named : List ℕ → Bool → ℤ → Grammar LocalType
-named text dst offset = Check (is_name text) (refused.LocalTimeType (expected_of_name text)) (named_type text dst offset)
+named text dst offset = Check (IsName text) (name_test text) (refused.LocalTimeType (expected_of_name text)) (named_type text dst offset)
 
 unfoldable pub end : Grammar (Unit {0})
 end = End (refused.InvalidTzString expected.NothingAfterText)

@@ -9,7 +9,6 @@ use Rattle.tz_base.specs.Fronts.{is_digit, NoneFirst}
 use Rattle.tz_base.specs.Grammar.{Spells, Without}
 use Rattle.tz_info.specs.TzGrammar as tz
 use Rattle.tz_info.specs.TzGrammar.{seconds_of, time_limit, clock_max, colon, plus, minus}
-use Rattle.tz_info.proofs.ForCallers.{within_from, within_to}
 use Rattle.tz_info.specs.Rules.{IsWithinWeek}
 use Rattle.tz_write.specs.WrittenTexts.{AreInPairs, IsPlainTime, IsTimeOf}
 use Rattle.tz_write.specs.Steps.TextPieces.{pair_text, seconds_text, minutes_text, clock_text_of, clock_text, signed_text, offset_text, time_text, is_positive, is_negative}
@@ -121,7 +120,7 @@ pub duration_spelled : (limit : ℕ) (negative : Bool) (n : ℕ) (z : ℤ) (rest
 unfolding clock_text tz.duration
 duration_spelled limit negative n z rest l k v stops =
     let e : 3600 * (n / 3600) + 60 * (n / 60 % 60) + n % 60 ≡ n = omega arith in
-    ((n / 3600, n / 60 % 60, n % 60), rest, hours_spelled (n / 3600) (n / 60 % 60) (n % 60) rest (omega arith) (omega arith) (omega arith) stops, (within_to limit (n / 3600) (n / 60 % 60) (n % 60) l (omega arith) (omega arith), rw e (sym v), refl))
+    ((n / 3600, n / 60 % 60, n % 60), rest, hours_spelled (n / 3600) (n / 60 % 60) (n % 60) rest (omega arith) (omega arith) (omega arith) stops, ((l, omega arith, omega arith), rw e (sym v), refl))
 
 abs_neg : (n : ℕ) → unsigned_abs (neg_ℤ (pos n)) ≡ n
 abs_neg zero = refl
@@ -134,7 +133,7 @@ abs_signed false n = refl
 pub duration_front : (limit : ℕ) (negative : Bool) (bytes : List ℕ) (z : ℤ) (rest : List ℕ) → limit < 1000 → AreInPairs bytes → Spells (tz.duration limit negative) bytes z rest → Front (clock_text (unsigned_abs z)) bytes rest
 unfolding clock_text tz.duration
 duration_front limit negative bytes z rest l pairs ((h, m, s), after, spelled, (test, value, same)) =
-    let (c, a, b) = within_from limit h m s test in
+    let (c, a, b) = test in
     let f = hours_front bytes h m s after (omega arith) pairs spelled in
     let n : unsigned_abs z ≡ 3600 * h + 60 * m + s = ap unsigned_abs value ∙ abs_signed negative _ in
     let x : unsigned_abs z / 3600 ≡ h = omega arith in
@@ -281,7 +280,7 @@ time_spelled false time rest h stops = plain_time_spelled time rest h stops
 pub time_plain : (bytes : List ℕ) (time : ℤ) (rest : List ℕ) → Spells (tz.time false) bytes time rest → IsPlainTime time
 unfolding tz.time tz.time_sign tz.duration
 time_plain bytes time rest (is_minus, _, sign, ((h, m, s), _, _, (test, value, _))) =
-    let (a, b, c) = within_from 24 h m s test in
+    let (a, b, c) = test in
     subst IsPlainTime (sym value) (subst (λ (x : Bool). IsPlainTime (seconds_of x h m s)) (sym sign.0) (omega (arith, ints), omega (arith, ints)))
 
 time_minus : (is_minus : Bool) (h m s : ℕ) (time : ℤ) → seconds_of is_minus h m s ≡ time → is_negative time ≡ true → is_minus ≡ true

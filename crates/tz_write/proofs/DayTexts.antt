@@ -10,7 +10,6 @@ use Rattle.tz_base.specs.Fronts.{is_digit, NoneFirst}
 use Rattle.tz_base.specs.Grammar.{Spells, Without, IsNumber}
 use Rattle.tz_info.specs.TzGrammar as tz
 use Rattle.tz_info.specs.TzGrammar.{date_max, day_max, comma, dot, slash, letter_J, letter_M}
-use Rattle.tz_info.proofs.ForCallers.{rule_day_from, rule_day_to}
 use Rattle.tz_info.specs.RuleDays.{IsRuleDay}
 use Rattle.tz_info.specs.Rules.{IsWithinWeek}
 use Rattle.tz_info.specs.declared.rule.day.DayForm.{DayForm}
@@ -45,9 +44,9 @@ no_letters t n rest h l = let f = first_digit n l in let m = digit_most f.0 f.3 
 pub date_spelled : (form : DayForm) (rest : List ℕ) → IsRuleDay form → NoneFirst is_digit rest → Spells tz.date (date_text form ++ rest) form rest
 unfolding tz.date tz.month_date tz.julian_date tz.day_number tz.rule_day
 date_spelled (Julian1 n) rest h none = let l = h.1 in
-    inr ((λ e. absurd (omega arith)), inl (decimal n ++ rest, refl, (n, rest, number_spelled day_max n rest (omega arith) (omega arith) none, (rule_day_to (Julian1 n) h, refl, refl))))
+    inr ((λ e. absurd (omega arith)), inl (decimal n ++ rest, refl, (n, rest, number_spelled day_max n rest (omega arith) (omega arith) none, (h, refl, refl))))
 date_spelled (Julian0 n) rest h none =
-    inr (no_letters letter_M n rest (omega arith) (omega arith), inr (no_letters letter_J n rest (omega arith) (omega arith), (n, rest, number_spelled day_max n rest (omega arith) (omega arith) none, (rule_day_to (Julian0 n) h, refl, refl))))
+    inr (no_letters letter_M n rest (omega arith) (omega arith), inr (no_letters letter_J n rest (omega arith) (omega arith), (n, rest, number_spelled day_max n rest (omega arith) (omega arith) none, (h, refl, refl))))
 date_spelled (MonthWeekday m w d) rest h none =
     let a = h.1 in let b = h.3 in let c = h.4 in
     let at_weekday = decimal d ++ rest in
@@ -74,7 +73,7 @@ date_spelled (MonthWeekday m w d) rest h none =
               tt,
               at_weekday,
               refl,
-              (d, rest, number_spelled date_max d rest (omega arith) (omega arith) none, (rule_day_to (MonthWeekday m w d) h, refl, refl)),
+              (d, rest, number_spelled date_max d rest (omega arith) (omega arith) none, (h, refl, refl)),
             ),
           ),
         ),
@@ -94,13 +93,13 @@ month_front bytes rest m w d at_week at_weekday h x y z =
 pub date_front : (bytes : List ℕ) (form : DayForm) (rest : List ℕ) → Spells tz.date bytes form rest → Front (date_text form) bytes rest
 unfolding tz.date tz.month_date tz.julian_date tz.day_number tz.rule_day
 date_front bytes form rest (inl (after, is, (m, x, month, (_, at_week, first, (w, y, week, (_, at_weekday, second, (d, end, weekday, (test, value, same)))))))) =
-    let fits = rule_day_from (MonthWeekday m w d) test in
+    let fits = test in
     rw (value, ← same) (front_cons letter_M _ bytes after end is (month_front after end m w d at_week at_weekday fits (rw (← first) month) (rw (← second) week) weekday))
 date_front bytes form rest (inr (_, inl (after, is, (n, end, number, (test, value, same))))) =
-    let fits = rule_day_from (Julian1 n) test in let l = fits.1 in
+    let l = test.1 in
     rw (value, ← same) (front_cons letter_J (decimal n) bytes after end is (number_front day_max after n end (omega arith) number))
 date_front bytes form rest (inr (_, inr (_, (n, end, number, (test, value, same))))) =
-    let fits : n ≤ 365 = rule_day_from (Julian0 n) test in rw (value, ← same) (number_front day_max bytes n end (omega arith) number)
+    let fits : n ≤ 365 = test in rw (value, ← same) (number_front day_max bytes n end (omega arith) number)
 
 pub date_pairs : (form : DayForm) (rest : List ℕ) → IsRuleDay form → AreInPairs rest → AreInPairs (date_text form ++ rest)
 date_pairs (Julian1 n) rest h pairs = let l = h.1 in ((λ e. absurd (omega arith)), pairs_number n rest (omega arith) pairs)

@@ -1,7 +1,7 @@
 -- Headers that are written are headers.
 use Rattle.std.proofs.Common.{◌≡◌, ℕ, ◌<◌, ◌^◌, Bool, true, false, List, ◌∷◌, ◌++◌, refl, arith, inl, inr}
 use Rattle.tz_base.specs.Grammar.{Spells}
-use Rattle.tz_info.specs.FileHeaders.{magic, tzif, version, six_counts, counts_agree, header}
+use Rattle.tz_info.specs.FileHeaders.{magic, tzif, version, six_counts, CountsAgree, header}
 use Rattle.tz_info.specs.declared.file.header.Place.{Place}
 use Rattle.tz_info.specs.declared.file.header.Version.{Version}
 use Rattle.tz_info.specs.declared.file.header.Version.TheVariants.{Two, Three}
@@ -56,7 +56,7 @@ unfolding version
 version_is place true rest = inr ((λ e. absurd (omega arith)), inr ((λ e. absurd (omega arith)), inl (rest, refl, (refl, refl))))
 version_is place false rest = inr ((λ e. absurd (omega arith)), inl (rest, refl, (refl, refl)))
 
-pub header_is : (place : Place) (extended : Bool) (c : Counts) (rest : List ℕ) → CountsFit c → counts_agree c ≡ true
+pub header_is : (place : Place) (extended : Bool) (c : Counts) (rest : List ℕ) → CountsFit c → CountsAgree c
     → Spells (header place) (header_bytes extended c ++ rest) (record { version = version_of extended; counts = c }) rest
 unfolding header_bytes header tzif
 header_is place extended c rest fit agree =

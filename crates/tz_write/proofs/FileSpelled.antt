@@ -1,5 +1,5 @@
 -- The file that is written spells the zone.
-use Rattle.std.proofs.Common.{◌≡◌, ◌≢◌, ℕ, ◌<◌, ◌≤◌, Bool, true, false, List, [], ◌∷◌, ◌++◌, length, get_or, refl, ◌∙◌, subst, arith, ◌+◌, ◌*◌, ◌==◌, not}
+use Rattle.std.proofs.Common.{◌≡◌, ◌≢◌, ℕ, ◌<◌, ◌≤◌, Bool, true, false, List, [], ◌∷◌, ◌++◌, length, get_or, refl, ◌∙◌, subst, inl, arith, ◌+◌, ◌*◌, ◌==◌, not}
 use Rattle.std.proofs.lemmas.Bool.{false≢true}
 use Rattle.std.proofs.lemmas.Bool.Decides.{nat_tests}
 use Rattle.std.proofs.lemmas.Str.{IsUtf8-from_ascii}
@@ -10,7 +10,7 @@ use Rattle.tz_base.specs.LocalTypes.{LocalType}
 use Rattle.tz_base.specs.Grammar.{Spells}
 use Rattle.tz_info.specs.FileBlocks.{Parts, block}
 use Rattle.tz_info.specs.FileContents.{HasNoZero}
-use Rattle.tz_info.specs.FileHeaders.{counts_agree}
+use Rattle.tz_info.specs.FileHeaders.{CountsAgree}
 use Rattle.tz_info.specs.FilePieces.{FilePieces, later_pieces, is_extended, later_version, after_first_block, file, HasPieces}
 use Rattle.tz_info.specs.Footers.{IsFooter, SaysRule}
 use Rattle.tz_info.specs.TzFiles.{IsTzFile, SayZone}
@@ -114,11 +114,13 @@ some_designations : (types : List LocalType) (d : List ℕ) → 0 < length types
 some_designations [] d some places e = omega (arith, some)
 some_designations (t ∷ ts) d some places e = let p = (places 0 t some).stands in omega (arith, p, e)
 
-not_zero : (n : ℕ) → n ≢ 0 → not (n == 0) ≡ true
-not_zero n h = grind (arith, nat_tests)
-
-zone_agree : (d : List ℕ) (z : Zone) → 0 < length z.types → HavePlaces d z.types → counts_agree (zone_counts d z) ≡ true
-zone_agree d z some places = rw (not_zero (length z.types) (λ e. absurd (omega arith)), not_zero (length d) (some_designations z.types d some places)) refl
+zone_agree : (d : List ℕ) (z : Zone) → 0 < length z.types → HavePlaces d z.types → CountsAgree (zone_counts d z)
+zone_agree d z some places = record {
+  types = λ e. absurd (omega arith);
+  designations = some_designations z.types d some places;
+  ut_local = inl refl;
+  standard_wall = inl refl;
+}
 
 second_block : (d : List ℕ) (z : Zone) (rest : List ℕ) → Spells (block 8 (zone_counts d z)) (block_bytes (zone_parts d z) rest) (zone_parts d z) rest
 second_block d z rest = block_is 8 (zone_counts d z) (zone_parts d z) rest

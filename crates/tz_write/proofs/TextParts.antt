@@ -9,7 +9,6 @@ use Rattle.tz_info.specs.TzGrammar.{comma, less, greater, named_type, IsTzText}
 use Rattle.tz_info.specs.declared.rule.day.DayTime.{DayTime}
 use Rattle.tz_info.specs.declared.rule.transition_rule.TransitionRule.{TransitionRule}
 use Rattle.tz_info.specs.declared.rule.transition_rule.TransitionRule.TheVariants as rules
-use Rattle.tz_info.proofs.ForCallers.{name_from, name_to}
 use Rattle.tz_write.specs.WrittenTexts.{IsNamed}
 
 pub record IsFixedText (bytes : List ℕ) (t : LocalType) : Type 0 where
@@ -48,7 +47,7 @@ parts_of extended bytes r (name, after, n, (east, end, o, inl (none, (t, _, (fit
   after_name = after;
   name_spelled = n;
   offset_spelled = subst (Spells tz.offset after east) none o;
-  named = record { allowed = name_from name fits; named = refl; flag = refl };
+  named = record { allowed = fits; named = refl; flag = refl };
 })
 parts_of extended bytes r (name, after, n, (east, end, o, inr (_, (dst_name, at_dst, d, (dst_east, at_days, f, ((x, y), last, (start, at_comma, p, (_, at_end, c, (stop, fin, q, (both, same)))), (_, _, e, (s, _, (s_fits, s_is, _), (t, _, (t_fits, t_is, _), (value, _)))))))))) =
     let none : last ≡ [] = elim e [ inl k ↦ k.0 | inr k ↦ absurd k.1 ] in
@@ -68,8 +67,8 @@ parts_of extended bytes r (name, after, n, (east, end, o, inr (_, (dst_name, at_
       dst_offset_spelled = f;
       start_spelled = subst (Spells (tz.day extended) at_days start) c p;
       end_spelled = subst (Spells (tz.day extended) at_end stop) (same ∙ none) q;
-      std_named = record { allowed = name_from name s_fits; named = refl; flag = refl };
-      dst_named = record { allowed = name_from dst_name t_fits; named = refl; flag = refl };
+      std_named = record { allowed = s_fits; named = refl; flag = refl };
+      dst_named = record { allowed = t_fits; named = refl; flag = refl };
     })
 
 -- ---- what has them is a text
@@ -90,7 +89,7 @@ type_is name dst t h = same_type t.offset t.dst dst t.name (Some name) h.flag h.
 
 pub fixed_text : (extended : Bool) (bytes : List ℕ) (t : LocalType) → IsFixedText bytes t → IsTzText extended bytes (rules.Fixed t)
 unfolding tz.text tz.rule tz.fixed tz.named
-fixed_text extended bytes t h = (h.name, h.after_name, h.name_spelled, (t.offset, [], h.offset_spelled, inl (refl, (t, [], (name_to h.name h.named.allowed, type_is h.name false t h.named, refl), (refl, refl)))))
+fixed_text extended bytes t h = (h.name, h.after_name, h.name_spelled, (t.offset, [], h.offset_spelled, inl (refl, (t, [], (h.named.allowed, type_is h.name false t h.named, refl), (refl, refl)))))
 
 pub alternate_text_is : (extended : Bool) (bytes : List ℕ) (a : Alternate) → IsAlternateText extended bytes a → IsTzText extended bytes (rules.Alternate a)
 unfolding tz.text tz.rule tz.alternate tz.named tz.days tz.end
@@ -121,7 +120,7 @@ alternate_text_is extended bytes a h =
                   tt,
                   [],
                   inl (refl, (refl, refl)),
-                  (a.std, [], (name_to h.std_name h.std_named.allowed, type_is h.std_name false a.std h.std_named, refl), (a.dst, [], (name_to h.dst_name h.dst_named.allowed, type_is h.dst_name true a.dst h.dst_named, refl), (refl, refl))),
+                  (a.std, [], (h.std_named.allowed, type_is h.std_name false a.std h.std_named, refl), (a.dst, [], (h.dst_named.allowed, type_is h.dst_name true a.dst h.dst_named, refl), (refl, refl))),
                 ),
               ),
             ),

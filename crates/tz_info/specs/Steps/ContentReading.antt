@@ -8,7 +8,7 @@ use Rattle.tz_base.specs.declared.error.Error.{Error}
 use Rattle.tz_base.specs.declared.error.Error.TheVariants.{InvalidTzFile, LocalTimeType, OutOfMemory}
 use Rattle.tz_base.specs.declared.error.Expected.TheVariants.{ZeroOrOneAsIsDst, NameWithinDesignations, ZeroByteAfterName, StandardTimeWhereTimeIsUt}
 use Rattle.tz_info.specs.Steps.Below.{all_below}
-use Rattle.tz_info.specs.TzGrammar.{is_name}
+use Rattle.tz_base.specs.Names.{is_name}
 use Rattle.tz_info.specs.FileContents.{signed, time_of, designation_of, offset_in, mark_in, place_in, least_offset}
 use Rattle.tz_info.specs.declared.zone.transition.Transition.{Transition}
 use Rattle.tz_info.specs.declared.zone.leap_second.LeapSecond.{LeapSecond}

@@ -7,7 +7,7 @@ ghost use Rattle.tz_base.specs.Grammar.{read, checked};
 ghost use Rattle.tz_base.specs.Refusals.{InvalidTzString};
 ghost use Rattle.tz_base.specs.declared.error.Expected.TheVariants.{HoursMinutesAndSecondsWithinTheirLimits};
 ghost use Rattle.tz_info.specs.Rules.{IsWithinWeek};
-ghost use Rattle.tz_info.specs.TzGrammar.{sign, seconds, minutes_seconds, optional_minutes, hours_minutes_seconds, is_within, seconds_of, duration, offset, time_sign, time, optional_time};
+ghost use Rattle.tz_info.specs.TzGrammar.{sign, seconds, minutes_seconds, optional_minutes, hours_minutes_seconds, are_within, seconds_of, duration, offset, time_sign, time, optional_time};
 
 use tz_base::{Cursor, Error, Expected};
 
@@ -122,7 +122,7 @@ fn read_seconds(cursor: &mut Cursor<'_>) -> Result<u32, Error>
 fn seconds_of(limit: u32, negative: bool, h: u32, m: u32, s: u32) -> Result<i32, Error>
     requires { limit ≤ 167 }
     ensures value { Gives (λ z. z) result
-        (checked (is_within limit h m s) (InvalidTzString HoursMinutesAndSecondsWithinTheirLimits)
+        (checked (are_within limit h m s) (InvalidTzString HoursMinutesAndSecondsWithinTheirLimits)
         (seconds_of negative h m s)) }
     ensures day { limit ≤ 23 → IfOk result (λ z. IsWithinDay z) }
     ensures week { IfOk result (λ z. IsWithinWeek z) }

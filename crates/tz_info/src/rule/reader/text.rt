@@ -4,11 +4,11 @@ ghost use Rattle.std.specs.Prelude.{◌≡◌, IfOk, int_le, pos, ◌+ℤ◌};
 ghost use Rattle.offset_core.specs.Offset.{IsWithinDay};
 ghost use Rattle.tz_base.specs.Fronts.{Gives};
 ghost use Rattle.tz_base.specs.Grammar.{read, checked, is_end};
-ghost use Rattle.tz_base.specs.Names.{expected_of_name};
+ghost use Rattle.tz_base.specs.Names.{expected_of_name, is_name};
 ghost use Rattle.tz_base.specs.Refusals.{InvalidTzString, LocalTimeType as BadType};
 ghost use Rattle.tz_base.specs.declared.error.Expected.TheVariants.{OffsetOfDaylightSavingTimeWithinDay};
 ghost use Rattle.tz_info.specs.Rules.{IsWithinWeek};
-ghost use Rattle.tz_info.specs.TzGrammar.{more, end, given_offset, dst_offset, is_name, named_type, fixed, alternate, days, rule, text};
+ghost use Rattle.tz_info.specs.TzGrammar.{more, end, given_offset, dst_offset, named_type, fixed, alternate, days, rule, text};
 ghost use Rattle.tz_info.specs.Steps.Spelled.{day_time_of, alternate_of, rule_of, IsSpelled};
 
 use crate::rule::alternate::AlternateTime;
