@@ -25,6 +25,7 @@ pub mod WallLaws
 pub mod SegmentLaws
 pub mod AnswerLaws
 pub mod LeapStarts
+pub mod LeapSearch
 pub mod WallPieces
 pub mod ShownLaws
 pub mod WallSegments
