@@ -41,6 +41,8 @@ pub mod AroundLaws
 pub mod AroundEquality
 pub mod ZoneChanges
 pub mod LeaplessChanges
+pub mod SpanLaws
+pub mod SpanSearch
 pub mod PosixZoneLaws
 pub mod HeaderLaws
 pub mod FilePieceLaws

@@ -14,6 +14,7 @@ mod pieces;
 mod posix;
 mod segments;
 mod shown;
+mod span;
 mod starts;
 mod table;
 mod time_zone;
