@@ -278,3 +278,14 @@ span_once f a b u h k i j typed =
 -- between the span's second u and another of its seconds no change comes
 pub no_change_within : (f : InForce) (s : Span) (d : Change) → IsSpan f s → IsInSpan s (d.at -ℤ pos 1) → IsInSpan s d.at → IsChange f d → ⊥
 no_change_within f s d h i j is = is.differ (h.each (d.at -ℤ pos 1) d.before i is.before ∙ sym (h.each d.at d.after j is.after))
+
+-- a span at both of whose ends clocks change has its type at each second
+pub span_held : (z : Zone) (s : Span) (first end : ℤ) → IsValid z → IsRuleOrNone z.rule → IsSpan (TypeAt z) s → s.from ≡ Some first → s.until ≡ Some end → (u : ℤ) → first ≤ℤ u → u <ℤ end → TypeAt z u s.local_time_type
+span_held z s first end valid limits h e g u low high =
+    let b = rw e at h.begins in
+    let c = rw g at h.ends in
+    let fa = b.1.fits in let fb = c.1.fits in
+    let t = typed_between z first (end -ℤ pos 1) u s.local_time_type s.local_time_type valid limits low (omega (arith, ints)) b.1.after c.1.before in
+    let fu : SFits w64 u = omega (arith, ints) in
+    let inside : IsInSpan s u = record { fits = fu; since = rw e low; until = rw g high } in
+    subst (TypeAt z u) (h.each u t.0 inside t.1) t.1

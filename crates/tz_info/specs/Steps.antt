@@ -24,6 +24,7 @@ pub mod Changes
 pub mod ChangeLists
 pub mod Spans
 pub mod Beside
+pub mod Held
 pub mod Asked
 pub mod KindPlaces
 pub mod Kinds

@@ -13,4 +13,5 @@ pub use tz_base::{Change, Cursor, Error, Expected, LocalTimeType, Span, TimeZone
 pub use tz_timeline::Probes;
 pub use zone::all_changes::Changes;
 pub use zone::around::{Gap, TypesAround};
+pub use zone::lookups::Lookups;
 pub use zone::{LeapSecond, TimeZone, Transition};
