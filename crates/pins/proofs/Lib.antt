@@ -3,6 +3,7 @@ pub mod LeapSeconds
 pub mod NewYork
 pub mod NewYorkClocks
 pub mod NewYorkChanges
+pub mod NewYorkSpans
 pub mod AskedRules
 pub mod SpelledPieces
 pub mod SpelledTexts

@@ -121,10 +121,27 @@ edt_between u low high = record {
   shown = refl;
 }
 
--- the last second of 2020
-pub est_2020 : RuleAt new_york_rule (pos 1_609_459_199) est
+-- 2020 from the start of daylight saving time on
+edt_2020 : (u : ℤ) → pos 1_583_650_800 ≤ℤ u → u <ℤ pos 1_604_210_400 → IsDstAt (start_in new_york) (end_in new_york) (pos 2020) u true
+edt_2020 u low high = record {
+  start_first = λ first. (λ _. (pos 2020, rw start_2020 low, rw end_2020 high), λ s. refl);
+  end_first = λ first. absurd (let start = start_2020 in let end = end_2020 in omega (arith, ints));
+}
+
+pub edt_until_2020 : RuleAt new_york_rule (pos 1_604_210_399) edt
 unfolding year_start
-est_2020 = record {
+edt_until_2020 = record {
+  year = pos 2020;
+  of_second = (omega (arith, floors), omega (arith, floors));
+  inside = (omega arith, omega arith);
+  dst = true;
+  when = edt_2020 (pos 1_604_210_399) (omega arith) (omega arith);
+  shown = refl;
+}
+
+pub est_late_2020 : (u : ℤ) → pos 1_604_210_400 ≤ℤ u → u <ℤ pos 1_609_459_200 → RuleAt new_york_rule u est
+unfolding year_start
+est_late_2020 u low high = record {
   year = pos 2020;
   of_second = (omega (arith, floors), omega (arith, floors));
   inside = (omega arith, omega arith);
@@ -140,6 +157,10 @@ est_2020 = record {
   };
   shown = refl;
 }
+
+-- from the end of daylight saving time in 2020 until its start in 2021
+pub est_winter : (u : ℤ) → pos 1_604_210_400 ≤ℤ u → u <ℤ pos 1_615_705_200 → RuleAt new_york_rule u est
+est_winter u low high = by_lt_z u (pos 1_609_459_200) (λ lt. est_late_2020 u low lt) (λ ge. est_early u ge high)
 
 -- the first second of 2022
 pub est_2022 : RuleAt new_york_rule (pos 1_640_995_200) est

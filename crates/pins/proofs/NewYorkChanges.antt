@@ -9,7 +9,7 @@ use Rattle.tz_info.specs.RuleTypes.{RuleAt}
 use Rattle.tz_info.specs.Zones.{TypeAt}
 use Rattle.pins.specs.Changes.{change_at, spring, autumn}
 use Rattle.pins.specs.NewYork.{new_york_rule, new_york_zone, est, edt}
-use Rattle.pins.proofs.NewYork.{est_2020, est_2022, est_early, est_late, edt_between}
+use Rattle.pins.proofs.NewYork.{est_winter, est_2022, est_early, est_late, edt_between}
 use Rattle.pins.proofs.NewYorkClocks.{apart, fits, one_type, type_of_rule}
 
 pub spring_is : IsChange (TypeAt new_york_zone) spring
@@ -37,12 +37,7 @@ no_change c t before after is =
     is.differ (one_type (c.at -ℤ pos 1) t c.before before is.before ∙ sym (one_type c.at t c.after after is.after))
 
 early : (c : Change) → pos 1_609_459_200 ≤ℤ c.at → c.at <ℤ pos 1_615_705_200 → IsChange (TypeAt new_york_zone) c → ⊥
-early c low high = by_lt_z (pos 1_609_459_200) c.at
-    (λ lt. no_change c est (est_early (c.at -ℤ pos 1) (omega (arith, ints)) (omega (arith, ints))) (est_early c.at low high))
-    (λ ge.
-    let second : c.at ≡ pos 1_609_459_200 = omega (arith, ints) in
-    let before : RuleAt new_york_rule (c.at -ℤ pos 1) est = rw second est_2020 in
-    no_change c est before (est_early c.at low high))
+early c low high = no_change c est (est_winter (c.at -ℤ pos 1) (omega (arith, ints)) (omega (arith, ints))) (est_early c.at low high)
 
 between : (c : Change) → pos 1_615_705_200 <ℤ c.at → c.at <ℤ pos 1_636_264_800 → IsChange (TypeAt new_york_zone) c → ⊥
 between c low high = no_change c edt (edt_between (c.at -ℤ pos 1) (omega (arith, ints)) (omega (arith, ints))) (edt_between c.at (omega (arith, ints)) high)

@@ -8,6 +8,7 @@ pub mod LeapSeconds
 pub mod Looks
 pub mod NewYork
 pub mod Readings
+pub mod Spans
 pub mod Texts
 pub mod WrittenZones
 pub mod Zones

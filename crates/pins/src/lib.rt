@@ -26,6 +26,7 @@ pub mod questions;
 pub mod readings;
 pub mod roundings;
 pub mod rules;
+pub mod spans;
 pub mod texts;
 pub mod told_zones;
 pub mod values;

@@ -14,13 +14,13 @@ use Rattle.tz_info.proofs.SegmentLaws.{split_at, split_count, come_by_time, inde
 use Rattle.tz_info.proofs.TableSearch.{Between}
 use Rattle.tz_info.proofs.ZoneLaws.{some_once}
 
-some_last : (ts : List Transition) (last : Transition) → last_transition ts ≡ Some last → 0 < length ts
+pub some_last : (ts : List Transition) (last : Transition) → last_transition ts ≡ Some last → 0 < length ts
 some_last ts last is = elim (cases_lt 0 (length ts)) [
   | inl h ↦ h
   | inr h ↦ let f = no_items ts (omega arith) in let g = rw f at is in cc
 ]
 
-last_is : (ts : List Transition) (last : Transition) → last_transition ts ≡ Some last → get_or ts (length ts - 1) last ≡ last
+pub last_is : (ts : List Transition) (last : Transition) → last_transition ts ≡ Some last → get_or ts (length ts - 1) last ≡ last
 last_is ts last is =
     let h = some_last ts last is in
     let g : Some (get_or ts (length ts - 1) last) ≡ Some last = sym (slice_get-get_or ts (length ts - 1) last (omega arith)) ∙ is in

@@ -104,12 +104,6 @@ pub record Before (es : List LeapSecond) (x v : ℤ) (i : ℕ) : Type 0 where
   pub value : v ≡ last_else (pos 0) (corrections (take i es))
   pub before : (k : ℕ) (d : LeapSecond) → k < i → (get_or es k d).unix_leap_time <ℤ x
 
-pub before_more : (es : List LeapSecond) (i : ℕ) (d : LeapSecond) (x v : ℤ) → i < length es → Before es x v i → (get_or es i d).unix_leap_time <ℤ x → Before es x (get_or es i d).correction (i + 1)
-before_more es i d x v h p l = record {
-  value = rw (add-one, last_taken (λ (e : LeapSecond). e.correction) (pos 0) es i d h) refl;
-  before = λ k f m. below_more (λ k. (d : LeapSecond) → (get_or es k d).unix_leap_time <ℤ x) i (λ k m d. p.before k d m) (λ f. rw (get_or_default es i f d h) l) k m f;
-}
-
 pub before_found : (es : List LeapSecond) (i : ℕ) (d : LeapSecond) (x v : ℤ) → AreLeapSeconds es → i ≤ length es → Before es x v i → (i < length es → x ≤ℤ (get_or es i d).unix_leap_time) → v ≡ correction_before es x
 before_found es i d x v valid h p stops =
     let e = filter_first (λ (e : LeapSecond). int_lt e.unix_leap_time x) es i h

@@ -26,7 +26,7 @@ not_counted : (p u : ℤ) (e : LeapSecond) (es : List LeapSecond) → u <ℤ (e.
 not_counted p u e es h = sum_by-cons (λ t. cond (int_le t u) 1 0) (e.unix_leap_time -ℤ p) (thresholds e.correction es) ∙ rw (le_false (e.unix_leap_time -ℤ p) u h) (omega arith)
 
 -- where u lies before the first threshold no entry is passed
-none_counted : (p u : ℤ) (es : List LeapSecond) → Follow p es → ((d : LeapSecond) → 0 < length es → u <ℤ ((get_or es 0 d).unix_leap_time -ℤ p)) → counted_from p es u ≡ 0
+pub none_counted : (p u : ℤ) (es : List LeapSecond) → Follow p es → ((d : LeapSecond) → 0 < length es → u <ℤ ((get_or es 0 d).unix_leap_time -ℤ p)) → counted_from p es u ≡ 0
 none_counted p u [] f h = refl
 none_counted p u (e ∷ es) f h =
     let here = h e (omega arith) in

@@ -22,7 +22,7 @@ one_step : (es : List LeapSecond) (k : ℕ) (d : LeapSecond) → AreLeapSeconds 
 one_step es zero d valid h = rw (last_taken (λ (e : LeapSecond). e.correction) (pos 0) es zero d h) ((follow es valid).step d (omega arith))
 one_step es (suc k) d valid h = rw (last_taken (λ (e : LeapSecond). e.correction) (pos 0) es (suc k) d h, last_taken (λ (e : LeapSecond). e.correction) (pos 0) es k d (omega arith)) (((follow es valid).next k d h).step)
 
-passed_at_most : (es : List LeapSecond) (u : ℤ) → passed_count es u ≤ length es
+pub passed_at_most : (es : List LeapSecond) (u : ℤ) → passed_count es u ≤ length es
 passed_at_most es u = omega (arith, count_by-le-length (λ t. int_le t u) (thresholds (pos 0) es), threshold_count (pos 0) es)
 
 -- fewer entries are passed at u than come by x

@@ -21,7 +21,7 @@ use Rattle.tz_info.proofs.ZoneChanges.{comes_at, none_there, with_start}
 use Rattle.tz_info.proofs.ZoneLaws.{type_once}
 
 -- ---- without leap seconds the leap time of a second is that second
-own_leap_time : (es : List LeapSecond) (u : ℤ) → length es ≡ 0 → IsLeapTime es u u
+pub own_leap_time : (es : List LeapSecond) (u : ℤ) → length es ≡ 0 → IsLeapTime es u u
 own_leap_time [] u none = record { sum = omega (arith, ints); fits = λ k h. absurd (omega arith) }
 own_leap_time (e ∷ es) u none = absurd (omega arith)
 

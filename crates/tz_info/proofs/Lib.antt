@@ -25,6 +25,7 @@ pub mod WallLaws
 pub mod SegmentLaws
 pub mod AnswerLaws
 pub mod LeapStarts
+pub mod LeapSearch
 pub mod WallPieces
 pub mod ShownLaws
 pub mod WallSegments
@@ -40,6 +41,8 @@ pub mod AroundLaws
 pub mod AroundEquality
 pub mod ZoneChanges
 pub mod LeaplessChanges
+pub mod SpanLaws
+pub mod SpanSearch
 pub mod PosixZoneLaws
 pub mod HeaderLaws
 pub mod FilePieceLaws

@@ -52,7 +52,7 @@ refused_on es u v y valid h r l =
     r.leaves (omega (arith, ints))
 
 -- so has each second of the years that a rule answers in
-rule_leap_time : (es : List LeapSecond) (u : ℤ) → AreLeapSeconds es → IsRuleTime u → (x : ℤ) × IsLeapTime es u x
+pub rule_leap_time : (es : List LeapSecond) (u : ℤ) → AreLeapSeconds es → IsRuleTime u → (x : ℤ) × IsLeapTime es u x
 rule_leap_time es u valid within = elim (leap_time_decided es u) [
   | inl x ↦ x
   | inr r ↦
@@ -63,7 +63,7 @@ rule_leap_time es u valid within = elim (leap_time_decided es u) [
 ]
 
 -- ---- segments
-time_of : (z : Zone) (u : ℤ) (t : LocalType) → 0 < length z.transitions → (h : TypeAt z u t) → IsLeapTime z.leaps u h.leap_time
+pub time_of : (z : Zone) (u : ℤ) (t : LocalType) → 0 < length z.transitions → (h : TypeAt z u t) → IsLeapTime z.leaps u h.leap_time
 time_of z u t some h = h.of_second some
 
 -- a change comes from one segment to a later one, where one type is in force in the segment
@@ -137,13 +137,13 @@ pub none_there : (z : Zone) (place : ℕ) (start : ℤ) → IsValid z → place 
 none_there z place start valid some comes none d is e = none d is (comes_with z place start d valid some comes is e)
 
 -- ---- behind the last transition
-last_too : (z : Zone) (u : ℤ) → IsValid z → segment_of z (u -ℤ pos 1) ≡ length z.transitions → segment_of z u ≡ length z.transitions
+pub last_too : (z : Zone) (u : ℤ) → IsValid z → segment_of z (u -ℤ pos 1) ≡ length z.transitions → segment_of z u ≡ length z.transitions
 last_too z u valid e =
     let r = segments_rise z (u -ℤ pos 1) u valid.transitions.rising valid.leaps (omega (arith, ints)) in
     let m = segment_most z u valid.transitions.rising in
     omega arith
 
-not_alternate : (rule : Option TransitionRule) → ((a : AlternateRule) → rule ≡ Some (Alternate a) → ⊥) → IsSteady rule
+pub not_alternate : (rule : Option TransitionRule) → ((a : AlternateRule) → rule ≡ Some (Alternate a) → ⊥) → IsSteady rule
 not_alternate None not = tt
 not_alternate (Some (Fixed t)) not = tt
 not_alternate (Some (Alternate a)) not = not a refl
@@ -156,7 +156,7 @@ steady z within valid not d is inside =
     let m = segment_most z d.at valid.transitions.rising in
     omega arith
 
-to_rule : (z : Zone) (a : AlternateRule) (u : ℤ) (t : LocalType) → IsValid z → z.rule ≡ Some (Alternate a) → segment_of z u ≡ length z.transitions → TypeAt z u t → AlternateAt a u t
+pub to_rule : (z : Zone) (a : AlternateRule) (u : ℤ) (t : LocalType) → IsValid z → z.rule ≡ Some (Alternate a) → segment_of z u ≡ length z.transitions → TypeAt z u t → AlternateAt a u t
 to_rule z a u t valid rule e k = rw rule at (type_from z u t valid.transitions.rising (record { type = k; segment = e }))
 
 of_rule_or : (z : Zone) (a : AlternateRule) (u : ℤ) (i : ℕ) (t : LocalType) → z.rule ≡ Some (Alternate a) → AlternateAt a u t → RuleOrType z u i t
@@ -171,7 +171,7 @@ by_rule_alone z a u t rule none k =
       in_force = record { before_last = λ q. absurd (omega arith); from_last = λ _. rw f (of_rule_or z a u 0 t rule k) };
     }
 
-from_rule : (z : Zone) (a : AlternateRule) (u : ℤ) (t : LocalType) → IsValid z → z.rule ≡ Some (Alternate a) → segment_of z u ≡ length z.transitions → AlternateAt a u t → TypeAt z u t
+pub from_rule : (z : Zone) (a : AlternateRule) (u : ℤ) (t : LocalType) → IsValid z → z.rule ≡ Some (Alternate a) → segment_of z u ≡ length z.transitions → AlternateAt a u t → TypeAt z u t
 from_rule z a u t valid rule e k = elim (cases_lt 0 (length z.transitions)) [
   | inl some ↦
       let x = rule_leap_time z.leaps u valid.leaps (rule_second a u t k) in
@@ -180,7 +180,7 @@ from_rule z a u t valid rule e k = elim (cases_lt 0 (length z.transitions)) [
   | inr none ↦ by_rule_alone z a u t rule (omega arith) k
 ]
 
-begun : (z : Zone) (begin u : ℤ) (t : LocalType) → IsValid z → IsBegin z begin → SFits w64 u → TypeAt z u t → segment_of z u ≡ length z.transitions → begin ≤ℤ u
+pub begun : (z : Zone) (begin u : ℤ) (t : LocalType) → IsValid z → IsBegin z begin → SFits w64 u → TypeAt z u t → segment_of z u ≡ length z.transitions → begin ≤ℤ u
 begun z begin u t valid h fits k e = elim (cases_lt 0 (length z.transitions)) [
   | inl some ↦ (h.comes (length z.transitions - 1) (omega arith) u k.leap_time (time_of z u t some k)).0 (omega arith)
   | inr none ↦ let b = h.alone (omega arith) in omega (arith, ints)
@@ -198,7 +198,7 @@ begins z begin u valid h within from =
     ]
 
 -- the changes of the zone there are those of the rule after `begin`
-by_rule : (z : Zone) (a : AlternateRule) (begin : ℤ) (d : Change) → IsValid z → z.rule ≡ Some (Alternate a) → IsBegin z begin
+pub by_rule : (z : Zone) (a : AlternateRule) (begin : ℤ) (d : Change) → IsValid z → z.rule ≡ Some (Alternate a) → IsBegin z begin
     → (IsChange (TypeAt z) d × (segment_of z (d.at -ℤ pos 1) ≡ length z.transitions)) ↔ (IsChange (AlternateAt a) d × (begin <ℤ d.at))
 by_rule z a begin d valid rule h = (
   λ k.

@@ -13,6 +13,7 @@ pub mod Gaps
 pub mod Around
 pub mod Changes
 pub mod ChangesLeft
+pub mod Spans
 pub mod Windows
 pub mod Looks
 pub mod Questions

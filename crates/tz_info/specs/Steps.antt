@@ -22,6 +22,9 @@ pub mod FileLists
 pub mod Gaps
 pub mod Changes
 pub mod ChangeLists
+pub mod Spans
+pub mod Beside
+pub mod Held
 pub mod Asked
 pub mod KindPlaces
 pub mod Kinds

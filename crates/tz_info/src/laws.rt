@@ -4,6 +4,7 @@
 pub mod changes;
 pub mod equality;
 pub mod files;
+pub mod spans;
 pub mod texts;
 pub mod wall_clocks;
 

@@ -10,6 +10,6 @@ mod transition_rule;
 mod wall_clock;
 
 pub use alternate::AlternateTime;
-pub(crate) use changes::later_of;
+pub(crate) use changes::{Beside, later_of};
 pub use day::{DayForm, RuleDay};
 pub use transition_rule::TransitionRule;

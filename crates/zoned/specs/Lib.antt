@@ -43,6 +43,7 @@ pub use Rattle.tz_info.specs.Gaps
 pub use Rattle.tz_info.specs.Around
 pub use Rattle.tz_info.specs.Changes
 pub use Rattle.tz_info.specs.ChangesLeft
+pub use Rattle.tz_info.specs.Spans
 pub use Rattle.tz_info.specs.Windows
 pub use Rattle.tz_info.specs.Looks
 pub use Rattle.tz_info.specs.Questions

@@ -113,6 +113,7 @@
 //! | an instant | what its clock shows | [`DateTime::naive_local`], and the fields of [`Datelike`] and [`Timelike`] |
 //! | an instant of a parsed zone | its abbreviation | `instant.offset().name()`: [`ZoneOffset`], [`KeptOffset`] |
 //! | an instant of a parsed zone | if it is daylight saving time | `instant.offset().is_dst()` |
+//! | a parsed zone and a Unix time | the local time type, since when and until when | [`tz_info::TimeZone::span_at`] |
 //! | a borrowed or a kept zone | when its clocks change next | [`TimeZoneRef::next_change`] |
 //! | a borrowed or a kept zone | when they changed last | [`TimeZoneRef::previous_change`] |
 //! | an instant of a parsed zone | one that borrows nothing | [`DateTime::fixed_offset`] |

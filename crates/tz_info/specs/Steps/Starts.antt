@@ -1,5 +1,5 @@
 -- From which second on a transition has come, and which local time a clock shows then.
-use Rattle.std.specs.Prelude.{ℕ, ℤ, pos, neg_ℤ, ◌≡◌, ◌<◌, ◌≤◌, ◌-ℤ◌, ◌≤ℤ◌, ◌↔◌, List, length, slice_index_or}
+use Rattle.std.specs.Prelude.{ℕ, ℤ, pos, neg_ℤ, ◌≡◌, ◌<◌, ◌≤◌, ◌-ℤ◌, ◌≤ℤ◌, ◌<ℤ◌, ◌↔◌, List, length, slice_index_or}
 use Rattle.naive_base.specs.Range.{IsWide}
 use Rattle.tz_info.specs.Leaps.{IsLeapTime, IsNear}
 use Rattle.tz_info.specs.Transitions.{passed}
@@ -15,6 +15,12 @@ pub record HaveCome (leaps : List LeapSecond) (x : ℤ) (n : ℕ) : Type 0 where
   pub within : n ≤ length leaps
   pub before : (k : ℕ) (d : LeapSecond) → k < n → (slice_index_or leaps k d).unix_leap_time ≤ℤ x
   pub after : (k : ℕ) (d : LeapSecond) → n ≤ k → k < length leaps → ¬ ((slice_index_or leaps k d).unix_leap_time ≤ℤ x)
+
+-- the first n entries come before the leap time x, and the others at it or after it
+pub record AreBefore (leaps : List LeapSecond) (x : ℤ) (n : ℕ) : Type 0 where
+  pub within : n ≤ length leaps
+  pub before : (k : ℕ) (d : LeapSecond) → k < n → (slice_index_or leaps k d).unix_leap_time <ℤ x
+  pub from : (d : LeapSecond) → n < length leaps → x ≤ℤ (slice_index_or leaps n d).unix_leap_time
 
 -- where clocks of that offset show `cut` or later, `count` transitions have come, and where they show less, fewer
 abbrev pub IsCut : List Transition → List LeapSecond → ℕ → ℤ → ℤ → Type 0

@@ -108,7 +108,7 @@ impl TimeZone {
     }
 
     // How many transitions have come at the second, if its leap time is one of 64 bits.
-    fn come_at(&self, second: i64) -> Option<usize>
+    pub(super) fn come_at(&self, second: i64) -> Option<usize>
         ensures { MatchOption result (IsLeapTimeRefused self.now.leaps second)
             (AreComeAt self.now second) }
     {
@@ -168,7 +168,7 @@ impl TimeZone {
     }
 
     // The rule, if it has two types.
-    fn turns(&self) -> Option<&AlternateTime>
+    pub(super) fn turns(&self) -> Option<&AlternateTime>
         ensures { MatchOption result ((a : AlternateRule) → self.now.rule ≢ Some (Alternate a))
             (λ a. self.now.rule ≡ Some (Alternate a.now)) }
     {
@@ -179,7 +179,7 @@ impl TimeZone {
     }
 
     // The change that comes with the transition at that place, if it changes the type.
-    fn change_with(&self, place: usize) -> Option<Change>
+    pub(super) fn change_with(&self, place: usize) -> Option<Change>
         requires { place < length self.now.transitions }
         ensures { MatchOption result (HasNoneAt self.now place)
             (λ c. IsChange (TypeAt self.now) c × ComesAt self.now place c.at) }
@@ -244,7 +244,7 @@ impl TimeZone {
 
     // The first second at which all transitions have come, or the first one of 64 bits if there is
     // no transition.
-    fn rule_begin(&self) -> i128
+    pub(super) fn rule_begin(&self) -> i128
         ensures begin { IsBegin self.now result }
         ensures bound { neg_ℤ (pos 9_223_372_036_854_775_808) ≤ℤ result }
     {

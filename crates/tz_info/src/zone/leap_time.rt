@@ -1,16 +1,88 @@
 //! Leap times of Unix times, and Unix times of leap times.
 
-ghost use Rattle.std.specs.Prelude.{◌≡◌, MatchResult};
+ghost use Rattle.std.specs.Prelude.{◌≡◌, pos, ◌≤ℤ◌, ◌≤◌, length, take, MatchResult};
 ghost use Rattle.tz_base.specs.declared.error.Error.TheVariants.{OutOfRange};
 ghost use Rattle.tz_base.specs.declared.error.Expected.TheVariants.{LeapTimeOf64Bits};
-ghost use Rattle.tz_info.specs.Leaps.{AreLeapSeconds, IsLeapTime, IsLeapTimeRefused, IsUnixTime, IsUnixTimeRefused, expected_of_leap_time, correction_before};
+ghost use Rattle.tz_info.specs.Leaps.{AreLeapSeconds, IsLeapTime, IsLeapTimeRefused, IsUnixTime, IsUnixTimeRefused, expected_of_leap_time, correction_before, corrections, passed_count};
+ghost use Rattle.tz_info.specs.Lists.{last_else};
+ghost use Rattle.tz_info.specs.Steps.Starts.{AreBefore};
 
 use crate::zone::leap_second::LeapSecond;
 use tz_base::{Error, Expected};
 
+// Up to this second no sum with the correction of a passed entry leaves 64 bits.
+const LAST_WITH_ROOM: i64 = 1 << 62;
+
 // The leap time of a Unix time.
 #[inline(always)]
 pub(super) fn leap_time(entries: &[LeapSecond], unix_time: i64) -> Result<i64, Error>
+    requires { AreLeapSeconds entries.now }
+    ensures { MatchResult result
+        (λ x. IsLeapTime entries.now unix_time x)
+        (λ e. (e ≡ OutOfRange LeapTimeOf64Bits)
+        × IsLeapTimeRefused entries.now unix_time) }
+{
+    if entries.is_empty() {
+        return Ok(unix_time);
+    }
+    leap_time_among(entries, unix_time)
+}
+
+// The leap time of a Unix time, by a search by halves. No entry is passed before 1970, and only the
+// sums of the last seconds leave 64 bits.
+#[inline(never)]
+fn leap_time_among(entries: &[LeapSecond], unix_time: i64) -> Result<i64, Error>
+    requires { AreLeapSeconds entries.now }
+    ensures { MatchResult result
+        (λ x. IsLeapTime entries.now unix_time x)
+        (λ e. (e ≡ OutOfRange LeapTimeOf64Bits)
+        × IsLeapTimeRefused entries.now unix_time) }
+{
+    if unix_time < 0 {
+        return Ok(unix_time);
+    }
+    if unix_time > LAST_WITH_ROOM {
+        return leap_time_at_the_end(entries, unix_time);
+    }
+    let passed = passed_at(entries, unix_time);
+    Ok(unix_time + correction_after(entries, passed) as i64)
+}
+
+// How many entries are passed at the Unix time.
+fn passed_at(entries: &[LeapSecond], unix_time: i64) -> usize
+    requires leaps { AreLeapSeconds entries.now }
+    requires some { pos 0 ≤ℤ unix_time }
+    requires room { unix_time ≤ℤ pos 4_611_686_018_427_387_904 }
+    ensures { result ≡ passed_count entries.now unix_time }
+{
+    let mut first = 0;
+    let mut count = entries.len();
+    while count > 0 {
+        let half = count / 2;
+        let middle = first + half;
+        if entries[middle].unix_leap_time <= unix_time + correction_after(entries, middle) as i64 {
+            first = middle + 1;
+            count = count - half - 1;
+        } else {
+            count = half;
+        }
+    }
+    first
+}
+
+// The correction after that many entries.
+pub(super) fn correction_after(entries: &[LeapSecond], count: usize) -> i32
+    requires { count ≤ length entries.now }
+    ensures { result ≡ last_else (pos 0) (corrections (take count entries.now)) }
+{
+    if count == 0 {
+        return 0;
+    }
+    entries[count - 1].correction
+}
+
+// The leap time of a Unix time, by one passed entry after another.
+fn leap_time_at_the_end(entries: &[LeapSecond], unix_time: i64) -> Result<i64, Error>
     requires { AreLeapSeconds entries.now }
     ensures { MatchResult result
         (λ x. IsLeapTime entries.now unix_time x)
@@ -52,12 +124,13 @@ fn correction_before(entries: &[LeapSecond], leap_time: i64) -> i32
     requires { AreLeapSeconds entries.now }
     ensures { result ≡ correction_before entries.now leap_time }
 {
-    let mut correction = 0;
-    for entry in entries {
-        if entry.unix_leap_time >= leap_time {
-            return correction;
-        }
-        correction = entry.correction;
-    }
-    correction
+    correction_after(entries, entries_before(entries, leap_time))
+}
+
+// How many entries come before the leap time.
+fn entries_before(entries: &[LeapSecond], leap_time: i64) -> usize
+    requires { AreLeapSeconds entries.now }
+    ensures { AreBefore entries.now leap_time result }
+{
+    entries.partition_point(|entry| entry.unix_leap_time < leap_time)
 }

@@ -10,6 +10,7 @@ ghost use Rattle.tz_info.specs.Transitions.{AreRising};
 ghost use Rattle.tz_info.specs.WallPieces.{IsStart};
 
 use crate::zone::leap_second::LeapSecond;
+use crate::zone::leap_time::correction_after;
 use crate::zone::transition::Transition;
 use tz_base::LocalTimeType;
 
@@ -35,15 +36,12 @@ pub(super) fn later(a: i64, b: i64) -> i64
     if a < b { b } else { a }
 }
 
-// The correction after the first entries, of which there are so many.
+// The correction after that many entries.
 pub(super) fn correction_behind(leaps: &[LeapSecond], count: usize) -> i64
     requires { count ≤ length leaps.now }
     ensures { result ≡ last_else (pos 0) (corrections (take count leaps.now)) }
 {
-    if count == 0 {
-        return 0;
-    }
-    leaps[count - 1].correction as i64
+    correction_after(leaps, count) as i64
 }
 
 // How many entries come at or before the leap time.

@@ -1,44 +1,9 @@
-use Rattle.std.proofs.Common.{arith, to_z-of_z, w64, w32, rules, pos, get_or, refl}
-use mir.Val.{SFits}
-use Rattle.std.proofs.lemmas.Int.{ints}
-use Rattle.tz_info.specs.declared.zone.leap_second.LeapSecond.{LeapSecond}
-use Rattle.tz_info.proofs.LeapEntries.{passed_more, leap_time_found, leap_time_refused, before_threshold}
+use Rattle.std.proofs.Common.{to_z-of_z, length, ◌∙◌, sym}
+use Rattle.tz_info.proofs.LeapSearch.{is_none}
+use Rattle.tz_info.proofs.LeaplessChanges.{own_leap_time}
 use Rattle.tz_info.proofs.zone.leap_time.leap_time.Goals as goal
 
-abbrev none : LeapSecond
-none = record { unix_leap_time = pos 0; correction = pos 0 }
-
-pub returns-then-leap_time-entry : goal.returns-then-leap_time-entry
-returns-then-leap_time-entry c =
+pub returns-then-is_empty : goal.returns-then-is_empty
+returns-then-is_empty c =
     let fu = c.ranges.unix_time in
-    let ft : SFits w64 (get_or c.args.entries.now c.loop-entry.entry-index none).unix_leap_time = search rules in
-    let p = simp to_z-of_z at c.loop-entry.invariant in
-    leap_time_found c.args.entries.now c.loop-entry.entry-index c.args.unix_time _ c.requires (omega arith) p
-    (λ h. before_threshold c.args.entries.now c.loop-entry.entry-index none c.args.unix_time _ h p.value (omega (arith, ints)))
-
-pub returns-in-None : goal.returns-in-None
-returns-in-None c =
-    let fu = c.ranges.unix_time in
-    let ft : SFits w64 (get_or c.args.entries.now c.loop-entry.entry-index none).unix_leap_time = search rules in
-    let fc : SFits w32 (get_or c.args.entries.now c.loop-entry.entry-index none).correction = search rules in
-    let gc : SFits w64 (get_or c.args.entries.now c.loop-entry.entry-index none).correction = omega (arith, ints) in
-    let p = simp to_z-of_z at c.loop-entry.invariant in
-    let n = simp to_z-of_z at c.in-None.ensures in
-    (refl, leap_time_refused c.args.entries.now c.loop-entry.entry-index none c.args.unix_time _ (omega arith) p (omega (arith, ints)) n)
-
-pub loop-entry-preserved : goal.loop-entry-preserved
-loop-entry-preserved c =
-    let fu = c.ranges.unix_time in
-    let ft : SFits w64 (get_or c.args.entries.now c.loop-entry.entry-index none).unix_leap_time = search rules in
-    let fc : SFits w32 (get_or c.args.entries.now c.loop-entry.entry-index none).correction = search rules in
-    let gc : SFits w64 (get_or c.args.entries.now c.loop-entry.entry-index none).correction = omega (arith, ints) in
-    let p = simp to_z-of_z at c.loop-entry.invariant in
-    let n = simp to_z-of_z at c.in-Some.ensures in
-    let fs : SFits w64 c.in-Some.sum = rw n.1 n.0 in
-    simp to_z-of_z (passed_more c.args.entries.now c.loop-entry.entry-index none c.args.unix_time _ c.in-Some.sum (omega arith) p (omega (arith, ints)) n.1 fs)
-
-pub returns : goal.returns
-returns c =
-    let fu = c.ranges.unix_time in
-    let p = simp to_z-of_z at c.loop-entry.invariant in
-    leap_time_found c.args.entries.now c.loop-entry.entry-index c.args.unix_time _ c.requires (omega arith) p (λ h. absurd (omega arith))
+    simp to_z-of_z (own_leap_time c.args.entries.now c.args.unix_time (is_none (length c.args.entries.now) (sym c.is_empty.ensures ∙ c.if-is_empty.true)))

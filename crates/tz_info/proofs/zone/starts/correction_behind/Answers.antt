@@ -1,16 +1,10 @@
-use Rattle.std.proofs.Common.{◌≡◌, ◌-◌, suc, pos, arith, sym, ◌∙◌, ap, to_z-of_z, w32, w64, rules, get_or}
+use Rattle.std.proofs.Common.{to_z-of_z, w32, w64, arith, rules}
 use mir.Val.{SFits}
 use Rattle.std.proofs.lemmas.Int.{ints}
-use Rattle.tz_info.specs.declared.zone.leap_second.LeapSecond.{LeapSecond}
-use Rattle.tz_info.proofs.LeapStarts.{correction_behind}
-use Rattle.tz_info.proofs.Prefixes.{last_taken}
 use Rattle.tz_info.proofs.zone.starts.correction_behind.Goals as goal
 
 pub returns : goal.returns
 returns c =
-    let e : suc (c.args.count - 1) ≡ c.args.count = omega arith in
-    let none : LeapSecond = record { unix_leap_time = pos 0; correction = pos 0 } in
-    let narrow : SFits w32 (get_or c.args.leaps.now (c.args.count - 1) none).correction = search rules in
-    let fits : SFits w64 (get_or c.args.leaps.now (c.args.count - 1) none).correction = omega (arith, ints) in
-    let last = sym (last_taken (λ (s : LeapSecond). s.correction) (pos 0) c.args.leaps.now (c.args.count - 1) none (omega arith)) ∙ ap (correction_behind c.args.leaps.now) e in
-    simp to_z-of_z last
+    let narrow : SFits w32 c.correction_after.result = search rules in
+    let fits : SFits w64 c.correction_after.result = omega (arith, ints) in
+    simp to_z-of_z c.correction_after.ensures

@@ -1,0 +1,84 @@
+-- The passed entries, by halves.
+use Rattle.std.proofs.Common.{◌≡◌, ℕ, ◌+◌, ◌-◌, ◌/◌, ◌==◌, ◌<◌, ◌≤◌, true, arith, List, length, get_or, ℤ, pos, int_lt, false, ◌+ℤ◌, ◌≤ℤ◌, ◌<ℤ◌, inl, inr}
+use Rattle.std.specs.List.Sorted.{IsPartitionedBy}
+use Rattle.std.proofs.lemmas.Int.{ints, by_lt_z}
+use Rattle.std.proofs.lemmas.Bool.{cases_lt}
+use Rattle.std.proofs.lemmas.Bool.Decides.{nat_tests}
+use Rattle.tz_info.specs.Leaps.{AreLeapSeconds, IsLeapTime, passed_count}
+use Rattle.tz_info.specs.declared.zone.leap_second.LeapSecond.{LeapSecond}
+use Rattle.tz_timeline.proofs.ForCallers.{lt_true}
+use Rattle.tz_info.proofs.LeapEntries.{follow, threshold_at}
+use Rattle.tz_info.proofs.LeapOrder.{bounded, none_counted, split}
+use Rattle.tz_info.proofs.LeapStarts.{correction_behind, passed_at_most, times_rise}
+
+-- before 1970 the leap time is the Unix time
+pub leap_time_early : (es : List LeapSecond) (u : ℤ) → AreLeapSeconds es → u <ℤ pos 0 → IsLeapTime es u u
+leap_time_early es u valid h =
+    let none : passed_count es u ≡ 0 = none_counted (pos 0) u es (follow es valid) (λ d k. let f = (valid.first d k).since_epoch in omega (arith, ints)) in
+    record { sum = rw none (omega (arith, ints)); fits = λ k l. absurd (omega arith) }
+
+-- the number of passed entries lies from `first` to `high`
+pub record ArePassedBetween (es : List LeapSecond) (u : ℤ) (first high : ℕ) : Type 0 where
+  pub least : first ≤ passed_count es u
+  pub most : passed_count es u ≤ high
+  pub within : high ≤ length es
+
+pub all_between : (es : List LeapSecond) (u : ℤ) (n : ℕ) → n ≡ length es → ArePassedBetween es u 0 n
+all_between es u n e = let m = passed_at_most es u in record { least = omega arith; most = omega arith; within = omega arith }
+
+-- an entry is passed just where its time has come with the correction before it
+pub passed_here : (es : List LeapSecond) (u : ℤ) (k : ℕ) (d : LeapSecond) → AreLeapSeconds es → k < length es → (get_or es k d).unix_leap_time ≤ℤ (u +ℤ correction_behind es k) → k < passed_count es u
+passed_here es u k d valid h come = elim (cases_lt k (passed_count es u)) [
+  | inl l ↦ l
+  | inr m ↦
+      let s = (split (pos 0) u es k (follow es valid) h).not_passed m in
+      let t = threshold_at (pos 0) es k d (pos 0) h in
+      absurd (omega (arith, ints))
+]
+
+pub not_passed_here : (es : List LeapSecond) (u : ℤ) (k : ℕ) (d : LeapSecond) → AreLeapSeconds es → k < length es → (u +ℤ correction_behind es k) <ℤ (get_or es k d).unix_leap_time → passed_count es u ≤ k
+not_passed_here es u k d valid h later = elim (cases_lt k (passed_count es u)) [
+  | inl l ↦
+      let s = (split (pos 0) u es k (follow es valid) h).passed l in
+      let t = threshold_at (pos 0) es k d (pos 0) h in
+      absurd (omega (arith, ints))
+  | inr m ↦ m
+]
+
+-- where there is room, the sum is the leap time
+pub leap_time_by : (es : List LeapSecond) (u x : ℤ) (n : ℕ) → AreLeapSeconds es → pos 0 ≤ℤ u → u ≤ℤ pos 4_611_686_018_427_387_904 → n ≡ passed_count es u → x ≡ u +ℤ correction_behind es n → IsLeapTime es u x
+leap_time_by es u x n valid low high e f = record {
+  sum = rw e at f;
+  fits = λ k l.
+      let b = bounded (pos 0) (pos 0) u es k (follow es valid) (λ d m. let f = (valid.first d m).since_epoch in omega (arith, ints)) l in
+      let a = b.later in let m = b.most in let n = b.least in
+      omega (arith, ints);
+}
+
+pub is_none : (n : ℕ) → (n == 0) ≡ true → n ≡ 0
+is_none n h = grind (arith, nat_tests)
+
+-- the entry in the middle is passed
+pub passed_more : (es : List LeapSecond) (u : ℤ) (first count : ℕ) (v : ℤ) (d : LeapSecond) → AreLeapSeconds es → ArePassedBetween es u first (first + count) → 0 < count → v ≡ correction_behind es (first + count / 2)
+    → (get_or es (first + count / 2) d).unix_leap_time ≤ℤ (u +ℤ v) → ArePassedBetween es u (first + count / 2 + 1) (first + count / 2 + 1 + (count - count / 2 - 1))
+passed_more es u first count v d valid between some e come =
+    let w = between.within in let m = between.most in
+    let p = passed_here es u (first + count / 2) d valid (omega arith) (rw (← e) come) in
+    record { least = omega arith; most = omega arith; within = omega arith }
+
+-- or it is not
+pub passed_less : (es : List LeapSecond) (u : ℤ) (first count : ℕ) (v : ℤ) (d : LeapSecond) → AreLeapSeconds es → ArePassedBetween es u first (first + count) → 0 < count → v ≡ correction_behind es (first + count / 2)
+    → (u +ℤ v) <ℤ (get_or es (first + count / 2) d).unix_leap_time → ArePassedBetween es u first (first + count / 2)
+passed_less es u first count v d valid between some e later =
+    let w = between.within in let l = between.least in
+    let p = not_passed_here es u (first + count / 2) d valid (omega arith) (rw (← e) later) in
+    record { least = l; most = p; within = omega arith }
+
+-- ---- the entries before a leap time
+pub lt_is_not : (a b : ℤ) → int_lt a b ≡ false → b ≤ℤ a
+lt_is_not a b h = by_lt_z a b (λ l. let t = lt_true a b l in cc) (λ m. m)
+
+pub parted_before : (es : List LeapSecond) (x : ℤ) → AreLeapSeconds es → IsPartitionedBy (λ e. int_lt e.unix_leap_time x) es
+parted_before es x valid i j d h l t = let r = times_rise es i j d valid h l in earlier (get_or es i d).unix_leap_time (get_or es j d).unix_leap_time x r t where
+  earlier : (a b x : ℤ) → a ≤ℤ b → int_lt b x ≡ true → int_lt a x ≡ true
+  earlier a b x h t = grind (arith, ints)

@@ -1,0 +1,291 @@
+-- Spans: where no change comes the type stays, and at each second between two that have a type there is one.
+use Rattle.std.proofs.Common.{◌≡◌, ◌≢◌, ◌⊎◌, ℕ, zero, suc, ◌<◌, Bool, true, false, arith, refl, sym, subst, ap, ◌∙◌, ◌-◌, List, [], ◌∷◌, length, slice_get, ℤ, pos, negsuc, neg_ℤ, ◌+ℤ◌, ◌-ℤ◌, ◌≤ℤ◌, ◌<ℤ◌, inl, inr, Option, Some, None, w64}
+use Rattle.std.proofs.lemmas.Int.{ints, by_lt_z}
+use Rattle.std.proofs.lemmas.Bool.{cases_lt}
+use mir.Val.{SFits}
+use Rattle.tz_base.specs.LocalTypes.{LocalType}
+use Rattle.tz_base.specs.contracts.local_time_type.LocalTimeTypePartialEq.TheImpl.{eq-value as type_eq}
+use Rattle.tz_base.specs.declared.change.Change.{Change}
+use Rattle.tz_base.proofs.ForCallers.{type_exact}
+use Rattle.naive_base.specs.Year.{floor_div}
+use Rattle.naive_base.specs.DateOf.{year_of}
+use Rattle.naive_base.proofs.ForCallers.{lies_in}
+use Rattle.tz_info.specs.Changes.{IsChange, HasNoChange, IsFirstChange, IsLastChange}
+use Rattle.tz_info.specs.Leaps.{AreLeapSeconds, IsLeapTime, IsUnixTime, correction_before, passed_count}
+use Rattle.tz_info.specs.Moments.{IsAlternateRefused, IsRuleTime}
+use Rattle.tz_info.specs.Rules.{Alternate as AlternateRule}
+use Rattle.tz_info.specs.Segments.{segment_of}
+use Rattle.tz_info.specs.Spans.{IsSince, IsUntil, IsInSpan, IsSpan, IsSpanAt}
+use Rattle.tz_info.specs.Steps.Spans.{IsFrom, IsTo}
+use Rattle.tz_info.specs.Zones.{Zone, IsValid, IsRuleOrNone, IsTypeRefused, by_leap_time, by_rule, IsRefusedBy, TypeAt, Agrees, IsFromLast, last_transition}
+use Rattle.tz_info.specs.declared.rule.transition_rule.TransitionRule.{TransitionRule}
+use Rattle.tz_info.specs.declared.rule.transition_rule.TransitionRule.TheVariants.{Fixed, Alternate}
+use Rattle.tz_info.specs.declared.zone.leap_second.LeapSecond.{LeapSecond}
+use Rattle.tz_base.specs.declared.span.Span.{Span}
+use Rattle.tz_info.specs.declared.zone.transition.Transition.{Transition}
+use Rattle.tz_info.proofs.ChangeSearch.{InForce}
+use Rattle.tz_info.proofs.LastType.{last_is}
+use Rattle.tz_info.proofs.LeapEntries.{follow, before_found}
+use Rattle.tz_info.proofs.LeapOrder.{none_counted}
+use Rattle.tz_info.proofs.RuleChanges.{rule_second}
+use Rattle.tz_info.proofs.RuleLaws.{rule_year}
+use Rattle.tz_info.proofs.SegmentLaws.{segments_rise, segment_most, come_at_time, come_by_time}
+use Rattle.tz_info.proofs.ZoneChanges.{refused_on, time_of, to_rule}
+use Rattle.tz_info.proofs.ZoneLaws.{type_once, type_decided}
+
+-- ---- where no change comes the type stays
+-- some type is in force at the second
+abbrev pub Typed : InForce → ℤ → Type 0
+Typed f u = (t : LocalType) × f u t
+
+same_or_not : (s t : LocalType) → (s ≡ t) ⊎ (s ≢ t)
+same_or_not s t = tested (type_eq.it s t) refl where
+  tested : (b : Bool) → type_eq.it s t ≡ b → (s ≡ t) ⊎ (s ≢ t)
+  tested true e = inl ((type_exact s t).0 e)
+  tested false e = inr (λ same. let h = (type_exact s t).1 same in cc)
+
+-- from one second to the next
+step_up : (f : InForce) (v w : ℤ) (s t : LocalType) → v ≡ w -ℤ pos 1 → SFits w64 v → SFits w64 w → HasNoChange f (λ x. x ≡ w) → f v s → f w t → s ≡ t
+step_up f v w s t e fits fits_next none h k = elim (same_or_not s t) [
+  | inl same ↦ same
+  | inr differ ↦
+      let c : Change = record { at = w; before = s; after = t } in
+      absurd (none c (record { fits = fits_next; fits_before = rw e at fits; before = rw e at h; after = k; differ = differ }) refl)
+]
+
+-- so many seconds on
+steps_up : (f : InForce) (u v : ℤ) (t : LocalType) (n : ℕ) → v ≡ u +ℤ pos n → SFits w64 u → SFits w64 v → HasNoChange f (λ w. (u <ℤ w) × (w ≤ℤ v))
+    → ((w : ℤ) → u ≤ℤ w → w ≤ℤ v → Typed f w) → f u t → f v t
+steps_up f u v t zero e fits fits_end none typed h = let same : u ≡ v = omega (arith, ints) in subst (λ w. f w t) same h
+steps_up f u v t (suc n) e fits fits_end none typed h =
+    let fits_n : SFits w64 (v -ℤ pos 1) = omega (arith, ints) in
+    let before = steps_up f u (v -ℤ pos 1) t n (omega (arith, ints)) fits fits_n (λ d is k. let a = k.0 in let b = k.1 in none d is (a, omega (arith, ints))) (λ w low high. typed w low (omega (arith, ints))) h in
+    let next = typed v (omega (arith, ints)) (omega (arith, ints)) in
+    let same = step_up f (v -ℤ pos 1) v t next.0 refl fits_n fits_end (λ d is k. none d is (omega (arith, ints), omega (arith, ints))) before next.1 in
+    subst (f v) (sym same) next.1
+
+natural : (d : ℤ) → pos 0 ≤ℤ d → (n : ℕ) × (d ≡ pos n)
+natural (pos n) h = (n, refl)
+natural (negsuc n) h = absurd (omega (arith, ints))
+
+distance : (u v : ℤ) → u ≤ℤ v → (n : ℕ) × (v ≡ u +ℤ pos n)
+distance u v h = let n = natural (v -ℤ u) (omega (arith, ints)) in let e = n.1 in (n.0, omega (arith, ints))
+
+pub stays : (f : InForce) (u v : ℤ) (t : LocalType) → SFits w64 u → SFits w64 v → u ≤ℤ v → HasNoChange f (λ w. (u <ℤ w) × (w ≤ℤ v)) → ((w : ℤ) → u ≤ℤ w → w ≤ℤ v → Typed f w) → f u t → f v t
+stays f u v t fits fits_end h none typed k = let n = distance u v h in steps_up f u v t n.0 n.1 fits fits_end none typed k
+
+-- ---- between two seconds that have a type each has one
+-- before 1970 no entry has come
+early : (es : List LeapSecond) (v x : ℤ) → AreLeapSeconds es → v <ℤ pos 0 → IsLeapTime es v x → x ≡ v
+early es v x valid h l =
+    let none : passed_count es v ≡ 0 = none_counted (pos 0) v es (follow es valid) (λ d k. let f = (valid.first d k).since_epoch in omega (arith, ints)) in
+    let s = rw none at l.sum in
+    omega (arith, ints)
+
+early_unix : (es : List LeapSecond) (x u : ℤ) → AreLeapSeconds es → x <ℤ pos 0 → IsUnixTime es x u → u ≡ x
+early_unix es x u valid h is =
+    let none : pos 0 ≡ correction_before es x = before_found es 0 (record { unix_leap_time = pos 0; correction = pos 0 }) x (pos 0) valid (omega arith) (record { value = refl; before = λ k d l. absurd (omega arith) })
+    (λ some. let f = (valid.first (record { unix_leap_time = pos 0; correction = pos 0 }) some).since_epoch in omega (arith, ints)) in
+    let d = is.difference in
+    omega (arith, ints)
+
+some_at : {X : Type 0} (xs : List X) (i : ℕ) → i < length xs → (x : X) × (slice_get xs i ≡ Some x)
+some_at [] i h = absurd (omega arith)
+some_at (x ∷ xs) zero h = (x, refl)
+some_at (x ∷ xs) (suc i) h = some_at xs i (omega arith)
+
+last_of : (ts : List Transition) → 0 < length ts → (t : Transition) × (last_transition ts ≡ Some t)
+last_of ts h = some_at ts (length ts - 1) (omega arith)
+
+-- before the years of a rule of two types its zone's last transition has not come
+not_before : (z : Zone) (a : AlternateRule) (v y : ℤ) → IsValid z → z.rule ≡ Some (Alternate a) → 0 < length z.transitions → IsLeapTime z.leaps v y → segment_of z v ≡ length z.transitions → v <ℤ neg_ℤ (pos 67_768_100_504_812_800) → ⊥
+not_before z a v y valid rule some l all h =
+    let last = last_of z.transitions some in
+    let agrees : Agrees z.types z.leaps (Alternate a) last.0 = rw (rule, last.1) at valid.agrees in
+    let within : IsRuleTime agrees.unix_time = rule_second a agrees.unix_time agrees.type agrees.of_rule in
+    let low = within.0 in
+    let count = come_at_time z v y l in
+    let come = (come_by_time z.transitions y (length z.transitions - 1) last.0 valid.transitions.rising (omega arith)).0 (omega arith) in
+    let is = last_is z.transitions last.0 last.1 in
+    let time : last.0.unix_leap_time ≤ℤ y = rw is at come in
+    let same = early z.leaps v y valid.leaps (omega (arith, ints)) l in
+    let unix = early_unix z.leaps last.0.unix_leap_time agrees.unix_time valid.leaps (omega (arith, ints)) agrees.of_transition in
+    omega (arith, ints)
+
+not_before_second : (z : Zone) (a : AlternateRule) (u v y : ℤ) (t : LocalType) → IsValid z → z.rule ≡ Some (Alternate a) → (0 < length z.transitions → IsLeapTime z.leaps v y) → segment_of z v ≡ length z.transitions → u ≤ℤ v → TypeAt z u t
+    → v <ℤ neg_ℤ (pos 67_768_100_504_812_800) → ⊥
+not_before_second z a u v y t valid rule l all h k low = elim (cases_lt 0 (length z.transitions)) [
+  | inl some ↦ not_before z a v y valid rule some (l some) all low
+  | inr none ↦
+      let m = segment_most z u valid.transitions.rising in
+      let within = rule_second a u t (to_rule z a u t valid rule (omega arith) k) in
+      let b = within.0 in
+      omega (arith, ints)
+]
+
+not_behind_second : (z : Zone) (a : AlternateRule) (v u : ℤ) (t : LocalType) → IsValid z → z.rule ≡ Some (Alternate a) → segment_of z v ≡ length z.transitions → v ≤ℤ u → TypeAt z u t → pos 67_767_976_170_460_799 <ℤ v → ⊥
+not_behind_second z a v u t valid rule all h k high =
+    let m = segment_most z u valid.transitions.rising in
+    let r = segments_rise z v u valid.transitions.rising valid.leaps h in
+    let within = rule_second a u t (to_rule z a u t valid rule (omega arith) k) in
+    let b = within.1 in
+    omega (arith, ints)
+
+out_of_years : (u : ℤ) → IsAlternateRefused u → (u <ℤ neg_ℤ (pos 67_768_100_504_812_800)) ⊎ (pos 67_767_976_170_460_799 <ℤ u)
+out_of_years u refused = by_lt_z u (neg_ℤ (pos 67_768_100_504_812_800))
+    (λ low. inl low)
+    (λ from. by_lt_z (pos 67_767_976_170_460_799) u
+    (λ high. inr high)
+    (λ until. let lies = lies_in (floor_div u 86_400) in absurd (refused (year_of (floor_div u 86_400)) lies (rule_year u (year_of (floor_div u 86_400)) lies (from, until)))))
+
+-- all transitions have come by the leap time of the second
+all_come : (z : Zone) (v x : ℤ) → IsValid z → (0 < length z.transitions → IsLeapTime z.leaps v x) → IsFromLast z x → segment_of z v ≡ length z.transitions
+all_come z v x valid l last = elim (cases_lt 0 (length z.transitions)) [
+  | inl some ↦ sym (come_at_time z v x (l some)) ∙ last
+  | inr none ↦ let m = segment_most z v valid.transitions.rising in omega arith
+]
+
+rule_between : (rule : Option TransitionRule) (z : Zone) (a b v x : ℤ) (s t : LocalType) → z.rule ≡ rule → IsValid z → (0 < length z.transitions → IsLeapTime z.leaps v x) → IsFromLast z x → a ≤ℤ v → v ≤ℤ b → TypeAt z a s → TypeAt z b t → IsRefusedBy rule v → ⊥
+rule_between None z a b v x s t is valid l last low high h k refused = refused
+rule_between (Some (Fixed f)) z a b v x s t is valid l last low high h k refused = refused
+rule_between (Some (Alternate r)) z a b v x s t is valid l last low high h k refused =
+    let all = all_come z v x valid l last in
+    elim (out_of_years v refused) [
+      | inl early ↦ not_before_second z r a v x s valid is l all low h early
+      | inr late ↦ not_behind_second z r v b t valid is all high k late
+    ]
+
+pub typed_between : (z : Zone) (a b v : ℤ) (s t : LocalType) → IsValid z → IsRuleOrNone z.rule → a ≤ℤ v → v ≤ℤ b → TypeAt z a s → TypeAt z b t → Typed (TypeAt z) v
+typed_between z a b v s t valid limits low high h k = elim (type_decided z v valid limits) [
+  | inl found ↦ found
+  | inr refused ↦ absurd (between refused)
+] where
+  between : IsTypeRefused z v → ⊥
+  between (by_leap_time some r) = refused_on z.leaps v b k.leap_time valid.leaps high r (time_of z b t some k)
+  between (by_rule x of_second last r) = rule_between z.rule z a b v x s t refl valid of_second last low high h k r
+
+-- ---- up to u, and from u on
+-- where no change comes between two seconds that have types, these are the same
+no_change : (z : Zone) (u v : ℤ) (s t : LocalType) → IsValid z → IsRuleOrNone z.rule → SFits w64 u → SFits w64 v → u ≤ℤ v → HasNoChange (TypeAt z) (λ w. (u <ℤ w) × (w ≤ℤ v)) → TypeAt z u s → TypeAt z v t → s ≡ t
+no_change z u v s t valid limits fits fits_end h none k l =
+    type_once z v s t (stays (TypeAt z) u v s fits fits_end h none (λ w since until. typed_between z u v w s t valid limits since until k l) k) l
+
+pub from_change : (z : Zone) (u : ℤ) (t : LocalType) (c : Change) → IsValid z → IsRuleOrNone z.rule → SFits w64 u → IsLastChange (TypeAt z) (λ v. v ≤ℤ u) c → TypeAt z u t → IsFrom (TypeAt z) u t (Some c.at)
+from_change z u t c valid limits fits last h =
+    let idle : (w : ℤ) → c.at ≤ℤ w → HasNoChange (TypeAt z) (λ v. (w <ℤ v) × (v ≤ℤ u)) = λ w low d is i. let l = last.last d is i.1 in let a = i.0 in omega (arith, ints) in
+    let same : c.after ≡ t = no_change z c.at u c.after t valid limits last.is.fits fits last.inside (idle c.at (omega (arith, ints))) last.is.after h in
+    record {
+      since = last.inside;
+      each = λ v s f low high k. no_change z v u s t valid limits f fits high (idle v low) k h;
+      begins = (c.before, rw same at last.is);
+    }
+
+pub from_none : (z : Zone) (u : ℤ) (t : LocalType) → IsValid z → IsRuleOrNone z.rule → SFits w64 u → HasNoChange (TypeAt z) (λ v. v ≤ℤ u) → TypeAt z u t → IsFrom (TypeAt z) u t None
+from_none z u t valid limits fits none h = record {
+  since = tt;
+  each = λ v s f low high k. no_change z v u s t valid limits f fits high (λ d is i. none d is i.1) k h;
+  begins = tt;
+}
+
+pub to_change : (z : Zone) (u : ℤ) (t : LocalType) (c : Change) → IsValid z → IsRuleOrNone z.rule → SFits w64 u → IsFirstChange (TypeAt z) (λ v. u <ℤ v) c → TypeAt z u t → IsTo (TypeAt z) u t (Some c.at)
+to_change z u t c valid limits fits first h =
+    let idle : (w : ℤ) → w <ℤ c.at → HasNoChange (TypeAt z) (λ v. (u <ℤ v) × (v ≤ℤ w)) = λ w high d is i. let l = first.first d is i.0 in let b = i.1 in omega (arith, ints) in
+    let later = first.inside in
+    let same : t ≡ c.before = no_change z u (c.at -ℤ pos 1) t c.before valid limits fits first.is.fits_before (omega (arith, ints)) (idle (c.at -ℤ pos 1) (omega (arith, ints))) h first.is.before in
+    record {
+      ahead = first.inside;
+      each = λ v s f high low k. sym (no_change z u v t s valid limits fits f low (idle v high) h k);
+      ends = (c.after, rw (← same) at first.is);
+    }
+
+pub to_none : (z : Zone) (u : ℤ) (t : LocalType) → IsValid z → IsRuleOrNone z.rule → SFits w64 u → HasNoChange (TypeAt z) (λ v. u <ℤ v) → TypeAt z u t → IsTo (TypeAt z) u t None
+to_none z u t valid limits fits none h = record {
+  ahead = tt;
+  each = λ v s f high low k. sym (no_change z u v t s valid limits fits f low (λ d is i. none d is i.0) h k);
+  ends = tt;
+}
+
+-- ---- both ends
+pub span_made : (z : Zone) (u : ℤ) (s : Span) → SFits w64 u → IsFrom (TypeAt z) u s.local_time_type s.from → IsTo (TypeAt z) u s.local_time_type s.until → TypeAt z u s.local_time_type → IsSpanAt (TypeAt z) u s
+span_made z u s fits from to h = record {
+  in_force_then = h;
+  inside = record { fits = fits; since = from.since; until = to.ahead };
+  span = record {
+    each = λ v t i k. by_lt_z v u
+        (λ low. from.each v t i.fits i.since (omega (arith, ints)) k)
+        (λ high. to.each v t i.fits i.until high k);
+    begins = from.begins;
+    ends = to.ends;
+  };
+}
+
+-- ---- two spans that share a second are one
+sooner : (end : Option ℤ) (v u : ℤ) → v ≤ℤ u → IsUntil end u → IsUntil end v
+sooner None v u h k = tt
+sooner (Some x) v u h k = omega (arith, ints)
+
+later : (begin : Option ℤ) (v u : ℤ) → u ≤ℤ v → IsSince begin u → IsSince begin v
+later None v u h k = tt
+later (Some x) v u h k = omega (arith, ints)
+
+-- a span whose second u the other has begins no later
+begins_in : (f : InForce) (a b : Span) (u x : ℤ) → IsSpan f a → IsInSpan a u → a.local_time_type ≡ b.local_time_type → x ≤ℤ u → (t : LocalType) → IsChange f (record { at = x; before = t; after = b.local_time_type }) → IsSince a.from (x -ℤ pos 1) → ⊥
+begins_in f a b u x h i same low t c since = c.differ (h.each (x -ℤ pos 1) t (record { fits = c.fits_before; since = since; until = sooner a.until (x -ℤ pos 1) u (omega (arith, ints)) i.until }) c.before ∙ same)
+
+begins_once : (f : InForce) (a b : Span) (u : ℤ) (p q : Option ℤ) → a.from ≡ p → b.from ≡ q → IsSpan f a → IsSpan f b → IsInSpan a u → IsInSpan b u → a.local_time_type ≡ b.local_time_type → p ≡ q
+begins_once f a b u None None e g h k i j same = refl
+begins_once f a b u None (Some y) e g h k i j same = let c = rw g at k.begins in absurd (begins_in f a b u y h i same (rw g at j.since) c.0 c.1 (rw e tt))
+begins_once f a b u (Some x) None e g h k i j same = let c = rw e at h.begins in absurd (begins_in f b a u x k j (sym same) (rw e at i.since) c.0 c.1 (rw g tt))
+begins_once f a b u (Some x) (Some y) e g h k i j same =
+    let c = rw e at h.begins in let d = rw g at k.begins in
+    let low = rw e at i.since in let high = rw g at j.since in
+    by_lt_z x y
+    (λ l. absurd (begins_in f a b u y h i same high d.0 d.1 (rw e (omega (arith, ints)))))
+    (λ m. by_lt_z y x
+    (λ l. absurd (begins_in f b a u x k j (sym same) low c.0 c.1 (rw g (omega (arith, ints)))))
+    (λ n. let s : x ≡ y = omega (arith, ints) in ap (λ v. Some v) s))
+
+ends_in : (f : InForce) (a b : Span) (u x : ℤ) → IsSpan f a → IsInSpan a u → a.local_time_type ≡ b.local_time_type → u <ℤ x → (t : LocalType) → IsChange f (record { at = x; before = b.local_time_type; after = t }) → IsUntil a.until x → ⊥
+ends_in f a b u x h i same high t c until = c.differ (sym same ∙ sym (h.each x t (record { fits = c.fits; since = later a.from x u (omega (arith, ints)) i.since; until = until }) c.after))
+
+ends_once : (f : InForce) (a b : Span) (u : ℤ) (p q : Option ℤ) → a.until ≡ p → b.until ≡ q → IsSpan f a → IsSpan f b → IsInSpan a u → IsInSpan b u → a.local_time_type ≡ b.local_time_type → p ≡ q
+ends_once f a b u None None e g h k i j same = refl
+ends_once f a b u None (Some y) e g h k i j same = let c = rw g at k.ends in absurd (ends_in f a b u y h i same (rw g at j.until) c.0 c.1 (rw e tt))
+ends_once f a b u (Some x) None e g h k i j same = let c = rw e at h.ends in absurd (ends_in f b a u x k j (sym same) (rw e at i.until) c.0 c.1 (rw g tt))
+ends_once f a b u (Some x) (Some y) e g h k i j same =
+    let c = rw e at h.ends in let d = rw g at k.ends in
+    let low = rw e at i.until in let high = rw g at j.until in
+    by_lt_z x y
+    (λ l. absurd (ends_in f b a u x k j (sym same) low c.0 c.1 (rw g (omega (arith, ints)))))
+    (λ m. by_lt_z y x
+    (λ l. absurd (ends_in f a b u y h i same high d.0 d.1 (rw e (omega (arith, ints)))))
+    (λ n. let s : x ≡ y = omega (arith, ints) in ap (λ v. Some v) s))
+
+abbrev span_of : LocalType → Option ℤ → Option ℤ → Span
+span_of t from until = record { local_time_type = t; from = from; until = until }
+
+same_parts : (s t : LocalType) (p q x y : Option ℤ) → s ≡ t → p ≡ q → x ≡ y → span_of s p x ≡ span_of t q y
+same_parts s t p q x y e f g = cc
+
+same_span : (a b : Span) → a.local_time_type ≡ b.local_time_type → a.from ≡ b.from → a.until ≡ b.until → a ≡ b
+same_span a b e f g = same_parts a.local_time_type b.local_time_type a.from b.from a.until b.until e f g
+
+pub span_once : (f : InForce) (a b : Span) (u : ℤ) → IsSpan f a → IsSpan f b → IsInSpan a u → IsInSpan b u → Typed f u → a ≡ b
+span_once f a b u h k i j typed =
+    let same = sym (h.each u typed.0 i typed.1) ∙ k.each u typed.0 j typed.1 in
+    same_span a b same (begins_once f a b u a.from b.from refl refl h k i j same) (ends_once f a b u a.until b.until refl refl h k i j same)
+
+-- between the span's second u and another of its seconds no change comes
+pub no_change_within : (f : InForce) (s : Span) (d : Change) → IsSpan f s → IsInSpan s (d.at -ℤ pos 1) → IsInSpan s d.at → IsChange f d → ⊥
+no_change_within f s d h i j is = is.differ (h.each (d.at -ℤ pos 1) d.before i is.before ∙ sym (h.each d.at d.after j is.after))
+
+-- a span at both of whose ends clocks change has its type at each second
+pub span_held : (z : Zone) (s : Span) (first end : ℤ) → IsValid z → IsRuleOrNone z.rule → IsSpan (TypeAt z) s → s.from ≡ Some first → s.until ≡ Some end → (u : ℤ) → first ≤ℤ u → u <ℤ end → TypeAt z u s.local_time_type
+span_held z s first end valid limits h e g u low high =
+    let b = rw e at h.begins in
+    let c = rw g at h.ends in
+    let fa = b.1.fits in let fb = c.1.fits in
+    let t = typed_between z first (end -ℤ pos 1) u s.local_time_type s.local_time_type valid limits low (omega (arith, ints)) b.1.after c.1.before in
+    let fu : SFits w64 u = omega (arith, ints) in
+    let inside : IsInSpan s u = record { fits = fu; since = rw e low; until = rw g high } in
+    subst (TypeAt z u) (h.each u t.0 inside t.1) t.1

@@ -1,0 +1,15 @@
+use Rattle.std.proofs.Common.{arith, int_lt, rules}
+use Rattle.std.proofs.lemmas.List.Sorted.{IsPartitionPoint-from_clause}
+use Rattle.tz_timeline.proofs.ForCallers.{lt_is}
+use Rattle.tz_info.specs.declared.zone.leap_second.LeapSecond.{LeapSecond}
+use Rattle.tz_info.proofs.LeapSearch.{parted_before, lt_is_not}
+use Rattle.tz_info.proofs.zone.leap_time.entries_before.Goals as goal
+
+pub returns : goal.returns
+returns c =
+    let point = IsPartitionPoint-from_clause (λ (e : LeapSecond). int_lt e.unix_leap_time c.args.leap_time) _ _ c.partition_point.ensures.partitioned (parted_before _ c.args.leap_time c.requires) (λ a r q k. search rules) in
+    record {
+      within = c.partition_point.ensures.bound;
+      before = λ k d h. lt_is _ _ (point.0 k d (omega arith) h);
+      from = λ d h. lt_is_not _ _ (point.1 _ d (omega arith) h);
+    }

@@ -1,0 +1,9 @@
+use Rattle.std.proofs.Common.{◌+◌}
+use Rattle.tz_info.proofs.LeapSearch.{ArePassedBetween}
+use Rattle.tz_info.proofs.zone.leap_time.passed_at.Given as goal
+
+abbrev pub invariant-loop-count : goal.invariant-loop-count
+invariant-loop-count l = ArePassedBetween l.entries l.unix_time l.first (l.first + l.count)
+
+abbrev pub decreases-loop-count : goal.decreases-loop-count
+decreases-loop-count l = l.count

@@ -1,0 +1,5 @@
+use Rattle.std.proofs.Common.{to_z-of_z}
+use Rattle.tz_info.proofs.zone.lookups.type_at.Goals as goal
+
+pub returns-in-Err : goal.returns-in-Err
+returns-in-Err c = let fu = c.ranges.unix_time in simp to_z-of_z at c.in-Err.ensures

@@ -1,0 +1,201 @@
+//! Lookups at one instant after another, which keep the span of the last ones.
+
+ghost use Rattle.std.specs.Prelude.{◌≡◌, ◌≤ℤ◌, ◌<ℤ◌, ◌↔◌, ⊤, IsTrue, MatchOption, MatchResult};
+ghost use Rattle.tz_base.specs.Errors.{IsFindLocalTimeTypeError};
+ghost use Rattle.tz_info.specs.Steps.Held.{IsHeld};
+ghost use Rattle.tz_info.specs.Zones.{TypeAt, IsTypeRefused};
+
+use crate::zone::time_zone::TimeZone;
+use std::marker::Model;
+use tz_base::{Error, LocalTimeType, Span};
+
+// Two instants are near if they lie less than a week apart, in seconds.
+const NEAR: i64 = 604_800;
+
+const TWICE_NEAR: u64 = 1_209_600;
+
+// A near instant outside the kept span asks for its span after this many others in a row.
+const NEAR_MISSES: u32 = 2;
+
+/// A zone's lookups at one instant after another, from [`TimeZone::lookups`].
+///
+/// They keep the span that the last instants lie in. If instants come in order, or near one
+/// another, most lookups only compare the instant with both ends of that span.
+#[derive(Drop)]
+pub struct Lookups<'a> {
+    zone: &'a TimeZone,
+    // The last instant outside the span that was kept then.
+    last: i64,
+    // How many such instants in a row came near the one before, up to `NEAR_MISSES`.
+    near_misses: u32,
+    held: Held,
+}
+
+// Seconds from `first` on and before `end`, in which that type is in force.
+#[derive(Clone, Copy)]
+struct Held {
+    first: i64,
+    end: i64,
+    local_time_type: LocalTimeType,
+}
+
+impl<'a> Model for Lookups<'a> {
+    ghost use Rattle.tz_info.specs.Steps.Held.{IsHeld};
+    ghost use Rattle.tz_info.specs.Zones.{Zone};
+
+    ghost Value = { Zone };
+
+    ghost view = { λ l. l.zone.now };
+
+    ghost invariant = { λ l. IsHeld l.zone.now l.held };
+}
+
+impl TimeZone {
+    /// Returns the zone's lookups at one instant after another.
+    ///
+    /// ```text
+    /// let mut lookups = zone.lookups();
+    /// let first = lookups.find_local_time_type(1_609_459_200)?;
+    /// let next = lookups.find_local_time_type(1_609_462_800)?;
+    /// ```
+    pub fn lookups(&self) -> Lookups<'_>
+        ensures { result ≡ self.now }
+    {
+        Lookups {
+            zone: self,
+            last: 0,
+            near_misses: 0,
+            held: Held {
+                first: i64::MAX,
+                end: 0,
+                local_time_type: LocalTimeType::utc(),
+            },
+        }
+    }
+
+    // The span of the second, if clocks change at both of its ends.
+    #[inline(never)]
+    fn held_at(&self, unix_time: i64) -> Option<Held>
+        ensures { MatchOption result ⊤ (IsHeld self.now) }
+    {
+        let _ = &self.table;
+        let Ok(span) = self.span_at(unix_time) else {
+            return None;
+        };
+        let Span {
+            local_time_type,
+            from,
+            until,
+        } = span;
+        let Some(first) = from else {
+            return None;
+        };
+        let Some(end) = until else {
+            return None;
+        };
+        Some(Held {
+            first,
+            end,
+            local_time_type,
+        })
+    }
+}
+
+impl<'a> Lookups<'a> {
+    /// Returns the type in force at the second of Unix time, as [`TimeZone::find_local_time_type`]
+    /// does.
+    ///
+    /// # Errors
+    ///
+    /// As [`TimeZone::find_local_time_type`].
+    #[inline(always)]
+    pub fn find_local_time_type(&mut self, unix_time: i64) -> Result<LocalTimeType, Error>
+        ensures found { MatchResult result (TypeAt self.old unix_time)
+            (λ e. IsFindLocalTimeTypeError e × IsTypeRefused self.old unix_time) }
+        ensures zone { self.new ≡ self.old }
+    {
+        if is_between(self.held.first, self.held.end, unix_time) {
+            return Ok(self.held.local_time_type);
+        }
+        self.find_outside(unix_time)
+    }
+
+    // The type in force at a second outside the kept span.
+    #[inline(always)]
+    fn find_outside(&mut self, unix_time: i64) -> Result<LocalTimeType, Error>
+        ensures found { MatchResult result (TypeAt self.old unix_time)
+            (λ e. IsFindLocalTimeTypeError e × IsTypeRefused self.old unix_time) }
+        ensures zone { self.new ≡ self.old }
+    {
+        self.keep_if_near(unix_time);
+        type_at(self.zone, unix_time)
+    }
+
+    // Keeps the span of the second after some near misses in a row, and no span after a far one.
+    #[inline(always)]
+    fn keep_if_near(&mut self, unix_time: i64)
+        ensures { self.new ≡ self.old }
+    {
+        let is_near = is_near(self.last, unix_time);
+        self.last = unix_time;
+        if is_near {
+            self.count_near_miss(unix_time);
+        } else {
+            self.near_misses = 0;
+            self.held.first = i64::MAX;
+        }
+    }
+
+    // Counts a near miss, or keeps the span of the second if there were enough of them.
+    #[inline(always)]
+    fn count_near_miss(&mut self, unix_time: i64)
+        ensures { self.new ≡ self.old }
+    {
+        if self.near_misses < NEAR_MISSES {
+            self.near_misses = self.near_misses + 1;
+        } else {
+            self.keep_span_at(unix_time);
+        }
+    }
+
+    // Keeps the span of the second, if clocks change at both of its ends.
+    #[inline(always)]
+    fn keep_span_at(&mut self, unix_time: i64)
+        ensures { self.new ≡ self.old }
+    {
+        match self.zone.held_at(unix_time) {
+            Some(held) => self.held = held,
+            None => {}
+        }
+    }
+}
+
+// The type in force at the second.
+#[inline(always)]
+fn type_at(zone: &TimeZone, unix_time: i64) -> Result<LocalTimeType, Error>
+    ensures { MatchResult result (TypeAt zone.now unix_time)
+        (λ e. IsFindLocalTimeTypeError e × IsTypeRefused zone.now unix_time) }
+{
+    match zone.find_local_time_type(unix_time) {
+        Ok(found) => Ok(*found),
+        Err(error) => Err(error),
+    }
+}
+
+// Whether the second is `first` or later, and before `end`: both comparisons without a jump between.
+#[inline(always)]
+fn is_between(first: i64, end: i64, unix_time: i64) -> bool
+    ensures { IsTrue result ↔ ((first ≤ℤ unix_time) × (unix_time <ℤ end)) }
+{
+    (first <= unix_time) & (unix_time < end)
+}
+
+// Whether one second lies near another. Only the time that lookups take depends on it.
+#[inline(always)]
+fn is_near(last: i64, unix_time: i64) -> bool {
+    unix_time
+        .wrapping_sub(last)
+        .wrapping_add(NEAR)
+        .cast_unsigned()
+        < TWICE_NEAR
+}
