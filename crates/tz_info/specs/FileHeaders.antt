@@ -1,7 +1,7 @@
 -- The headers of a TZif file (RFC 8536 section 3.1). Each line is a field, in the order in which it stands there.
-use Rattle.std.specs.Prelude.{ℕ, ◌≡◌, ◌≢◌, ◌≤◌, ◌==◌, ◌⊎◌, inl, inr, not, ◌&&◌, ◌||◌, Bool, true, false, List, [], ◌∷◌, length, take}
+use Rattle.std.specs.Prelude.{ℕ, ◌≡◌, ◌≢◌, ◌≤◌, ◌==◌, ◌⊎◌, not, ◌&&◌, ◌||◌, Bool, true, false, List, [], ◌∷◌, length, take}
 use Rattle.std.specs.Bool.{Decides, nat_eq}
-use Rattle.std.proofs.Common.{arith, refl}
+use Rattle.std.proofs.Common.{arith, refl, inl, inr}
 use Rattle.std.proofs.lemmas.Bool.Decides.{Decides-eqb, nat_tests}
 use Rattle.std.proofs.lemmas.Slice.Eq.{slice_eq-Decides}
 use Rattle.std.specs.Cmp.Lexicographic.{pointwise}
@@ -61,27 +61,31 @@ six_counts = do
     designations = designations;
   })
 
+-- so many indicators are given for no type, or for each
+abbrev pub IsNoneOrAll : ℕ → ℕ → Type 0
+IsNoneOrAll types n = (n ≡ 0) ⊎ (n ≡ types)
+
+abbrev pub is_none_or_all : ℕ → ℕ → Bool
+is_none_or_all types n = (n == 0) || (n == types)
+
 -- there is a type and a byte of designations, and indicators are given for no type or for each
 pub record CountsAgree (c : Counts) : Type 0 where
   pub types : c.types ≢ 0
   pub designations : c.designations ≢ 0
-  pub ut_local : (c.ut_local ≡ 0) ⊎ (c.ut_local ≡ c.types)
-  pub standard_wall : (c.standard_wall ≡ 0) ⊎ (c.standard_wall ≡ c.types)
+  pub ut_local : IsNoneOrAll c.types c.ut_local
+  pub standard_wall : IsNoneOrAll c.types c.standard_wall
 
 -- the test of them
-abbrev pub is_none_or_all : ℕ → ℕ → Bool
-is_none_or_all types n = (n == 0) || (n == types)
-
 abbrev pub counts_agree : Counts → Bool
 counts_agree c = not (c.types == 0) && not (c.designations == 0) && is_none_or_all c.types c.ut_local && is_none_or_all c.types c.standard_wall
 
-none_or_all : (types n : ℕ) → is_none_or_all types n ≡ true → (n ≡ 0) ⊎ (n ≡ types)
-none_or_all types n t = elim (n == 0) as (λ b. n == 0 ≡ b → (n ≡ 0) ⊎ (n ≡ types)) [
+none_or_all : (types n : ℕ) → is_none_or_all types n ≡ true → IsNoneOrAll types n
+none_or_all types n t = elim (n == 0) as (λ b. n == 0 ≡ b → IsNoneOrAll types n) [
   | true ↦ λ e. inl (grind (arith, nat_tests))
   | false ↦ λ e. inr (grind (arith, nat_tests))
 ] refl
 
-is_either : (types n : ℕ) → (n ≡ 0) ⊎ (n ≡ types) → is_none_or_all types n ≡ true
+is_either : (types n : ℕ) → IsNoneOrAll types n → is_none_or_all types n ≡ true
 is_either types n (inl e) = grind (arith, nat_tests)
 is_either types n (inr e) = grind (arith, nat_tests)
 

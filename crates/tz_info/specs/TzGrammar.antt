@@ -199,14 +199,17 @@ days extended = do
 abbrev pub IsHourMoreWithinDay : ℤ → Type 0
 IsHourMoreWithinDay std = (std +ℤ pos 3_600) ≤ℤ pos 86_399
 
-pub hour_more_from : (std : ℤ) → int_le (std +ℤ pos 3_600) (pos 86_399) ≡ true → IsHourMoreWithinDay std
+abbrev pub is_hour_more_within_day : ℤ → Bool
+is_hour_more_within_day std = int_le (std +ℤ pos 3_600) (pos 86_399)
+
+pub hour_more_from : (std : ℤ) → is_hour_more_within_day std ≡ true → IsHourMoreWithinDay std
 hour_more_from std t = grind (arith, ints)
 
-pub hour_more_to : (std : ℤ) → IsHourMoreWithinDay std → int_le (std +ℤ pos 3_600) (pos 86_399) ≡ true
+pub hour_more_to : (std : ℤ) → IsHourMoreWithinDay std → is_hour_more_within_day std ≡ true
 hour_more_to std l = grind (arith, ints)
 
 abbrev pub hour_more_test : (std : ℤ) → Test (IsHourMoreWithinDay std)
-hour_more_test std = record { passes = int_le (std +ℤ pos 3_600) (pos 86_399); decides = (hour_more_from std, hour_more_to std) }
+hour_more_test std = record { passes = is_hour_more_within_day std; decides = (hour_more_from std, hour_more_to std) }
 
 -- left out, the offset is an hour more than that of standard time
 unfoldable pub next_hour : ℤ → Grammar ℤ

@@ -1,5 +1,5 @@
 -- The texts of days and of the times after them, and of the offset of daylight saving time.
-use Rattle.std.proofs.Common.{◌≡◌, ℕ, zero, suc, ℤ, pos, negsuc, ◌+ℤ◌, ◌<◌, ◌≤◌, arith, refl, ap, ◌∙◌, sym, subst, List, [], ◌∷◌, ◌++◌, append_assoc, Bool, true, false, inl, inr, ◌⊎◌, ◌≢◌, cond, int_le}
+use Rattle.std.proofs.Common.{◌≡◌, ℕ, zero, suc, ℤ, pos, negsuc, ◌+ℤ◌, ◌≤ℤ◌, ◌<◌, ◌≤◌, arith, refl, ap, ◌∙◌, sym, subst, List, [], ◌∷◌, ◌++◌, append_assoc, Bool, true, false, inl, inr, ◌⊎◌, ◌≢◌, cond}
 use Rattle.std.specs.Fmt.{decimal}
 use Rattle.std.specs.Ordering.{int_eq}
 use Rattle.std.proofs.lemmas.Int.{ints}
@@ -179,8 +179,8 @@ no_comma (pos zero) rest h = clock_without comma 0 rest (omega arith) (omega ari
 no_comma (pos (suc n)) rest h = λ e. absurd (omega arith)
 no_comma (negsuc n) rest h = let a = h.0 in let b : suc n < 86400 = omega (arith, ints) in clock_without comma (suc n) rest (omega arith) (omega arith)
 
-next_within : (std dst : ℤ) → dst ≡ std +ℤ pos 3_600 → IsWithinDay dst → int_le (std +ℤ pos 3_600) (pos 86_399) ≡ true
-next_within std dst v h = let l = h.1 in grind (arith, ints)
+next_within : (std dst : ℤ) → dst ≡ std +ℤ pos 3_600 → IsWithinDay dst → (std +ℤ pos 3_600) ≤ℤ pos 86_399
+next_within std dst v h = let l = h.1 in omega (arith, ints)
 
 some_offset : (east : ℤ) (rest : List ℕ) → IsWithinDay east → offset_text east ++ rest ≢ []
 some_offset east rest h = let f = offset_first east rest h in λ e. let k = f.2 in cc

@@ -1,5 +1,5 @@
 -- Headers that are written are headers.
-use Rattle.std.proofs.Common.{◌≡◌, ℕ, ◌<◌, ◌^◌, Bool, true, false, List, ◌∷◌, ◌++◌, refl, arith, inl, inr}
+use Rattle.std.proofs.Common.{ℕ, ◌<◌, ◌^◌, Bool, true, false, List, ◌∷◌, ◌++◌, refl, arith, inl, inr}
 use Rattle.tz_base.specs.Grammar.{Spells}
 use Rattle.tz_info.specs.FileHeaders.{magic, tzif, version, six_counts, CountsAgree, header}
 use Rattle.tz_info.specs.declared.file.header.Place.{Place}

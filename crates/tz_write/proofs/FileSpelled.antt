@@ -1,5 +1,5 @@
 -- The file that is written spells the zone.
-use Rattle.std.proofs.Common.{◌≡◌, ◌≢◌, ℕ, ◌<◌, ◌≤◌, Bool, true, false, List, [], ◌∷◌, ◌++◌, length, get_or, refl, ◌∙◌, subst, inl, arith, ◌+◌, ◌*◌, ◌==◌, not}
+use Rattle.std.proofs.Common.{◌≡◌, ◌≢◌, ℕ, ◌<◌, ◌≤◌, Bool, true, false, List, [], ◌∷◌, ◌++◌, length, get_or, refl, ◌∙◌, subst, inl, arith, ◌+◌, ◌*◌}
 use Rattle.std.proofs.lemmas.Bool.{false≢true}
 use Rattle.std.proofs.lemmas.Bool.Decides.{nat_tests}
 use Rattle.std.proofs.lemmas.Str.{IsUtf8-from_ascii}
@@ -10,7 +10,7 @@ use Rattle.tz_base.specs.LocalTypes.{LocalType}
 use Rattle.tz_base.specs.Grammar.{Spells}
 use Rattle.tz_info.specs.FileBlocks.{Parts, block}
 use Rattle.tz_info.specs.FileContents.{HasNoZero}
-use Rattle.tz_info.specs.FileHeaders.{CountsAgree}
+use Rattle.tz_info.specs.FileHeaders.{CountsAgree, counts_test}
 use Rattle.tz_info.specs.FilePieces.{FilePieces, later_pieces, is_extended, later_version, after_first_block, file, HasPieces}
 use Rattle.tz_info.specs.Footers.{IsFooter, SaysRule}
 use Rattle.tz_info.specs.TzFiles.{IsTzFile, SayZone}
@@ -155,7 +155,7 @@ unfolding file_bytes first_half header_bytes counts_bytes number_bytes file
 file_pieces extended text d z size counts some places = (
   record { version = version_of extended; counts = least_counts },
   least_block ++ second_half extended text d z,
-  header_is First extended least_counts (least_block ++ second_half extended text d z) least_fit refl,
+  header_is First extended least_counts (least_block ++ second_half extended text d z) least_fit ((counts_test least_counts).decides.0 refl),
   (least_parts, second_half extended text d z, first_block (second_half extended text d z), after_is extended least_counts least_parts (second_half extended text d z) (pieces_of extended text d z) (second_is extended text d z size counts some places)),
 )
 

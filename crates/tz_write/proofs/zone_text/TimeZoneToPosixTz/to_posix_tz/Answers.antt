@@ -1,4 +1,4 @@
-use Rattle.std.proofs.Common.{◌≡◌, [], rules, subst, Some, None, MatchOption, MatchResult, string_bytes, Option}
+use Rattle.std.proofs.Common.{◌≡◌, [], rules, subst, Some, None, MatchOption, MatchResult, string_bytes}
 use Rattle.std.specs.Result.{IfOk}
 use Rattle.tz_base.specs.Errors.{IsOutOfMemory}
 use Rattle.tz_info.specs.RuleTypes.{IsRule}
