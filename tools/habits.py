@@ -26,10 +26,10 @@ HABITS = [
     ("so many, such a one", "n, one", r"\b(?:so many|such a one|no more do)\b", 6, 72),
     ("is none", "does not count, is not one", r"\b(?:is|are) none\b", 22, 15),
     ("alone after a noun", "only", r"\balone\b", 15, 22),
-    ("beside", "with, compared with, as well as", r"\bbeside\b", 69, 12),
+    ("beside", "with, compared with, as well as", r"\bbeside\b", 68, 12),
     ("behind", "after", r"\bbehind\b", 7, 13),
     ("refused", "rejected, returns an error", r"\brefus\w+", 14, 28),
-    ("reading for a local time", "local time, local date-time", r"\breadings?\b", 86, 124),
+    ("reading for a local time", "local time, local date-time", r"\breadings?\b", 83, 124),
     ("TZ text", "TZ string", r"\bTZ texts?\b", 16, 48),
     ("wrong body", "planted bug", r"\bwrong bod\w+", 1, 0),
 ]
