@@ -29,7 +29,7 @@ HABITS = [
     ("beside", "with, compared with, as well as", r"\bbeside\b", 68, 12),
     ("behind", "after", r"\bbehind\b", 7, 13),
     ("refused", "rejected, returns an error", r"\brefus\w+", 14, 28),
-    ("reading for a local time", "local time, local date-time", r"\breadings?\b", 86, 124),
+    ("reading for a local time", "local time, local date-time", r"\breadings?\b", 83, 124),
     ("TZ text", "TZ string", r"\bTZ texts?\b", 16, 48),
     ("wrong body", "planted bug", r"\bwrong bod\w+", 1, 0),
 ]
