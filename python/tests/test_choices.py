@@ -397,6 +397,21 @@ def test_each_kind_of_failure():
         NEW_YORK.localize([0], errors="collect")
 
 
+def test_the_first_row_of_each_kind_is_told():
+    """Whichever kind of error it has."""
+    undecided, greatest = np.datetime64(FOLD, "ns"), np.int64(2**63 - 1).view("M8[ns]")
+    kinds = {
+        undecided: sahvumbi.FoldError,
+        np.datetime64(GAP, "ns"): sahvumbi.GapError,
+        greatest: sahvumbi.OutOfRangeError,
+    }
+    for values in itertools.permutations(kinds):
+        rows = np.array([SUMMER, *values], "M8[ns]")
+        with pytest.raises(kinds[values[0]]) as raised:
+            NEW_YORK.localize(rows, offset=np.zeros(4, int))
+        assert raised.value.row == 1
+
+
 def test_failures_over_blocks():
     values = np.full(200_000, SUMMER, "M8[s]")
     values[::1_000] = GAP

@@ -25,6 +25,14 @@ class Given(NamedTuple):
     values: Array
 
 
+class Fault(NamedTuple):
+    """Rows that have no answer, in order, and why."""
+
+    rows: Array
+    number: int
+    words: Optional[str]
+
+
 class Choice:
     """The choice of a call, for each row of its column.
 
@@ -45,18 +53,15 @@ class Choice:
         part.failures = self.failures
         return part
 
-    def fail(
-        self, column: Column, rows: Array, numbers: Array, words: Optional[str] = None
-    ) -> None:
-        """Raises the error of the first of these rows, or collects them all."""
-        if not rows.size:
-            return
-        if self.failures is None:
-            first = int(rows.argmin())
-            number = int(numbers[first])
-            raise column.error(KINDS[number], int(rows[first]), number, words)
-        places = rows if column.places is None else column.places[rows]
-        self.failures.append((places, numbers))
+    def fail(self, column: Column, faults: list[Fault]) -> None:
+        """Raises the error of the first row that has no answer, or collects them all."""
+        if self.failures is not None:
+            for rows, number, _ in faults:
+                places = rows if column.places is None else column.places[rows]
+                self.failures.append((places, np.full(rows.size, number, np.uint8)))
+        elif faults:
+            rows, number, words = min(faults, key=lambda fault: int(fault.rows[0]))
+            raise column.error(KINDS[number], int(rows[0]), number, words)
 
     def collected(self, column: Column) -> Failures:
         """Returns the rows that have no answer, in order."""

@@ -72,9 +72,12 @@ class Column:
         place = self.place(row)
         return kind(place, shown, number, words, self.form.label(place))
 
+    @property
+    def misfit_words(self) -> str:
+        return f"the answer does not fit {f'datetime64[{self.unit}]' if self.is_time else 'int64'}"
+
     def misfit(self, row: int) -> RowError:
-        words = f"the answer does not fit {f'datetime64[{self.unit}]' if self.is_time else 'int64'}"
-        return self.error(OutOfRangeError, row, OUT_OF_RANGE, words)
+        return self.error(OutOfRangeError, row, OUT_OF_RANGE, self.misfit_words)
 
     # Answers
 

@@ -47,8 +47,8 @@ ROOM = 2_048
 STRETCH = 1_000 * 31_556_952
 
 LIBRARY = Path(__file__).with_name("libzoned_ffi.so")
-# What the library's code needs of a processor, in the words of /proc/cpuinfo: x86-64-v2.
-NEEDED = {"cx16", "lahf_lm", "popcnt", "pni", "sse4_1", "sse4_2", "ssse3"}
+# What the library's code needs of a processor, in the words of /proc/cpuinfo.
+NEEDED = {"popcnt", "sse4_1", "sse4_2", "ssse3"}
 CPU = Path("/proc/cpuinfo")
 
 Array = npt.NDArray[Any]

@@ -19,6 +19,8 @@ class ArrayForm:
 
     #: Whether the least int64 is NaT: None if it is so of times, and not of numbers.
     has_nat: Optional[bool] = None
+    #: The type of a column of texts of up to seven letters.
+    text: Any = "U7"
 
     def __init__(self, shape: tuple[int, ...]):
         self.shape = shape
@@ -56,6 +58,8 @@ class ArrayForm:
 
 class SeriesForm(ArrayForm):
     """A Series of pandas. Its answers have its index, name, attrs and class."""
+
+    text = object
 
     def __init__(self, of: Any, has_nat: Optional[bool] = None):
         super().__init__((len(of),))

@@ -4,7 +4,7 @@ from __future__ import annotations
 
 import numpy as np
 
-from ._choice import Choice
+from ._choice import Choice, Fault
 from ._columns import Block, Column
 from ._door import NEVER, ONCE, OUT_OF_RANGE, REFUSE, SEVERAL_TIMES, SHIFT_FORWARD, Door
 from ._forms import NAT, Array
@@ -16,8 +16,6 @@ from .errors import OUT_OF_RANGE as IS_OUT_OF_RANGE
 FIRST_SECOND, LAST_SECOND = -8_334_601_228_800, 8_210_266_876_799
 # No offset is as great.
 FAR = 2**31
-NUMBERS = np.zeros(4, np.uint8)
-NUMBERS[[NEVER, SEVERAL_TIMES, OUT_OF_RANGE]] = GAP, FOLD, IS_OUT_OF_RANGE
 OUTSIDE = "the local time is outside the years -262143 to 262142"
 
 
@@ -29,11 +27,11 @@ def localized(door: Door, column: Column, choice: Choice) -> Array:
         clocks = Clocks(door, block, choice)
         clocks.take()
         clocks.write(clocks.last if choice.fold == "latest" else clocks.first, answers)
-        if choice.fold == "infer":
-            rows.append(clocks.open + block.start)
-            last.append(clocks.last_instants())
-    folds = Folds(np.concatenate(rows), np.concatenate(last)) if rows else None
-    if folds and folds.rows.size:
+        rows.append(clocks.open + block.start)
+        last.append(clocks.last_instants())
+        choice.fail(column, clocks.faults)
+    if any(each.size for each in rows):
+        folds = Folds(np.concatenate(rows), np.concatenate(last))
         decide(column, answers, folds, choice.groups)
     return answers
 
@@ -48,17 +46,21 @@ class Clocks:
         # The rows that become NaT, those that lose what is less than a second, and those that the
         # order of rows decides.
         self.lost = self.cut = self.open = np.empty(0, np.intp)
+        self.faults: list[Fault] = []
 
     def take(self) -> None:
         """Decides gaps and folds: makes two offsets one, or gives rows up as lost or failed."""
         gap, fold = self.choice.gap, self.choice.fold
         rows = np.flatnonzero(self.shown != ONCE)
+        if not rows.size:
+            return
         if self.block.is_nat is not None:
             rows = rows[~self.block.is_nat[rows]]
         shown = self.shown[rows]
         never, several, outside = shown == NEVER, shown == SEVERAL_TIMES, shown == OUT_OF_RANGE
-        refused = outside | (never & (gap == "raise")) | (several & (fold == "raise"))
-        self._fail(rows[refused], NUMBERS[shown[refused]])
+        self._fail(rows[outside], IS_OUT_OF_RANGE, OUTSIDE)
+        self._fail(rows[never & (gap == "raise")], GAP)
+        self._fail(rows[several & (fold == "raise")], FOLD)
         skipped = rows[never]
         if skipped.size and gap == "shift":
             self._shift(skipped)
@@ -77,7 +79,7 @@ class Clocks:
         self.first[skipped] = self.last[skipped] = local_times - told["instant"]
         outside = skipped[told["number"] != 0]
         self.first[outside] = self.last[outside] = 0
-        self._fail_out_of_range(outside, WORDS[IS_OUT_OF_RANGE])
+        self._fail(outside, IS_OUT_OF_RANGE)
 
     def _go_after(self, skipped: Array) -> None:
         """Takes the first instant after the gap: the first second that shows a later time.
@@ -110,9 +112,8 @@ class Clocks:
             offsets = np.where(is_decided, values, 0)
             is_decided &= self.door.offsets(local_times - offsets) == offsets
         self.first[rows] = self.last[rows] = offsets
-        undecided = rows[~is_decided]
         words = f"{WORDS[FOLD]}, and {given.name}= does not say which it is"
-        self._fail(undecided, np.full(undecided.size, FOLD, np.uint8), words)
+        self._fail(rows[~is_decided], FOLD, words)
 
     def _is_dst(self, instants: Array) -> Array:
         flags: Array = self.door.types(instants)["is_dst"]
@@ -129,15 +130,17 @@ class Clocks:
             least = NAT + self.block.column.has_nat
             misfits = np.union1d(misfits, self.cut[mine[self.cut] < least + parts])
             mine[self.cut] -= parts
-        self._fail_out_of_range(misfits, None)
-        mine[self.lost] = NAT
+        self._fail(misfits, IS_OUT_OF_RANGE, self.block.column.misfit_words)
+        if self.lost.size:
+            mine[self.lost] = NAT
 
     def last_instants(self) -> Array:
         """Returns the last instants of the open rows."""
         if not self.open.size:
             return self.open
         instants = np.empty(self.block.values.size, np.int64)
-        self._fail_out_of_range(self._moved(self.last, instants), None)
+        misfits = np.intersect1d(self._moved(self.last, instants), self.open)
+        self._fail(misfits, IS_OUT_OF_RANGE, self.block.column.misfit_words)
         return instants[self.open]
 
     def _moved(self, offsets: Array, out: Array) -> Array:
@@ -154,22 +157,17 @@ class Clocks:
     def _must_be_in_range(self, offsets: Array) -> None:
         instants = self.block.seconds - offsets
         outside = (instants < FIRST_SECOND) | (instants > LAST_SECOND)
-        self._fail_out_of_range(np.flatnonzero(outside), WORDS[IS_OUT_OF_RANGE])
+        self._fail(np.flatnonzero(outside), IS_OUT_OF_RANGE)
 
     # Rows without an answer
 
     def _lose(self, places: Array) -> None:
-        self.lost = np.concatenate([self.lost, places])
+        self.lost = np.union1d(self.lost, places)
 
-    def _fail_out_of_range(self, places: Array, words: str | None) -> None:
-        """Fails at rows that aren't lost; without words at those whose answer does not fit."""
-        places = np.setdiff1d(places, self.lost)
-        if words is None and places.size and self.choice.failures is None:
-            raise self.block.column.misfit(self.block.start + int(places[0]))
-        self._fail(places, np.full(places.size, IS_OUT_OF_RANGE, np.uint8), words)
-
-    def _fail(self, places: Array, numbers: Array, words: str | None = None) -> None:
-        if places.size and words is None and numbers[0] == IS_OUT_OF_RANGE:
-            words = OUTSIDE
-        self.choice.fail(self.block.column, self.block.start + places, numbers, words)
-        self._lose(places)
+    def _fail(self, places: Array, number: int, words: str | None = None) -> None:
+        """Notes the rows that have no answer, but for those that are lost already."""
+        if places.size:
+            places = np.setdiff1d(places, self.lost)
+        if places.size:
+            self.faults.append(Fault(self.block.start + places, number, words))
+            self._lose(places)

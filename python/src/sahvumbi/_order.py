@@ -11,7 +11,7 @@ from ._forms import NAT, Array
 from .errors import FOLD, WORDS, FoldError
 
 OUT_OF_ORDER = "rows are not in order of time here, so that no order tells folds apart"
-UNDECIDED = f"{WORDS[FOLD]}, and the order of rows doesn't tell which it is"
+TWO_WAYS = f"{WORDS[FOLD]}, and the order of rows doesn't tell which it is"
 
 
 class Folds(NamedTuple):
@@ -21,7 +21,7 @@ class Folds(NamedTuple):
     last: Array
 
 
-class Fault(NamedTuple):
+class Undecided(NamedTuple):
     """A row that no order decides, and why."""
 
     row: int
@@ -44,7 +44,7 @@ def decide(column: Column, answers: Array, folds: Folds, groups: Optional[Array]
             answers[rows] = instants
         else:
             row = fault.row if isinstance(places, slice) else int(places[fault.row])
-            faults.append(Fault(row, fault.words))
+            faults.append(Undecided(row, fault.words))
     if faults:
         row, words = min(faults)
         raise column.error(FoldError, row, FOLD, words)
@@ -74,7 +74,7 @@ def _sequences(
         yield places, np.searchsorted(places, folds.rows[mine]), folds.last[mine]
 
 
-def _decided(first: Array, opens: Array, last: Array) -> tuple[Array, Optional[Fault]]:
+def _decided(first: Array, opens: Array, last: Array) -> tuple[Array, Optional[Undecided]]:
     """The instants of the open rows, or why there are none.
 
     Only open rows and the rows beside them are compared; the others are in order or not."""
@@ -87,11 +87,11 @@ def _decided(first: Array, opens: Array, last: Array) -> tuple[Array, Optional[F
     earliest, count = _earliest(first_near, last_near)
     stuck = _steps_back(first, opens) + near[count : count + 1].tolist()
     if stuck:
-        return earliest, Fault(min(stuck), OUT_OF_ORDER)
+        return earliest, Undecided(min(stuck), OUT_OF_ORDER)
     latest = -_earliest(-last_near[::-1], -first_near[::-1])[0][::-1]
     differ = near[earliest != latest]
     if differ.size:
-        return earliest, Fault(int(differ[0]), UNDECIDED)
+        return earliest, Undecided(int(differ[0]), TWO_WAYS)
     return earliest[places], None
 
 

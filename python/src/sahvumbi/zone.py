@@ -118,12 +118,13 @@ class Zone(Opened):
         """
         column = taken(instants, may_be_aware=True)
         seconds, is_dst = np.empty(len(column), np.int32), np.empty(len(column), bool)
-        abbreviations, is_nat = np.empty(len(column), "U7"), np.zeros(len(column), bool)
+        is_nat = np.zeros(len(column), bool)
+        abbreviations = np.empty(len(column), column.form.text)
         for block in column.blocks():
             told = self._door.types(block.seconds)
             self._must_have_offsets(block, told["offset"])
             seconds[block.rows], is_dst[block.rows] = told["offset"], told["is_dst"] != 0
-            abbreviations[block.rows] = told["abbreviation"]
+            write_texts(told["abbreviation"], abbreviations[block.rows])
             if block.is_nat is not None:
                 is_nat[block.rows] = block.is_nat
         is_dst[is_nat], abbreviations[is_nat] = False, ""
@@ -317,6 +318,17 @@ class Zone(Opened):
         array([-14400, -18000], dtype=int32)
         """
         return of_stretch(self._door, from_, to)
+
+
+def write_texts(words: Array, out: Array) -> None:
+    """Writes short words as texts, of which there are few different ones: each is made once."""
+    numbers = np.ascontiguousarray(words).view(np.int64)
+    is_left = np.ones(words.size, bool)
+    while is_left.any():
+        first = int(is_left.argmax())
+        same = numbers == numbers[first]
+        out[same] = words[first].decode()
+        is_left &= ~same
 
 
 def zone_of_answer(tz: Any) -> Any:
