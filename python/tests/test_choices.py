@@ -229,6 +229,8 @@ def test_what_is_given_for_rows():
     assert NEW_YORK.localize(twice, fold=1).tolist() == [LAST, noon, LAST]
     assert NEW_YORK.localize(column(FOLD)[0], fold=0) == FIRST
     assert NEW_YORK.localize(twice.reshape(3, 1), fold=[[0], [0], [1]]).shape == (3, 1)
+    index = NEW_YORK.localize(pd.DatetimeIndex(twice), fold=pd.Series([0, 0, 1]))
+    assert index[0] == pd.Timestamp(str(FIRST), tz="UTC") and index[2] > index[0]
     series = pd.Series(twice, index=[7, 8, 9])
     folds = pd.Series([0, 0, 1], index=[7, 8, 9])
     assert NEW_YORK.localize(series, fold=folds)[9] == pd.Timestamp(str(LAST), tz="UTC")

@@ -8,7 +8,7 @@ from typing import Any, NamedTuple, Optional
 import numpy as np
 
 from ._columns import Column
-from ._forms import NAT, Array, Failures
+from ._forms import NAT, Array, Failures, SeriesForm
 from .errors import FOLD, GAP, OUT_OF_RANGE, FoldError, GapError, OutOfRangeError, printable
 
 GAPS = ("raise", "shift", "after", "nat")
@@ -152,9 +152,8 @@ def row_by_row(name: str, values: Any, column: Column) -> Array:
     """An array with a value for each row, in the order of rows; `UNKNOWN` where there is none."""
     pandas = sys.modules.get("pandas")
     if pandas is not None and isinstance(values, pandas.Series):
-        index = getattr(column.form, "index", None)
-        if index is not None and not values.index.equals(index):
-            raise ValueError(f"{name}= has another index than the local times")
+        if type(column.form) is SeriesForm and not values.index.equals(column.form.index):
+            raise ValueError(f"{name}= has another index than the column")
     dtype: Any = getattr(values, "dtype", None)
     if pandas is not None and pandas.api.types.is_extension_array_dtype(dtype):
         if dtype.kind in "biu":
@@ -162,7 +161,7 @@ def row_by_row(name: str, values: Any, column: Column) -> Array:
     array = np.asarray(values)
     shape = column.form.shape
     if array.shape not in ((), shape):
-        raise ValueError(f"{name}= has the shape {array.shape}, and the local times {shape}")
+        raise ValueError(f"{name}= has the shape {array.shape}, and the column {shape}")
     return np.broadcast_to(array, shape).reshape(-1)
 
 

@@ -40,6 +40,8 @@ LOCAL_TYPE = np.dtype([("offset", np.int32), ("is_dst", np.int32), ("abbreviatio
 CHANGE = np.dtype([("at", np.int64), ("before", LOCAL_TYPE), ("after", LOCAL_TYPE)])
 
 NO_CHANGE = 35
+#: No unit has that count in a second, and a row has no local time.
+UNKNOWN_UNIT, NO_LOCAL_TIME = 36, 37
 LEAST = -(2**63)
 # Changes that one call has room for, and seconds that it is asked: a thousand years. Between two
 # calls Python may stop.
@@ -99,6 +101,9 @@ def _calls() -> ctypes.CDLL:
         (library.zoned_zone_next_change, [c_void_p, c_int64, c_void_p]),
         (library.zoned_zone_changes, [c_void_p, c_int64, c_int64, *array, c_void_p]),
     ]
+    if hasattr(library, "zoned_zone_local"):
+        column = [c_void_p, c_int64, *array, *array, c_void_p]
+        calls.append((library.zoned_zone_local, column))
     for call, arguments in calls:
         call.argtypes, call.restype = arguments, c_uint32
     library.zoned_close.restype = None
@@ -124,6 +129,22 @@ class Door:
         They are read where they are.
         """
         return self._asked(_LIBRARY.zoned_at, instants, np.empty(instants.size, np.int32))
+
+    def local_times(self, per_second: int, instants: Array, answers: Array) -> bool:
+        """Writes the local time of each instant, both counted in units of `1 / per_second` seconds.
+
+        The least int64 is no time, and stays. Returns False if a row has no local time, or if the
+        library has no call for columns of that unit."""
+        if not hasattr(_LIBRARY, "zoned_zone_local"):
+            return False
+        asked, answered, row = instants.ctypes.data, answers.ctypes.data, c_size_t()
+        with self._opened() as zone:
+            number: int = _LIBRARY.zoned_zone_local(
+                zone, per_second, asked, instants.size, answered, answers.size, byref(row)
+            )
+        if number not in (UNKNOWN_UNIT, NO_LOCAL_TIME):
+            self._must_be_answered(number)
+        return number == 0
 
     def types(self, instants: Array) -> Array:
         """The local time type at each Unix second, as `LOCAL_TYPE`."""

@@ -135,6 +135,9 @@ class Zone(Opened):
 
     def _local_times(self, column: Column) -> Array:
         answers = np.empty(len(column), np.int64)
+        is_least_no_number = column.has_nat or not (column.values == NAT).any()
+        if is_least_no_number and self._door.local_times(column.per_second, column.values, answers):
+            return answers
         for block in column.blocks():
             misfits = block.moved(1, self._offsets_of(block), answers[block.rows])
             if misfits.size:
