@@ -1,12 +1,18 @@
-"""What pyproject.toml can't say: the wheel is for one kind of machine, and its library is there."""
+"""What pyproject.toml can't say: a wheel has the library, and is for the machines that run it."""
 
+import re
+import shutil
 import sys
 from pathlib import Path
 
 from setuptools import Distribution, setup
 from wheel.bdist_wheel import bdist_wheel
 
-LIBRARY = Path(__file__).resolve().parent / "src/sahvumbi/libzoned_ffi.so"
+HERE = Path(__file__).resolve().parent
+LIBRARY = HERE / "src/sahvumbi/libzoned_ffi.so"
+MACHINE = "x86_64"
+# The newest C library that manylinux2014 may need (PEP 599).
+GLIBC = 2, 17
 
 
 class ForThisMachine(Distribution):
@@ -19,11 +25,23 @@ class ForThisMachine(Distribution):
 class ForEachPython(bdist_wheel):
     """The library is called by ctypes, so one wheel serves each Python 3."""
 
+    def run(self):
+        if not LIBRARY.exists():
+            sys.exit(f"{LIBRARY} is missing. The README beside setup.py says how it is built.")
+        super().run()
+
     def get_tag(self):
-        _, _, platform = super().get_tag()
-        return "py3", "none", platform
+        return "py3", "none", f"{family()}_{MACHINE}"
 
 
-if not LIBRARY.exists():
-    sys.exit(f"{LIBRARY} is missing: the README beside this file has the two lines that build it")
+def family():
+    """Returns the kind of Linux that the library runs on, by the C library that it needs."""
+    needed = re.findall(rb"GLIBC_(\d+)\.(\d+)", LIBRARY.read_bytes())
+    newest = max((int(major), int(minor)) for major, minor in needed)
+    return "manylinux2014" if newest <= GLIBC else "linux"
+
+
+for name in ("LICENSE", "LICENSE-APACHE"):
+    if (HERE.parent / name).exists():
+        shutil.copyfile(HERE.parent / name, HERE / name)
 setup(distclass=ForThisMachine, cmdclass={"bdist_wheel": ForEachPython})

@@ -10,12 +10,14 @@
 # - the lines of python/README.md that build the library and install the package, in an environment
 #   of its own;
 # - the tests of python/tests, by pytest and hypothesis, with the same examples in each run;
-# - the examples in docstrings;
+# - the examples in docstrings, and with them the blocks of Python in docs/PYTHON.md, docs/SCALE.md
+#   and python/README.md;
+# - the types of the package and of its answers, by mypy;
 # - examples/at_scale.py on 100,000 rows, with one of its workers ended midway.
 set -euo pipefail
 cd "$(dirname "$0")/.."
 PACKAGES=(gcc libc6-dev tzdata python3 python3-venv python3-pip python3-setuptools python3-wheel
-  python3-numpy python3-pandas python3-pytest python3-hypothesis python3-dask python3-distributed)
+  python3-numpy python3-pandas python3-pytest python3-hypothesis python3-dask python3-distributed mypy)
 ARCHIVE=crates/zoned_ffi/out/libzoned_ffi.a
 
 fail() {
@@ -77,5 +79,7 @@ case $where in
 esac
 python -m pytest -q -p no:cacheprovider python/tests
 python -m pytest -q -p no:cacheprovider --doctest-modules --pyargs sahvumbi
+(cd python && quietly /usr/bin/mypy --cache-dir "$room/mypy")
+(cd python && quietly /usr/bin/mypy --cache-dir "$room/mypy" tests/typed.py)
 timeout 600 "$room/venv/bin/python" examples/at_scale.py --rows 100000 --partition 5000 \
   --workers 1,2 --kill --folder "$room/at_scale" </dev/null || fail 'examples/at_scale.py failed'

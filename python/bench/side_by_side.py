@@ -12,6 +12,10 @@ the offset before it and a fold by its first instant (fold=0); it is compared wi
 fold='earliest'. Each is asked 15 times, by turns, and the least time counts, so that what other
 processes take shows little.
 
+pandas takes the zones of a name from pytz. A last table has it with those of zoneinfo and of
+dateutil too, on 300,000 rows from 1900 to 2099: in no order, sorted, and of one day; each is asked
+5 times, by turns.
+
 The zones are those of the tz database in /usr/share/zoneinfo. Prints the tables of docs/PYTHON.md.
 """
 
@@ -19,6 +23,7 @@ import platform
 import sys
 import time
 from datetime import datetime, timedelta
+from functools import partial
 from pathlib import Path
 from zoneinfo import ZoneInfo
 
@@ -38,13 +43,15 @@ ZONES = [
 ]
 YEARS = {"1970 to 2036": ("1970", "2037"), "1900 to 2099": ("1900", "2100")}
 LOOPED, RUNS = 100_000, 15
+KINDS = "pytz", "ZoneInfo", "dateutil"
+KINDS_ROWS, KINDS_RUNS = 300_000, 5
 EPOCH = datetime(1970, 1, 1)
 
 
-def timed(asks, column):
+def timed(asks, column, runs=RUNS):
     """What each of them answers, and how long a row takes it in ns; they take turns."""
     answers, least = [None for _ in asks], [float("inf") for _ in asks]
-    for turn in range(RUNS * len(asks)):
+    for turn in range(runs * len(asks)):
         place = turn % len(asks)
         begun = time.perf_counter()
         answers[place] = asks[place](column)
@@ -76,15 +83,19 @@ class Side:
         self.name = name
         self.ours = Zone.from_file(DATABASE / name)
         with (DATABASE / name).open("rb") as file:
-            self.looped = ZoneInfo.from_file(file)
+            self.looped = ZoneInfo.from_file(file, key=name)
 
-    def pandas_local(self, instants):
-        return instants.dt.tz_convert(self.name).dt.tz_localize(None)
+    def of_pandas(self, kind):
+        """The zone as pandas takes it."""
+        zones = self.name, self.looped, f"dateutil/{self.name}"
+        return dict(zip(KINDS, zones))[kind]
 
-    def pandas_instants(self, local):
-        return local.dt.tz_localize(self.name, ambiguous="NaT", nonexistent="NaT").dt.tz_convert(
-            "UTC"
-        )
+    def pandas_local(self, instants, kind="pytz"):
+        return instants.dt.tz_convert(self.of_pandas(kind)).dt.tz_localize(None)
+
+    def pandas_instants(self, local, kind="pytz"):
+        zone = self.of_pandas(kind)
+        return local.dt.tz_localize(zone, ambiguous="NaT", nonexistent="NaT").dt.tz_convert("UTC")
 
     def our_instants(self, local):
         return self.ours.localize(local, gap="nat", fold="nat")
@@ -174,11 +185,46 @@ def print_differences(differences):
         print_row(*difference)
 
 
+def columns(random):
+    """Instants in three orders."""
+    first, end = (np.datetime64(year, "s").astype(np.int64) for year in YEARS["1900 to 2099"])
+    seconds = random.integers(first, end, KINDS_ROWS)
+    day = np.datetime64("2021-07-01", "s").astype(np.int64) + random.integers(0, 86_400, KINDS_ROWS)
+    for order, each in (("none", seconds), ("sorted", np.sort(seconds)), ("one day", day)):
+        yield order, pd.Series((each * 10**9).view("M8[ns]")).dt.tz_localize("UTC")
+
+
+def print_kinds():
+    """pandas with the zones of three libraries."""
+    print("\n### pandas with the zones of pytz, zoneinfo and dateutil\n")
+    differ = [f"{kind} differs" for kind in KINDS]
+    print_row("question", "zone", "order", *KINDS, "Sahvumbi", *differ)
+    print("|---|---|---|--:|--:|--:|--:|--:|--:|--:|")
+    random = np.random.default_rng(2)
+    for name in ZONES[:2]:
+        side = Side(name)
+        for order, instants in columns(random):
+            ask = [partial(side.pandas_local, kind=kind) for kind in KINDS]
+            local = print_kind("to local times", side, order, [*ask, side.ours.to_local], instants)
+            local += pd.to_timedelta(random.integers(-5_400, 5_400, KINDS_ROWS), "s")
+            ask = [partial(side.pandas_instants, kind=kind) for kind in KINDS]
+            print_kind("to instants", side, order, [*ask, side.our_instants], local)
+
+
+def print_kind(question, side, order, asks, column):
+    """A row of the table. Gives the answer of this package."""
+    answers, times = timed(asks, column, KINDS_RUNS)
+    wrong = [f"{differing(answers[-1], each).size:,}" for each in answers[:-1]]
+    print_row(question, side.name, order, *(f"{each:.1f} ns" for each in times), *wrong)
+    return answers[-1]
+
+
 def main():
     rows = int(sys.argv[1]) if len(sys.argv) > 1 else 1_000_000
     versions = [f"{each.__name__} {each.__version__}" for each in (np, pd)]
     print(f"{rows:,} rows. Python {platform.python_version()}, {', '.join(versions)}.\n")
     print_differences(list(print_times(rows)))
+    print_kinds()
 
 
 main()

@@ -94,13 +94,10 @@ def test_what_is_no_column_is_refused():
         INSTANTS,
         pd.Series([1.5]),
         pd.Series(["2021-01-01"]),
-        pd.Series([1, None], dtype="Int64"),
         LOCALS.dt.to_period("D"),
     ):
         with pytest.raises(TypeError):
             NEW_YORK.localize(column)
-    with pytest.raises(TypeError, match="to_series"):
-        NEW_YORK.to_local(pd.DatetimeIndex(["2021-01-01"]))
 
 
 def test_empty_and_views():

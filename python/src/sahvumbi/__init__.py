@@ -1,16 +1,23 @@
-"""Time zones for columns of time: numpy arrays and pandas Series.
+"""Time zones for columns of time: numpy arrays, pandas Series and Indexes.
 
 When do the clocks of a zone show a time, and what do they show at an instant? The answers come from
 a library in which each function is proved to meet its contract. This package calls it and is
 tested; it is not proved.
 
 >>> import numpy as np, sahvumbi
->>> new_york = sahvumbi.Zone.from_text("EST5EDT,M3.2.0,M11.1.0")
+>>> new_york = sahvumbi.Zone("America/New_York")
 >>> new_york.localize(np.array(["2021-11-07T01:30"], "M8[ms]"), fold="latest")
 array(['2021-11-07T06:30:00.000'], dtype='datetime64[ms]')
+
+`import sahvumbi.pandas` gives Series and Indexes the accessor `.sahvumbi`.
 """
 
 from ._changes import Changes, Time
+from ._forms import Failures
+from ._many import localize_many, to_local_many
+from ._names import zones
+from ._types import LocalTypes, Times, WallClocks
+from ._version import __version__
 from .errors import (
     FoldError,
     GapError,
@@ -18,14 +25,17 @@ from .errors import (
     OutOfRangeError,
     RowError,
     ZoneError,
+    ZoneNotFoundError,
     ZoneRefusedError,
 )
-from .zone import Times, WallClocks, Zone
+from .zone import Zone
 
 __all__ = [
     "Changes",
+    "Failures",
     "FoldError",
     "GapError",
+    "LocalTypes",
     "NoOffsetError",
     "OutOfRangeError",
     "RowError",
@@ -34,5 +44,10 @@ __all__ = [
     "WallClocks",
     "Zone",
     "ZoneError",
+    "ZoneNotFoundError",
     "ZoneRefusedError",
+    "__version__",
+    "localize_many",
+    "to_local_many",
+    "zones",
 ]

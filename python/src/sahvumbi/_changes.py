@@ -2,20 +2,24 @@
 
 from __future__ import annotations
 
+from datetime import datetime
 from typing import TYPE_CHECKING, Any, NamedTuple, Union
 
 import numpy as np
 import numpy.typing as npt
 
-from ._columns import GREATEST, LEAST, Column, taken
+from ._columns import GREATEST, Column
 from ._door import Door
+from ._forms import NAT, SeriesForm
+from ._inputs import taken
 from .errors import OUT_OF_RANGE, OutOfRangeError
 
 if TYPE_CHECKING:
     import pandas
 
-#: An end of a stretch: seconds since 1970-01-01 00:00:00 UTC, or a datetime64 of any unit.
-Time = Union[int, np.integer, np.datetime64]
+#: An end of a stretch: seconds since 1970-01-01 00:00:00 UTC, a datetime64 of any unit, a datetime
+#: or a Timestamp.
+Time = Union[int, "np.integer[Any]", np.datetime64, datetime]
 
 
 class Changes(NamedTuple):
@@ -40,7 +44,7 @@ class Changes(NamedTuple):
         """A DataFrame with a row for each change. Seconds of datetime64 are told to be of UTC.
 
         >>> from sahvumbi import Zone
-        >>> paris = Zone.from_text("CET-1CEST,M3.5.0,M10.5.0/3")
+        >>> paris = Zone("Europe/Paris")
         >>> changes = paris.changes(np.datetime64("2021"), np.datetime64("2022"))
         >>> changes.to_frame()[["at", "offset_after", "name_after"]]
                                  at    offset_after name_after
@@ -59,7 +63,7 @@ def of_stretch(door: Door, begin: Time, end: Time) -> Changes:
     """The changes from `begin` on and before `end`."""
     first, last = _end("from_", begin), _end("to", end)
     if first.is_time != last.is_time:
-        raise TypeError("from_ and to are both numbers of seconds, or both datetime64")
+        raise TypeError("from_ and to are both numbers of seconds, or both datetime64 or datetime")
     found = door.changes(_second("from_", first), _second("to", last))
     at, before, after = found["at"].copy(), found["before"], found["after"]
     changes = Changes(
@@ -82,13 +86,17 @@ def of_stretch(door: Door, begin: Time, end: Time) -> Changes:
 
 def _end(name: str, value: Any) -> Column:
     """An end of the stretch, as a column of one row."""
-    if isinstance(value, int) and not LEAST <= value <= GREATEST:
+    if isinstance(value, int) and not NAT <= value <= GREATEST:
         raise OutOfRangeError(None, value, OUT_OF_RANGE, "it does not fit int64", name)
+    if isinstance(value, str):
+        raise TypeError(f"{name} is a text: numpy.datetime64 and pandas.Timestamp read one")
     try:
-        column = taken(value, may_be_aware=False)
+        column = taken(value, may_be_aware=True)
     except OutOfRangeError as error:
         raise OutOfRangeError(None, error.value, error.number, error.words, name) from None
-    if column.series is not None or column.shape:
+    except TypeError as error:
+        raise TypeError(f"{name}: {error}") from None
+    if column.form.shape or isinstance(column.form, SeriesForm):
         raise TypeError(f"{name} is one instant, and no column of them")
     return column
 
@@ -96,6 +104,6 @@ def _end(name: str, value: Any) -> Column:
 def _second(name: str, end: Column) -> int:
     """The least second that does not come before the end."""
     value = int(end.values[0])
-    if end.is_time and value == LEAST:
+    if end.is_time and value == NAT:
         raise ValueError(f"{name} is NaT")
     return -(-value // end.per_second)

@@ -2,39 +2,108 @@
 
 from __future__ import annotations
 
+from typing import Iterator, NamedTuple, Optional
+
 import numpy as np
 
 from ._columns import Column
+from ._forms import NAT, Array
 from .errors import FOLD, WORDS, FoldError
 
+OUT_OF_ORDER = "rows are not in order of time here, so that no order tells folds apart"
+TWO_WAYS = f"{WORDS[FOLD]}, and the order of rows doesn't tell which it is"
 
-def in_order(
-    column: Column, first: np.ndarray, last: np.ndarray, is_left_out: np.ndarray
-) -> np.ndarray:
-    """The one choice between first and last instants by which no row comes before an earlier row.
 
-    Rows that are left out have no part in it. Raises `FoldError` at the first row that two such
-    choices tell differently, or at the first row up to which there is none.
+class Folds(NamedTuple):
+    """Rows that clocks showed several times, in order, and the last instant of each."""
+
+    rows: Array
+    last: Array
+
+
+class Undecided(NamedTuple):
+    """A row that no order decides, and why."""
+
+    row: int
+    words: str
+
+
+def decide(column: Column, answers: Array, folds: Folds, groups: Optional[Array]) -> None:
+    """Writes the instants of the folds, by the one choice in which no row comes before an earlier
+    row of its group.
+
+    `answers` has the first instant of each row, and NaT for those that have no part in the order.
+    Raises `FoldError` at the first row that two such choices tell differently, or at the first row
+    up to which there is none.
     """
-    if np.array_equal(first, last):
-        return first
-    places = np.flatnonzero(~is_left_out)
-    first_kept, last_kept = first[places], last[places]
-    earliest, count = _earliest(first_kept, last_kept)
-    if count < places.size:
-        words = "rows are not in order of time here, so that no order tells folds apart"
-        raise column.error(FoldError, int(places[count]), FOLD, words)
-    latest = -_earliest(-last_kept[::-1], -first_kept[::-1])[0][::-1]
-    open_rows = np.flatnonzero(earliest != latest)
-    if open_rows.size:
-        words = f"{WORDS[FOLD]}, and the order of rows doesn't tell which it is"
-        raise column.error(FoldError, int(places[open_rows[0]]), FOLD, words)
-    answer = first.copy()
-    answer[places] = earliest
-    return answer
+    faults = []
+    for places, opens, last in _sequences(column, answers, folds, groups):
+        instants, fault = _decided(answers[places], opens, last)
+        if fault is None:
+            rows = opens if isinstance(places, slice) else places[opens]
+            answers[rows] = instants
+        else:
+            row = fault.row if isinstance(places, slice) else int(places[fault.row])
+            faults.append(Undecided(row, fault.words))
+    if faults:
+        row, words = min(faults)
+        raise column.error(FoldError, row, FOLD, words)
 
 
-def _earliest(first: np.ndarray, last: np.ndarray) -> tuple[np.ndarray, int]:
+def _sequences(
+    column: Column, answers: Array, folds: Folds, groups: Optional[Array]
+) -> Iterator[tuple[slice | Array, Array, Array]]:
+    """The rows of each group that has a fold, and which of them are open, with their last
+    instants."""
+    is_kept = answers != NAT if column.has_nat else None
+    if groups is None:
+        if is_kept is None or is_kept.all():
+            yield slice(None), folds.rows, folds.last
+            return
+        places = np.flatnonzero(is_kept)
+        yield places, np.searchsorted(places, folds.rows), folds.last
+        return
+    order = np.argsort(groups, kind="stable")
+    if is_kept is not None:
+        order = order[is_kept[order]]
+    ends = np.cumsum(np.bincount(groups[order], minlength=int(groups.max()) + 1))
+    by_group = np.argsort(groups[folds.rows], kind="stable")
+    found, begins = np.unique(groups[folds.rows][by_group], return_index=True)
+    for group, mine in zip(found.tolist(), np.split(by_group, begins[1:])):
+        places = order[ends[group - 1] if group else 0 : ends[group]]
+        yield places, np.searchsorted(places, folds.rows[mine]), folds.last[mine]
+
+
+def _decided(first: Array, opens: Array, last: Array) -> tuple[Array, Optional[Undecided]]:
+    """The instants of the open rows, or why there are none.
+
+    Only open rows and the rows beside them are compared; the others are in order or not."""
+    near = np.unique(np.concatenate([opens - 1, opens, opens + 1]))
+    near = near[(near >= 0) & (near < first.size)]
+    places = np.searchsorted(near, opens)
+    first_near = first[near]
+    last_near = first_near.copy()
+    last_near[places] = last
+    earliest, count = _earliest(first_near, last_near)
+    stuck = _steps_back(first, opens) + near[count : count + 1].tolist()
+    if stuck:
+        return earliest, Undecided(min(stuck), OUT_OF_ORDER)
+    latest = -_earliest(-last_near[::-1], -first_near[::-1])[0][::-1]
+    differ = near[earliest != latest]
+    if differ.size:
+        return earliest, Undecided(int(differ[0]), TWO_WAYS)
+    return earliest[places], None
+
+
+def _steps_back(first: Array, opens: Array) -> list[int]:
+    """The first row that comes before the row above it, if none of the two is open."""
+    back = 1 + np.flatnonzero(first[1:] < first[:-1])
+    back = back[~np.isin(back, opens) & ~np.isin(back - 1, opens)]
+    found: list[int] = back[:1].tolist()
+    return found
+
+
+def _earliest(first: Array, last: Array) -> tuple[Array, int]:
     """The least instants that rise with the rows, and up to how many rows there are such."""
     chosen, count = first.copy(), first.size
     while True:

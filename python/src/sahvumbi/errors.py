@@ -11,6 +11,7 @@
 from __future__ import annotations
 
 from typing import Any, Optional
+from zoneinfo import ZoneInfoNotFoundError
 
 NO_OFFSET = 2
 TIME_ZONE = 12
@@ -43,6 +44,28 @@ WORDS = {
 }
 
 
+# Characters of a value that a message shows.
+WIDTH = 80
+
+
+def printable(value: Any) -> str:
+    """Returns the text of a value, escaped if it can't be printed, and without its middle if it is
+    longer than `WIDTH` characters."""
+    if isinstance(value, int) and value.bit_length() > 3 * WIDTH:
+        return f"an integer of {value.bit_length()} bits"
+    text = str(value)
+    if len(text) > WIDTH:
+        text = f"{text[: WIDTH // 2 - 2]}...{text[1 - WIDTH // 2 :]}"
+    return text if text.isprintable() else repr(text)[1:-1]
+
+
+class ZoneNotFoundError(ZoneInfoNotFoundError):
+    """No file has the zone of that name. It is a KeyError, as zoneinfo's error is."""
+
+    def __str__(self) -> str:
+        return str(self.args[0]) if self.args else ""
+
+
 class ZoneError(ValueError):
     """An error of this package: `number` is the refusal's number, `words` say what it means."""
 
@@ -56,8 +79,8 @@ class ZoneRefusedError(ZoneError):
     def __init__(self, number: int, what: str = "the zone"):
         self.number = TIME_ZONE if 41 <= number <= 44 else number
         self.words = WORDS.get(number, "a fault of another kind")
-        self.what = what
-        super().__init__(number, what)
+        self.what = printable(what)
+        super().__init__(number, self.what)
 
     def __str__(self) -> str:
         return f"{self.what} is refused: {self.words} ({self.number})"
@@ -86,10 +109,10 @@ class RowError(ZoneError):
     def __str__(self) -> str:
         place = f"row {self.row}"
         if self.row is None:
-            place = str(self.label)
+            place = printable(self.label)
         elif self.label is not None:
-            place += f" (label {self.label!r})"
-        return f"{place}: {self.value}: {self.words} ({self.number})"
+            place += f" (label {printable(repr(self.label))})"
+        return f"{place}: {printable(self.value)}: {self.words} ({self.number})"
 
 
 class GapError(RowError):

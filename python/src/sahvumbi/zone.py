@@ -2,153 +2,69 @@
 
 from __future__ import annotations
 
-import os
-from pathlib import Path
-from typing import TYPE_CHECKING, Any, NamedTuple, TypeVar, Union
+from datetime import datetime
+from typing import Any, Literal, Union, overload
+from zoneinfo import ZoneInfo
 
 import numpy as np
-import numpy.typing as npt
 
 from ._changes import Changes, Time, of_stretch
-from ._columns import NAT, Block, Column, taken
-from ._door import (
-    FILE,
-    NEVER,
-    NO_OFFSET,
-    ONCE,
-    OUT_OF_RANGE,
-    REFUSE,
-    SEVERAL_TIMES,
-    SHIFT_FORWARD,
-    TEXT,
-    Door,
-)
-from ._order import in_order
-from .errors import FOLD, GAP, FoldError, GapError, NoOffsetError, OutOfRangeError
+from ._choice import chosen
+from ._columns import Block, Column
+from ._door import NEVER, NO_OFFSET, ONCE, OUT_OF_RANGE, SEVERAL_TIMES
+from ._forms import NAT, Array, Failures
+from ._inputs import taken
+from ._localize import localized
+from ._opening import Opened
+from ._types import Fold, Gap, Labelled, Labels, LocalTypes, Moment, Rows, Single, Times, WallClocks
 from .errors import NO_OFFSET as HAS_NO_OFFSET
-from .errors import OUT_OF_RANGE as IS_OUT_OF_RANGE
-
-if TYPE_CHECKING:
-    import pandas
-
-#: A column of time: an array of int64 (seconds) or of datetime64 of any unit, or a Series of one of
-#: the two.
-Times = TypeVar("Times", "npt.NDArray[Any]", "pandas.Series")
-
-GAPS = ("raise", "shift", "nat")
-FOLDS = ("raise", "earliest", "latest", "nat", "infer")
-# The first and the last second of the years -262143 to 262142.
-FIRST_SECOND, LAST_SECOND = -8_334_601_228_800, 8_210_266_876_799
-# No offset is as great.
-FAR = 2**31
+from .errors import NoOffsetError
 
 
-class WallClocks(NamedTuple):
-    """When a zone's clocks show the local times of a column. Each field has the column's shape."""
-
-    shown: npt.NDArray[np.int8]
-    """How often: 0 never, 1 once, 2 several times; 3 out of range, -1 NaT."""
-    first: npt.NDArray[Any]
-    """The first instant that shows it, counted as the column is; where none does, NaT or 0."""
-    last: npt.NDArray[Any]
-    """The last one."""
-    first_offset: npt.NDArray[Any]
-    """The offset at the first instant, as `Zone.offsets` tells it."""
-    last_offset: npt.NDArray[Any]
-    """The offset at the last one."""
-
-
-class Zone:
-    """A time zone. Made by `from_file`, `from_bytes` or `from_text`, and asked about whole columns.
+class Zone(Opened):
+    """A time zone, opened by its name, as zoneinfo does it, and asked about whole columns.
 
     A column is an array of int64 that counts seconds since 1970-01-01 00:00:00, or one of
-    datetime64 of any unit, or a pandas Series of one of them; what numpy makes such an array of
-    will do, as a list of numbers. An answer has the shape of the question and its unit (seconds,
-    where the unit is a minute or more); that of a Series is a Series with its index and its name.
+    datetime64 of any unit; a list of these; or a Series or an Index of pandas, of the same types or
+    of Int64. One second, one datetime64, a Timestamp and a datetime are columns of one row. An
+    answer has the form of the question and its unit (seconds, where the unit is a minute or more).
     NaT stays NaT. Questions are read where they are, if they are contiguous, aligned and of the
     machine's byte order, and are never written.
 
     Where a row has no answer, an error tells the row, what stands there and why, and no row is
     answered.
 
-    A zone is immutable. It can be pickled, compared and hashed, and several threads may ask it at
-    once.
+    A zone is immutable. It can be pickled (with its bytes, so that it answers alike everywhere),
+    compared and hashed, and several threads may ask it at once.
 
     >>> import numpy as np
-    >>> new_york = Zone.from_text("EST5EDT,M3.2.0,M11.1.0")
+    >>> new_york = Zone("America/New_York")
     >>> new_york.to_local(np.array(["2021-03-14T06:59:59", "2021-03-14T07:00:00"], "M8[s]"))
     array(['2021-03-14T01:59:59', '2021-03-14T03:00:00'],
           dtype='datetime64[s]')
     """
 
-    __slots__ = ("_door", "_name")
-
-    def __init__(self, kind: int, data: bytes, name: str):
-        """`from_file`, `from_bytes` and `from_text` are for callers."""
-        self._door = Door(kind, data, name)
-        self._name = name
-
-    @classmethod
-    def from_file(cls, path: Union[str, os.PathLike]) -> Zone:
-        """The zone of a TZif file (RFC 8536, versions 1 to 3), as in /usr/share/zoneinfo.
-
-        Raises `ZoneRefusedError` where the file is none, and OSError where it can't be read.
-        """
-        return cls(FILE, Path(path).read_bytes(), os.fspath(path))
-
-    @classmethod
-    def from_bytes(cls, data: bytes) -> Zone:
-        """The zone of a TZif file's bytes. Raises `ZoneRefusedError` where they are none.
-
-        >>> Zone.from_bytes(b"TZif")
-        Traceback (most recent call last):
-        ...
-        sahvumbi.errors.ZoneRefusedError: 4 bytes is refused: unexpected end of input (7)
-        """
-        return cls(FILE, bytes(data), f"{len(data)} bytes")
-
-    @classmethod
-    def from_text(cls, text: str) -> Zone:
-        """The zone of a TZ string as in POSIX.1, section 8.3. The empty string is UTC.
-
-        Raises `ZoneRefusedError` if it is none. That is so of the extensions of RFC 8536, section
-        3.3.1, too: a signed time of day (10), and hours of one above 24 (6). In the footer of a
-        file they are read.
-
-        >>> Zone.from_text("<+0330>-3:30").offsets([0])
-        array([12600], dtype=int32)
-        """
-        return cls(TEXT, text.encode("utf-8", "surrogatepass"), text)
-
-    def __repr__(self) -> str:
-        return f"Zone({self._name!r})"
-
-    def __eq__(self, other: object) -> bool:
-        """Whether both were read from the same bytes in the same way."""
-        return isinstance(other, Zone) and self._spelled() == other._spelled()
-
-    def __hash__(self) -> int:
-        return hash(self._spelled())
-
-    def __reduce__(self):
-        return Zone, (*self._spelled(), self._name)
-
-    def _spelled(self) -> tuple[int, bytes]:
-        return self._door.kind, self._door.data
+    __slots__ = ()
 
     # Instants
 
-    def offsets(self, instants: Times) -> Times:
-        """The offset in force at each instant, east of UTC.
+    @overload
+    def offsets(self, instants: Rows) -> Array: ...
+    @overload
+    def offsets(self, instants: Labelled) -> Labelled: ...
+    @overload
+    def offsets(self, instants: Union[Single, datetime]) -> Any: ...
 
-        They are seconds as int32, or timedelta64[s] for a column of datetime64.
+    def offsets(self, instants: Any) -> Any:
+        """Returns the offset in force at each instant, east of UTC.
 
-        A Series with a zone of its own is taken as the instants that it tells. Raises
-        `NoOffsetError` at an instant at which the zone has none: before the year -2147483646 and
-        after 2147483645, where the zone has a rule of two types.
+        They are seconds as int32, or timedelta64[s] for a column of times.
 
-        >>> new_york = Zone.from_text("EST5EDT,M3.2.0,M11.1.0")
-        >>> new_york.offsets([1_615_705_199, 1_615_705_200])
+        Times with a zone of their own are taken as the instants that they tell, and those without
+        as times of UTC. Raises `NoOffsetError` at an instant at which the zone has none: before the
+        year -2147483646 and after 2147483645, where the zone has a rule of two types.
+
+        >>> Zone("America/New_York").offsets([1_615_705_199, 1_615_705_200])
         array([-18000, -14400], dtype=int32)
         """
         column = taken(instants, may_be_aware=True)
@@ -160,48 +76,152 @@ class Zone:
                 is_nat[block.rows] = block.is_nat
         return column.offsets(seconds, is_nat)
 
-    def to_local(self, instants: Times) -> Times:
-        """What the zone's clocks show at each instant: local times, counted as the instants are.
+    @overload
+    def to_local(self, instants: Rows) -> Array: ...
+    @overload
+    def to_local(self, instants: Labelled) -> Labelled: ...
+    @overload
+    def to_local(self, instants: Moment) -> Moment: ...
+    @overload
+    def to_local(self, instants: Single) -> Any: ...
 
-        A Series with a zone of its own is taken as the instants that it tells; its answer has none.
-        Raises `NoOffsetError` as `offsets` does, and `OutOfRangeError` where a local time doesn't
-        fit the column's type.
+    def to_local(self, instants: Any) -> Any:
+        """Returns what the zone's clocks show at each instant: local times, which have no zone.
+
+        They are counted as the instants are. Times with a zone of their own are taken as the
+        instants that they tell, and those without as times of UTC. Raises `NoOffsetError` as
+        `offsets` does, and `OutOfRangeError` where a local time doesn't fit the column's type.
+
+        >>> from datetime import datetime
+        >>> Zone("Asia/Kolkata").to_local(datetime(2021, 7, 1, 12))
+        datetime.datetime(2021, 7, 1, 17, 30)
         """
         column = taken(instants, may_be_aware=True)
-        answers = np.empty(len(column), np.int64)
-        for block in column.blocks():
-            block.moved(1, self._offsets_of(block), answers[block.rows])
-        return column.local_times(answers)
+        return column.local_times(self._local_times(column))
 
-    def _offsets_of(self, block: Block) -> np.ndarray:
+    @overload
+    def types(self, instants: Union[Rows, Single, datetime]) -> LocalTypes: ...
+    @overload
+    def types(self, instants: Labels) -> Any: ...
+
+    def types(self, instants: Any) -> Any:
+        """Returns the offset, the DST flag and the abbreviation at each instant: a `LocalTypes`.
+
+        Of a Series or an Index it is a DataFrame with its labels. Instants are taken, and errors
+        raised, as by `offsets`.
+
+        >>> types = Zone("America/New_York").types([1_615_705_199, 1_615_705_200])
+        >>> types.is_dst
+        array([False,  True])
+        >>> types.abbreviation
+        array(['EST', 'EDT'], dtype='<U7')
+        """
+        column = taken(instants, may_be_aware=True)
+        seconds, is_dst = np.empty(len(column), np.int32), np.empty(len(column), bool)
+        is_nat = np.zeros(len(column), bool)
+        abbreviations = np.empty(len(column), column.form.text)
+        for block in column.blocks():
+            told = self._door.types(block.seconds)
+            self._must_have_offsets(block, told["offset"])
+            seconds[block.rows], is_dst[block.rows] = told["offset"], told["is_dst"] != 0
+            write_texts(told["abbreviation"], abbreviations[block.rows])
+            if block.is_nat is not None:
+                is_nat[block.rows] = block.is_nat
+        is_dst[is_nat], abbreviations[is_nat] = False, ""
+        offsets = column.offsets(seconds, is_nat)
+        return column.form.table(
+            LocalTypes(offsets, column.plain(is_dst), column.plain(abbreviations))
+        )
+
+    def _local_times(self, column: Column) -> Array:
+        answers = np.empty(len(column), np.int64)
+        is_least_no_number = column.has_nat or not (column.values == NAT).any()
+        if is_least_no_number and self._door.local_times(column.per_second, column.values, answers):
+            return answers
+        for block in column.blocks():
+            misfits = block.moved(1, self._offsets_of(block), answers[block.rows])
+            if misfits.size:
+                raise column.misfit(block.start + int(misfits[0]))
+        return answers
+
+    def _offsets_of(self, block: Block) -> Array:
         offsets = self._door.offsets(block.seconds)
+        self._must_have_offsets(block, offsets)
+        return offsets
+
+    def _must_have_offsets(self, block: Block, offsets: Array) -> None:
         if int(offsets.min()) == NO_OFFSET:
             row = block.start + int(offsets.argmin())
             raise block.column.error(NoOffsetError, row, HAS_NO_OFFSET)
-        return offsets
 
     # Local times
 
-    def localize(self, local_times: Times, gap: str = "raise", fold: str = "raise") -> Times:
-        """The instant at which the zone's clocks show each local time, counted as those are.
+    @overload
+    def localize(
+        self, local_times: Times, gap: Gap = ..., fold: Fold = ..., *, is_dst: Any = ...,
+        offset: Any = ..., errors: Literal["collect"], tz: Any = ...,
+    ) -> tuple[Any, Failures]: ...
+    @overload
+    def localize(
+        self, local_times: Rows, gap: Gap = ..., fold: Fold = ..., *, is_dst: Any = ...,
+        offset: Any = ..., by: Any = ..., errors: Literal["raise"] = ...,
+    ) -> Array: ...
+    @overload
+    def localize(
+        self, local_times: Labelled, gap: Gap = ..., fold: Fold = ..., *, is_dst: Any = ...,
+        offset: Any = ..., by: Any = ..., errors: Literal["raise"] = ..., tz: Any = ...,
+    ) -> Labelled: ...
+    @overload
+    def localize(
+        self, local_times: Moment, gap: Gap = ..., fold: Fold = ..., *, is_dst: Any = ...,
+        offset: Any = ..., errors: Literal["raise"] = ..., tz: Any = ...,
+    ) -> Moment: ...
+    @overload
+    def localize(
+        self, local_times: Single, gap: Gap = ..., fold: Fold = ..., *, is_dst: Any = ...,
+        offset: Any = ..., errors: Literal["raise"] = ...,
+    ) -> Any: ...
 
-        Of a Series of datetime64 it is a Series in UTC (``datetime64[ns, UTC]``).
+    def localize(
+        self,
+        local_times: Any,
+        gap: Any = "raise",
+        fold: Any = "raise",
+        *,
+        is_dst: Any = None,
+        offset: Any = None,
+        by: Any = None,
+        errors: str = "raise",
+        tz: Any = "UTC",
+    ) -> Any:
+        """Returns the instant at which the zone's clocks show each local time.
+
+        Instants are counted as the local times are; those of pandas' types and of datetime are in
+        the zone `tz`, which is UTC unless it is given.
 
         `gap` says what is taken for a local time that clocks skipped: 'raise' a `GapError`; 'shift'
-        the instant by the offset before the gap, as on a clock that was not set forward; 'nat' NaT.
+        the instant by the offset before the gap, as on a clock that was not set forward; 'after'
+        the first instant after the gap, at which clocks go on; 'nat' NaT.
 
         `fold` says what is taken for one that clocks showed several times: 'raise' a `FoldError`;
         'earliest' the first instant that shows it; 'latest' the last one; 'nat' NaT; 'infer' the
         instant that the order of rows tells. For 'infer' rows are in order of time, and each row is
         a first or a last instant: where there is one choice of them by which no row comes before an
         earlier one, it is taken, and else `FoldError` is raised. (NaT has no part in the order.)
+        `by`, a column of keys, makes it the order of the rows of each key.
 
-        'nat' takes datetime64 alone, since int64 has no NaT. Raises `OutOfRangeError` where the
-        local time or the instant lies outside the years -262143 to 262142, or where the instant
-        doesn't fit the column's type.
+        A column beside the local times can decide folds row by row: `fold` as an array of 0 for the
+        first and 1 for the last instant; `is_dst`, the DST flag; or `offset`, in seconds or as
+        timedelta64. It is read only where a local time was shown several times, and `FoldError` is
+        raised where it doesn't say which instant is meant.
+
+        Raises `OutOfRangeError` where the local time or the instant lies outside the years -262143
+        to 262142, or where the instant doesn't fit the column's type. With `errors='collect'` rows
+        without an answer become NaT, and the call returns the answers and their `Failures`.
+        'nat' and 'collect' take times or Int64, since int64 has no NaT.
 
         >>> import numpy as np
-        >>> new_york = Zone.from_text("EST5EDT,M3.2.0,M11.1.0")
+        >>> new_york = Zone("America/New_York")
         >>> skipped = np.array(["2021-03-14T02:30", "2021-07-01T12:00"], "M8[s]")
         >>> new_york.localize(skipped)  # doctest: +ELLIPSIS
         Traceback (most recent call last):
@@ -210,45 +230,34 @@ class Zone:
         >>> new_york.localize(skipped, gap="shift")
         array(['2021-03-14T07:30:00', '2021-07-01T16:00:00'],
               dtype='datetime64[s]')
+        >>> new_york.localize(skipped, gap="after")
+        array(['2021-03-14T07:00:00', '2021-07-01T16:00:00'],
+              dtype='datetime64[s]')
         >>> twice = np.array(["2021-11-07T01:10", "2021-11-07T01:50", "2021-11-07T01:20"], "M8[s]")
         >>> new_york.localize(twice, fold="infer")
         array(['2021-11-07T05:10:00', '2021-11-07T05:50:00',
                '2021-11-07T06:20:00'], dtype='datetime64[s]')
+        >>> new_york.localize(twice, is_dst=[True, True, False])
+        array(['2021-11-07T05:10:00', '2021-11-07T05:50:00',
+               '2021-11-07T06:20:00'], dtype='datetime64[s]')
         """
-        _must_be_among("gap", gap, GAPS)
-        _must_be_among("fold", fold, FOLDS)
         column = taken(local_times, may_be_aware=False)
-        if "nat" in (gap, fold) and not column.is_time:
-            raise ValueError("int64 has no NaT: gap='nat' and fold='nat' take datetime64")
-        if fold == "infer":
-            return column.instants(self._inferred(column, gap))
-        answers = np.empty(len(column), np.int64)
-        for block in column.blocks():
-            clocks = _Clocks(self._door, block)
-            clocks.take(gap, fold)
-            clocks.write(clocks.last if fold == "latest" else clocks.first, answers)
-        return column.instants(answers)
+        choice = chosen(column, gap, fold, is_dst, offset, by, errors)
+        answers = column.instants(localized(self._door, column, choice), zone_of_answer(tz))
+        return answers if choice.failures is None else (answers, choice.collected(column))
 
-    def _inferred(self, column: Column, gap: str) -> np.ndarray:
-        first, last = np.empty(len(column), np.int64), np.empty(len(column), np.int64)
-        is_left_out = np.zeros(len(column), bool)
-        for block in column.blocks():
-            clocks = _Clocks(self._door, block)
-            clocks.take(gap, "infer")
-            clocks.write(clocks.first, first)
-            clocks.write(clocks.last, last)
-            if column.is_time:
-                is_left_out[block.rows] = first[block.rows] == NAT
-        return in_order(column, first, last, is_left_out)
+    @overload
+    def explain(self, local_times: Union[Rows, Single, datetime]) -> WallClocks: ...
+    @overload
+    def explain(self, local_times: Labels) -> Any: ...
 
-    def explain(self, local_times: Times) -> Union[WallClocks, pandas.DataFrame]:
-        """How often, and when, the zone's clocks show each local time: a `WallClocks`.
+    def explain(self, local_times: Any) -> Any:
+        """Returns how often, and when, the zone's clocks show each local time: a `WallClocks`.
 
-        Of a Series it is a DataFrame with the Series' index, and a column for each field of
+        Of a Series or an Index it is a DataFrame with its labels, and a column for each field of
         `WallClocks`. Raises `OutOfRangeError` where an instant doesn't fit the column's type.
 
-        >>> new_york = Zone.from_text("EST5EDT,M3.2.0,M11.1.0")
-        >>> explained = new_york.explain([1_615_689_000, 1_636_248_600])
+        >>> explained = Zone("America/New_York").explain([1_615_689_000, 1_636_248_600])
         >>> explained.shown
         array([0, 2], dtype=int8)
         >>> explained.first
@@ -261,48 +270,47 @@ class Zone:
         first, last = np.empty(len(column), np.int64), np.empty(len(column), np.int64)
         first_offset, last_offset = np.empty(len(column), np.int32), np.empty(len(column), np.int32)
         for block in column.blocks():
-            clocks = _Clocks(self._door, block)
-            is_none = (clocks.shown == NEVER) | (clocks.shown == OUT_OF_RANGE)
-            shown[block.rows] = clocks.shown
+            told = self._door.wall_clocks(block.seconds)
+            is_none = (told[:, 0] == NEVER) | (told[:, 0] == OUT_OF_RANGE)
+            shown[block.rows] = told[:, 0]
             for offsets, its_offsets, its_instants in (
-                (clocks.first, first_offset, first),
-                (clocks.last, last_offset, last),
+                (told[:, 1], first_offset, first),
+                (told[:, 2], last_offset, last),
             ):
                 its_offsets[block.rows] = offsets
-                block.moved(-1, offsets, its_instants[block.rows])
-                its_instants[block.rows][is_none] = NAT if column.is_time else 0
+                misfits = block.moved(-1, offsets, its_instants[block.rows])
+                if misfits.size:
+                    raise column.misfit(block.start + int(misfits[0]))
+                its_instants[block.rows][is_none] = NAT if column.has_nat else 0
             if block.is_nat is not None:
                 shown[block.rows][block.is_nat] = -1
         is_none = (shown != ONCE) & (shown != SEVERAL_TIMES)
-        answers = WallClocks(
-            column.plain(shown),
-            column.instants(first),
-            column.instants(last),
-            column.offsets(first_offset, is_none),
-            column.offsets(last_offset, is_none),
+        return column.form.table(
+            WallClocks(
+                column.plain(shown),
+                column.instants(first),
+                column.instants(last),
+                column.offsets(first_offset, is_none),
+                column.offsets(last_offset, is_none),
+            )
         )
-        if column.series is None:
-            return answers
-        import pandas
-
-        return pandas.DataFrame(answers._asdict(), index=column.series.index)
 
     # Changes
 
     def changes(self, from_: Time, to: Time) -> Changes:
-        """The changes of the zone's clocks from `from_` on and before `to`, as a `Changes`.
+        """Returns the changes of the zone's clocks from `from_` on and before `to`.
 
         Each is a second at which another type of local time is in force than at the second before
-        it: another offset, mark of daylight saving time or name. A transition of the file that
-        changes nothing is none, and what a rule does after the last transition is one. There are
-        none if `to` is `from_` or comes before it.
+        it: another offset, DST flag or abbreviation. A transition of the file that changes nothing
+        does not count, and what a rule does after the last transition does. There are none if `to`
+        is `from_` or comes before it.
 
-        The ends are both numbers of seconds since 1970-01-01 00:00:00 UTC, or both datetime64.
-        Raises ValueError if one is NaT (TypeError if that has no unit), and `OutOfRangeError` if one
-        doesn't fit 64 bits of seconds. A rule has some two changes in a year, and those of all 64
-        bits are 8.6 billion, so give a stretch that can be listed.
+        The ends are both numbers of seconds since 1970-01-01 00:00:00 UTC, or both times: those
+        without a zone are of UTC. Raises ValueError if one is NaT (TypeError if that has no unit),
+        and `OutOfRangeError` if one doesn't fit 64 bits of seconds. A rule has some two changes in
+        a year, and those of all 64 bits are 8.6 billion, so give a stretch that can be listed.
 
-        >>> new_york = Zone.from_text("EST5EDT,M3.2.0,M11.1.0")
+        >>> new_york = Zone("America/New_York")
         >>> changes = new_york.changes(np.datetime64("2021-01-01"), np.datetime64("2022-01-01"))
         >>> changes.at
         array(['2021-03-14T07:00:00', '2021-11-07T06:00:00'],
@@ -315,71 +323,23 @@ class Zone:
         return of_stretch(self._door, from_, to)
 
 
-class _Clocks:
-    """How often a block's local times are shown, and the offsets at the first and the last time."""
-
-    def __init__(self, door: Door, block: Block):
-        self.door, self.block = door, block
-        told = door.wall_clocks(block.seconds)
-        self.shown, self.first, self.last = told[:, 0], told[:, 1], told[:, 2]
-        #: The rows that become NaT.
-        self.lost = np.empty(0, np.intp)
-
-    def take(self, gap: str, fold: str) -> None:
-        """Decides gaps and folds: raises, makes two offsets one, or gives rows up as lost."""
-        rows = np.flatnonzero(self.shown != ONCE)
-        if self.block.is_nat is not None:
-            rows = rows[~self.block.is_nat[rows]]
-        shown = self.shown[rows]
-        never, several, outside = shown == NEVER, shown == SEVERAL_TIMES, shown == OUT_OF_RANGE
-        refused = rows[outside | (never & (gap == "raise")) | (several & (fold == "raise"))]
-        if refused.size:
-            raise self._refusal(int(refused[0]))
-        if gap == "shift" and never.any():
-            self._shift(rows[never])
-        self.lost = rows[(never & (gap == "nat")) | (several & (fold == "nat"))]
-
-    def _shift(self, skipped: np.ndarray) -> None:
-        """Takes the offset before the gap for the rows that clocks skipped."""
-        block = self.block
-        local_times = block.seconds[skipped]
-        told = self.door.resolved(SHIFT_FORWARD, REFUSE, local_times)
-        outside = skipped[told["number"] != 0]
-        if outside.size:
-            row = block.start + int(outside[0])
-            raise block.column.error(OutOfRangeError, row, IS_OUT_OF_RANGE)
-        self.first[skipped] = self.last[skipped] = local_times - told["instant"]
-
-    def write(self, offsets: np.ndarray, answers: np.ndarray) -> None:
-        """Writes the instants by these offsets to their rows."""
-        block = self.block
-        per_second = block.column.per_second
-        if (
-            block.least // per_second < FIRST_SECOND + FAR
-            or block.greatest // per_second > LAST_SECOND - FAR
-        ):
-            self._must_be_in_range(offsets)
-        block.moved(-1, offsets, answers[block.rows])
-        answers[block.rows][self.lost] = NAT
-
-    def _must_be_in_range(self, offsets: np.ndarray) -> None:
-        instants = self.block.seconds - offsets
-        outside = (instants < FIRST_SECOND) | (instants > LAST_SECOND)
-        outside[self.lost] = False
-        if outside.any():
-            row = self.block.start + int(outside.argmax())
-            raise self.block.column.error(OutOfRangeError, row, IS_OUT_OF_RANGE)
-
-    def _refusal(self, place: int) -> Exception:
-        column, row = self.block.column, self.block.start + place
-        if self.shown[place] == NEVER:
-            return column.error(GapError, row, GAP)
-        if self.shown[place] == SEVERAL_TIMES:
-            return column.error(FoldError, row, FOLD)
-        words = "the local time is outside the years -262143 to 262142"
-        return column.error(OutOfRangeError, row, IS_OUT_OF_RANGE, words)
+def write_texts(words: Array, out: Array) -> None:
+    """Writes short words as texts, of which there are few different ones: each is made once."""
+    numbers = np.ascontiguousarray(words).view(np.int64)
+    is_left = np.ones(words.size, bool)
+    while is_left.any():
+        first = int(is_left.argmax())
+        same = numbers == numbers[first]
+        out[same] = words[first].decode()
+        is_left &= ~same
 
 
-def _must_be_among(name: str, word: str, words: tuple[str, ...]) -> None:
-    if word not in words:
-        raise ValueError(f"{name} is one of {', '.join(words)}, and not {word!r}")
+def zone_of_answer(tz: Any) -> Any:
+    """The zone of the type of an answer, as pandas takes it."""
+    if tz is None:
+        raise ValueError("tz= is the zone of the instants, and None is none: leave it out for UTC")
+    if isinstance(tz, Zone):
+        if tz.key is None:
+            raise ValueError(f"tz= is a zone with a name, and {tz!r} has none")
+        return ZoneInfo(tz.key)
+    return tz

@@ -1,0 +1,179 @@
+"""What a call takes for local times that clocks skipped, or showed several times."""
+
+from __future__ import annotations
+
+import sys
+from typing import Any, NamedTuple, Optional
+
+import numpy as np
+
+from ._columns import Column
+from ._forms import NAT, Array, Failures, SeriesForm
+from .errors import FOLD, GAP, OUT_OF_RANGE, FoldError, GapError, OutOfRangeError, printable
+
+GAPS = ("raise", "shift", "after", "nat")
+FOLDS = ("raise", "earliest", "latest", "nat", "infer")
+KINDS = {GAP: GapError, FOLD: FoldError, OUT_OF_RANGE: OutOfRangeError}
+#: A row for which nothing is given.
+UNKNOWN = NAT
+
+
+class Given(NamedTuple):
+    """What a column beside the local times says of each row: `fold`, `is_dst` or `offset`."""
+
+    name: str
+    values: Array
+
+
+class Fault(NamedTuple):
+    """Rows that have no answer, in order, and why."""
+
+    rows: Array
+    number: int
+    words: Optional[str]
+
+
+class Choice:
+    """The choice of a call, for each row of its column.
+
+    `fold` is one of FOLDS, or 'given': then `given` says it for each row. `groups` has a number
+    for each row: rows of one number are in order of time. `failures` are the rows that have no
+    answer, if they are collected, with the numbers of their errors; else the first one is raised.
+    """
+
+    def __init__(self, gap: str, fold: str, given: Optional[Given], groups: Optional[Array]):
+        self.gap, self.fold, self.given, self.groups = gap, fold, given, groups
+        self.failures: Optional[list[tuple[Array, Array]]] = None
+
+    def part(self, places: Array) -> Choice:
+        """Returns the choice of these rows."""
+        given = self.given and self.given._replace(values=self.given.values[places])
+        groups = None if self.groups is None else self.groups[places]
+        part = Choice(self.gap, self.fold, given, groups)
+        part.failures = self.failures
+        return part
+
+    def fail(self, column: Column, faults: list[Fault]) -> None:
+        """Raises the error of the first row that has no answer, or collects them all."""
+        if self.failures is not None:
+            for rows, number, _ in faults:
+                places = rows if column.places is None else column.places[rows]
+                self.failures.append((places, np.full(rows.size, number, np.uint8)))
+        elif faults:
+            rows, number, words = min(faults, key=lambda fault: int(fault.rows[0]))
+            raise column.error(KINDS[number], int(rows[0]), number, words)
+
+    def collected(self, column: Column) -> Failures:
+        """Returns the rows that have no answer, in order."""
+        found = self.failures or []
+        rows = np.concatenate([np.empty(0, np.int64), *(rows for rows, _ in found)])
+        numbers = np.concatenate([np.empty(0, np.uint8), *(numbers for _, numbers in found)])
+        order = np.argsort(rows, kind="stable")
+        rows = rows[order]
+        values = column.values[rows]
+        values = values.view(f"M8[{column.unit}]") if column.is_time else values
+        numbers = numbers[order].astype(np.uint8)
+        return Failures(rows, values, numbers, column.form.labels(rows))
+
+
+def chosen(
+    column: Column,
+    gap: str = "raise",
+    fold: Any = "raise",
+    is_dst: Any = None,
+    offset: Any = None,
+    by: Any = None,
+    errors: str = "raise",
+) -> Choice:
+    """Returns the choice that a caller's words and columns make."""
+    must_be_among("gap", gap, GAPS)
+    must_be_among("errors", errors, ("raise", "collect"))
+    given = _given(column, fold, is_dst, offset)
+    if given is None:
+        must_be_among("fold", fold, FOLDS)
+    word = fold if given is None else "given"
+    if by is not None and word != "infer":
+        raise ValueError("by= goes with fold='infer'")
+    if errors == "collect" and word == "infer":
+        raise ValueError("errors='collect' does not go with fold='infer', which asks all rows")
+    if not column.has_nat and ("nat" in (gap, word) or errors == "collect"):
+        kind = "datetime" if column.is_time else "int64"
+        words = "gap='nat', fold='nat' and errors='collect' take datetime64"
+        raise ValueError(f"{kind} has no NaT: {words}")
+    groups = None if by is None else factorized("by", by, column)[0]
+    choice = Choice(gap, word, given, groups)
+    if errors == "collect":
+        choice.failures = []
+    return choice
+
+
+def must_be_among(name: str, word: Any, words: tuple[str, ...]) -> None:
+    if not isinstance(word, str) or word not in words:
+        shown = printable(repr(word))
+        raise ValueError(f"{name} is one of {', '.join(words)}, and not {shown}")
+
+
+def _given(column: Column, fold: Any, is_dst: Any, offset: Any) -> Optional[Given]:
+    """What is given for each row, or None."""
+    is_word = fold is None or isinstance(fold, str)
+    columns = {"fold": None if is_word else fold, "is_dst": is_dst, "offset": offset}
+    found = [name for name, values in columns.items() if values is not None]
+    if not found:
+        return None
+    if len(found) > 1 or (is_word and fold != "raise"):
+        raise ValueError("a fold is decided by one of fold=, is_dst= and offset=")
+    name = found[0]
+    values = row_by_row(name, columns[name], column)
+    if name == "offset":
+        return Given(name, _seconds(values))
+    if values.dtype.kind not in "biu":
+        raise TypeError(f"{name}= has 0 and 1 or booleans, and not {values.dtype}")
+    numbers = values.astype(np.int64)
+    if not ((numbers == 0) | (numbers == 1) | (numbers == UNKNOWN)).all():
+        raise ValueError(f"{name}= has 0 and 1, or False and True")
+    return Given(name, numbers)
+
+
+def _seconds(values: Array) -> Array:
+    """Offsets in seconds, of numbers of them or of timedelta64."""
+    if values.dtype.kind == "m":
+        if np.datetime_data(values.dtype)[0] == "generic":
+            raise TypeError("offset= is timedelta64 without a unit: timedelta64[s] has one")
+        seconds = values.astype("m8[s]")
+        if not ((seconds == values) | np.isnat(values)).all():
+            raise ValueError("offset= has parts of a second: an offset has none")
+        return seconds.view(np.int64)
+    if values.dtype.kind not in "iu":
+        raise TypeError(f"offset= has seconds or timedelta64, and not {values.dtype}")
+    return values.astype(np.int64)
+
+
+def row_by_row(name: str, values: Any, column: Column) -> Array:
+    """An array with a value for each row, in the order of rows; `UNKNOWN` where there is none."""
+    pandas = sys.modules.get("pandas")
+    if pandas is not None and isinstance(values, pandas.Series):
+        if type(column.form) is SeriesForm and not values.index.equals(column.form.index):
+            raise ValueError(f"{name}= has another index than the column")
+    dtype: Any = getattr(values, "dtype", None)
+    if pandas is not None and pandas.api.types.is_extension_array_dtype(dtype):
+        if dtype.kind in "biu":
+            values = values.astype("Int64").to_numpy(np.int64, na_value=UNKNOWN)
+    array = np.asarray(values)
+    shape = column.form.shape
+    if array.shape not in ((), shape):
+        raise ValueError(f"{name}= has the shape {array.shape}, and the column {shape}")
+    return np.broadcast_to(array, shape).reshape(-1)
+
+
+def factorized(name: str, keys: Any, column: Column) -> tuple[Array, list[Any]]:
+    """A number for each row, and the key of each number. Raises ValueError at a row without one."""
+    keys = row_by_row(name, keys, column)
+    pandas = sys.modules.get("pandas")
+    if pandas is None:
+        found, numbers = np.unique(keys, return_inverse=True)
+    else:
+        numbers, found = pandas.factorize(keys)
+    missing = np.flatnonzero(numbers < 0)
+    if missing.size:
+        raise ValueError(f"{name}= has no key in row {missing[0]}")
+    return numbers.astype(np.intp), list(found)

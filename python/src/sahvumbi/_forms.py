@@ -1,0 +1,198 @@
+"""The form of an answer: that of its question, an array, a Series, an Index or one moment."""
+
+from __future__ import annotations
+
+from datetime import datetime, timedelta, timezone
+from typing import Any, NamedTuple, Optional
+
+import numpy as np
+import numpy.typing as npt
+
+NAT = int(np.iinfo(np.int64).min)
+EPOCH = datetime(1970, 1, 1)
+
+Array = npt.NDArray[Any]
+
+
+class ArrayForm:
+    """A numpy array of a shape, or one value if the shape is ()."""
+
+    #: Whether the least int64 is NaT: None if it is so of times, and not of numbers.
+    has_nat: Optional[bool] = None
+    #: The type of a column of texts of up to seven letters.
+    text: Any = "U7"
+
+    def __init__(self, shape: tuple[int, ...]):
+        self.shape = shape
+
+    def label(self, row: int) -> Any:
+        """Returns the row's label in an index, or None."""
+        return None
+
+    def labels(self, rows: Array) -> Any:
+        """Returns the labels of rows, or None."""
+        return None
+
+    def times(self, values: Array, unit: Optional[str], zone: Any) -> Any:
+        """Returns a column of times: local times if `zone` is None, and else instants."""
+        if zone not in (None, "UTC"):
+            raise TypeError("tz= is for a Series, an Index or a datetime: an array has no zone")
+        return self.plain(values if unit is None else values.view(f"M8[{unit}]"))
+
+    def numbers(self, values: Array) -> Any:
+        """Returns a column of numbers."""
+        return self.plain(values)
+
+    def lengths(self, values: Array) -> Any:
+        """Returns a column of timedelta64."""
+        return self.plain(values)
+
+    def plain(self, values: Array) -> Any:
+        """Returns a column of anything else."""
+        return values.reshape(self.shape) if self.shape else values[0]
+
+    def table(self, columns: Any) -> Any:
+        """Returns the columns of an answer together."""
+        return columns
+
+
+class SeriesForm(ArrayForm):
+    """A Series of pandas. Its answers have its index, name, attrs and class."""
+
+    text = object
+
+    def __init__(self, of: Any, has_nat: Optional[bool] = None):
+        super().__init__((len(of),))
+        self.of, self.has_nat = of, has_nat
+
+    @property
+    def index(self) -> Any:
+        return self.of.index
+
+    def label(self, row: int) -> Any:
+        return self.index[row]
+
+    def labels(self, rows: Array) -> Any:
+        return self.index[rows]
+
+    def times(self, values: Array, unit: Optional[str], zone: Any) -> Any:
+        if unit is None:
+            return self.numbers(values)
+        if zone is None:
+            return self.plain(values.view(f"M8[{unit}]"))
+        return self._instants(values, unit, zone)
+
+    def numbers(self, values: Array) -> Any:
+        return self.plain(_nullable(values) if self.has_nat else values)
+
+    def plain(self, values: Any, dtype: Any = None) -> Any:
+        name, index = self.of.name, self.index
+        made = self.of._constructor(values, index=index, name=name, dtype=dtype, copy=False)
+        return made.__finalize__(self.of)
+
+    def table(self, columns: Any) -> Any:
+        import pandas
+
+        frame = pandas.DataFrame(columns._asdict(), index=self.index, copy=False)
+        return self.of._constructor_expanddim(frame).__finalize__(self.of)
+
+    def _instants(self, values: Array, unit: str, zone: Any) -> Any:
+        import pandas
+
+        return self.plain(values, pandas.DatetimeTZDtype(unit, zone))
+
+
+class IndexForm(SeriesForm):
+    """An Index of pandas. Its answers are Indexes of its name; it is the index of its tables."""
+
+    @property
+    def index(self) -> Any:
+        return self.of
+
+    def plain(self, values: Any, dtype: Any = None) -> Any:
+        import pandas
+
+        return pandas.Index(values, name=self.of.name)
+
+    def table(self, columns: Any) -> Any:
+        import pandas
+
+        return pandas.DataFrame(columns._asdict(), index=self.of, copy=False)
+
+    def _instants(self, values: Array, unit: str, zone: Any) -> Any:
+        return self.plain(values.view(f"M8[{unit}]")).tz_localize("UTC").tz_convert(zone)
+
+
+class TimestampForm(ArrayForm):
+    """A Timestamp of pandas."""
+
+    def __init__(self) -> None:
+        super().__init__(())
+
+    def times(self, values: Array, unit: Optional[str], zone: Any) -> Any:
+        import pandas
+
+        time = pandas.Timestamp(values.view(f"M8[{unit}]")[0])
+        if zone is None or time is pandas.NaT:
+            return time
+        return time.tz_localize("UTC").tz_convert(zone)
+
+    def lengths(self, values: Array) -> Any:
+        import pandas
+
+        return pandas.Timedelta(values[0])
+
+
+class DatetimeForm(ArrayForm):
+    """A datetime of Python, counted in microseconds."""
+
+    has_nat = False
+
+    def __init__(self) -> None:
+        super().__init__(())
+
+    def times(self, values: Array, unit: Optional[str], zone: Any) -> Any:
+        moment = EPOCH + timedelta(microseconds=int(values[0]))
+        if zone is None:
+            return moment
+        aware = moment.replace(tzinfo=timezone.utc)
+        return aware if zone == "UTC" else aware.astimezone(zone)
+
+    def lengths(self, values: Array) -> Any:
+        return timedelta(seconds=int(values[0].astype(np.int64)))
+
+
+class Failures(NamedTuple):
+    """The rows that have no answer, in order: each field has a value for each of them."""
+
+    row: npt.NDArray[np.int64]
+    """Its place, from 0 on, in C order."""
+    value: Array
+    """What the column has there."""
+    number: npt.NDArray[np.uint8]
+    """Why there is no answer: 2, 21, 22 or 23. `sahvumbi.errors.WORDS` has the words."""
+    label: Any
+    """The labels in the index of a Series, or the values of an Index; else None."""
+
+    def __bool__(self) -> bool:
+        """Returns whether there are any."""
+        return self.row.size > 0
+
+    def to_frame(self) -> Any:
+        """Returns a DataFrame with a row for each of them, labelled as in the column."""
+        import pandas
+
+        from .errors import WORDS
+
+        columns = self._asdict()
+        del columns["label"]
+        columns["words"] = [WORDS[number] for number in self.number.tolist()]
+        return pandas.DataFrame(columns, index=self.label)
+
+
+def _nullable(values: Array) -> Any:
+    """Returns a nullable array of pandas, in which the least number of the type is NA."""
+    import pandas
+
+    missing = values == np.iinfo(values.dtype).min
+    return pandas.arrays.IntegerArray(np.where(missing, 0, values), missing)

@@ -1,0 +1,188 @@
+"""What users hand over, as columns: each other type is a TypeError that says what to do."""
+
+from __future__ import annotations
+
+import sys
+from datetime import date, datetime, timedelta
+from typing import Any, Optional
+
+import numpy as np
+
+from ._columns import GREATEST, Column
+from ._forms import EPOCH, NAT, Array, ArrayForm, DatetimeForm, IndexForm, SeriesForm, TimestampForm
+from .errors import OUT_OF_RANGE, OutOfRangeError, printable
+
+SECONDS = {"m": 60, "h": 3_600, "D": 86_400, "W": 604_800}
+# Numbers of months and years that numpy turns into seconds without leaving 64 bits.
+MOST = {"M": 12 * 292_277_000_000, "Y": 292_277_000_000}
+
+COLUMNS = "an array or a list of int64 or datetime64, a Series, an Index and a datetime are"
+
+
+def taken(values: Any, may_be_aware: bool) -> Column:
+    """The column that a user hands over. Raises TypeError if it is none."""
+    if isinstance(values, (np.ndarray, np.generic)):
+        if isinstance(values, np.ma.MaskedArray):
+            raise TypeError(
+                "a masked array is no column of time: pass datetime64 with NaT for what is masked"
+            )
+        return _of_array(np.asarray(values))
+    if isinstance(values, (int, list, tuple, range)):
+        return _of_list(values)
+    pandas = sys.modules.get("pandas")
+    if pandas is not None and isinstance(values, (pandas.Series, pandas.Index)):
+        return _of_pandas(pandas, values, may_be_aware)
+    if isinstance(values, datetime):
+        return _of_datetime(pandas, values, may_be_aware)
+    raise TypeError(f"a {_type_name(values)} is no column of time: {_advice(values)}")
+
+
+def _type_name(value: Any) -> str:
+    kind = type(value)
+    place = kind.__module__.partition(".")[0]
+    return kind.__name__ if place in ("builtins", "datetime") else f"{place} {kind.__name__}"
+
+
+def _advice(values: Any) -> str:
+    """What to do with a value of another type."""
+    place = type(values).__module__.partition(".")[0]
+    if hasattr(values, "__dask_graph__"):
+        return "map_partitions, or map_blocks of a dask array, asks about each part of it"
+    if isinstance(values, str):
+        return "numpy.datetime64 and pandas.to_datetime read a text"
+    if isinstance(values, date):
+        return "datetime.datetime.combine gives it a time of day"
+    if place == "pandas" and hasattr(values, "columns"):
+        return "pass one of its columns, or apply the call to each"
+    if place == "pandas" and hasattr(values, "dtype"):
+        return "pass a Series or an Index of it"
+    if hasattr(values, "__array__") or hasattr(values, "__array_interface__"):
+        return "pass its instants in UTC, or its local times, as a numpy array of datetime64"
+    return COLUMNS
+
+
+# Numbers and lists, moments
+
+
+def _of_list(values: Any) -> Column:
+    array = np.asarray(values)
+    if array.size == 0:
+        array = array.astype(np.int64)
+    return _of_array(array)
+
+
+def _of_datetime(pandas: Any, value: datetime, may_be_aware: bool) -> Column:
+    if value.tzinfo is not None and not may_be_aware:
+        raise TypeError("a local time has no zone, and this one has: replace(tzinfo=None) drops it")
+    if pandas is not None and (value is pandas.NaT or isinstance(value, pandas.Timestamp)):
+        array = np.asarray(value.to_datetime64())  # type: ignore[attr-defined]
+        column = _of_array(array)
+        column.form = TimestampForm()
+        return column
+    since = value.replace(tzinfo=None) - EPOCH - (value.utcoffset() or timedelta(0))
+    count = since // timedelta(microseconds=1)
+    return Column(np.array([count], np.int64), "us", DatetimeForm())
+
+
+# Series and Indexes
+
+
+def _of_pandas(pandas: Any, values: Any, may_be_aware: bool) -> Column:
+    is_index = isinstance(values, pandas.Index)
+    kind = "an Index" if is_index else "a Series"
+    form = IndexForm if is_index else SeriesForm
+    if isinstance(values, pandas.MultiIndex):
+        raise TypeError("a MultiIndex is no column of time: get_level_values gives one of them")
+    dtype = values.dtype
+    if isinstance(dtype, pandas.DatetimeTZDtype):
+        if not may_be_aware:
+            drop = "tz_localize(None)" if is_index else "dt.tz_localize(None)"
+            raise TypeError(f"local times have no zone, and these are {dtype}: {drop} removes it")
+        return _of_array(values.to_numpy(f"M8[{dtype.unit}]"), form(values))
+    if pandas.api.types.is_extension_array_dtype(dtype):
+        if pandas.api.types.is_integer_dtype(dtype) and hasattr(dtype, "numpy_dtype"):
+            return _of_nullable(values, form(values, has_nat=True))
+        raise TypeError(
+            f"{kind} of {dtype} is no column of time: astype gives datetime64, int64 or Int64"
+        )
+    if dtype == object:
+        raise TypeError(
+            f"{kind} of object is no column of time: pandas.to_datetime makes datetime64 of it"
+        )
+    return _of_array(values.to_numpy(), form(values))
+
+
+def _of_nullable(values: Any, form: ArrayForm) -> Column:
+    """A column of nullable integers, with the least int64 for NA."""
+    is_missing = np.asarray(values.isna())
+    numbers = values.to_numpy(dtype=values.dtype.numpy_dtype, na_value=0)
+    column = _of_array(numbers, form)
+    _must_fit(numbers, column.values == NAT, "Int64 beside NA", form)
+    column.values = np.where(is_missing, NAT, column.values)
+    return column
+
+
+# Arrays
+
+
+def _of_array(array: Array, form: Optional[ArrayForm] = None) -> Column:
+    """An array of int64 or datetime64 that the calls take as it is, is not copied."""
+    form = form or ArrayForm(array.shape)
+    kind = array.dtype.kind
+    if kind == "M":
+        return _of_datetime64(array, form)
+    if kind not in "iu":
+        raise TypeError(f"an array of {array.dtype} is no column of time: {_of_type(kind)}")
+    if array.dtype.newbyteorder("=") == np.uint64:
+        values = _laid_out(array, "=u8")
+        _must_fit(array, values > np.uint64(GREATEST), "int64", form)
+        return Column(values.view(np.int64), None, form)
+    return Column(_laid_out(array, "=i8"), None, form)
+
+
+def _of_type(kind: str) -> str:
+    """What to do with an array of another type."""
+    if kind == "f":
+        return "astype makes int64 of whole seconds"
+    if kind in "OSU":
+        return "pandas.to_datetime, or astype, makes datetime64 of it"
+    return "datetime64 and int64 are"
+
+
+def _laid_out(array: Array, dtype: Any) -> Array:
+    """As the calls take it, in one dimension; the array itself where it is so."""
+    return np.require(array, dtype, ["C", "A"]).reshape(-1)
+
+
+def _of_datetime64(array: Array, form: ArrayForm) -> Column:
+    unit, count = np.datetime_data(array.dtype)
+    if unit == "generic":
+        raise TypeError("datetime64 without a unit: datetime64[s] has one")
+    values = _laid_out(array, array.dtype.newbyteorder("=")).view(np.int64)
+    if unit in MOST:
+        most, base = MOST[unit] // count, "s"
+    else:
+        factor, base = count * SECONDS.get(unit, 1), "s" if unit in SECONDS else unit
+        if factor == 1:
+            return Column(values, base, form)
+        most = GREATEST // factor
+    is_nat = values == NAT
+    misfits = ((values > most) | (values < -most)) & ~is_nat
+    _must_fit(array, misfits, f"datetime64[{base}]", form)
+    counted = np.where(is_nat, 0, values)
+    if unit in MOST:
+        counted = (counted * count).view(f"M8[{unit}]").astype("M8[s]").view(np.int64)
+    else:
+        counted *= factor
+    counted[is_nat] = NAT
+    return Column(counted, base, form)
+
+
+def _must_fit(array: Array, misfits: Array, what: str, form: ArrayForm) -> None:
+    if misfits.any():
+        row = int(misfits.argmax())
+        value = array.reshape(-1)[row]
+        shown = value if array.dtype.kind == "M" else int(value)
+        raise OutOfRangeError(
+            row, shown, OUT_OF_RANGE, f"it does not fit {what}", form.label(row)
+        )

@@ -1,0 +1,173 @@
+"""Local times to instants: gaps and folds of each block, by the choice of the call."""
+
+from __future__ import annotations
+
+import numpy as np
+
+from ._choice import Choice, Fault
+from ._columns import Block, Column
+from ._door import NEVER, ONCE, OUT_OF_RANGE, REFUSE, SEVERAL_TIMES, SHIFT_FORWARD, Door
+from ._forms import NAT, Array
+from ._order import Folds, decide
+from .errors import FOLD, GAP, WORDS
+from .errors import OUT_OF_RANGE as IS_OUT_OF_RANGE
+
+# The first and the last second of the years -262143 to 262142.
+FIRST_SECOND, LAST_SECOND = -8_334_601_228_800, 8_210_266_876_799
+# No offset is as great.
+FAR = 2**31
+OUTSIDE = "the local time is outside the years -262143 to 262142"
+
+
+def localized(door: Door, column: Column, choice: Choice) -> Array:
+    """Returns the instant of each row; NaT where the choice gives none."""
+    answers = np.empty(len(column), np.int64)
+    rows, last = [], []
+    for block in column.blocks():
+        clocks = Clocks(door, block, choice)
+        clocks.take()
+        clocks.write(clocks.last if choice.fold == "latest" else clocks.first, answers)
+        rows.append(clocks.open + block.start)
+        last.append(clocks.last_instants())
+        choice.fail(column, clocks.faults)
+    if any(each.size for each in rows):
+        folds = Folds(np.concatenate(rows), np.concatenate(last))
+        decide(column, answers, folds, choice.groups)
+    return answers
+
+
+class Clocks:
+    """How often a block's local times are shown, and the offsets at the first and the last time."""
+
+    def __init__(self, door: Door, block: Block, choice: Choice):
+        self.door, self.block, self.choice = door, block, choice
+        told = door.wall_clocks(block.seconds)
+        self.shown, self.first, self.last = told[:, 0], told[:, 1], told[:, 2]
+        # The rows that become NaT, those that lose what is less than a second, and those that the
+        # order of rows decides.
+        self.lost = self.cut = self.open = np.empty(0, np.intp)
+        self.faults: list[Fault] = []
+
+    def take(self) -> None:
+        """Decides gaps and folds: makes two offsets one, or gives rows up as lost or failed."""
+        gap, fold = self.choice.gap, self.choice.fold
+        rows = np.flatnonzero(self.shown != ONCE)
+        if not rows.size:
+            return
+        if self.block.is_nat is not None:
+            rows = rows[~self.block.is_nat[rows]]
+        shown = self.shown[rows]
+        never, several, outside = shown == NEVER, shown == SEVERAL_TIMES, shown == OUT_OF_RANGE
+        self._fail(rows[outside], IS_OUT_OF_RANGE, OUTSIDE)
+        self._fail(rows[never & (gap == "raise")], GAP)
+        self._fail(rows[several & (fold == "raise")], FOLD)
+        skipped = rows[never]
+        if skipped.size and gap == "shift":
+            self._shift(skipped)
+        if skipped.size and gap == "after":
+            self._go_after(skipped)
+        if fold == "given" and several.any():
+            self._take_given(rows[several])
+        if fold == "infer":
+            self.open = rows[several & (self.first[rows] != self.last[rows])]
+        self._lose(rows[(never & (gap == "nat")) | (several & (fold == "nat"))])
+
+    def _shift(self, skipped: Array) -> None:
+        """Takes the offset before the gap for the rows that clocks skipped."""
+        local_times = self.block.seconds[skipped]
+        told = self.door.resolved(SHIFT_FORWARD, REFUSE, local_times)
+        self.first[skipped] = self.last[skipped] = local_times - told["instant"]
+        outside = skipped[told["number"] != 0]
+        self.first[outside] = self.last[outside] = 0
+        self._fail(outside, IS_OUT_OF_RANGE)
+
+    def _go_after(self, skipped: Array) -> None:
+        """Takes the first instant after the gap: the first second that shows a later time.
+
+        No earlier second than that of the first change of the list shows a later time than one of
+        these, since no offset is as great as `FAR`; and clocks go by seconds between changes."""
+        local_times = self.block.seconds[skipped]
+        begin, end = int(local_times.min()) - FAR, int(local_times.max()) + FAR
+        changes = self.door.changes(begin, end)
+        reached = np.maximum.accumulate(changes["at"] + changes["after"]["offset"])
+        at = changes["at"][np.searchsorted(reached, local_times, side="right")]
+        self.first[skipped] = self.last[skipped] = local_times - at
+        self.cut = skipped
+
+    def _take_given(self, rows: Array) -> None:
+        """Takes what a column of the caller says of the rows that clocks showed several times."""
+        given = self.choice.given
+        assert given is not None
+        values = given.values[self.block.start + rows]
+        first, last = self.first[rows], self.last[rows]
+        local_times = self.block.seconds[rows]
+        if given.name == "fold":
+            offsets, is_decided = np.where(values == 1, last, first), values >= 0
+        elif given.name == "is_dst":
+            is_first = self._is_dst(local_times - first) == values
+            is_last = self._is_dst(local_times - last) == values
+            offsets, is_decided = np.where(is_last, last, first), is_first != is_last
+        else:
+            is_decided = (values > -FAR) & (values < FAR)
+            offsets = np.where(is_decided, values, 0)
+            is_decided &= self.door.offsets(local_times - offsets) == offsets
+        self.first[rows] = self.last[rows] = offsets
+        words = f"{WORDS[FOLD]}, and {given.name}= does not say which it is"
+        self._fail(rows[~is_decided], FOLD, words)
+
+    def _is_dst(self, instants: Array) -> Array:
+        flags: Array = self.door.types(instants)["is_dst"]
+        return flags
+
+    # Instants
+
+    def write(self, offsets: Array, answers: Array) -> None:
+        """Writes the instants by these offsets to their rows."""
+        mine = answers[self.block.rows]
+        misfits = self._moved(offsets, mine)
+        if self.cut.size:
+            parts = self.block.counted[self.cut] % self.block.column.per_second
+            least = NAT + self.block.column.has_nat
+            misfits = np.union1d(misfits, self.cut[mine[self.cut] < least + parts])
+            mine[self.cut] -= parts
+        self._fail(misfits, IS_OUT_OF_RANGE, self.block.column.misfit_words)
+        if self.lost.size:
+            mine[self.lost] = NAT
+
+    def last_instants(self) -> Array:
+        """Returns the last instants of the open rows."""
+        if not self.open.size:
+            return self.open
+        instants = np.empty(self.block.values.size, np.int64)
+        misfits = np.intersect1d(self._moved(self.last, instants), self.open)
+        self._fail(misfits, IS_OUT_OF_RANGE, self.block.column.misfit_words)
+        return instants[self.open]
+
+    def _moved(self, offsets: Array, out: Array) -> Array:
+        """Writes the instants, and returns the places of those that don't fit the column."""
+        block = self.block
+        per_second = block.column.per_second
+        if (
+            block.least // per_second < FIRST_SECOND + FAR
+            or block.greatest // per_second > LAST_SECOND - FAR
+        ):
+            self._must_be_in_range(offsets)
+        return block.moved(-1, offsets, out)
+
+    def _must_be_in_range(self, offsets: Array) -> None:
+        instants = self.block.seconds - offsets
+        outside = (instants < FIRST_SECOND) | (instants > LAST_SECOND)
+        self._fail(np.flatnonzero(outside), IS_OUT_OF_RANGE)
+
+    # Rows without an answer
+
+    def _lose(self, places: Array) -> None:
+        self.lost = np.union1d(self.lost, places)
+
+    def _fail(self, places: Array, number: int, words: str | None = None) -> None:
+        """Notes the rows that have no answer, but for those that are lost already."""
+        if places.size:
+            places = np.setdiff1d(places, self.lost)
+        if places.size:
+            self.faults.append(Fault(self.block.start + places, number, words))
+            self._lose(places)

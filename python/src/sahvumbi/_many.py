@@ -1,0 +1,111 @@
+"""Columns of mixed zones: each row has a zone of its own."""
+
+from __future__ import annotations
+
+from typing import Any, Callable, Iterator, Mapping, Sequence, Union
+
+import numpy as np
+
+from ._choice import chosen, factorized, row_by_row
+from ._columns import Column
+from ._forms import Array
+from ._inputs import taken
+from ._localize import localized
+from .errors import RowError
+from .zone import Zone, zone_of_answer
+
+#: Zones by their place, or by their key.
+Zones = Union[Sequence[Zone], Mapping[Any, Zone]]
+
+
+def localize_many(
+    zones: Zones,
+    codes: Any,
+    local_times: Any,
+    gap: Any = "raise",
+    fold: Any = "raise",
+    *,
+    is_dst: Any = None,
+    offset: Any = None,
+    by: Any = None,
+    errors: str = "raise",
+    tz: Any = "UTC",
+) -> Any:
+    """Returns the instant at which the clocks of each row's zone show its local time.
+
+    `codes` has the place of each row's zone in `zones`, or its key if `zones` is a dict. All else
+    is as in `Zone.localize`; `fold='infer'` takes the order of the rows of each zone.
+
+    >>> import numpy as np
+    >>> zones = {name: Zone(name) for name in ("America/New_York", "Asia/Kolkata")}
+    >>> noon = np.array(["2021-07-01T12:00", "2021-07-01T12:00"], "M8[s]")
+    >>> localize_many(zones, ["Asia/Kolkata", "America/New_York"], noon)
+    array(['2021-07-01T06:30:00', '2021-07-01T16:00:00'],
+          dtype='datetime64[s]')
+    """
+    column = taken(local_times, may_be_aware=False)
+    choice = chosen(column, gap, fold, is_dst, offset, by, errors)
+
+    def ask(zone: Zone, places: Array) -> Array:
+        return localized(zone._door, column.part(places), choice.part(places))
+
+    answers = column.instants(_answered(zones, codes, column, ask), zone_of_answer(tz))
+    return answers if choice.failures is None else (answers, choice.collected(column))
+
+
+def to_local_many(zones: Zones, codes: Any, instants: Any) -> Any:
+    """Returns what the clocks of each row's zone show at its instant, as `Zone.to_local` does.
+
+    >>> to_local_many([Zone("America/New_York"), Zone("Asia/Kolkata")], [1, 0], [0, 0])
+    array([ 19800, -18000])
+    """
+    column = taken(instants, may_be_aware=True)
+
+    def ask(zone: Zone, places: Array) -> Array:
+        return zone._local_times(column.part(places))
+
+    return column.local_times(_answered(zones, codes, column, ask))
+
+
+def _answered(
+    zones: Zones, codes: Any, column: Column, ask: Callable[[Zone, Array], Array]
+) -> Array:
+    """The answers of all rows. Of several zones' errors the one of the first row is raised."""
+    answers = np.empty(len(column), np.int64)
+    errors: list[RowError] = []
+    for zone, places in _parts(zones, codes, column):
+        try:
+            answers[places] = ask(zone, places)
+        except RowError as error:
+            errors.append(error)
+    if errors:
+        raise min(errors, key=lambda error: error.row or 0)
+    return answers
+
+
+def _parts(zones: Zones, codes: Any, column: Column) -> Iterator[tuple[Zone, Array]]:
+    """Each zone that rows have, and the places of its rows, in order."""
+    listed, numbers = _numbered(zones, codes, column)
+    order = np.argsort(numbers, kind="stable")
+    ends = np.cumsum(np.bincount(numbers, minlength=len(listed)))
+    for zone, places in zip(listed, np.split(order, ends)):
+        if not isinstance(zone, Zone):
+            raise TypeError(f"zones has a {type(zone).__name__} that is no Zone")
+        if places.size:
+            yield zone, places
+
+
+def _numbered(zones: Zones, codes: Any, column: Column) -> tuple[list[Zone], Array]:
+    """The zones as a list, and the place in it for each row."""
+    if isinstance(zones, Mapping):
+        places = {key: place for place, key in enumerate(zones)}
+        numbers, found = factorized("codes", codes, column)
+        codes = np.array([places.get(key, -1) for key in found], np.intp)[numbers]
+    else:
+        codes = row_by_row("codes", codes, column)
+        if codes.dtype.kind not in "iu":
+            raise TypeError(f"codes= has places in zones, and not {codes.dtype}")
+    outside = np.flatnonzero((codes < 0) | (codes >= len(zones)))
+    if outside.size:
+        raise ValueError(f"codes= has no zone's code in row {outside[0]}")
+    return list(zones.values() if isinstance(zones, Mapping) else zones), codes

@@ -1,0 +1,115 @@
+"""Zones by name: files of the tz database, or of the package `tzdata`."""
+
+from __future__ import annotations
+
+import difflib
+import errno
+import os
+import stat
+import struct
+import zoneinfo
+from importlib import resources
+from typing import BinaryIO, Optional, Union
+
+from .errors import ZoneNotFoundError, printable
+
+HEADER = 44
+# A footer is a TZ string between newlines. One of this length would have names of no use.
+FOOTER = 1 << 16
+
+
+def zones() -> list[str]:
+    """Returns the names that `Zone` opens, in order.
+
+    They are those of `zoneinfo.available_timezones`: of the folders of `zoneinfo.TZPATH`, and of
+    the package `tzdata` if it is installed.
+
+    >>> from sahvumbi import zones
+    >>> "America/New_York" in zones()
+    True
+    """
+    return sorted(zoneinfo.available_timezones())
+
+
+def bytes_of_key(key: str) -> bytes:
+    """Returns the TZif file of a name. Raises `ZoneNotFoundError` if there is none."""
+    if not isinstance(key, str):
+        raise TypeError(f"the name of a zone is a str, and not {type(key).__name__}")
+    found = None
+    if _is_name(key):
+        found = _of_folders(key)
+        if found is None:
+            found = _of_tzdata(key)
+    if found is None:
+        raise ZoneNotFoundError(_not_found(key))
+    return found
+
+
+def bytes_of_file(path: Union[str, os.PathLike[str]]) -> bytes:
+    """Returns the bytes of a file, as many as its headers say that a TZif file has.
+
+    Raises OSError if it can't be read, also if it is a pipe or a device: those are not waited for.
+    """
+    descriptor = os.open(path, os.O_RDONLY | os.O_NONBLOCK | os.O_CLOEXEC)
+    with open(descriptor, "rb") as file:
+        mode = os.fstat(descriptor).st_mode
+        if stat.S_ISDIR(mode):
+            raise IsADirectoryError(errno.EISDIR, os.strerror(errno.EISDIR), os.fspath(path))
+        if not stat.S_ISREG(mode):
+            raise OSError(errno.EINVAL, "not a regular file", os.fspath(path))
+        return _bytes_of_zone(file)
+
+
+def _bytes_of_zone(file: BinaryIO) -> bytes:
+    """Returns the blocks of a TZif file (RFC 8536, section 3), and what may be its footer."""
+    data = file.read(HEADER)
+    if len(data) < HEADER or data[:4] != b"TZif":
+        return data
+    data += file.read(_block(data, 4))
+    if data[4] == 0:
+        return data + file.read(1)
+    header = file.read(HEADER)
+    if len(header) == HEADER:
+        header += file.read(_block(header, 8))
+    return data + header + file.read(FOOTER)
+
+
+def _block(header: bytes, size: int) -> int:
+    """Returns the length of the block that follows a header, with times of `size` bytes."""
+    utc, standard, leap, times, types, names = struct.unpack(">6L", header[20:HEADER])
+    length: int = times * (size + 1) + types * 6 + names + leap * (size + 4) + standard + utc
+    return length
+
+
+def _is_name(key: str) -> bool:
+    """Returns whether a name is a relative path that leads to no other folder."""
+    parts = key.split("/")
+    return key.isprintable() and not {"", ".", ".."} & set(parts) and "\\" not in key
+
+
+def _of_folders(key: str) -> Optional[bytes]:
+    for folder in zoneinfo.TZPATH:
+        path = os.path.join(folder, key)
+        if os.path.isfile(path):
+            return bytes_of_file(path)
+    return None
+
+
+def _of_tzdata(key: str) -> Optional[bytes]:
+    *folders, name = key.split("/")
+    try:
+        folder = resources.files(".".join(["tzdata", "zoneinfo", *folders]))
+        return folder.joinpath(name).read_bytes()
+    except (ImportError, OSError, ValueError):
+        return None
+
+
+def _not_found(key: str) -> str:
+    shown = f"no zone has the name {printable(key)!r}"
+    if os.path.isabs(key):
+        return f"{shown}: Zone.from_file opens a path"
+    if "," in key:
+        return f"{shown}: Zone.from_text reads a TZ string"
+    places = ", ".join([*zoneinfo.TZPATH, "the package tzdata"])
+    near = difflib.get_close_matches(key[:40], zones(), 1)
+    return f"{shown} in {places}" + "".join(f"; is it {name!r}?" for name in near)

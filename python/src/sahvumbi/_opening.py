@@ -1,0 +1,125 @@
+"""How a zone is opened, compared and pickled."""
+
+from __future__ import annotations
+
+import os
+from typing import Any, Optional, TypeVar, Union
+from zoneinfo import ZoneInfo
+
+from ._door import FILE, TEXT, Door
+from ._names import bytes_of_file, bytes_of_key
+
+Self = TypeVar("Self", bound="Opened")
+
+
+class Opened:
+    """A zone that is opened by its name, or made of a file, of bytes or of a TZ string."""
+
+    __slots__ = ("_door", "_key", "_made", "__weakref__")
+
+    _door: Door
+    _key: Optional[str]
+    _made: str
+
+    def __init__(self, key: str):
+        self._open(FILE, bytes_of_key(key), key, str(key), f"Zone({str(key)!r})")
+
+    def _open(self, kind: int, data: bytes, what: str, key: Optional[str], made: str) -> None:
+        self._door = Door(kind, data, what)
+        self._key, self._made = key, made
+
+    @classmethod
+    def _of(
+        cls: type[Self], kind: int, data: bytes, what: str, key: Optional[str], made: str
+    ) -> Self:
+        zone = cls.__new__(cls)
+        zone._open(kind, data, what, key, made)
+        return zone
+
+    @classmethod
+    def from_file(cls: type[Self], path: Union[str, os.PathLike[str]]) -> Self:
+        """Returns the zone of a TZif file (RFC 8536, versions 1 to 3).
+
+        No more is read of the file than its headers say, and no pipe is waited for. Raises
+        `ZoneRefusedError` if it is no such file, and OSError if it can't be read.
+        """
+        name = os.fspath(path)
+        return cls._of(FILE, bytes_of_file(path), name, None, f"Zone.from_file({name!r})")
+
+    @classmethod
+    def from_bytes(cls: type[Self], data: Union[bytes, bytearray, memoryview]) -> Self:
+        """Returns the zone of a TZif file's bytes. Raises `ZoneRefusedError` if they are none.
+
+        >>> from sahvumbi import Zone
+        >>> Zone.from_bytes(b"TZif")
+        Traceback (most recent call last):
+        ...
+        sahvumbi.errors.ZoneRefusedError: 4 bytes is refused: unexpected end of input (7)
+        """
+        read = memoryview(data).tobytes()
+        what = f"{len(read)} bytes"
+        return cls._of(FILE, read, what, None, f"Zone.from_bytes(<{what}>)")
+
+    @classmethod
+    def from_text(cls: type[Self], text: str) -> Self:
+        """Returns the zone of a TZ string as in POSIX.1, section 8.3. The empty string is UTC.
+
+        Raises `ZoneRefusedError` if it is none. That is so of the extensions of RFC 8536, section
+        3.3.1, too: a signed time of day (10), and hours of one above 24 (6). In the footer of a
+        file they are read.
+
+        >>> from sahvumbi import Zone
+        >>> Zone.from_text("<+0330>-3:30").offsets([0])
+        array([12600], dtype=int32)
+        """
+        if not isinstance(text, str):
+            raise TypeError(f"a TZ string is a str, and not {type(text).__name__}")
+        data = str.encode(text, "utf-8", "surrogatepass")
+        return cls._of(TEXT, data, text, None, f"Zone.from_text({text!r})")
+
+    @classmethod
+    def from_zoneinfo(cls: type[Self], zone: ZoneInfo) -> Self:
+        """Returns the zone of the same name as a `zoneinfo.ZoneInfo`.
+
+        Its file is read again. Raises ValueError if the ZoneInfo has no name.
+
+        >>> from zoneinfo import ZoneInfo
+        >>> from sahvumbi import Zone
+        >>> Zone.from_zoneinfo(ZoneInfo("Europe/Paris"))
+        Zone('Europe/Paris')
+        """
+        if not isinstance(zone, ZoneInfo):
+            raise TypeError(f"from_zoneinfo takes a ZoneInfo, and not {type(zone).__name__}")
+        if zone.key is None:
+            raise ValueError("this ZoneInfo has no key: Zone.from_file reads the file it is of")
+        return cls(zone.key)
+
+    @property
+    def key(self) -> Optional[str]:
+        """The name that the zone was opened by, or None."""
+        return self._key
+
+    def __repr__(self) -> str:
+        return self._made
+
+    def __eq__(self, other: object) -> bool:
+        """Whether both were read from the same bytes in the same way."""
+        return isinstance(other, Opened) and self._spelled() == other._spelled()
+
+    def __hash__(self) -> int:
+        return hash(self._spelled())
+
+    def __reduce__(self) -> tuple[Any, ...]:
+        kind, data = self._spelled()
+        return _restored, (type(self), kind, data, self._door.what, self._key, self._made)
+
+    def __dask_tokenize__(self) -> tuple[Any, ...]:
+        return "sahvumbi.Zone", *self._spelled()
+
+    def _spelled(self) -> tuple[int, bytes]:
+        return self._door.kind, self._door.data
+
+
+def _restored(kind: type[Self], *opened: Any) -> Self:
+    """Returns a zone that was pickled: it goes with its bytes, so all readers answer alike."""
+    return kind._of(*opened)

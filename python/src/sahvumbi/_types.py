@@ -1,0 +1,61 @@
+"""The types of questions and answers, for those who check theirs."""
+
+from __future__ import annotations
+
+from datetime import datetime
+from typing import Any, Literal, NamedTuple, Protocol, Sequence, TypeVar, Union
+
+import numpy as np
+import numpy.typing as npt
+
+
+class Labels(Protocol):
+    """What a Series and an Index of pandas have, and an array has not."""
+
+    @property
+    def array(self) -> Any: ...
+
+    def to_numpy(self, *words: Any, **choices: Any) -> Any: ...
+
+
+#: Numbers and times that are answered by an array.
+Rows = Union[npt.NDArray[Any], Sequence[int], Sequence[np.datetime64]]
+#: A second or a time.
+Single = Union[int, "np.integer[Any]", np.datetime64]
+#: All that the calls take as a column.
+Times = Union[Rows, Single, datetime, Labels]
+#: A Series or an Index, which is answered by one.
+Labelled = TypeVar("Labelled", bound=Labels)
+#: A datetime or a Timestamp, which is answered by one.
+Moment = TypeVar("Moment", bound=datetime)
+
+Gap = Literal["raise", "shift", "after", "nat"]
+FoldWord = Literal["raise", "earliest", "latest", "nat", "infer"]
+#: A word, or 0 and 1 for each row.
+Fold = Union[FoldWord, Rows, Labels, int]
+
+
+class WallClocks(NamedTuple):
+    """When a zone's clocks show the local times of a column. Each field has the column's shape."""
+
+    shown: npt.NDArray[np.int8]
+    """How often: 0 never, 1 once, 2 several times; 3 out of range, -1 NaT."""
+    first: npt.NDArray[Any]
+    """The first instant that shows it, counted as the column is; where none does, NaT or 0."""
+    last: npt.NDArray[Any]
+    """The last one."""
+    first_offset: npt.NDArray[Any]
+    """The offset at the first instant, as `Zone.offsets` tells it."""
+    last_offset: npt.NDArray[Any]
+    """The offset at the last one."""
+
+
+class LocalTypes(NamedTuple):
+    """The local time types in force at the instants of a column. Each field has its shape."""
+
+    offset: npt.NDArray[Any]
+    """The offset, as `Zone.offsets` tells it; NaT for NaT."""
+    is_dst: npt.NDArray[np.bool_]
+    """The DST flag: whether it is daylight saving time. False for NaT."""
+    abbreviation: npt.NDArray[np.str_]
+    """The abbreviation, such as EST; empty for NaT, and where the zone has none."""

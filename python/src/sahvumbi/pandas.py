@@ -1,0 +1,62 @@
+"""The accessor `.sahvumbi` of Series and Indexes, which the import of this module registers.
+
+>>> import pandas
+>>> import sahvumbi.pandas
+>>> times = pandas.Series(pandas.to_datetime(["2021-07-01 12:00", "2021-01-01 12:00"]))
+>>> times.sahvumbi.localize("America/New_York")
+0   2021-07-01 16:00:00+00:00
+1   2021-01-01 17:00:00+00:00
+dtype: datetime64[ns, UTC]
+"""
+
+from __future__ import annotations
+
+from typing import Any, Union
+from zoneinfo import ZoneInfo
+
+from pandas.api.extensions import register_index_accessor, register_series_accessor
+
+from .zone import Zone
+
+#: A zone, or its name.
+ZoneLike = Union[Zone, str, ZoneInfo]
+
+
+def zone_of(zone: ZoneLike) -> Zone:
+    """Returns the zone that is given as it is, by its name or as a ZoneInfo."""
+    if isinstance(zone, Zone):
+        return zone
+    if isinstance(zone, ZoneInfo):
+        return Zone.from_zoneinfo(zone)
+    return Zone(zone)
+
+
+class Accessor:
+    """The calls of `Zone` on a Series or an Index: each takes the zone, or its name, first."""
+
+    def __init__(self, column: Any):
+        self._column = column
+
+    def offsets(self, zone: ZoneLike) -> Any:
+        """Returns the offset in force at each instant, as `Zone.offsets` does."""
+        return zone_of(zone).offsets(self._column)
+
+    def to_local(self, zone: ZoneLike) -> Any:
+        """Returns what the zone's clocks show at each instant, as `Zone.to_local` does."""
+        return zone_of(zone).to_local(self._column)
+
+    def types(self, zone: ZoneLike) -> Any:
+        """Returns the offset, DST flag and abbreviation at each instant, as `Zone.types` does."""
+        return zone_of(zone).types(self._column)
+
+    def localize(self, zone: ZoneLike, *words: Any, **choices: Any) -> Any:
+        """Returns the instant of each local time, as `Zone.localize` does with the same choices."""
+        return zone_of(zone).localize(self._column, *words, **choices)
+
+    def explain(self, zone: ZoneLike) -> Any:
+        """Returns how often, and when, each local time is shown, as `Zone.explain` does."""
+        return zone_of(zone).explain(self._column)
+
+
+register_series_accessor("sahvumbi")(Accessor)
+register_index_accessor("sahvumbi")(Accessor)

@@ -1,0 +1,291 @@
+"""What may be handed over besides arrays and Series, and what a TypeError says of the rest."""
+
+from array import array
+from datetime import date, datetime, timedelta, timezone
+from zoneinfo import ZoneInfo
+
+import numpy as np
+import pandas as pd
+import pytest
+from hypothesis import given
+from hypothesis import strategies as st
+
+import sahvumbi
+from sahvumbi import Zone
+
+NEW_YORK = Zone("America/New_York")
+THEIRS = ZoneInfo("America/New_York")
+CLOCKS = ["2021-07-01 08:00:00.5", None, "2021-01-01 07:00"]
+LOCAL = pd.DatetimeIndex(CLOCKS, name="when")
+UTC = ["2021-07-01 12:00:00.5", None, "2021-01-01 12:00"]
+INSTANTS = pd.DatetimeIndex(UTC, name="when", tz="UTC")
+GAP, FOLD = datetime(2021, 3, 14, 2, 30), datetime(2021, 11, 7, 1, 30)
+
+
+# Indexes
+
+
+def test_an_index():
+    pd.testing.assert_index_equal(NEW_YORK.localize(LOCAL), INSTANTS)
+    pd.testing.assert_index_equal(NEW_YORK.to_local(INSTANTS), LOCAL)
+    pd.testing.assert_index_equal(NEW_YORK.to_local(INSTANTS.tz_localize(None)), LOCAL)
+    pd.testing.assert_index_equal(NEW_YORK.to_local(INSTANTS.tz_convert("Asia/Tokyo")), LOCAL)
+    offsets = pd.TimedeltaIndex(pd.to_timedelta([-4, None, -5], "h"), name="when")
+    pd.testing.assert_index_equal(NEW_YORK.offsets(INSTANTS), offsets)
+    with pytest.raises(TypeError, match=r"these are .*: tz_localize\(None\) removes it"):
+        NEW_YORK.localize(INSTANTS)
+
+
+def test_an_index_of_numbers():
+    for index in (pd.Index([0, 1_625_140_800], name="at"), pd.RangeIndex(0, 10, 5, name="at")):
+        answer = NEW_YORK.to_local(index)
+        assert isinstance(answer, pd.Index) and answer.name == "at"
+        assert answer.tolist() == NEW_YORK.to_local(index.to_numpy()).tolist()
+
+
+def test_tables_of_an_index():
+    frame = NEW_YORK.explain(LOCAL)
+    assert frame.index is LOCAL or frame.index.equals(LOCAL)
+    assert frame["shown"].tolist() == [1, -1, 1] and frame["first"].tolist()[0] == INSTANTS[0]
+    frame = NEW_YORK.types(INSTANTS)
+    assert frame.index.equals(INSTANTS)
+    assert frame["abbreviation"].tolist() == ["EDT", "", "EST"]
+
+
+def test_an_error_tells_the_index():
+    with pytest.raises(sahvumbi.GapError) as raised:
+        NEW_YORK.localize(pd.DatetimeIndex([LOCAL[0], GAP]))
+    assert (raised.value.row, raised.value.label) == (1, pd.Timestamp(GAP))
+
+
+# Moments
+
+
+def test_a_timestamp():
+    local, instant = pd.Timestamp("2021-07-01 08:00:00.123456789"), pd.Timestamp(
+        "2021-07-01 12:00:00.123456789", tz="UTC"
+    )
+    assert NEW_YORK.localize(local) == instant and NEW_YORK.localize(local).tz is not None
+    assert NEW_YORK.to_local(instant) == local
+    assert NEW_YORK.to_local(instant.tz_localize(None)) == local
+    assert NEW_YORK.to_local(instant.tz_convert("Asia/Tokyo")) == local
+    assert NEW_YORK.offsets(instant) == pd.Timedelta(-4, "h")
+    assert NEW_YORK.localize(pd.NaT) is pd.NaT and NEW_YORK.to_local(pd.NaT) is pd.NaT
+    assert NEW_YORK.localize(pd.Timestamp(GAP), gap="nat") is pd.NaT
+    assert NEW_YORK.types(instant).abbreviation == "EDT"
+    assert NEW_YORK.explain(pd.Timestamp(FOLD)).last == pd.Timestamp("2021-11-07 06:30", tz="UTC")
+    with pytest.raises(TypeError, match="a local time has no zone"):
+        NEW_YORK.localize(instant)
+    with pytest.raises(sahvumbi.GapError):
+        NEW_YORK.localize(pd.Timestamp(GAP))
+
+
+def test_a_datetime():
+    local = datetime(2021, 7, 1, 8, 0, 0, 5)
+    instant = datetime(2021, 7, 1, 12, 0, 0, 5, timezone.utc)
+    answer = NEW_YORK.localize(local)
+    assert type(answer) is datetime and answer == instant and answer.tzinfo is timezone.utc
+    assert type(NEW_YORK.to_local(instant)) is datetime and NEW_YORK.to_local(instant) == local
+    assert NEW_YORK.to_local(instant.replace(tzinfo=None)) == local
+    assert NEW_YORK.to_local(instant.astimezone(ZoneInfo("Asia/Tokyo"))) == local
+    assert NEW_YORK.offsets(instant) == timedelta(hours=-4)
+    assert NEW_YORK.types(instant) == (timedelta(hours=-4), True, "EDT")
+    assert NEW_YORK.explain(FOLD).first == datetime(2021, 11, 7, 5, 30, tzinfo=timezone.utc)
+    assert NEW_YORK.localize(FOLD, fold=1) == datetime(2021, 11, 7, 6, 30, tzinfo=timezone.utc)
+    assert NEW_YORK.localize(local, tz=THEIRS).tzinfo is THEIRS
+    with pytest.raises(TypeError, match="a local time has no zone"):
+        NEW_YORK.localize(instant)
+    with pytest.raises(ValueError, match="datetime has no NaT"):
+        NEW_YORK.localize(GAP, gap="nat")
+    for moment, ask in ((datetime.max, NEW_YORK.localize), (datetime.min, NEW_YORK.to_local)):
+        with pytest.raises(sahvumbi.OutOfRangeError, match="does not fit datetime"):
+            ask(moment)
+
+
+MOMENTS = st.datetimes(datetime(1, 1, 3), datetime(9999, 12, 29))
+
+
+@given(MOMENTS)
+def test_datetimes_beside_zoneinfo(moment):
+    instant = moment.replace(tzinfo=timezone.utc)
+    expected = instant.astimezone(THEIRS)
+    assert NEW_YORK.to_local(instant) == expected.replace(tzinfo=None)
+    assert NEW_YORK.offsets(instant) == expected.utcoffset()
+    assert NEW_YORK.types(instant)[1:] == (bool(expected.dst()), expected.tzname())
+    back = NEW_YORK.localize(expected.replace(tzinfo=None), fold=expected.fold)
+    assert back == instant
+
+
+@given(MOMENTS, st.sampled_from([0, 1]))
+def test_local_times_beside_zoneinfo(moment, fold):
+    expected = moment.replace(tzinfo=THEIRS, fold=fold).astimezone(timezone.utc)
+    if expected.astimezone(THEIRS).replace(tzinfo=None) != moment:  # in a gap
+        expected = moment.replace(tzinfo=THEIRS, fold=0).astimezone(timezone.utc)
+    assert NEW_YORK.localize(moment, gap="shift", fold=fold) == expected
+
+
+# Nullable integers
+
+
+@pytest.mark.parametrize("dtype", ["Int64", "Int32", "UInt32", "UInt64"])
+def test_nullable_integers(dtype):
+    column = pd.Series([0, None, 1_625_140_800], index=["a", "b", "b"], name="at", dtype=dtype)
+    answer = NEW_YORK.to_local(column)
+    expected = pd.Series([-18_000, None, 1_625_126_400], column.index, "Int64", "at")
+    pd.testing.assert_series_equal(answer, expected)
+    back = pd.Series([0, None, 1_625_140_800], column.index, "Int64", "at")
+    pd.testing.assert_series_equal(NEW_YORK.localize(expected), back)
+    offsets = pd.Series([-18_000, None, -14_400], column.index, "Int32", "at")
+    pd.testing.assert_series_equal(NEW_YORK.offsets(column), offsets)
+    explained = NEW_YORK.explain(expected)
+    assert explained["shown"].tolist() == [1, -1, 1]
+    assert explained["first"].tolist() == [0, pd.NA, 1_625_140_800]
+    assert NEW_YORK.types(column)["offset"].tolist() == [-18_000, pd.NA, -14_400]
+    skipped = pd.Series([1_615_689_000, None], dtype="Int64")
+    assert NEW_YORK.localize(skipped, gap="nat").isna().tolist() == [True, True]
+    index = NEW_YORK.to_local(pd.Index(column))
+    assert isinstance(index, pd.Index) and index.isna().tolist() == [False, True, False]
+
+
+def test_nullable_integers_may_not_fit():
+    with pytest.raises(sahvumbi.OutOfRangeError):
+        NEW_YORK.to_local(pd.Series([0, 2**63], dtype="UInt64"))
+    with pytest.raises(sahvumbi.OutOfRangeError):
+        NEW_YORK.to_local(pd.Series([-(2**63), None], dtype="Int64"))
+
+
+# What is kept
+
+
+class Kept(pd.Series):
+    """A subclass, as geopandas has one."""
+
+    @property
+    def _constructor(self):
+        return Kept
+
+
+def test_attrs_and_subclasses_are_kept():
+    column = Kept(LOCAL, name="when")
+    column.attrs["source"] = "meter 7"
+    for answer in (
+        NEW_YORK.localize(column),
+        NEW_YORK.to_local(column),
+        NEW_YORK.offsets(column),
+        NEW_YORK.localize(column, tz="Asia/Tokyo"),
+    ):
+        assert type(answer) is Kept and answer.attrs == {"source": "meter 7"}
+        assert answer.name == "when" and answer.index.equals(column.index)
+    assert NEW_YORK.explain(column).attrs == NEW_YORK.types(column).attrs == {"source": "meter 7"}
+    flagged = pd.Series(LOCAL).set_flags(allows_duplicate_labels=False)
+    assert not NEW_YORK.localize(flagged).flags.allows_duplicate_labels
+
+
+def test_a_zone_of_the_answer():
+    expected = INSTANTS.tz_convert("Europe/Paris")
+    pd.testing.assert_index_equal(NEW_YORK.localize(LOCAL, tz="Europe/Paris"), expected)
+    answer = NEW_YORK.localize(pd.Series(LOCAL), tz=NEW_YORK)
+    assert answer.dtype == pd.DatetimeTZDtype("ns", THEIRS)
+    assert answer[0] == INSTANTS[0]
+    assert NEW_YORK.localize(LOCAL[0], tz="Europe/Paris").tz.zone == "Europe/Paris"
+    with pytest.raises(TypeError, match="an array has no zone"):
+        NEW_YORK.localize([0], tz="Europe/Paris")
+    with pytest.raises(ValueError, match="a zone with a name"):
+        NEW_YORK.localize(LOCAL, tz=Zone.from_text("EST5"))
+    with pytest.raises(ValueError, match="leave it out for UTC"):
+        NEW_YORK.localize(LOCAL, tz=None)
+
+
+# Refusals
+
+
+class HiddenZone:
+    """What gives an array of UTC for a column with a zone, as those of other libraries may."""
+
+    def __array__(self, dtype=None):
+        return INSTANTS.to_numpy("M8[ns]")
+
+
+@pytest.mark.parametrize(
+    "column, words",
+    [
+        (HiddenZone(), "pass its instants in UTC, or its local times"),
+        (pd.DataFrame({"when": LOCAL}), "pandas DataFrame .* one of its columns"),
+        (pd.DataFrame({"when": LOCAL[:0]}), "pandas DataFrame"),
+        (INSTANTS.array, "pandas DatetimeArray .* a Series or an Index"),
+        (INSTANTS.array[:0], "pandas DatetimeArray"),
+        (pd.array([1, None], dtype="Int64"), "pandas IntegerArray .* a Series or an Index"),
+        (pd.array([], dtype="Int64"), "pandas IntegerArray"),
+        (pd.MultiIndex.from_product([[0], [1]]), "get_level_values"),
+        (pd.Series([GAP], dtype=object), "pandas.to_datetime"),
+        (pd.Series(["2021-01-01"]), "pandas.to_datetime"),
+        (pd.Series([1.0, None], dtype="Float64"), "Series of Float64"),
+        (pd.period_range("2021", periods=2, freq="D"), "Index of period"),
+        (pd.Series([True]), "array of bool"),
+        ("2021-01-01", "a str .* read a text"),
+        (date(2021, 1, 1), "a date .* a time of day"),
+        (array("q", [0]), "is no column of time"),
+        ({0: 1}, "a dict .* a Series, an Index and a datetime are"),
+        (iter([0]), "is no column of time"),
+        ([1.5], "astype makes int64 of whole seconds"),
+        ([GAP], "pandas.to_datetime"),
+        (["2021-01-01"], "pandas.to_datetime"),
+    ],
+)
+def test_each_refusal_says_what_to_do(column, words):
+    zone = NEW_YORK
+    for ask in (zone.offsets, zone.to_local, zone.types, zone.localize, zone.explain):
+        with pytest.raises(TypeError, match=words):
+            ask(column)
+
+
+def test_parts_of_dask_are_refused():
+    frames, arrays = pytest.importorskip("dask.dataframe"), pytest.importorskip("dask.array")
+    for column in (
+        frames.from_pandas(pd.Series(LOCAL), npartitions=2),
+        frames.from_pandas(pd.DataFrame({"when": LOCAL}), npartitions=2),
+        arrays.from_array(np.arange(4), chunks=2),
+    ):
+        with pytest.raises(TypeError, match="a dask .* map_partitions"):
+            NEW_YORK.to_local(column)
+
+
+def test_lists():
+    assert NEW_YORK.to_local([]).dtype == np.int64
+    assert NEW_YORK.to_local(()).shape == (0,)
+    assert NEW_YORK.to_local(range(3)).tolist() == [-18_000, -17_999, -17_998]
+    assert NEW_YORK.to_local([[0], [1]]).shape == (2, 1)
+    days = [np.datetime64("2021-07-01"), np.datetime64("2021-01-01T12", "h")]
+    assert NEW_YORK.to_local(days).tolist() == [datetime(2021, 6, 30, 20), datetime(2021, 1, 1, 7)]
+
+
+# The accessor
+
+
+def test_the_accessor():
+    import sahvumbi.pandas  # noqa: F401
+
+    for column in (pd.Series(LOCAL), LOCAL):
+        for zone in ("America/New_York", NEW_YORK, THEIRS):
+            instants = column.sahvumbi.localize(zone, gap="shift")
+            assert (instants.dropna() == INSTANTS.dropna()).all()
+            assert (instants.sahvumbi.to_local(zone).dropna() == LOCAL.dropna()).all()
+            assert instants.sahvumbi.offsets(zone)[0] == pd.Timedelta(-4, "h")
+            assert instants.sahvumbi.types(zone)["is_dst"].tolist() == [True, False, False]
+            assert column.sahvumbi.explain(zone)["shown"].tolist() == [1, -1, 1]
+
+
+def test_ends_of_a_stretch():
+    ends = [
+        (pd.Timestamp("2021"), pd.Timestamp("2022")),
+        (pd.Timestamp("2021", tz="UTC"), datetime(2022, 1, 1)),
+        (datetime(2021, 1, 1, tzinfo=timezone.utc), np.datetime64("2022")),
+    ]
+    for first, last in ends:
+        assert NEW_YORK.changes(first, last).name_after.tolist() == ["EDT", "EST"]
+    with pytest.raises(TypeError, match="from_ is a text: .*pandas.Timestamp"):
+        NEW_YORK.changes("2021", 0)
+    with pytest.raises(TypeError, match="to: a .*DataFrame is no column"):
+        NEW_YORK.changes(0, pd.DataFrame())
+    with pytest.raises(ValueError, match="from_ is NaT"):
+        NEW_YORK.changes(pd.NaT, pd.Timestamp("2022"))

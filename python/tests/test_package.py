@@ -1,0 +1,107 @@
+"""What the package is: its version, its program, its library's processor, its types."""
+
+import re
+import shutil
+import subprocess
+import sys
+import tarfile
+import zipfile
+from pathlib import Path
+
+import pytest
+
+import sahvumbi
+from sahvumbi import _door
+
+PROJECT = Path(__file__).resolve().parents[1]
+FLAGS = "flags\t\t: fpu " + " ".join(sorted(_door.NEEDED))
+
+
+def ask(*words, **given):
+    """Runs the program, and returns its status and what it printed."""
+    command = [sys.executable, "-m", "sahvumbi", *words]
+    ran = subprocess.run(command, capture_output=True, text=True, **given)
+    return ran.returncode, ran.stdout, ran.stderr
+
+
+def test_the_version():
+    from importlib.metadata import version
+
+    assert re.fullmatch(r"\d+\.\d+\.\d+", sahvumbi.__version__)
+    assert version("sahvumbi") == sahvumbi.__version__
+
+
+def test_the_program():
+    status, said, _ = ask()
+    assert status == 0 and said.startswith(f"sahvumbi {sahvumbi.__version__}, numpy ")
+    status, said, _ = ask("America/New_York")
+    assert status == 0
+    first, *others = said.splitlines()
+    assert re.fullmatch(r"\S+ E[SD]T \(offset -\d+ s(, daylight saving time)?\)", first)
+    assert len(others) == 2 and all(" UTC: E" in line for line in others)
+    status, said, wrong = ask("America/New_Yrok")
+    assert (status, said) == (1, "") and "America/New_York" in wrong
+    assert ask("--help")[0] == 0 and "usage" in ask("--help")[1]
+    assert ask("one", "two")[0] == 1
+
+
+def test_the_processor():
+    _door.must_run_here("x86_64", f"processor\t: 0\n{FLAGS}\n\nflags : fpu")
+    _door.must_run_here("x86_64", "")
+    with pytest.raises(ImportError, match="this one lacks sse4_2$"):
+        _door.must_run_here("x86_64", FLAGS.replace("sse4_2", "sse2"))
+    with pytest.raises(ImportError, match="this is aarch64"):
+        _door.must_run_here("aarch64", "")
+
+
+def test_the_import_needs_no_pandas():
+    words = "import sahvumbi, sys; sahvumbi.Zone('Asia/Tokyo').to_local([0]); "
+    words += "sys.exit('pandas' in sys.modules)"
+    subprocess.run([sys.executable, "-c", words], check=True)
+
+
+@pytest.fixture(scope="module")
+def project(tmp_path_factory):
+    """A copy of the project, so that nothing is built beside its files."""
+    folder = tmp_path_factory.mktemp("project") / "python"
+    shutil.copytree(PROJECT, folder, ignore=shutil.ignore_patterns("build", "*.egg-info", "tests"))
+    for name in ("LICENSE", "LICENSE-APACHE"):
+        shutil.copy(PROJECT.parent / name, folder.parent)
+    pytest.importorskip("wheel")
+    if not (folder / "src/sahvumbi/libzoned_ffi.so").exists():
+        pytest.skip("the library is not built")
+    return folder
+
+
+def built(project, *words):
+    """Builds, and returns the file that is made."""
+    out = project / "made"
+    shutil.rmtree(out, ignore_errors=True)
+    command = [sys.executable, "setup.py", "-q", *words, "-d", str(out)]
+    ran = subprocess.run(command, cwd=project, capture_output=True, text=True)
+    assert ran.returncode == 0, ran.stderr
+    return next(out.iterdir())
+
+
+def test_the_wheel(project):
+    """What PyPI asks of it, and all that is in it."""
+    wheel = built(project, "bdist_wheel")
+    assert wheel.name == f"sahvumbi-{sahvumbi.__version__}-py3-none-manylinux2014_x86_64.whl"
+    with zipfile.ZipFile(wheel) as files:
+        names = files.namelist()
+        metadata = files.read(next(name for name in names if name.endswith("METADATA"))).decode()
+    assert {"License: MIT OR Apache-2.0", "License-File: LICENSE"} <= set(metadata.splitlines())
+    assert "\nAuthor: Sahvumbi maintainers\n" in metadata
+    assert f"Version: {sahvumbi.__version__}" in metadata
+    for name in ("sahvumbi/libzoned_ffi.so", "sahvumbi/py.typed", "sahvumbi/__main__.py"):
+        assert name in names
+    for name in ("LICENSE", "LICENSE-APACHE"):
+        assert any(other.endswith(f"dist-info/{name}") for other in names)
+    assert not any(name.startswith("tests") for name in names)
+
+
+def test_the_sdist_has_no_library(project):
+    with tarfile.open(built(project, "sdist")) as files:
+        names = {Path(name).name for name in files.getnames()}
+    assert {"LICENSE", "LICENSE-APACHE", "README.md", "setup.py", "zone.py", "py.typed"} <= names
+    assert not any(name.endswith(".so") for name in names)
