@@ -1,7 +1,6 @@
 -- What lines of `zoneq` ask: what a reading of them comes to.
-use Rattle.std.proofs.Common.{◌≡◌, refl, ℤ, pos, neg_ℤ, ℕ, List, [], ◌∷◌, Ok, Err}
+use Rattle.std.proofs.Common.{◌≡◌, refl, pos, neg_ℤ, ℕ, List, [], ◌∷◌, Ok, Err}
 use Rattle.std.specs.Prelude.{codes}
-use Rattle.offset_core.specs.declared.choice.Choice.{Choice}
 use Rattle.offset_core.specs.declared.choice.GapChoice.{GapChoice}
 use Rattle.offset_core.specs.declared.choice.GapChoice.TheVariants as gaps
 use Rattle.offset_core.specs.declared.choice.FoldChoice.{FoldChoice}

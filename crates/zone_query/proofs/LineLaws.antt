@@ -1,4 +1,4 @@
--- Each line asks something or is bad, and a date and a time that are asked for are in range.
+-- Each line asks something or is bad, and a local time that is asked for is in range.
 use Rattle.std.proofs.Common.{◌≡◌, ℕ, ℤ, ◌≤◌, ◌⊎◌, inl, inr, refl, ap, sym, ◌∙◌, subst, true, false, nat_le, ◌&&◌, List, [], Ok, Err, Result, codes, arith}
 use Rattle.std.specs.Bool.{Decides}
 use Rattle.std.specs.Prelude.{Some, None}
@@ -57,8 +57,8 @@ date_in_range bytes rest day (y, a, year, (m, b, month, (u, c, (some, one, stays
 
 time_in_range : (bytes rest : List ℕ) (l : Reading) → Spells local_time bytes l rest → IsInRange l.s
 unfolding local_time
-time_in_range bytes rest l (day, a, dated, (h, b, hour, (min, c, minute, (s, d, second, (value, same))))) =
-    let in_range = date_in_range bytes a day dated in
+time_in_range bytes rest l (day, a, spelled, (h, b, hour, (min, c, minute, (s, d, second, (value, same))))) =
+    let in_range = date_in_range bytes a day spelled in
     let shown = ap (λ (r : Reading). r.s) value in
     let hours = within 23 a b h hour in
     let minutes = within 59 b c min minute in
@@ -72,7 +72,7 @@ dated y m d found h = (day_exists y m d).1 (h.1.2, h.1.3)
 pub undated : (y : ℤ) (m d : ℕ) → IsYearInRange y → 1 ≤ m → m ≤ 12 → IsDateOf y m d None → (nat_le 1 d && nat_le d (days_in_month (is_leap y) m)) ≡ false
 undated y m d year first last none = refuted (nat_le 1 d && nat_le d (days_in_month (is_leap y) m)) (day_exists y m d) (λ e. none year (first, last, e.0, e.1))
 
--- what holds of what either grammar spells
+-- what both grammars keep, their choice keeps
 after_word : {X : Type 0} (P : X → Type 0) (word : List ℕ) (g h : Grammar X) → ((bytes rest : List ℕ) (x : X) → Spells g bytes x rest → P x) → ((bytes rest : List ℕ) (x : X) → Spells h bytes x rest → P x) → (bytes rest : List ℕ) (x : X) → Spells (After word g h) bytes x rest → P x
 after_word P word g h first second bytes rest x (true, after, begins, spelled) = first after rest x spelled
 after_word P word g h first second bytes rest x (false, after, begins, spelled) = second after rest x spelled

@@ -13,7 +13,7 @@ use Rattle.zone_query.specs.Steps.LineReading.{stop, scan}
 use Rattle.zone_query.specs.declared.bad_line.BadLine.{BadLine}
 use Rattle.zone_query.specs.declared.bad_line.BadLine.TheVariants.{Hopeless}
 
--- the digits in front, from i on, come after the number n
+-- the first i bytes are digits, and spell n
 pub record ReadTo (text : List ℕ) (i n : ℕ) : Type 0 where
   pub size : length (run_of is_digit text) ≡ i + length (run_of is_digit (drop i text))
   pub value : value_from 0 (run_of is_digit text) ≡ value_from n (run_of is_digit (drop i text))

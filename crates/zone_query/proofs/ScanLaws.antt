@@ -1,4 +1,4 @@
--- What is read of the front of a line is what it spells; and after a hopeless front no line spells anything.
+-- What is read at the front of a line is what it spells, and no line that goes on from a hopeless front spells anything.
 use Rattle.std.proofs.Common.{◌≡◌, ℕ, zero, suc, ◌+◌, ◌*◌, ◌-◌, ◌==◌, ◌&&◌, arith, refl, ap, sym, ◌∙◌, subst, List, [], ◌∷◌, ◌++◌, append_assoc, length, take, drop, Bool, true, false, cond, nat_lt, nat_le, Ok, Err, Result, Some, None, inl, inr}
 use Rattle.std.proofs.lemmas.Bool.Decides.{nat_tests}
 use Rattle.std.proofs.lemmas.Bool.{cases_lt}
@@ -96,7 +96,7 @@ stops (Refused refusal) = tt
 stops (Check true refusal v) = tt
 stops (Check false refusal v) = tt
 
--- ---- what is read before the end is read also where more bytes follow, and what is hopeless stays so
+-- ---- what is read before the end is read also if more bytes follow, and what is hopeless stays so
 abbrev Onward : {A : Type 0} → List ℕ → Result (A × List ℕ) BadLine → Result (A × List ℕ) BadLine → Type 0
 Onward more (Ok (x, [])) r = Unit {0}
 Onward more (Ok (x, b ∷ rest)) r = r ≡ Ok (x, b ∷ (rest ++ more))

@@ -29,7 +29,7 @@ pub data Query : Type 0 where
   Resolve : Reading → Choice → Query
   Show : ℤ → ℕ → Query
 
--- every bad line has the same answer, so all its faults are one
+-- every bad line has the same answer, so all faults are one
 abbrev pub bad : Refusal
 bad = InvalidTzString OtherBytes
 
@@ -39,16 +39,17 @@ unfoldable pub Word : List ℕ → Grammar (Unit {0})
 Word [] = Nothing tt
 Word (c ∷ word) = Byte c >> Word word
 
--- the word and true, or nothing and false where another byte than its first is there
+-- the word, for true; or nothing, for false, if the bytes don't begin with the word's first byte
 unfoldable pub Begins : List ℕ → Grammar Bool
 Begins [] = Nothing true
 Begins (c ∷ word) = Marked c (Word word >> Nothing true) (Nothing false)
 
+-- one of two grammars
 abbrev pub chosen : {X : Type 0} → Grammar X → Grammar X → Bool → Grammar X
 chosen g h true = g
 chosen g h false = h
 
--- the word and the first grammar, or the second where another byte than the word's first is there
+-- the first grammar after the word; or the second, if the bytes don't begin with the word's first byte
 abbrev pub After : {X : Type 0} → List ℕ → Grammar X → Grammar X → Grammar X
 After word g h = Begins word >>= chosen g h
 
@@ -72,7 +73,7 @@ positive max = do
   n ← Number max
   Nothing (pos n)
 
--- after a minus sign, a number to the first limit; without one, to the second
+-- a number up to the first limit after a minus sign, or up to the second one without a sign
 unfoldable pub integer : ℕ → ℕ → Grammar ℤ
 integer least most = Marked minus (negative least) (positive most)
 
@@ -96,7 +97,7 @@ date = do
   d ← next 31
   Check (nat_le 1 d && nat_le d (days_in_month (is_leap y) m)) bad (day_number y m d)
 
--- a date and an hour, a minute and a second, as what a clock shows then
+-- a date, an hour, a minute and a second, as the local time that a clock shows
 unfoldable pub local_time : Grammar Reading
 local_time = do
   day ← date

@@ -12,7 +12,7 @@ pub enum BadLine {
     Hopeless,
 }
 
-/// Why nothing is read at these bytes: at the end of a line, others may still come.
+/// Returns why nothing is read at these bytes: at the end, more may come.
 pub fn stop(bytes: &[u8]) -> BadLine
     ensures { result ≡ stop bytes.now }
 {

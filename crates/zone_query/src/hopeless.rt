@@ -7,11 +7,11 @@ use crate::bad_line::BadLine;
 use crate::lines::without_return;
 use crate::question::Question;
 
-/// Whether a line that begins so may still ask something. Its first `judged` bytes were there
-/// before.
+/// Returns whether a line that begins so may still ask something. Its first `judged` bytes are from
+/// earlier blocks.
 ///
 /// A beginning is judged each time that its length has one more binary digit, so that a long line
-/// is not read once for each block. Of one that isn't judged nothing is said.
+/// is not read once for each block. The answer for one that isn't judged is `true`.
 pub fn may_ask(front: &[u8], judged: usize) -> bool
     ensures { result ≡ false → IsHopeless front.now }
 {

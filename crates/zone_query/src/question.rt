@@ -38,7 +38,7 @@ pub enum Question<'a> {
 impl<'a> Question<'a> {
     ghost use Rattle.zone_query.specs.Questions.{Asks, IsBadLine, line, question};
 
-    /// The question that a line asks, or `None` for a bad line.
+    /// Returns the question that a line asks, or `None` for a bad line.
     ///
     /// A text that isn't UTF-8 makes a bad line, and so do digits that are no hex digits or odd in
     /// number, a number that doesn't fit its type, a date or a time that doesn't exist, and a word
@@ -53,7 +53,7 @@ impl<'a> Question<'a> {
         }
     }
 
-    /// The question that a line asks, or why it asks nothing.
+    /// Returns the question that a line asks, or why it asks nothing.
     #[tactic(auto, unfolding(crate::specs::Questions::line))]
     pub fn read(bytes: &'a [u8]) -> Result<Question<'a>, BadLine>
         ensures { Gives (λ q. (query_of q, [])) result (scan line bytes.now) }

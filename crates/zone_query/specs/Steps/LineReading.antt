@@ -1,4 +1,4 @@
--- What is read of the front of a line: a value with the bytes after it, or why there is none.
+-- What is read at the front of a line: a value with the bytes after it, or why there is none.
 use Rattle.std.specs.Prelude.{◌≡◌, ℕ, ◌==◌, if◌then◌else◌, List, [], ◌∷◌, Result, Ok, Err, Option, Some, None}
 use Rattle.tz_base.specs.Fronts.{run_of, after_run, int_at, exact_at}
 use Rattle.tz_base.specs.Grammar.{Grammar, Nothing, Then, Marked, Ended, Byte, Run, Number, Exact, Rest, Refused, Check, is_end}
@@ -16,11 +16,12 @@ abbrev pub Gives : {X Y : Type 0} → (X → Y) → Result X BadLine → Result 
 Gives view (Ok x) front = front ≡ Ok (view x)
 Gives view (Err e) front = front ≡ Err e
 
+-- the same of an option
 abbrev pub GivesSome : {X Y : Type 0} → (X → Y) → Option X → Option Y → Type 0
 GivesSome view (Some x) front = front ≡ Some (view x)
 GivesSome view None front = front ≡ None
 
--- why nothing is read at these bytes: at the end, others may still come
+-- why nothing is read at these bytes: at the end, more may come
 abbrev pub stop : List ℕ → BadLine
 stop [] = Unfinished
 stop (b ∷ bytes) = Hopeless
@@ -33,16 +34,18 @@ abbrev pub or_unfinished : {X : Type 0} → Result X Error → Result X BadLine
 or_unfinished (Ok x) = Ok x
 or_unfinished (Err e) = Err Unfinished
 
--- the bytes after that one, if it is in front
+-- the bytes after that one, if they begin with it
 unfoldable pub after_byte : ℕ → List ℕ → Option (List ℕ)
 after_byte tag [] = None
 after_byte tag (b ∷ bytes) = if tag == b then Some bytes else None
 
+-- the first with the value, or the second if there is none
 abbrev pub if_some : {A B : Type 0} → Option A → (A → B) → B → B
 if_some (Some x) first second = first x
 if_some None first second = second
 
--- what is read by a grammar. `Unfinished` where a reading stops at the end: with more bytes there may be a value
+-- what a grammar reads at the front of a line. A reading that stops at the end of the bytes is unfinished, since more may
+-- come; one that stops at a byte is hopeless
 abbrev pub scan : {X : Type 0} → Grammar X → List ℕ → Result (X × List ℕ) BadLine
 scan (Nothing v) bytes = Ok (v, bytes)
 scan (Then g f) bytes = scan g bytes >>= λ p. scan (f p.0) p.1
