@@ -74,7 +74,9 @@ def main():
     try_long_line(program, "a long line that begins with no word", b"", b"bad line")
     try_long_line(program, "a long line of no numbers", b"wall 2021 3 14 ", b"bad line")
     for front, filler in ((b"at ", b"9"), (b"at 1", b"0"), (b"at ", b"-"), (b"wall ", b" "), (b"wall 2021", b" 0"),
-                          (b"show 0 ", b"7"), (b"show ", b"\r")):
+                          (b"show 0 ", b"7"), (b"show ", b"\r"), (b"at x", b"0"), (b"at 1 ", b"0"), (b"show 0 0 ", b"0"),
+                          (b"wall 1 2 3 4 5 6 7 8 ", b"0"), (b"wall - ", b"0"), (b"wall 2021 13 ", b"0"),
+                          (b"wall 2021 2 30 ", b"0")):
         try_long_line(program, f"a long line of {front + filler} again and again", front, b"bad line", filler)
     zeros = b"text UTC0\nat -" + b"0" * 100000 + b"12\nwall " + b"0" * 100000 + b"2021 03 014 02 030 00\n"
     check("numbers with leading zeros", (0, b"ok 0 1 0 fixed\n0 std UTC\nsingle 0 std UTC\n", b""), run(program, zeros))

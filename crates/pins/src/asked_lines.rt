@@ -5,19 +5,18 @@ ghost use Rattle.offset_core.specs.declared.choice.GapChoice.TheVariants as gaps
 ghost use Rattle.offset_core.specs.declared.choice.FoldChoice.TheVariants as folds;
 ghost use Rattle.offset_core.specs.declared.local_result.LocalResult.TheVariants as results;
 ghost use Rattle.naive_base.specs.Stamp.{of_secs};
+ghost use Rattle.tz_base.specs.Grammar.{Spells};
 ghost use Rattle.zone_query.specs.Answers.{AnswersAt, AnswersWall, instant_text, refusal_text, type_text, wall_text, zone_text};
-ghost use Rattle.zone_query.specs.Choices.{choice_text};
 ghost use Rattle.zone_query.specs.Endings.{message_of, status_of};
 ghost use Rattle.zone_query.specs.Faults.{fault_text};
-ghost use Rattle.zone_query.specs.Hex.{IsHex};
 ghost use Rattle.zone_query.specs.Lines.{IsCut, ended_lines, last_line};
-ghost use Rattle.zone_query.specs.Questions.{Asks, At, Data, Wall, Resolve, Show, IsBadLine};
+ghost use Rattle.zone_query.specs.Questions.{Asks, At, Data, Wall, Resolve, Show, IsBadLine, choice};
 ghost use Rattle.zone_query.specs.declared.run_error.RunError.TheVariants as errors;
 ghost use Rattle.pins.specs.Changes.{unnamed};
 ghost use Rattle.pins.specs.NewYork.{new_york_zone, est, edt};
 ghost use Rattle.pins.specs.Zones.{honolulu, hst10, utc_zone};
 
-/// A line of each kind but `text`, and an empty line, which asks nothing.
+/// A line of each kind but `text`.
 pub fn questions()
     ensures at { Asks (codes "at -1") (At (neg_ℤ (pos 1))) }
     ensures data { Asks (codes "data 01fF") (Data (1 ∷ 255 ∷ [])) }
@@ -26,7 +25,19 @@ pub fn questions()
         (Resolve (of_secs (pos 1_615_689_000) 0)
         (record { gap = gaps.ShiftForward; fold = folds.Latest })) }
     ensures show { Asks (codes "show 1615705200 7") (Show (pos 1_615_705_200) 7) }
-    ensures nothing { IsBadLine [] }
+{}
+
+/// Lines that ask nothing: the empty line, numbers above their limits, days that the calendar
+/// doesn't have, a number too many.
+pub fn bad_lines()
+    ensures empty { IsBadLine [] }
+    ensures month_13 { IsBadLine (codes "wall 2021 13 1 0 0 0") }
+    ensures month_0 { IsBadLine (codes "wall 2021 0 1 0 0 0") }
+    ensures day_29 { IsBadLine (codes "wall 2021 2 29 0 0 0") }
+    ensures hour_24 { IsBadLine (codes "wall 2021 3 14 24 0 0") }
+    ensures second_60 { IsBadLine (codes "wall 2021 3 14 2 30 60") }
+    ensures second_of_64_bits { IsBadLine (codes "at 9223372036854775808") }
+    ensures two_numbers { IsBadLine (codes "at 1 0") }
 {}
 
 /// How types, zones, instants and errors are written.
@@ -43,12 +54,16 @@ pub fn words()
     ensures refused { refusal_text 17 ≡ codes "refused 17" }
     ensures instant { instant_text (of_secs (pos 1_615_705_200) 0) (neg_ℤ (pos 14_400))
         ≡ codes "2021-03-14 03:00:00 -04:00" }
-    ensures choice { choice_text (record { gap = gaps.ShiftForward; fold = folds.Earliest })
-        ≡ codes "shift/earliest" }
-    ensures other_choice { choice_text (record { gap = gaps.Refuse; fold = folds.Latest })
-        ≡ codes "refuse/latest" }
-    ensures refusing { choice_text (record { gap = gaps.Refuse; fold = folds.Refuse })
-        ≡ codes "refuse/refuse" }
+{}
+
+/// How choices for gaps and folds are spelled.
+pub fn choices()
+    ensures shift_earliest { Spells choice (codes "shift/earliest")
+        (record { gap = gaps.ShiftForward; fold = folds.Earliest }) [] }
+    ensures refuse_latest { Spells choice (codes "refuse/latest")
+        (record { gap = gaps.Refuse; fold = folds.Latest }) [] }
+    ensures refuse_refuse { Spells choice (codes "refuse/refuse")
+        (record { gap = gaps.Refuse; fold = folds.Refuse }) [] }
 {}
 
 /// New York's answers: the type at an instant, no clock in the gap, two in the fold.

@@ -14,7 +14,7 @@ use Rattle.zone_query.specs.Runs.{AnswersBefore, BeginsAnswers}
 use Rattle.zone_query.specs.Steps.Blocks.{Answered}
 use Rattle.zone_query.specs.Steps.Hopeless.{IsKeptFor}
 use Rattle.zone_query.specs.Steps.LastLine.{AnswersLast}
-use Rattle.zone_query.proofs.LineLaws.{asks_or_bad, time_in_range}
+use Rattle.zone_query.proofs.LineLaws.{asks_or_bad, resolved_in_range}
 use Rattle.zone_query.proofs.Resolving.{resolve_covered}
 use Rattle.zone_query.proofs.Showing.{show_covered}
 use Rattle.zone_query.proofs.Joining.{answered_join, answers_all}
@@ -54,7 +54,7 @@ query_covered (Some zone) line (Wall local) given asks =
     (wall_text types.0, inl (Wall local, asks, ((types.0, types.1, refl), refl)))
 query_covered None line (Resolve l choice) given asks = (codes "no zone", inl (Resolve l choice, asks, (refl, refl)))
 query_covered (Some zone) line (Resolve l choice) given asks =
-    let resolved = resolve_covered zone l choice given.0 given.1 (time_in_range asks.2.time l.s asks.2.local) in
+    let resolved = resolve_covered zone l choice given.0 given.1 (resolved_in_range line l choice asks) in
     (resolved.0, inl (Resolve l choice, asks, (resolved.1, refl)))
 query_covered None line (Show seconds nanos) given asks = (codes "no zone", inl (Show seconds nanos, asks, (refl, refl)))
 query_covered (Some zone) line (Show seconds nanos) given asks =

@@ -1,32 +1,20 @@
 -- Which digits spell bytes, and that what the crate `hex` decodes are those bytes.
-use Rattle.std.proofs.Common.{◌≡◌, ℕ, zero, suc, ◌+◌, ◌-◌, ◌*◌, ◌%◌, ◌<◌, ◌≤◌, ◌&&◌, nat_le, inl, inr, refl, ap, sym, ◌∙◌, List, [], ◌∷◌, length, get_or, true, false, Some, Ok, arith}
+use Rattle.std.proofs.Common.{◌≡◌, ℕ, zero, suc, ◌+◌, ◌-◌, ◌*◌, ◌%◌, ◌<◌, ◌≤◌, ◌&&◌, nat_le, inl, inr, refl, ap, sym, ◌∙◌, List, [], ◌∷◌, length, get_or, Bool, true, false, Some, Ok, arith}
 use Rattle.std.specs.Bool.{Decides}
 use Rattle.std.specs.Char.{digit_value, IsNotAsciiHexdigit}
 use Rattle.std.specs.List.{AllPass}
 use Rattle.std.specs.Str.Parse.{AllDigits}
 use Rattle.std.proofs.lemmas.Bool.{cases_lt}
-use Rattle.std.proofs.lemmas.Bool.Decides.{nat_tests, Decides-and, Decides-eqb}
+use Rattle.std.proofs.lemmas.Bool.Decides.{nat_tests, Decides-and, Decides-eqb, Decides-ltb}
 use Rattle.std.proofs.lemmas.List.Elements.{All-head, All-tail}
 use Rattle.hex.specs.Hex.{decode_of, decode_pairs, hex_digit_value, is_hex_digit, pair_value}
 use Rattle.hex.proofs.HexLemmas.{decode_of-even, decode_of-ok, decode_of-same}
 use Rattle.hex.proofs.Pairs.{cons_byte, decode_pairs-ok_pair}
-use Rattle.zone_query.specs.Hex.{IsHex}
-use Rattle.zone_query.specs.Steps.HexBytes.{bytes_of}
-use Rattle.zone_query.specs.Steps.LineReading.{spells_bytes}
-use Rattle.zone_query.proofs.WordLaws.{digits_decided}
+use Rattle.zone_query.specs.Hex.{are_hex, spells_bytes, bytes_of}
 
--- pairs of digits spell bytes
-pub pairs_spell : (digits : List ℕ) → length digits % 2 ≡ 0 → AllDigits 16 digits → IsHex digits (bytes_of digits)
-pairs_spell [] even all = refl
-pairs_spell (high ∷ []) even all = absurd (omega (arith, even))
-pairs_spell (high ∷ low ∷ rest) even all = (high, low, rest, refl, all.0, all.1.0, refl, pairs_spell rest (omega (arith, even)) all.1.1)
-
--- what spells bytes are digits, and these are even in number
-pub spelled_by_digits : (digits bytes : List ℕ) → IsHex digits bytes → (length digits % 2 ≡ 0) × AllDigits 16 digits
-spelled_by_digits digits [] h = rw h (refl, tt)
-spelled_by_digits digits (byte ∷ bytes) h =
-    let rest = spelled_by_digits h.2 bytes h.7 in
-    rw h.3 (omega (arith, rest.0), (h.4, (h.5, rest.1)))
+pub refuted : {P : Type 0} (t : Bool) → Decides t P → (P → ⊥) → t ≡ false
+refuted true d never = absurd (never (d.0 refl))
+refuted false d never = refl
 
 pub hex_at : (digits : List ℕ) (i : ℕ) → i < length digits → AllDigits 16 digits → digit_value (get_or digits i 0) < 16
 hex_at [] i h all = absurd (omega (arith, h))
@@ -43,19 +31,12 @@ pub all_hex_from : (digits : List ℕ) → ((k : ℕ) → k < length digits → 
 all_hex_from [] each = tt
 all_hex_from (c ∷ digits) each = (each 0 (omega arith), all_hex_from digits (λ k h. each (suc k) (omega (arith, h))))
 
--- what is read of digits
+hex_decided : (digits : List ℕ) → Decides (are_hex digits) (AllDigits 16 digits)
+hex_decided [] = (λ _. tt, λ _. refl)
+hex_decided (c ∷ digits) = Decides-and _ _ (Decides-ltb (digit_value c) 16) (hex_decided digits)
+
 pub digits_spell : (digits : List ℕ) → Decides (spells_bytes digits) ((length digits % 2 ≡ 0) × AllDigits 16 digits)
-digits_spell digits = Decides-and _ _ (Decides-eqb (length digits % 2) 0) (digits_decided 16 digits)
-
-pub bytes_takes : (digits : List ℕ) → spells_bytes digits ≡ true → IsHex digits (bytes_of digits)
-bytes_takes digits h = let d = (digits_spell digits).0 h in pairs_spell digits d.0 d.1
-
-pub bytes_again : (digits bytes : List ℕ) → IsHex digits bytes → (spells_bytes digits ≡ true) × (bytes_of digits ≡ bytes)
-bytes_again digits bytes h = ((digits_spell digits).1 (spelled_by_digits digits bytes h), same digits bytes h)
-  where
-    same : (digits bytes : List ℕ) → IsHex digits bytes → bytes_of digits ≡ bytes
-    same digits [] h = rw h refl
-    same digits (byte ∷ bytes) h = let head = h.6 in let tail = same h.2 bytes h.7 in rw h.3 cc
+digits_spell digits = Decides-and _ _ (Decides-eqb (length digits % 2) 0) (hex_decided digits)
 
 -- ---- the crate `hex`
 small_letter : (c : ℕ) → 97 ≤ c → c < 103 → hex_digit_value c ≡ Some (digit_value c)

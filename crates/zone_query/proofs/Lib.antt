@@ -1,13 +1,11 @@
-pub mod Digits
-pub mod WordLaws
+pub mod ScanLaws
+pub mod NumberLaws
 pub mod LineLaws
 pub mod HexLaws
 pub mod ZoneAnswers
 pub mod Joining
 pub mod Bytes
 pub mod Stopping
-pub mod Plain
-pub mod Weights
 pub mod Resolving
 pub mod Showing
 pub mod Covering

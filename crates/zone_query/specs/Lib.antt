@@ -1,9 +1,6 @@
 pub mod Ends
 pub mod Watch
-pub mod Numerals
-pub mod Words
 pub mod Hex
-pub mod Choices
 pub mod Questions
 pub mod Answers
 pub mod Lines

@@ -1,16 +1,21 @@
--- What a line asks. Its words are parted by exactly one space, and a text is all that follows the space after `text`.
-use Rattle.std.specs.Prelude.{◌≡◌, ℕ, ℤ, List, [], ◌∷◌, ◌++◌, codes, FitsSigned}
-use Rattle.std.specs.Int.{w32, w64}
-use Rattle.std.specs.Str.{IsUtf8}
+-- What a line asks. The lines are one grammar: words are parted by exactly one space, and a text is all that follows the
+-- space after `text`.
+use Rattle.std.specs.Prelude.{ℕ, ℤ, pos, neg_ℤ, ◌-◌, ◌^◌, nat_le, Bool, true, false, ◌&&◌, List, [], ◌∷◌, codes}
+use Rattle.std.specs.Str.{is_utf8}
 use Rattle.offset_core.specs.declared.choice.Choice.{Choice}
-use Rattle.naive_base.specs.Clock.{IsClock, clock_second}
-use Rattle.naive_base.specs.Date.{IsDate, day_number}
-use Rattle.naive_base.specs.Range.{IsYearInRange}
+use Rattle.offset_core.specs.declared.choice.GapChoice.{GapChoice}
+use Rattle.offset_core.specs.declared.choice.GapChoice.TheVariants as gaps
+use Rattle.offset_core.specs.declared.choice.FoldChoice.{FoldChoice}
+use Rattle.offset_core.specs.declared.choice.FoldChoice.TheVariants as folds
+use Rattle.naive_base.specs.Clock.{clock_second}
+use Rattle.naive_base.specs.Date.{day_number}
+use Rattle.naive_base.specs.Month.{days_in_month}
 use Rattle.naive_base.specs.Reading.{Reading, reading_at}
-use Rattle.zone_query.specs.Choices.{choice_text}
-use Rattle.zone_query.specs.Hex.{IsHex}
-use Rattle.zone_query.specs.Numerals.{IsInteger}
-use Rattle.zone_query.specs.Words.{AreNumbers}
+use Rattle.naive_base.specs.Year.{is_leap}
+use Rattle.tz_base.specs.Grammar.{Grammar, Nothing, Marked, Ended, End, Byte, Number, Rest, Refused, Check, ◌>>=◌, ◌>>◌, Spells}
+use Rattle.tz_base.specs.Refusals.{Refusal, InvalidTzString}
+use Rattle.tz_base.specs.declared.error.Expected.TheVariants.{OtherBytes}
+use Rattle.zone_query.specs.Hex.{spells_bytes, bytes_of}
 
 -- a question: to read a TZ text or the bytes of a TZif file as the zone; for the type in force at a Unix time; for the
 -- types that are in force when a clock shows a local time, the seconds from 1970-01-01 00:00:00 on the clock, every day
@@ -24,53 +29,148 @@ pub data Query : Type 0 where
   Resolve : Reading → Choice → Query
   Show : ℤ → ℕ → Query
 
--- the calendar has the date, its year is in range, and a clock has the hands
-abbrev pub Exists : ℤ → (m d h min s : ℕ) → Type 0
-Exists y m d h min s = IsYearInRange y × IsDate y m d × IsClock h min s
+-- every bad line has the same answer, so all faults are one
+abbrev pub bad : Refusal
+bad = InvalidTzString OtherBytes
 
--- the text is a year, a month, a day, an hour, a minute and a second, each after one space except for the year; and the
--- date and the time exist, and are this local time
-pub record IsLocalTime (text : List ℕ) (local : ℤ) : Type 0 where
-  pub year : List ℕ
-  pub others : List ℕ
-  pub y : ℤ
-  pub m : ℕ
-  pub d : ℕ
-  pub h : ℕ
-  pub min : ℕ
-  pub s : ℕ
-  pub whole : text ≡ year ++ others
-  pub year_spelled : IsInteger year y
-  pub year_fits : FitsSigned w32 y
-  pub others_spelled : AreNumbers others (m ∷ d ∷ h ∷ min ∷ s ∷ [])
-  pub exists : Exists y m d h min s
-  pub shown : local ≡ (reading_at (day_number y m d) (clock_second h min s) 0).s
+-- ---- words
+-- these bytes
+unfoldable pub Word : List ℕ → Grammar (Unit {0})
+Word [] = Nothing tt
+Word (c ∷ word) = Byte c >> Word word
 
--- the text is that of a local time and, after one space, a choice; the reading is this local time, a whole second
-pub record IsChosenTime (text : List ℕ) (l : Reading) (choice : Choice) : Type 0 where
-  pub time : List ℕ
-  pub whole : text ≡ time ++ (codes " " ++ choice_text choice)
-  pub local : IsLocalTime time l.s
-  pub no_fraction : l.f ≡ 0
+-- the word, for true; or nothing, for false, if the bytes don't begin with the word's first byte
+unfoldable pub Begins : List ℕ → Grammar Bool
+Begins [] = Nothing true
+Begins (c ∷ word) = Marked c (Word word >> Nothing true) (Nothing false)
 
--- the text is seconds of 64 bits and, after one space, nanoseconds of 32 bits
-pub record IsTimestamp (text : List ℕ) (seconds : ℤ) (nanos : ℕ) : Type 0 where
-  pub first : List ℕ
-  pub others : List ℕ
-  pub whole : text ≡ first ++ others
-  pub seconds_spelled : IsInteger first seconds
-  pub seconds_fit : FitsSigned w64 seconds
-  pub nanos_spelled : AreNumbers others (nanos ∷ [])
+-- one of two grammars
+abbrev pub chosen : {X : Type 0} → Grammar X → Grammar X → Bool → Grammar X
+chosen g h true = g
+chosen g h false = h
+
+-- the first grammar after the word; or the second, if the bytes don't begin with the word's first byte
+abbrev pub After : {X : Type 0} → List ℕ → Grammar X → Grammar X → Grammar X
+After word g h = Begins word >>= chosen g h
+
+-- ---- numbers: decimal digits, with any leading zeros
+abbrev pub minus : ℕ
+minus = 45
+
+abbrev pub slash : ℕ
+slash = 47
+
+abbrev pub space : ℕ
+space = 32
+
+unfoldable pub negative : ℕ → Grammar ℤ
+negative max = do
+  n ← Number max
+  Nothing (neg_ℤ (pos n))
+
+unfoldable pub positive : ℕ → Grammar ℤ
+positive max = do
+  n ← Number max
+  Nothing (pos n)
+
+-- a number up to the first limit after a minus sign, or up to the second one without a sign
+unfoldable pub integer : ℕ → ℕ → Grammar ℤ
+integer least most = Marked minus (negative least) (positive most)
+
+-- seconds of 64 bits
+unfoldable pub seconds : Grammar ℤ
+seconds = integer (2 ^ 63) (2 ^ 63 - 1)
+
+-- one more number, after one space
+unfoldable pub next : ℕ → Grammar ℕ
+next max = do
+  Byte space
+  Number max
+
+-- ---- dates and times
+-- a year, a month and a day that the calendar has, as days from 1970-01-01
+unfoldable pub date : Grammar ℤ
+date = do
+  y ← integer 262_143 262_142
+  m ← next 12
+  Check (nat_le 1 m) bad (tt {0})
+  d ← next 31
+  Check (nat_le 1 d && nat_le d (days_in_month (is_leap y) m)) bad (day_number y m d)
+
+-- a date, an hour, a minute and a second, as the local time that a clock shows
+unfoldable pub local_time : Grammar Reading
+local_time = do
+  day ← date
+  h ← next 23
+  min ← next 59
+  s ← next 59
+  Nothing (reading_at day (clock_second h min s) 0)
+
+-- ---- choices for gaps and folds
+unfoldable pub gap : Grammar GapChoice
+gap = After (codes "refuse") (Nothing gaps.Refuse) (After (codes "shift") (Nothing gaps.ShiftForward) (Refused bad))
+
+unfoldable pub fold : Grammar FoldChoice
+fold =
+    After (codes "refuse") (Nothing folds.Refuse) (After (codes "earliest") (Nothing folds.Earliest)
+    (After (codes "latest") (Nothing folds.Latest) (Refused bad)))
+
+unfoldable pub choice : Grammar Choice
+choice = do
+  in_gap ← gap
+  Byte slash
+  in_fold ← fold
+  Nothing (record { gap = in_gap; fold = in_fold })
+
+-- ---- what follows the first word of a line
+unfoldable pub text : Grammar Query
+text = do
+  bytes ← Rest
+  Check (is_utf8 bytes) bad (Text bytes)
+
+unfoldable pub data_of_file : Grammar Query
+data_of_file = do
+  digits ← Rest
+  Check (spells_bytes digits) bad (Data (bytes_of digits))
+
+unfoldable pub at : Grammar Query
+at = do
+  seconds ← seconds
+  Nothing (At seconds)
+
+unfoldable pub resolve : Reading → Grammar Query
+resolve local = do
+  Byte space
+  choice ← choice
+  Nothing (Resolve local choice)
+
+unfoldable pub wall : Grammar Query
+wall = do
+  local ← local_time
+  Ended (Nothing (Wall local.s)) (resolve local)
+
+unfoldable pub show : Grammar Query
+show = do
+  seconds ← seconds
+  nanos ← next (2 ^ 32 - 1)
+  Nothing (Show seconds nanos)
+
+-- ---- the whole
+unfoldable pub question : Grammar Query
+question =
+    After (codes "text ") text (After (codes "data ") data_of_file (After (codes "at ") at
+    (After (codes "wall ") wall (After (codes "show ") show (Refused bad)))))
+
+unfoldable pub line : Grammar Query
+line = do
+  query ← question
+  End bad
+  Nothing query
 
 -- the line asks this
 abbrev pub Asks : List ℕ → Query → Type 0
-Asks line (Text text) = (line ≡ codes "text " ++ text) × IsUtf8 text
-Asks line (Data bytes) = (digits : List ℕ) × (line ≡ codes "data " ++ digits) × IsHex digits bytes
-Asks line (At seconds) = (number : List ℕ) × (line ≡ codes "at " ++ number) × IsInteger number seconds × FitsSigned w64 seconds
-Asks line (Wall local) = (text : List ℕ) × (line ≡ codes "wall " ++ text) × IsLocalTime text local
-Asks line (Resolve l choice) = (text : List ℕ) × (line ≡ codes "wall " ++ text) × IsChosenTime text l choice
-Asks line (Show seconds nanos) = (text : List ℕ) × (line ≡ codes "show " ++ text) × IsTimestamp text seconds nanos
+Asks bytes query = Spells line bytes query []
 
 -- the line asks nothing
 abbrev pub IsBadLine : List ℕ → Type 0
-IsBadLine line = (query : Query) → ¬ (Asks line query)
+IsBadLine bytes = (query : Query) → ¬ (Asks bytes query)

@@ -4,6 +4,5 @@ pub mod LastLine
 pub mod QueryOf
 pub mod Replies
 pub mod Sending
-pub mod HexBytes
 pub mod Hopeless
 pub mod LineReading

@@ -8,7 +8,7 @@ ghost use Rattle.zoned_time.specs.Zoned.{local_of};
 ghost use Rattle.tz_base.specs.Errors.{IsOutOfMemory, number_of};
 ghost use Rattle.tz_info.specs.TzFiles.{IsTzFile, IsFileFault};
 ghost use Rattle.tz_info.specs.Zones.{IsValid};
-ghost use Rattle.zone_query.specs.Steps.HexBytes.{bytes_of};
+ghost use Rattle.zone_query.specs.Hex.{bytes_of};
 ghost use Rattle.zone_query.specs.Answers.{AnswersLine, AnswersText, AnswersData, AnswersAt, AnswersWall, AnswersResolve, AnswersShow, type_text, wall_text, zone_text, rule_text, refusal_text};
 
 use crate::question::Question;

@@ -1,46 +1,54 @@
 //! How choices for gaps and folds are spelled.
 
 ghost use Rattle.std.specs.Prelude.{◌≡◌};
-ghost use Rattle.zone_query.specs.Steps.LineReading.{Gives, gap_at, fold_at, choice_at};
+ghost use Rattle.zone_query.specs.Questions.{gap, fold, choice};
+ghost use Rattle.zone_query.specs.Steps.LineReading.{Gives, scan};
 
-use crate::words::strip_word;
+use crate::bad_line::{BadLine, stop};
+use crate::words::{expect_byte, strip_word};
 use offset_core::{Choice, FoldChoice, GapChoice};
 
-/// The choice that a text is, after one space.
-#[tactic(auto, unfolding(crate::specs::Steps::LineReading::choice_at))]
-pub fn choice(text: &[u8]) -> Option<Choice>
-    ensures { Gives (λ choice. choice) result (choice_at text.now) }
+/// Returns the choice that a text begins with, and the bytes after it.
+#[tactic(auto, unfolding(crate::specs::Questions::choice))]
+pub fn choice(text: &[u8]) -> Result<(Choice, &[u8]), BadLine>
+    ensures { Gives (λ p. (p.0, p.1.now)) result (scan choice text.now) }
 {
-    let (gap, rest) = strip_gap(text)?;
-    let fold = fold(rest)?;
-    Some(Choice { gap, fold })
+    let (gap, rest) = gap(text)?;
+    let rest = expect_byte(rest, b'/')?;
+    let (fold, rest) = fold(rest)?;
+    Ok((Choice { gap, fold }, rest))
 }
 
-// What is taken in a gap, after one space and before a slash, and the rest.
-#[tactic(auto, unfolding(crate::specs::Steps::LineReading::gap_at))]
-fn strip_gap(text: &[u8]) -> Option<(GapChoice, &[u8])>
-    ensures { Gives (λ p. (p.0, p.1.now)) result (gap_at text.now) }
+#[tactic(auto, unfolding(crate::specs::Questions::gap))]
+fn gap(text: &[u8]) -> Result<(GapChoice, &[u8]), BadLine>
+    ensures { Gives (λ p. (p.0, p.1.now)) result (scan gap text.now) }
 {
-    if let Some(rest) = strip_word(text, b" refuse/") {
-        return Some((GapChoice::Refuse, rest));
+    let (found, rest) = strip_word(text, b"refuse")?;
+    if found {
+        return Ok((GapChoice::Refuse, rest));
     }
-    let rest = strip_word(text, b" shift/")?;
-    Some((GapChoice::ShiftForward, rest))
+    let (found, rest) = strip_word(rest, b"shift")?;
+    if found {
+        return Ok((GapChoice::ShiftForward, rest));
+    }
+    Err(stop(rest))
 }
 
-// What is taken in a fold.
-#[tactic(auto, unfolding(crate::specs::Steps::LineReading::fold_at))]
-fn fold(text: &[u8]) -> Option<FoldChoice>
-    ensures { Gives (λ fold. fold) result (fold_at text.now) }
+#[tactic(auto, unfolding(crate::specs::Questions::fold))]
+fn fold(text: &[u8]) -> Result<(FoldChoice, &[u8]), BadLine>
+    ensures { Gives (λ p. (p.0, p.1.now)) result (scan fold text.now) }
 {
-    if text == b"refuse".as_slice() {
-        return Some(FoldChoice::Refuse);
+    let (found, rest) = strip_word(text, b"refuse")?;
+    if found {
+        return Ok((FoldChoice::Refuse, rest));
     }
-    if text == b"earliest".as_slice() {
-        return Some(FoldChoice::Earliest);
+    let (found, rest) = strip_word(rest, b"earliest")?;
+    if found {
+        return Ok((FoldChoice::Earliest, rest));
     }
-    if text == b"latest".as_slice() {
-        return Some(FoldChoice::Latest);
+    let (found, rest) = strip_word(rest, b"latest")?;
+    if found {
+        return Ok((FoldChoice::Latest, rest));
     }
-    None
+    Err(stop(rest))
 }

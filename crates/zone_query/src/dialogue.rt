@@ -121,6 +121,7 @@ impl Dialogue {
 
     // Keeps more of a line that has not ended, or one byte for it if the line can't ask anything
     // any more.
+    #[tactic(auto, using(crate::proofs::HopelessLaws::mark_hopeless))]
     fn begin_line(&mut self, bytes: &[u8]) -> Result<(), AllocError>
         ensures zone { self.new.zone ≡ self.old.zone }
         ensures ok { OnOk result

@@ -1,7 +1,7 @@
 //! Bytes in hex digits.
 
 ghost use Rattle.std.specs.Prelude.{◌≡◌};
-ghost use Rattle.zone_query.specs.Steps.LineReading.{spells_bytes};
+ghost use Rattle.zone_query.specs.Hex.{spells_bytes};
 
 /// Whether these are hex digits of either case, two for each of some bytes.
 pub fn spell_bytes(digits: &[u8]) -> bool

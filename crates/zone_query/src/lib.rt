@@ -10,6 +10,7 @@
 #![tactic(auto)]
 
 mod answer;
+mod bad_line;
 mod choices;
 mod dialogue;
 mod hex_digits;

@@ -1,13 +1,17 @@
 //! A line as a question.
 
-ghost use Rattle.std.specs.Prelude.{◌≡◌, [], ◌∷◌, MatchOption};
+ghost use Rattle.std.specs.Prelude.{◌≡◌, [], MatchOption};
+ghost use Rattle.naive_base.specs.NaiveDate.{day_of};
 ghost use Rattle.naive_base.specs.NaiveDateTime.{reading};
-ghost use Rattle.zone_query.specs.Steps.LineReading.{Gives, text_at, date_time_of, local_time_at, wall_at, show_at};
+ghost use Rattle.zone_query.specs.Questions.{text, data_of_file, at, wall, resolve, show, local_time, date};
+ghost use Rattle.zone_query.specs.Steps.LineReading.{Gives, scan};
+ghost use Rattle.zone_query.specs.Steps.QueryOf.{query_of};
 
+use crate::bad_line::{BadLine, stop};
 use crate::choices::choice;
 use crate::hex_digits::spell_bytes;
-use crate::numerals::{integer, small_integer};
-use crate::words::{next_number, split_word, strip_word};
+use crate::numerals::{integer, next_number, seconds};
+use crate::words::{expect_byte, strip_word};
 use naive_base::{NaiveDate, NaiveDateTime};
 use offset_core::Choice;
 use std::str;
@@ -32,11 +36,9 @@ pub enum Question<'a> {
 }
 
 impl<'a> Question<'a> {
-    ghost use Rattle.zone_query.specs.Questions.{Asks, IsBadLine};
-    ghost use Rattle.zone_query.specs.Steps.LineReading.{question_at};
-    ghost use Rattle.zone_query.specs.Steps.QueryOf.{query_of};
+    ghost use Rattle.zone_query.specs.Questions.{Asks, IsBadLine, line, question};
 
-    /// The question that a line asks, or `None` for a bad line.
+    /// Returns the question that a line asks, or `None` for a bad line.
     ///
     /// A text that isn't UTF-8 makes a bad line, and so do digits that are no hex digits or odd in
     /// number, a number that doesn't fit its type, a date or a time that doesn't exist, and a word
@@ -45,97 +47,137 @@ impl<'a> Question<'a> {
         ensures { MatchOption result
             (IsBadLine line.now) (λ question. Asks line.now (query_of question)) }
     {
-        Question::read(line)
+        match Question::read(line) {
+            Ok(question) => Some(question),
+            Err(_) => None,
+        }
     }
 
-    // The question, by the word that the line begins with.
-    #[tactic(auto, unfolding(crate::specs::Steps::LineReading::question_at))]
-    fn read(line: &'a [u8]) -> Option<Question<'a>>
-        ensures { Gives query_of result (question_at line.now) }
+    /// Returns the question that a line asks, or why it asks nothing.
+    #[tactic(auto, unfolding(crate::specs::Questions::line))]
+    pub fn read(bytes: &'a [u8]) -> Result<Question<'a>, BadLine>
+        ensures { Gives (λ q. (query_of q, [])) result (scan line bytes.now) }
     {
-        if let Some(text) = strip_word(line, b"text ") {
-            let text = utf8(text)?;
-            return Some(Question::Text(text));
-        }
-        if let Some(digits) = strip_word(line, b"data ") {
-            return spell_bytes(digits).then_some(Question::Data(digits));
-        }
-        if let Some(number) = strip_word(line, b"at ") {
-            let seconds = integer(number)?;
-            return Some(Question::At(seconds));
-        }
-        if let Some(text) = strip_word(line, b"wall ") {
-            return Question::read_wall(text);
-        }
-        let text = strip_word(line, b"show ")?;
-        Question::read_show(text)
-    }
-
-    // The question on a date and time, with a choice after it or none.
-    #[tactic(auto, unfolding(crate::specs::Steps::LineReading::wall_at))]
-    fn read_wall(text: &[u8]) -> Option<Question<'a>>
-        ensures { Gives query_of result (wall_at text.now) }
-    {
-        let (local, rest) = local_time(text)?;
-        if rest.is_empty() {
-            return Some(Question::Wall(local));
-        }
-        let choice = choice(rest)?;
-        Some(Question::Resolve(local, choice))
-    }
-
-    // The question on the seconds and the nanoseconds `SECS NANOS`.
-    #[tactic(auto, unfolding(crate::specs::Steps::LineReading::show_at))]
-    fn read_show(text: &[u8]) -> Option<Question<'a>>
-        ensures { Gives query_of result (show_at text.now) }
-    {
-        let (word, rest) = split_word(text);
-        let seconds = integer(word)?;
-        let (nanoseconds, rest) = next_number(rest)?;
+        let (question, rest) = Question::read_front(bytes)?;
         if !rest.is_empty() {
-            return None;
+            return Err(stop(rest));
         }
-        Some(Question::Show(seconds, nanoseconds))
+        Ok(question)
+    }
+
+    // The question, by the word that the line begins with, and the bytes after it.
+    #[tactic(auto, unfolding(crate::specs::Questions::question))]
+    fn read_front(bytes: &'a [u8]) -> Result<(Question<'a>, &'a [u8]), BadLine>
+        ensures { Gives (λ p. (query_of p.0, p.1.now)) result (scan question bytes.now) }
+    {
+        let (found, rest) = strip_word(bytes, b"text ")?;
+        if found {
+            return read_text(rest);
+        }
+        let (found, rest) = strip_word(rest, b"data ")?;
+        if found {
+            return read_data(rest);
+        }
+        let (found, rest) = strip_word(rest, b"at ")?;
+        if found {
+            return read_at(rest);
+        }
+        let (found, rest) = strip_word(rest, b"wall ")?;
+        if found {
+            return read_wall(rest);
+        }
+        let (found, rest) = strip_word(rest, b"show ")?;
+        if found {
+            return read_show(rest);
+        }
+        Err(stop(rest))
     }
 }
 
-// The text that these bytes are, if they are UTF-8.
-fn utf8(bytes: &[u8]) -> Option<&str>
-    ensures { Gives (λ text. text.now) result (text_at bytes.now) }
+// The question on a TZ text, which is all that is left.
+#[tactic(auto, unfolding(crate::specs::Questions::text))]
+fn read_text(bytes: &[u8]) -> Result<(Question<'_>, &[u8]), BadLine>
+    ensures { Gives (λ p. (query_of p.0, p.1.now)) result (scan text bytes.now) }
 {
     match str::from_utf8(bytes) {
-        Ok(text) => Some(text),
-        Err(_) => None,
+        Ok(text) => Ok((Question::Text(text), b"")),
+        Err(_) => Err(BadLine::Unfinished),
     }
 }
 
-// The date and time `Y M D h m s` that a text begins with, if there is such a one, and the rest.
-#[tactic(auto, unfolding(crate::specs::Steps::LineReading::local_time_at))]
-fn local_time(text: &[u8]) -> Option<(NaiveDateTime, &[u8])>
-    ensures { Gives (λ p. (reading p.0, p.1.now)) result (local_time_at text.now) }
+// The question on a file, whose hex digits are all that is left.
+#[tactic(auto, unfolding(crate::specs::Questions::data_of_file))]
+fn read_data(digits: &[u8]) -> Result<(Question<'_>, &[u8]), BadLine>
+    ensures { Gives (λ p. (query_of p.0, p.1.now)) result (scan data_of_file digits.now) }
 {
-    let (word, rest) = split_word(text);
-    let year = small_integer(word)?;
-    let (month, rest) = next_number(rest)?;
-    let (day, rest) = next_number(rest)?;
-    let (hour, rest) = next_number(rest)?;
-    let (minute, rest) = next_number(rest)?;
-    let (second, rest) = next_number(rest)?;
-    let local = date_time(year, month, day, hour, minute, second)?;
-    Some((local, rest))
+    if spell_bytes(digits) {
+        Ok((Question::Data(digits), b""))
+    } else {
+        Err(BadLine::Unfinished)
+    }
 }
 
-// The date and time, if it exists.
-fn date_time(
-    year: i32,
-    month: u32,
-    day: u32,
-    hour: u32,
-    minute: u32,
-    second: u32,
-) -> Option<NaiveDateTime>
-    ensures { Gives reading result
-        (date_time_of year (month ∷ day ∷ hour ∷ minute ∷ second ∷ [])) }
+// The question on seconds.
+#[tactic(auto, unfolding(crate::specs::Questions::at))]
+fn read_at(text: &[u8]) -> Result<(Question<'_>, &[u8]), BadLine>
+    ensures { Gives (λ p. (query_of p.0, p.1.now)) result (scan at text.now) }
 {
-    NaiveDate::from_ymd_opt(year, month, day)?.and_hms_opt(hour, minute, second)
+    let (seconds, rest) = seconds(text)?;
+    Ok((Question::At(seconds), rest))
+}
+
+// The question on a date and time, with a choice after it or none.
+#[tactic(auto, unfolding(crate::specs::Questions::wall, crate::specs::Questions::resolve))]
+fn read_wall(text: &[u8]) -> Result<(Question<'_>, &[u8]), BadLine>
+    ensures { Gives (λ p. (query_of p.0, p.1.now)) result (scan wall text.now) }
+{
+    let (local, rest) = local_time(text)?;
+    if rest.is_empty() {
+        return Ok((Question::Wall(local), rest));
+    }
+    let rest = expect_byte(rest, b' ')?;
+    let (choice, rest) = choice(rest)?;
+    Ok((Question::Resolve(local, choice), rest))
+}
+
+// The question on the seconds and the nanoseconds `SECS NANOS`.
+#[tactic(auto, unfolding(crate::specs::Questions::show))]
+fn read_show(text: &[u8]) -> Result<(Question<'_>, &[u8]), BadLine>
+    ensures { Gives (λ p. (query_of p.0, p.1.now)) result (scan show text.now) }
+{
+    let (seconds, rest) = seconds(text)?;
+    let (nanoseconds, rest) = next_number(rest, u32::MAX)?;
+    Ok((Question::Show(seconds, nanoseconds), rest))
+}
+
+// The date and time `Y M D h m s` that a text begins with, and the bytes after it.
+#[tactic(auto, unfolding(crate::specs::Questions::local_time))]
+fn local_time(text: &[u8]) -> Result<(NaiveDateTime, &[u8]), BadLine>
+    ensures { Gives (λ p. (reading p.0, p.1.now)) result (scan local_time text.now) }
+{
+    let (date, rest) = date(text)?;
+    let (hour, rest) = next_number(rest, 23)?;
+    let (minute, rest) = next_number(rest, 59)?;
+    let (second, rest) = next_number(rest, 59)?;
+    match date.and_hms_opt(hour, minute, second) {
+        Some(local) => Ok((local, rest)),
+        None => Err(stop(rest)),
+    }
+}
+
+// The date `Y M D` that a text begins with, and the bytes after it.
+#[tactic(auto, unfolding(crate::specs::Questions::date))]
+fn date(text: &[u8]) -> Result<(NaiveDate, &[u8]), BadLine>
+    ensures { Gives (λ p. (day_of p.0, p.1.now)) result (scan date text.now) }
+{
+    let (year, rest) = integer(text, 262_143, 262_142)?;
+    let (month, rest) = next_number(rest, 12)?;
+    if month == 0 {
+        return Err(stop(rest));
+    }
+    let (day, rest) = next_number(rest, 31)?;
+    match NaiveDate::from_ymd_opt(year as i32, month, day) {
+        Some(date) => Ok((date, rest)),
+        None => Err(stop(rest)),
+    }
 }

@@ -1,36 +1,61 @@
-//! Numbers in a row, each after one space.
+//! Words of a line.
 
 ghost use Rattle.std.specs.Prelude.{◌≡◌};
-ghost use Rattle.zone_query.specs.Steps.LineReading.{Gives, behind, first_word, other_words, next_number_at};
+ghost use Rattle.tz_base.specs.Grammar.{Byte};
+ghost use Rattle.zone_query.specs.Questions.{Begins, Word};
+ghost use Rattle.zone_query.specs.Steps.LineReading.{Gives, GivesSome, after_byte, scan};
 
-use crate::numerals::small_natural;
+use crate::bad_line::{BadLine, stop};
 
-/// What stands behind a word that a text begins with.
-pub fn strip_word<'a>(text: &'a [u8], word: &[u8]) -> Option<&'a [u8]>
-    ensures { Gives (λ rest. rest.now) result (behind word.now text.now) }
+/// Returns whether a text begins with a word, as its first byte says, and the bytes after the word.
+#[tactic(auto, unfolding(crate::specs::Questions::Begins))]
+pub fn strip_word<'a>(text: &'a [u8], word: &[u8]) -> Result<(bool, &'a [u8]), BadLine>
+    ensures { Gives (λ p. (p.0, p.1.now)) result (scan (Begins word.now) text.now) }
 {
-    text.strip_prefix(word)
+    match word.split_first() {
+        Some((first, others)) => match strip_byte(text, *first) {
+            Some(rest) => {
+                let rest = strip_bytes(rest, others)?;
+                Ok((true, rest))
+            }
+            None => Ok((false, text)),
+        },
+        None => Ok((true, text)),
+    }
 }
 
-/// The bytes before the first space, or all of them, and the rest.
-pub fn split_word(text: &[u8]) -> (&[u8], &[u8])
-    ensures word { result.0.now ≡ first_word text.now }
-    ensures rest { result.1.now ≡ other_words text.now }
+// The bytes after these ones.
+#[tactic(auto, unfolding(crate::specs::Questions::Word))]
+fn strip_bytes<'a>(text: &'a [u8], word: &[u8]) -> Result<&'a [u8], BadLine>
+    ensures { Gives (λ rest. (tt, rest.now)) result (scan (Word word.now) text.now) }
 {
-    for (i, b) in text.iter().enumerate() {
-        if *b == b' ' {
-            return text.split_at(i);
+    let mut rest = text;
+    for byte in word {
+        match strip_byte(rest, *byte) {
+            Some(more) => rest = more,
+            None => return Err(stop(rest)),
         }
     }
-    (text, b"")
+    Ok(rest)
 }
 
-/// The number after the one space that a text begins with, and the rest.
-#[tactic(auto, unfolding(crate::specs::Steps::LineReading::next_number_at))]
-pub fn next_number(text: &[u8]) -> Option<(u32, &[u8])>
-    ensures { Gives (λ p. (p.0, p.1.now)) result (next_number_at text.now) }
+/// Returns the bytes after that one, if a text begins with it.
+#[tactic(auto, unfolding(crate::specs::Steps::LineReading::after_byte))]
+pub fn strip_byte(text: &[u8], byte: u8) -> Option<&[u8]>
+    ensures { GivesSome (λ rest. rest.now) result (after_byte byte text.now) }
 {
-    let (word, rest) = split_word(strip_word(text, b" ")?);
-    let number = small_natural(word)?;
-    Some((number, rest))
+    match text.split_first() {
+        Some((first, rest)) => if byte == *first { Some(rest) } else { None },
+        None => None,
+    }
+}
+
+/// Returns the bytes after that one, which must come.
+pub fn expect_byte(text: &[u8], byte: u8) -> Result<&[u8], BadLine>
+    ensures { Gives (λ rest. (tt, rest.now)) result (scan (Byte byte) text.now) }
+{
+    match strip_byte(text, byte) {
+        Some(rest) => Ok(rest),
+        None => Err(stop(text)),
+    }
 }

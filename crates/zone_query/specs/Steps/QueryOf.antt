@@ -1,6 +1,6 @@
 -- A question as what a line asks.
 use Rattle.naive_base.specs.NaiveDateTime.{reading}
-use Rattle.zone_query.specs.Steps.HexBytes.{bytes_of}
+use Rattle.zone_query.specs.Hex.{bytes_of}
 use Rattle.zone_query.specs.Questions.{Query, Text, Data, At, Wall, Resolve, Show}
 use Rattle.zone_query.specs.declared.question.Question.{Question}
 use Rattle.zone_query.specs.declared.question.Question.TheVariants as questions

@@ -18,7 +18,4 @@ returns c = record {
   no_rule = refl;
   refused = refl;
   instant = rw (march_2021.0, march_2021.1, march_2021.2) refl;
-  choice = refl;
-  other_choice = refl;
-  refusing = refl;
 }

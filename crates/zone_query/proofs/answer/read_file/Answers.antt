@@ -1,8 +1,8 @@
-use Rattle.std.proofs.Common.{◌≡◌, ◌⊎◌, ◌∙◌}
+use Rattle.std.proofs.Common.{◌⊎◌, ◌∙◌}
 use Rattle.std.proofs.lemmas.Result.{IfErr-weaker}
 use Rattle.tz_base.specs.Errors.{IsOutOfMemory}
 use Rattle.tz_info.specs.TzFiles.{IsFileFault, IsZoneFault}
-use Rattle.zone_query.specs.Steps.HexBytes.{bytes_of}
+use Rattle.zone_query.specs.Hex.{bytes_of}
 use Rattle.zone_query.proofs.HexLaws.{decoded}
 use Rattle.zone_query.proofs.ZoneAnswers.{memory_or_fault}
 use Rattle.zone_query.proofs.answer.read_file.Goals as goal

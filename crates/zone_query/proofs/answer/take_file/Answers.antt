@@ -1,5 +1,5 @@
 use Rattle.std.proofs.lemmas.Result.{on_ok_weaker}
-use Rattle.zone_query.specs.Steps.HexBytes.{bytes_of}
+use Rattle.zone_query.specs.Hex.{bytes_of}
 use Rattle.zone_query.proofs.ZoneAnswers.{data_answered}
 use Rattle.zone_query.proofs.answer.take_file.Goals as goal
 

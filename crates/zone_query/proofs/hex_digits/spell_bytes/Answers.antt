@@ -1,6 +1,5 @@
 use Rattle.std.proofs.Common.{arith, get_or, sym}
-use Rattle.zone_query.proofs.HexLaws.{digits_spell, not_hex, hex_at, all_hex_from}
-use Rattle.zone_query.proofs.WordLaws.{refuted}
+use Rattle.zone_query.proofs.HexLaws.{refuted, digits_spell, not_hex, hex_at, all_hex_from}
 use Rattle.zone_query.proofs.hex_digits.spell_bytes.Goals as goal
 
 pub returns-then-not-is_ascii_hexdigit : goal.returns-then-not-is_ascii_hexdigit

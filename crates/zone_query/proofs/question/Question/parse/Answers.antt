@@ -1,5 +1,11 @@
-use Rattle.zone_query.proofs.LineLaws.{question_given}
+use Rattle.std.proofs.Common.{[]}
+use Rattle.zone_query.specs.Questions.{line}
+use Rattle.zone_query.specs.Steps.QueryOf.{query_of}
+use Rattle.zone_query.proofs.ScanLaws.{scanned, not_scanned}
 use Rattle.zone_query.proofs.question.Question.parse.Goals as goal
 
-pub returns : goal.returns
-returns c = question_given c.args.line.now c.read.result c.read.ensures
+pub returns-in-Ok : goal.returns-in-Ok
+returns-in-Ok c = scanned line c.args.line.now (query_of c.in-Ok.question) [] c.in-Ok.ensures
+
+pub returns-in-Err : goal.returns-in-Err
+returns-in-Err c = λ query. not_scanned line c.args.line.now _ c.in-Err.ensures query []
