@@ -1,4 +1,5 @@
 pub mod Digits
+pub mod Decimals
 pub mod FixedOffsets
 pub mod LocalResults
 pub mod Printed

@@ -1,5 +1,6 @@
 pub mod Digits
 pub mod FixedOffset
+pub mod LengthText
 pub mod LocalResult
 pub mod Nanoseconds
 pub mod Offset

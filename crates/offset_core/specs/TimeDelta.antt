@@ -1,5 +1,5 @@
 -- What a `TimeDelta` shows.
-use Rattle.std.specs.Prelude.{◌≡◌, ℕ, ◌<◌, ℤ, pos, ◌+ℤ◌, ◌*ℤ◌, Option, Some, None}
+use Rattle.std.specs.Prelude.{◌≡◌, ℕ, ◌<◌, List, fold, ℤ, pos, ◌+ℤ◌, ◌*ℤ◌, Option, Some, None}
 use Rattle.offset_core.specs.declared.time_delta.TimeDelta.{TimeDelta}
 use Rattle.offset_core.specs.Nanoseconds.{FitsTimeDelta, nanos_per_second}
 
@@ -19,3 +19,7 @@ IsDeltaOfParts secs nanos (Some delta) =
     × (nanos_of delta ≡ secs *ℤ nanos_per_second +ℤ pos nanos)
 IsDeltaOfParts secs nanos None =
     nanos < 1_000_000_000 → FitsTimeDelta (secs *ℤ nanos_per_second +ℤ pos nanos) → ⊥
+
+-- the nanoseconds of all these lengths
+abbrev pub sum_of : List TimeDelta → ℤ
+sum_of deltas = fold (λ sum delta. sum +ℤ nanos_of delta) (pos 0) deltas

@@ -13,4 +13,4 @@ pub use choice::{Choice, FoldChoice, GapChoice};
 pub use fixed_offset::FixedOffset;
 pub use local_result::{LocalResult, MappedLocalTime};
 pub use short_text::ShortText;
-pub use time_delta::TimeDelta;
+pub use time_delta::{OutOfRangeError, TimeDelta};

@@ -4,15 +4,27 @@ ghost use Rattle.std.specs.Duration.{as_nanos};
 ghost use Rattle.offset_core.specs.Nanoseconds.{FitsTimeDelta, nanos_per_microsecond, nanos_per_millisecond, nanos_per_second, nanos_per_minute, nanos_per_hour, nanos_per_day, nanos_per_week};
 
 mod arithmetic;
+mod operators;
+mod out_of_range;
+mod print;
+mod sums;
 mod units;
 
+pub use out_of_range::OutOfRangeError;
 use std::time::Duration;
 
 /// A length of time in whole nanoseconds, which may be negative: at most `i64::MAX` milliseconds
 /// either way, which is some 292 million years.
 ///
-/// Lengths compare and hash by their nanoseconds.
-#[derive(Clone, Copy, PartialEq, Eq, PartialOrd, Ord, Hash, Debug)]
+/// Lengths compare and hash by their nanoseconds. A length prints in seconds, in the form of ISO 8601,
+/// whatever width, fill or flags the formatter has:
+///
+/// ```text
+/// TimeDelta::zero()               P0D
+/// TimeDelta::days(42)             PT3628800S
+/// TimeDelta::milliseconds(-1500)  -PT1.5S
+/// ```
+#[derive(Clone, Copy, PartialEq, Eq, PartialOrd, Ord, Hash)]
 pub struct TimeDelta {
     nanos: i128,
     pub ghost in_range: { FitsTimeDelta nanos },
@@ -37,8 +49,11 @@ const MAX_NANOS: i128 = 9_223_372_036_854_775_807_000_000;
 impl TimeDelta {
     ghost use Rattle.offset_core.specs.TimeDelta.{nanos_of, IsDeltaOf, IsDeltaOfParts};
 
-    /// The longest length, `i64::MAX` milliseconds. Its negative is the least.
+    /// The longest length, `i64::MAX` milliseconds.
     pub const MAX: TimeDelta = TimeDelta { nanos: MAX_NANOS };
+
+    /// The least length, `-i64::MAX` milliseconds.
+    pub const MIN: TimeDelta = TimeDelta { nanos: -MAX_NANOS };
 
     /// So many seconds, and so many nanoseconds more. `None` where that is out of range, or the
     /// nanoseconds make a second or more.

@@ -1,6 +1,6 @@
 //! Theorems: the contract of each function is proved, and none is called. Each is empty, except one
 //! that names a constant.
-ghost use Rattle.std.specs.Prelude.{◌≡◌, ◌↔◌, IsTrue, ◌<ℤ◌, pos};
+ghost use Rattle.std.specs.Prelude.{◌≡◌, ◌↔◌, IsTrue, ◌<ℤ◌, pos, neg_ℤ};
 ghost use Rattle.std.specs.Ordering.{int_cmp};
 ghost use Rattle.std.specs.Hash as fed;
 ghost use Rattle.offset_core.specs.declared.choice.Choice.{Choice as AnyChoice};
@@ -9,11 +9,12 @@ ghost use Rattle.offset_core.specs.declared.choice.GapChoice.{GapChoice as AnyGa
 ghost use Rattle.offset_core.specs.declared.fixed_offset.FixedOffset.{FixedOffset as AnyOffset};
 ghost use Rattle.offset_core.specs.declared.local_result.LocalResult.{LocalResult as AnyResult};
 ghost use Rattle.offset_core.specs.declared.time_delta.TimeDelta.{TimeDelta as AnyDelta};
+ghost use Rattle.offset_core.specs.declared.time_delta.out_of_range.OutOfRangeError.{OutOfRangeError as AnyFault};
 ghost use Rattle.offset_core.specs.FixedOffset.{seconds_of};
 ghost use Rattle.offset_core.specs.LocalResult.{AreAlike, HoldsOfEach, fed_of};
 ghost use Rattle.offset_core.specs.TimeDelta.{nanos_of};
 
-use crate::{Choice, FixedOffset, FoldChoice, GapChoice, LocalResult, TimeDelta};
+use crate::{Choice, FixedOffset, FoldChoice, GapChoice, LocalResult, OutOfRangeError, TimeDelta};
 use std::hash::Hash;
 
 /// Offsets are equal if and only if their seconds are; a hash looks at the seconds, and a clone is
@@ -41,12 +42,20 @@ pub fn time_deltas()
     ensures infallible { (a : AnyDelta) → ⟦<TimeDelta as Clone>⟧.is_infallible a }
 {}
 
-/// The longest length of time.
-pub fn longest_time_delta() -> TimeDelta
-    ensures { nanos_of result ≡ pos 9_223_372_036_854_775_807_000_000 }
+/// The longest and the least length of time.
+pub fn ends_of_time_deltas() -> (TimeDelta, TimeDelta)
+    ensures longest { nanos_of result.0 ≡ pos 9_223_372_036_854_775_807_000_000 }
+    ensures least { nanos_of result.1 ≡ neg_ℤ (pos 9_223_372_036_854_775_807_000_000) }
 {
-    TimeDelta::MAX
+    (TimeDelta::MAX, TimeDelta::MIN)
 }
+
+/// Errors of lengths that another type can't hold are equal, and a clone is the error.
+pub fn out_of_range()
+    ensures equal { (a b : AnyFault) → IsTrue (⟦<OutOfRangeError as PartialEq>⟧.eq a b) }
+    ensures cloned { (a b : AnyFault) → ⟦<OutOfRangeError as Clone>⟧.is_clone a b ↔ (a ≡ b) }
+    ensures infallible { (a : AnyFault) → ⟦<OutOfRangeError as Clone>⟧.is_infallible a }
+{}
 
 /// Answers of a lookup are equal if and only if they are of one kind and their values are equal,
 /// and a clone is of one kind with clones of the values. A hash looks at the kind and at each value.

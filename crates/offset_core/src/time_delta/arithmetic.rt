@@ -1,9 +1,8 @@
 //! Lengths of time added, multiplied and divided.
-ghost use Rattle.std.specs.Prelude.{◌≡◌, ◌≢◌, ◌↔◌, IsTrue, pos, neg_ℤ, ◌+ℤ◌, ◌*ℤ◌, int_div, unsigned_abs, SomeIff, option_map};
+ghost use Rattle.std.specs.Prelude.{◌≡◌, ◌≢◌, ◌↔◌, IsTrue, pos, ◌+ℤ◌, ◌-ℤ◌, ◌*ℤ◌, int_div, unsigned_abs, SomeIff, option_map};
 ghost use Rattle.offset_core.specs.TimeDelta.{nanos_of, IsDeltaOf};
 
 use crate::TimeDelta;
-use std::ops::Neg;
 
 impl TimeDelta {
     /// Whether this is no time at all.
@@ -29,6 +28,13 @@ impl TimeDelta {
         ensures { IsDeltaOf (nanos_of self.now +ℤ nanos_of other.now) result }
     {
         TimeDelta::of_nanos(self.nanos + other.nanos)
+    }
+
+    /// Returns the difference of two lengths, or `None` if that is out of range.
+    pub fn checked_sub(&self, other: &TimeDelta) -> Option<TimeDelta>
+        ensures { IsDeltaOf (nanos_of self.now -ℤ nanos_of other.now) result }
+    {
+        TimeDelta::of_nanos(self.nanos - other.nanos)
     }
 
     /// So many times this length, or `None` where that is out of range.
@@ -60,15 +66,5 @@ impl TimeDelta {
         Some(TimeDelta {
             nanos: self.nanos / rhs as i128,
         })
-    }
-}
-
-impl Neg for TimeDelta {
-    type Output = TimeDelta;
-
-    ghost neg_gives = { λ delta answer. nanos_of answer ≡ neg_ℤ (nanos_of delta) };
-
-    fn neg(self) -> TimeDelta {
-        TimeDelta { nanos: -self.nanos }
     }
 }

@@ -1,6 +1,7 @@
 //! A length of time in each of its units.
-ghost use Rattle.std.specs.Prelude.{◌≡◌, ◌<ℤ◌, pos, FitsSigned, SomeIff, int_div, int_rem};
+ghost use Rattle.std.specs.Prelude.{◌≡◌, ◌<ℤ◌, pos, FitsSigned, SomeIff, MatchResult, int_div, int_rem};
 ghost use Rattle.std.specs.Int.{w64};
+ghost use Rattle.std.specs.Duration.{as_nanos};
 ghost use Rattle.offset_core.specs.Nanoseconds.{nanos_per_microsecond, nanos_per_millisecond, nanos_per_second, nanos_per_minute, nanos_per_hour, nanos_per_day, nanos_per_week};
 ghost use Rattle.offset_core.specs.TimeDelta.{nanos_of};
 
@@ -8,7 +9,8 @@ use super::{
     NANOS_PER_DAY, NANOS_PER_HOUR, NANOS_PER_MICROSECOND, NANOS_PER_MILLISECOND, NANOS_PER_MINUTE,
     NANOS_PER_SECOND, NANOS_PER_WEEK,
 };
-use crate::TimeDelta;
+use crate::{OutOfRangeError, TimeDelta};
+use std::time::Duration;
 
 impl TimeDelta {
     /// The whole weeks of this length, toward zero.
@@ -80,6 +82,37 @@ impl TimeDelta {
         ensures { result ≡ int_rem (nanos_of self.now) nanos_per_second }
     {
         (self.nanos % NANOS_PER_SECOND) as i32
+    }
+
+    /// Returns the whole microseconds that the whole seconds leave, with the sign of the length.
+    pub fn subsec_micros(&self) -> i32
+        ensures { result ≡ int_div (int_rem (nanos_of self.now) nanos_per_second)
+            nanos_per_microsecond }
+    {
+        self.subsec_nanos() / 1_000
+    }
+
+    /// Returns the whole milliseconds that the whole seconds leave, with the sign of the length.
+    pub fn subsec_millis(&self) -> i32
+        ensures { result ≡ int_div (int_rem (nanos_of self.now) nanos_per_second)
+            nanos_per_millisecond }
+    {
+        self.subsec_nanos() / 1_000_000
+    }
+
+    /// Returns the length as a duration of the standard library.
+    ///
+    /// # Errors
+    ///
+    /// A negative length.
+    pub fn to_std(&self) -> Result<Duration, OutOfRangeError>
+        ensures { MatchResult result (λ duration. nanos_of self.now ≡ pos (as_nanos duration))
+            (λ _. nanos_of self.now <ℤ pos 0) }
+    {
+        match u128::try_from(self.nanos) {
+            Ok(nanos) => Ok(Duration::from_nanos_u128(nanos)),
+            Err(_) => Err(OutOfRangeError::new()),
+        }
     }
 
     // How many whole units of so many nanoseconds the length has, toward zero. Lengths below 292
