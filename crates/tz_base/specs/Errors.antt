@@ -23,9 +23,5 @@ number_of (errors.UnsupportedTzString _) = 15
 number_of (errors.Utf8 _) = 16
 number_of errors.OutOfMemory = 17
 
--- the error is of that variant, whatever was expected
-abbrev pub IsFindLocalTimeTypeError : Error → Type 0
-IsFindLocalTimeTypeError e = number_of e ≡ 2
-
 abbrev pub IsOutOfMemory : Error → Type 0
 IsOutOfMemory e = number_of e ≡ 17

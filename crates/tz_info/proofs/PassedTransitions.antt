@@ -3,9 +3,12 @@ use Rattle.std.proofs.Common.{◌≡◌, ℕ, suc, ◌-◌, ◌<◌, ◌≤◌, 
 use Rattle.std.proofs.lemmas.Bool.{cases_lt}
 use Rattle.tz_base.specs.LocalTypes.{LocalType}
 use Rattle.tz_timeline.specs.Search.{IsLastOf}
+use Rattle.tz_base.specs.declared.error.Error.{Error}
+use Rattle.tz_base.specs.declared.error.Error.TheVariants.{FindLocalTimeType}
+use Rattle.tz_base.specs.declared.error.Expected.TheVariants.{YearThatRuleAnswersIn}
 use Rattle.tz_info.specs.Leaps.{IsLeapTime}
 use Rattle.tz_info.specs.Transitions.{passed}
-use Rattle.tz_info.specs.Zones.{Zone, HasType, RuleOrType, IsRefusedBy, IsFromLast, index_at, TypeAtLeapTime, TypeAt, IsTypeRefused, by_rule}
+use Rattle.tz_info.specs.Zones.{Zone, HasType, RuleOrType, IsRefusedBy, IsFromLast, index_at, TypeAtLeapTime, TypeAt, IsTypeError, by_rule}
 use Rattle.tz_info.specs.declared.zone.transition.Transition.{Transition}
 use Rattle.tz_info.proofs.Prefixes.{last_taken}
 
@@ -54,37 +57,37 @@ at_middle z u x n d t p some h k = record {
 }
 
 -- all have come, and the rule is asked, or there is none
-pub at_last : {T E : Type 0} (view : T → LocalType) (number : E → ℕ) (z : Zone) (u x : ℤ) (n : ℕ) (d : Transition) (r : Result T E) → ArePassed z.transitions x n → 0 < n → n ≡ length z.transitions
-    → MatchResult r (λ t. RuleOrType z u (get_or z.transitions (n - 1) d).type_index (view t)) (λ e. (number e ≡ 2) × IsRefusedBy z.rule u)
-    → MatchResult r (λ t. TypeAtLeapTime z u x (view t)) (λ e. (number e ≡ 2) × IsFromLast z x × IsRefusedBy z.rule u)
-at_last view number z u x n d (Ok t) p some h k = record {
+pub at_last : {T : Type 0} (view : T → LocalType) (z : Zone) (u x : ℤ) (n : ℕ) (d : Transition) (r : Result T Error) → ArePassed z.transitions x n → 0 < n → n ≡ length z.transitions
+    → MatchResult r (λ t. RuleOrType z u (get_or z.transitions (n - 1) d).type_index (view t)) (λ e. (e ≡ FindLocalTimeType YearThatRuleAnswersIn) × IsRefusedBy z.rule u)
+    → MatchResult r (λ t. TypeAtLeapTime z u x (view t)) (λ e. (e ≡ FindLocalTimeType YearThatRuleAnswersIn) × IsFromLast z x × IsRefusedBy z.rule u)
+at_last view z u x n d (Ok t) p some h k = record {
   before_last = λ l. let n = passed_length z.transitions x n p in absurd (omega arith);
   from_last = λ _. rw (latest_index z x n d p some) k;
 }
-at_last view number z u x n d (Err e) p some h k = (k.0, passed_length z.transitions x n p ∙ h, k.1)
+at_last view z u x n d (Err e) p some h k = (k.0, passed_length z.transitions x n p ∙ h, k.1)
 
 pub no_items : {X : Type 0} (xs : List X) → length xs ≡ 0 → xs ≡ []
 no_items [] h = refl
 no_items (x ∷ xs) h = absurd (omega arith)
 
 -- without transitions the rule is asked, or there is none
-pub without_transitions : {T E : Type 0} (view : T → LocalType) (number : E → ℕ) (z : Zone) (u : ℤ) (r : Result T E) → length z.transitions ≡ 0
-    → MatchResult r (λ t. RuleOrType z u 0 (view t)) (λ e. (number e ≡ 2) × IsRefusedBy z.rule u)
-    → MatchResult r (λ t. TypeAt z u (view t)) (λ e. (number e ≡ 2) × IsTypeRefused z u)
-without_transitions view number z u (Ok t) e k =
+pub without_transitions : {T : Type 0} (view : T → LocalType) (z : Zone) (u : ℤ) (r : Result T Error) → length z.transitions ≡ 0
+    → MatchResult r (λ t. RuleOrType z u 0 (view t)) (λ e. (e ≡ FindLocalTimeType YearThatRuleAnswersIn) × IsRefusedBy z.rule u)
+    → MatchResult r (λ t. TypeAt z u (view t)) (IsTypeError z u)
+without_transitions view z u (Ok t) e k =
     let f = no_items z.transitions e in
     record {
       leap_time = u;
       of_second = λ p. absurd (omega arith);
       in_force = record { before_last = λ q. absurd (omega arith); from_last = λ _. rw f k };
     }
-without_transitions view number z u (Err x) e k =
+without_transitions view z u (Err x) e k =
     let f = no_items z.transitions e in
-    (k.0, by_rule u (λ p. absurd (omega arith)) (rw f refl) k.1)
+    (by_rule u (λ p. absurd (omega arith)) (rw f refl) k.1, k.0)
 
 -- with transitions the second's leap time is asked
-pub with_transitions : {T E : Type 0} (view : T → LocalType) (number : E → ℕ) (z : Zone) (u x : ℤ) (r : Result T E) → IsLeapTime z.leaps u x
-    → MatchResult r (λ t. TypeAtLeapTime z u x (view t)) (λ e. (number e ≡ 2) × IsFromLast z x × IsRefusedBy z.rule u)
-    → MatchResult r (λ t. TypeAt z u (view t)) (λ e. (number e ≡ 2) × IsTypeRefused z u)
-with_transitions view number z u x (Ok t) l k = record { leap_time = x; of_second = λ _. l; in_force = k }
-with_transitions view number z u x (Err e) l k = (k.0, by_rule x (λ _. l) k.1 k.2)
+pub with_transitions : {T : Type 0} (view : T → LocalType) (z : Zone) (u x : ℤ) (r : Result T Error) → IsLeapTime z.leaps u x
+    → MatchResult r (λ t. TypeAtLeapTime z u x (view t)) (λ e. (e ≡ FindLocalTimeType YearThatRuleAnswersIn) × IsFromLast z x × IsRefusedBy z.rule u)
+    → MatchResult r (λ t. TypeAt z u (view t)) (IsTypeError z u)
+with_transitions view z u x (Ok t) l k = record { leap_time = x; of_second = λ _. l; in_force = k }
+with_transitions view z u x (Err e) l k = (by_rule x (λ _. l) k.1 k.2, k.0)

@@ -2,8 +2,8 @@
 use Rattle.std.specs.Prelude.{ℕ, ℤ, ◌≡◌, ◌<◌, ◌-◌, List, [], ◌∷◌, length, map, slice_get, Option, Some, None, IfSome}
 use Rattle.tz_base.specs.LocalTypes.{LocalType, plain_type}
 use Rattle.tz_base.specs.declared.error.Error.{Error}
-use Rattle.tz_base.specs.declared.error.Error.TheVariants.{TimeZone}
-use Rattle.tz_base.specs.declared.error.Expected.TheVariants.{AtLeastOneLocalTimeType, TypeIndexesWithinTypes, TransitionTimesThatRise, LeapSecondsInOrder, RuleThatAgreesWithLastTransition}
+use Rattle.tz_base.specs.declared.error.Error.TheVariants.{FindLocalTimeType, TimeZone}
+use Rattle.tz_base.specs.declared.error.Expected.TheVariants.{AtLeastOneLocalTimeType, LeapSecondsInOrder, LeapTimeOf64Bits, RuleThatAgreesWithLastTransition, TransitionTimesThatRise, TypeIndexesWithinTypes, YearThatRuleAnswersIn}
 use Rattle.tz_info.specs.Leaps.{AreLeapSeconds, IsLeapTime, IsLeapTimeRefused, IsUnixTime}
 use Rattle.tz_info.specs.Lists.{last_else}
 use Rattle.tz_info.specs.RuleTypes.{RuleAt, IsRuleRefused, IsRule}
@@ -108,6 +108,15 @@ pub record TypeAt (z : Zone) (u : ℤ) (t : LocalType) : Type 0 where
 pub data IsTypeRefused (z : Zone) (u : ℤ) : Type 0 where
   by_leap_time : 0 < length z.transitions → IsLeapTimeRefused z.leaps u → IsTypeRefused z u
   by_rule : (x : ℤ) → (0 < length z.transitions → IsLeapTime z.leaps u x) → IsFromLast z x → IsRefusedBy z.rule u → IsTypeRefused z u
+
+-- the error that says which of the two it is
+abbrev pub type_error : {z : Zone} {u : ℤ} → IsTypeRefused z u → Error
+type_error (by_leap_time some refused) = FindLocalTimeType LeapTimeOf64Bits
+type_error (by_rule x of_second last refused) = FindLocalTimeType YearThatRuleAnswersIn
+
+-- the zone has no type at the second u, and e is the error that says why
+abbrev pub IsTypeError : Zone → ℤ → Error → Type 0
+IsTypeError z u e = (refused : IsTypeRefused z u) × (e ≡ type_error refused)
 
 -- the numbers of the zone's rule are in their limits
 abbrev pub IsRuleOrNone : Option TransitionRule → Type 0

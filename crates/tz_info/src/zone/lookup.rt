@@ -1,7 +1,8 @@
 //! The type in force at an instant, and the looks that lookups share.
 
 ghost use Rattle.std.specs.Prelude.{◌≡◌, ◌+◌, ◌<◌, ◌≤◌, length, take, slice_index_or, IfOk, MatchResult, Some, None};
-ghost use Rattle.tz_base.specs.Errors.{IsFindLocalTimeTypeError};
+ghost use Rattle.tz_base.specs.declared.error.Error.TheVariants.{FindLocalTimeType};
+ghost use Rattle.tz_base.specs.declared.error.Expected.TheVariants.{YearThatRuleAnswersIn};
 ghost use Rattle.tz_timeline.specs.Counts.{HasRoom, RoseWithin, HasRoomFor};
 ghost use Rattle.tz_timeline.specs.Digits.{digits};
 ghost use Rattle.tz_info.specs.Leaps.{IsLeapTime, IsNear};
@@ -9,7 +10,7 @@ ghost use Rattle.tz_info.specs.Looks.{RoseByInstant};
 ghost use Rattle.tz_info.specs.Questions.{IsAskedAt};
 ghost use Rattle.tz_info.specs.Steps.Asked.{IsAskedAtLeapTime};
 ghost use Rattle.tz_info.specs.Transitions.{passed};
-ghost use Rattle.tz_info.specs.Zones.{RuleOrType, IsRefusedBy, IsFromLast, TypeAtLeapTime, TypeAt, IsTypeRefused};
+ghost use Rattle.tz_info.specs.Zones.{RuleOrType, IsRefusedBy, IsFromLast, TypeAtLeapTime, TypeAt, IsTypeError};
 ghost use Rattle.tz_info.specs.declared.rule.transition_rule.TransitionRule.{TransitionRule};
 
 use crate::zone::leap_time::leap_time;
@@ -42,7 +43,7 @@ impl TimeZone {
     pub fn find_local_time_type(&self, unix_time: i64) -> Result<&LocalTimeType, Error>
         ensures { MatchResult result
             (λ t. TypeAt self.now unix_time t.now)
-            (λ e. IsFindLocalTimeTypeError e × IsTypeRefused self.now unix_time) }
+            (IsTypeError self.now unix_time) }
     {
         let mut probes = Probes::new();
         self.find_local_time_type_counted(unix_time, &mut probes)
@@ -75,7 +76,7 @@ impl TimeZone {
         requires { HasRoom probes.old }
         ensures found { MatchResult result
             (λ t. TypeAt self.now unix_time t.now)
-            (λ e. IsFindLocalTimeTypeError e × IsTypeRefused self.now unix_time) }
+            (IsTypeError self.now unix_time) }
         ensures cost { RoseByInstant self.now probes.old probes.new }
         // Where it answers and there is a transition, one is looked at.
         ensures looked { IfOk result (λ _. 0 < length self.now.transitions
@@ -106,7 +107,7 @@ impl TimeZone {
         requires room { HasRoom probes.old }
         ensures found { MatchResult result
             (λ t. TypeAtLeapTime self.now unix_time leap_time t.now)
-            (λ e. IsFindLocalTimeTypeError e × IsFromLast self.now leap_time
+            (λ e. (e ≡ FindLocalTimeType YearThatRuleAnswersIn) × IsFromLast self.now leap_time
             × IsRefusedBy self.now.rule unix_time) }
         ensures cost { RoseByInstant self.now probes.old probes.new }
         ensures looked { probes.old.reads < probes.new.reads }
@@ -136,7 +137,8 @@ impl TimeZone {
         requires room { HasRoomFor 1 probes.old.rule_questions }
         ensures found { MatchResult result
             (λ t. RuleOrType self.now unix_time index t.now)
-            (λ e. IsFindLocalTimeTypeError e × IsRefusedBy self.now.rule unix_time) }
+            (λ e. (e ≡ FindLocalTimeType YearThatRuleAnswersIn)
+            × IsRefusedBy self.now.rule unix_time) }
         ensures cost { RoseWithin probes.old probes.new 0 1 }
         // A question to the rule is counted as one.
         ensures asked { (rule : TransitionRule) → self.now.rule ≡ Some rule

@@ -1,9 +1,8 @@
 //! Lookups at one instant after another, which keep the span of the last ones.
 
 ghost use Rattle.std.specs.Prelude.{◌≡◌, ◌≤ℤ◌, ◌<ℤ◌, ◌↔◌, ⊤, IsTrue, MatchOption, MatchResult};
-ghost use Rattle.tz_base.specs.Errors.{IsFindLocalTimeTypeError};
 ghost use Rattle.tz_info.specs.Steps.Held.{IsHeld};
-ghost use Rattle.tz_info.specs.Zones.{TypeAt, IsTypeRefused};
+ghost use Rattle.tz_info.specs.Zones.{TypeAt, IsTypeError};
 
 use crate::zone::time_zone::TimeZone;
 use std::marker::Model;
@@ -111,7 +110,7 @@ impl<'a> Lookups<'a> {
     #[inline(always)]
     pub fn find_local_time_type(&mut self, unix_time: i64) -> Result<LocalTimeType, Error>
         ensures found { MatchResult result (TypeAt self.old unix_time)
-            (λ e. IsFindLocalTimeTypeError e × IsTypeRefused self.old unix_time) }
+            (IsTypeError self.old unix_time) }
         ensures zone { self.new ≡ self.old }
     {
         if is_between(self.held.first, self.held.end, unix_time) {
@@ -124,7 +123,7 @@ impl<'a> Lookups<'a> {
     #[inline(always)]
     fn find_outside(&mut self, unix_time: i64) -> Result<LocalTimeType, Error>
         ensures found { MatchResult result (TypeAt self.old unix_time)
-            (λ e. IsFindLocalTimeTypeError e × IsTypeRefused self.old unix_time) }
+            (IsTypeError self.old unix_time) }
         ensures zone { self.new ≡ self.old }
     {
         self.keep_if_near(unix_time);
@@ -174,7 +173,7 @@ impl<'a> Lookups<'a> {
 #[inline(always)]
 fn type_at(zone: &TimeZone, unix_time: i64) -> Result<LocalTimeType, Error>
     ensures { MatchResult result (TypeAt zone.now unix_time)
-        (λ e. IsFindLocalTimeTypeError e × IsTypeRefused zone.now unix_time) }
+        (IsTypeError zone.now unix_time) }
 {
     match zone.find_local_time_type(unix_time) {
         Ok(found) => Ok(*found),

@@ -4,14 +4,13 @@
 //! second change the type, or the rule's moments near it do.
 
 ghost use Rattle.std.specs.Prelude.{◌≡◌, ◌≢◌, ◌<◌, ◌≤◌, length, option_map, MatchOption, MatchResult, Some, ⊤};
-ghost use Rattle.tz_base.specs.Errors.{IsFindLocalTimeTypeError};
 ghost use Rattle.tz_base.specs.LocalTypes.{LocalType};
 ghost use Rattle.tz_info.specs.Rules.{Alternate as AlternateRule};
 ghost use Rattle.tz_info.specs.Spans.{IsSpanAt};
 ghost use Rattle.tz_info.specs.Steps.Changes.{AreComeAt};
 ghost use Rattle.tz_info.specs.Steps.Segments.{index_of};
 ghost use Rattle.tz_info.specs.Steps.Spans.{ChangesWith, IsFrom, IsTo};
-ghost use Rattle.tz_info.specs.Zones.{HasType, TypeAt, IsTypeRefused};
+ghost use Rattle.tz_info.specs.Zones.{HasType, TypeAt, IsTypeError};
 ghost use Rattle.tz_info.specs.declared.rule.transition_rule.TransitionRule.TheVariants.{Alternate};
 
 use crate::change::is_same_type;
@@ -38,7 +37,7 @@ impl TimeZone {
     /// As [`TimeZone::find_local_time_type`].
     pub fn span_at(&self, unix_time: i64) -> Result<Span, Error>
         ensures { MatchResult result (IsSpanAt (TypeAt self.now) unix_time)
-            (λ e. IsFindLocalTimeTypeError e × IsTypeRefused self.now unix_time) }
+            (IsTypeError self.now unix_time) }
     {
         if self.leap_seconds.is_empty() {
             match self.span_by_search(unix_time) {

@@ -8,4 +8,4 @@ pub unreachable-requires : goal.unreachable-requires
 unreachable-requires c = let fits = c.ranges.second in
     let there = c.zone.ensures.offsets c.args.second c.requires in
     let refused = simp to_z-of_z at c.in-Err.ensures in
-    type_not_refused c.zone.result.now c.args.second there.type there.in_force refused.1
+    type_not_refused c.zone.result.now c.args.second there.type there.in_force refused.0

@@ -1,7 +1,6 @@
 use Rattle.std.proofs.Common.{ℕ, arith, length, ap, refl, to_z-of_z, ◌-◌}
 use Rattle.std.specs.Borrow.{Bor}
 use Rattle.std.proofs.lemmas.Option.{slice_get_read}
-use Rattle.tz_base.specs.Errors.{number_of}
 use Rattle.tz_base.specs.LocalTypes.{LocalType}
 use Rattle.tz_timeline.proofs.ForCallers.{digits-le}
 use Rattle.tz_info.specs.Zones.{Zone}
@@ -46,4 +45,4 @@ returns-clause-found c =
     let (some, is) = last_passed c.self.inside.table n latest (rw c.in-Some.is at c.passed-passed.ensures.latest) in
     let i = ap (λ (t : Transition). t.type_index) is in
     let r = rw (← c.self.view_is) at (simp to_z-of_z at c.rule_or_type.ensures.found) in
-    rw (← c.self.view_is) (at_last (λ (t : Bor LocalType). t.now) number_of _ c.args.unix_time c.args.leap_time n latest c.rule_or_type.result p some (omega arith) (rw i at r))
+    rw (← c.self.view_is) (at_last (λ (t : Bor LocalType). t.now) _ c.args.unix_time c.args.leap_time n latest c.rule_or_type.result p some (omega arith) (rw i at r))

@@ -11,13 +11,13 @@ returns-in_default-find_local_time_type c =
     let s = simp to_z-of_z at c.in-Some.ensures in
     let fb : SFits w64 c.in-Some.second_before = rw s.1 s.0 in
     let e = rw s.1 at (simp to_z-of_z at c.in_default-find_local_time_type.ensures) in
-    none_before (TypeAt c.args.self.now) c.args.second (λ t h. type_not_refused c.args.self.now (c.args.second -ℤ pos 1) t h e.1)
+    none_before (TypeAt c.args.self.now) c.args.second (λ t h. type_not_refused c.args.self.now (c.args.second -ℤ pos 1) t h e.0)
 
 pub returns-in_default-find_local_time_type-2 : goal.returns-in_default-find_local_time_type-2
 returns-in_default-find_local_time_type-2 c =
     let fs = c.ranges.second in
     let e = simp to_z-of_z at c.in_default-find_local_time_type-2.ensures in
-    none_here (TypeAt c.args.self.now) c.args.second (λ t h. type_not_refused c.args.self.now c.args.second t h e.1)
+    none_here (TypeAt c.args.self.now) c.args.second (λ t h. type_not_refused c.args.self.now c.args.second t h e.0)
 
 pub returns : goal.returns
 returns c =
