@@ -1,32 +1,12 @@
--- Gaps, and what shows a local time, are equal by `==` exactly if they are equal.
-use Rattle.std.proofs.Common.{rules, int_eq, ◌≡◌, IsTrue, refl, ap}
+-- What shows a local time is equal by `==` if and only if it is equal.
+use Rattle.std.proofs.Common.{◌≡◌, IsTrue, refl, ap}
+use Rattle.tz_base.proofs.ChangeEquality.{change_exact}
 use Rattle.tz_base.proofs.ForCallers.{IsExact, and_left, and_right, and_both, type_exact}
 use Rattle.tz_base.specs.LocalTypes.{LocalType}
 use Rattle.tz_base.specs.contracts.local_time_type.LocalTimeTypePartialEq.TheImpl.{eq-value as type_eq}
 use Rattle.tz_info.specs.contracts.zone.around.TypesAroundPartialEq.TheImpl.{eq-value as around_eq}
-use Rattle.tz_info.specs.contracts.zone.around.GapPartialEq.TheImpl.{eq-value as gap_eq}
-use Rattle.tz_info.specs.declared.zone.around.Gap.{Gap as Sides}
 use Rattle.tz_info.specs.declared.zone.around.TypesAround.{TypesAround}
 use Rattle.tz_info.specs.declared.zone.around.TypesAround.TheVariants.{Single, Ambiguous, Gap}
-
-second_exact : IsExact int_eq
-second_exact a b = search rules
-
-same_sides : (g h : Sides) → g.before ≡ h.before → g.after ≡ h.after → g.at ≡ h.at → g ≡ h
-same_sides g h p q r = λ i. record { before = p i; after = q i; at = r i }
-
-pub gap_exact : IsExact gap_eq.it
-gap_exact a b = (
-  λ h.
-      let r = and_right (type_eq.it a.before b.before) _ h in
-      same_sides a b
-      ((type_exact a.before b.before).0 (and_left (type_eq.it a.before b.before) _ h))
-      ((type_exact a.after b.after).0 (and_left (type_eq.it a.after b.after) _ r))
-      ((second_exact a.at b.at).0 (and_right (type_eq.it a.after b.after) _ r)),
-  λ e.
-      and_both (type_eq.it a.before b.before) _ ((type_exact a.before b.before).1 (ap (λ (x : Sides). x.before) e))
-      (and_both (type_eq.it a.after b.after) _ ((type_exact a.after b.after).1 (ap (λ (x : Sides). x.after) e)) ((second_exact a.at b.at).1 (ap (λ (x : Sides). x.at) e))),
-)
 
 both_same : (s t v w : LocalType) → s ≡ t → v ≡ w → Ambiguous s v ≡ Ambiguous t w
 both_same s t v w p q = cc
@@ -34,13 +14,13 @@ both_same s t v w p q = cc
 around_from : (a b : TypesAround) → IsTrue (around_eq.it a b) → a ≡ b
 around_from (Single s) (Single t) h = ap Single ((type_exact s t).0 h)
 around_from (Ambiguous s v) (Ambiguous t w) h = both_same s t v w ((type_exact s t).0 (and_left (type_eq.it s t) _ h)) ((type_exact v w).0 (and_right (type_eq.it s t) _ h))
-around_from (Gap g) (Gap k) h = ap Gap ((gap_exact g k).0 h)
+around_from (Gap g) (Gap k) h = ap Gap ((change_exact g k).0 h)
 around_from _ _ h = cc
 
 around_self : (a : TypesAround) → IsTrue (around_eq.it a a)
 around_self (Single s) = (type_exact s s).1 refl
 around_self (Ambiguous s v) = and_both (type_eq.it s s) _ ((type_exact s s).1 refl) ((type_exact v v).1 refl)
-around_self (Gap g) = (gap_exact g g).1 refl
+around_self (Gap g) = (change_exact g g).1 refl
 
 pub around_exact : IsExact around_eq.it
 around_exact a b = (λ h. around_from a b h, λ e. rw e (around_self b))

@@ -2,19 +2,19 @@
 use Rattle.std.proofs.Common.{◌≡◌, ℤ, pos, ◌-ℤ◌, ap, subst, arith}
 use Rattle.std.proofs.lemmas.Int.{ints}
 use Rattle.offset_core.specs.declared.local_result.LocalResult.TheVariants.{Single as Once, Ambiguous as Twice}
+use Rattle.tz_base.specs.declared.change.Change.{Change}
 use Rattle.tz_info.specs.Around.{IsAround}
 use Rattle.tz_info.specs.Gaps.{HasGap}
 use Rattle.tz_info.specs.Zones.{Zone, TypeAt}
-use Rattle.tz_info.specs.declared.zone.around.Gap.{Gap as Sides}
 use Rattle.tz_info.specs.declared.zone.around.TypesAround.{TypesAround}
 use Rattle.tz_info.specs.declared.zone.around.TypesAround.TheVariants.{Single, Ambiguous, Gap}
 use Rattle.tz_info.proofs.WallLaws.{one_wall_clock}
 use Rattle.tz_info.proofs.ZoneLaws.{type_once}
 
-same_sides : (g h : Sides) → g.before ≡ h.before → g.after ≡ h.after → g.at ≡ h.at → g ≡ h
+same_sides : (g h : Change) → g.before ≡ h.before → g.after ≡ h.after → g.at ≡ h.at → g ≡ h
 same_sides g h p q r = λ i. record { before = p i; after = q i; at = r i }
 
-one_gap : (z : Zone) (l : ℤ) (g h : Sides) → HasGap (TypeAt z) l g.before g.after g.at → HasGap (TypeAt z) l h.before h.after h.at → g ≡ h
+one_gap : (z : Zone) (l : ℤ) (g h : Change) → HasGap (TypeAt z) l g.before g.after g.at → HasGap (TypeAt z) l h.before h.after h.at → g ≡ h
 one_gap z l g h a b =
     let less = a.least h.at (record { type = h.after; here = b.here; more = b.more }) in
     let more = b.least g.at (record { type = g.after; here = a.here; more = a.more }) in

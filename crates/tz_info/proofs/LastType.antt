@@ -14,7 +14,7 @@ use Rattle.tz_info.proofs.SegmentLaws.{split_at, split_count, come_by_time, inde
 use Rattle.tz_info.proofs.TableSearch.{Between}
 use Rattle.tz_info.proofs.ZoneLaws.{some_once}
 
-pub some_last : (ts : List Transition) (last : Transition) → last_transition ts ≡ Some last → 0 < length ts
+some_last : (ts : List Transition) (last : Transition) → last_transition ts ≡ Some last → 0 < length ts
 some_last ts last is = elim (cases_lt 0 (length ts)) [
   | inl h ↦ h
   | inr h ↦ let f = no_items ts (omega arith) in let g = rw f at is in cc

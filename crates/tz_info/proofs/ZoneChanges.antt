@@ -52,7 +52,7 @@ refused_on es u v y valid h r l =
     r.leaves (omega (arith, ints))
 
 -- so has each second of the years that a rule answers in
-pub rule_leap_time : (es : List LeapSecond) (u : ℤ) → AreLeapSeconds es → IsRuleTime u → (x : ℤ) × IsLeapTime es u x
+rule_leap_time : (es : List LeapSecond) (u : ℤ) → AreLeapSeconds es → IsRuleTime u → (x : ℤ) × IsLeapTime es u x
 rule_leap_time es u valid within = elim (leap_time_decided es u) [
   | inl x ↦ x
   | inr r ↦
@@ -137,7 +137,7 @@ pub none_there : (z : Zone) (place : ℕ) (start : ℤ) → IsValid z → place 
 none_there z place start valid some comes none d is e = none d is (comes_with z place start d valid some comes is e)
 
 -- ---- behind the last transition
-pub last_too : (z : Zone) (u : ℤ) → IsValid z → segment_of z (u -ℤ pos 1) ≡ length z.transitions → segment_of z u ≡ length z.transitions
+last_too : (z : Zone) (u : ℤ) → IsValid z → segment_of z (u -ℤ pos 1) ≡ length z.transitions → segment_of z u ≡ length z.transitions
 last_too z u valid e =
     let r = segments_rise z (u -ℤ pos 1) u valid.transitions.rising valid.leaps (omega (arith, ints)) in
     let m = segment_most z u valid.transitions.rising in
@@ -180,7 +180,7 @@ from_rule z a u t valid rule e k = elim (cases_lt 0 (length z.transitions)) [
   | inr none ↦ by_rule_alone z a u t rule (omega arith) k
 ]
 
-pub begun : (z : Zone) (begin u : ℤ) (t : LocalType) → IsValid z → IsBegin z begin → SFits w64 u → TypeAt z u t → segment_of z u ≡ length z.transitions → begin ≤ℤ u
+begun : (z : Zone) (begin u : ℤ) (t : LocalType) → IsValid z → IsBegin z begin → SFits w64 u → TypeAt z u t → segment_of z u ≡ length z.transitions → begin ≤ℤ u
 begun z begin u t valid h fits k e = elim (cases_lt 0 (length z.transitions)) [
   | inl some ↦ (h.comes (length z.transitions - 1) (omega arith) u k.leap_time (time_of z u t some k)).0 (omega arith)
   | inr none ↦ let b = h.alone (omega arith) in omega (arith, ints)
@@ -198,7 +198,7 @@ begins z begin u valid h within from =
     ]
 
 -- the changes of the zone there are those of the rule after `begin`
-pub by_rule : (z : Zone) (a : AlternateRule) (begin : ℤ) (d : Change) → IsValid z → z.rule ≡ Some (Alternate a) → IsBegin z begin
+by_rule : (z : Zone) (a : AlternateRule) (begin : ℤ) (d : Change) → IsValid z → z.rule ≡ Some (Alternate a) → IsBegin z begin
     → (IsChange (TypeAt z) d × (segment_of z (d.at -ℤ pos 1) ≡ length z.transitions)) ↔ (IsChange (AlternateAt a) d × (begin <ℤ d.at))
 by_rule z a begin d valid rule h = (
   λ k.

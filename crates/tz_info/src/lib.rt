@@ -12,6 +12,6 @@ pub use rule::{AlternateTime, DayForm, RuleDay, TransitionRule};
 pub use tz_base::{Change, Cursor, Error, Expected, LocalTimeType, Span, TimeZoneName};
 pub use tz_timeline::Probes;
 pub use zone::all_changes::Changes;
-pub use zone::around::{Gap, TypesAround};
+pub use zone::around::TypesAround;
 pub use zone::lookups::Lookups;
 pub use zone::{LeapSecond, TimeZone, Transition};

@@ -6,14 +6,13 @@ ghost use Rattle.tz_info.specs.ChangesLeft.{changes_left};
 ghost use Rattle.tz_info.specs.Zones.{Zone};
 ghost use Rattle.tz_info.specs.declared.rule.day.DayForm.{DayForm};
 ghost use Rattle.tz_info.specs.declared.rule.transition_rule.TransitionRule.{TransitionRule as Rule};
-ghost use Rattle.tz_info.specs.declared.zone.around.Gap.{Gap as Sides};
 ghost use Rattle.tz_info.specs.declared.zone.around.TypesAround.{TypesAround as Around};
 ghost use Rattle.tz_info.specs.declared.zone.leap_second.LeapSecond.{LeapSecond as Leap};
 ghost use Rattle.tz_info.specs.declared.zone.transition.Transition.{Transition as ListedTransition};
 
 use crate::rule::{AlternateTime, RuleDay, TransitionRule};
 use crate::zone::all_changes::Changes;
-use crate::zone::around::{Gap, TypesAround};
+use crate::zone::around::TypesAround;
 use crate::zone::{LeapSecond, TimeZone, Transition};
 
 /// Transitions are equal if and only if their times and their indexes are. A clone is the value,
@@ -63,15 +62,7 @@ pub fn zones()
     ensures { (a b : Zone) → IsTrue (⟦<TimeZone as PartialEq>⟧.eq a b) ↔ (a ≡ b) }
 {}
 
-/// Gaps are equal if and only if their seconds and the types before and after are. A clone is the
-/// value, and does not fail.
-pub fn gaps()
-    ensures equal { (a b : Sides) → IsTrue (⟦<Gap as PartialEq>⟧.eq a b) ↔ (a ≡ b) }
-    ensures clone { (a b : Sides) → ⟦<Gap as Clone>⟧.is_clone a b ↔ (b ≡ a) }
-    ensures infallible { (a : Sides) → ⟦<Gap as Clone>⟧.is_infallible a }
-{}
-
-/// What shows a local time is equal if and only if the types, or the gap, are. A clone is the
+/// What shows a local time is equal if and only if the types, or the changes of the gap, are. A clone is the
 /// value, and does not fail.
 pub fn types_around()
     ensures equal { (a b : Around) → IsTrue (⟦<TypesAround as PartialEq>⟧.eq a b) ↔ (a ≡ b) }

@@ -20,13 +20,13 @@ ghost use Rattle.tz_info.specs.declared.rule.transition_rule.TransitionRule.TheV
 
 use crate::answers::second_showing;
 use crate::rule::{AlternateTime, TransitionRule};
-use crate::zone::around::{Gap, TypesAround};
+use crate::zone::around::TypesAround;
 use crate::zone::shown::{Jump, Shown};
 use crate::zone::starts::{first_second, later};
 use crate::zone::time_zone::TimeZone;
 use naive_base::NaiveDateTime;
 use offset_core::MappedLocalTime;
-use tz_base::LocalTimeType;
+use tz_base::{Change, LocalTimeType};
 use tz_timeline::Probes;
 
 // The seconds between which clocks may come to show a local time: by the greatest offset, and by
@@ -96,7 +96,7 @@ impl TimeZone {
     }
 
     // The gap in the table, or behind it.
-    fn gap_at(&self, local: i64, shown: Shown, probes: &mut Probes) -> Gap
+    fn gap_at(&self, local: i64, shown: Shown, probes: &mut Probes) -> Change
         requires local { IsWide local }
         requires never { IsNeverShown (Shows (TypeAt self.now) local) }
         requires shown { IsShownAmong self.now 0 (table_count self.now) local shown }
@@ -113,7 +113,7 @@ impl TimeZone {
     }
 
     // The gap where the segment at the jump's place begins.
-    fn gap_of_jump(&self, local: i64, jump: Jump, probes: &mut Probes) -> Gap
+    fn gap_of_jump(&self, local: i64, jump: Jump, probes: &mut Probes) -> Change
         requires local { IsWide local }
         requires never { IsNeverShown (Shows (TypeAt self.now) local) }
         requires jump { Jumps self.now 0 (table_count self.now) local jump }
@@ -123,7 +123,7 @@ impl TimeZone {
     {
         let _reach = self.reach(local);
         let transition = self.transition(jump.place - 1, probes);
-        Gap {
+        Change {
             before: *self.listed(jump.before),
             after: *self.listed(transition.type_index),
             at: first_second(&self.leap_seconds, transition.unix_leap_time),
@@ -142,7 +142,7 @@ impl TimeZone {
 
     // The gap from the last transition on, before which clocks show less, at the end by the type
     // of that index.
-    fn gap_of_rule(&self, local: i64, before: usize) -> Gap
+    fn gap_of_rule(&self, local: i64, before: usize) -> Change
         requires local { IsWide local }
         requires never { IsNeverShown (Shows (TypeAt self.now) local) }
         requires less { AreLessAmong self.now 0 (table_count self.now) local }
@@ -158,7 +158,7 @@ impl TimeZone {
 
     // Clocks come to show more where the rule begins, or where it turns from its lesser offset to
     // the greater.
-    fn gap_by_rule(&self, rule: &TransitionRule, local: i64, before: usize) -> Gap
+    fn gap_by_rule(&self, rule: &TransitionRule, local: i64, before: usize) -> Change
         requires local { IsWide local }
         requires rule { self.now.rule ≡ Some rule.now }
         requires never { IsNeverShown (Shows (TypeAt self.now) local) }
@@ -171,7 +171,7 @@ impl TimeZone {
         let first = self.rule_first(local, reach);
         let here = type_near(rule, first);
         if local < shown_at(here, first) {
-            return Gap {
+            return Change {
                 before: *self.listed(before),
                 after: *here,
                 at: first,
@@ -194,7 +194,7 @@ impl TimeZone {
     }
 
     // Goes from moment to moment of the rule, until clocks show more.
-    fn gap_by_turns(&self, turns: &AlternateTime, local: i64, reach: Reach, first: i64) -> Gap
+    fn gap_by_turns(&self, turns: &AlternateTime, local: i64, reach: Reach, first: i64) -> Change
         requires local { IsWide local }
         requires rule { self.now.rule ≡ Some (Alternate turns.now) }
         requires never { IsNeverShown (Shows (TypeAt self.now) local) }
@@ -209,7 +209,7 @@ impl TimeZone {
             last = next;
             next = turns.next_moment(last);
         }
-        Gap {
+        Change {
             before: *turns.type_at(last),
             after: *turns.type_at(next),
             at: next,
