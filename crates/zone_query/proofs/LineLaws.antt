@@ -13,7 +13,7 @@ use Rattle.naive_base.specs.Reading.{Reading}
 use Rattle.naive_base.specs.declared.date.NaiveDate.{NaiveDate}
 use Rattle.naive_base.proofs.ForCallers.{date_in_years}
 use Rattle.tz_base.specs.Grammar.{Grammar, Spells}
-use Rattle.zone_query.specs.Questions.{Query, Text, Data, At, Wall, Resolve, Show, Asks, IsBadLine, After, negative, positive, integer, next, date, local_time, text, data_of_file, at, resolve, wall, show, question, line}
+use Rattle.zone_query.specs.Questions.{Query, Text, Data, At, Wall, Resolve, Show, Asks, IsBadLine, After, integer, next, date, local_time, text, data_of_file, at, resolve, wall, show, question, line}
 use Rattle.zone_query.specs.Steps.LineReading.{scan}
 use Rattle.zone_query.specs.declared.bad_line.BadLine.{BadLine}
 use Rattle.zone_query.proofs.HexLaws.{refuted}
@@ -40,7 +40,7 @@ pub day_exists : (y : ℤ) (m d : ℕ) → Decides (nat_le 1 d && nat_le d (days
 day_exists y m d = Decides-and _ _ (at_most 1 d) (at_most d (days_in_month (is_leap y) m))
 
 year_in_range : (bytes rest : List ℕ) (y : ℤ) → Spells (integer 262_143 262_142) bytes y rest → IsYearInRange y
-unfolding integer negative positive
+unfolding integer
 year_in_range bytes rest y (inl (after, sign, (n, end, number, (value, same)))) = let limit = number.limit in rw value (omega (arith, ints, limit), omega (arith, ints, limit))
 year_in_range bytes rest y (inr (none, (n, end, number, (value, same)))) = let limit = number.limit in rw value (omega (arith, ints, limit), omega (arith, ints, limit))
 
@@ -73,7 +73,8 @@ pub undated : (y : ℤ) (m d : ℕ) → IsYearInRange y → 1 ≤ m → m ≤ 12
 undated y m d year first last none = refuted (nat_le 1 d && nat_le d (days_in_month (is_leap y) m)) (day_exists y m d) (λ e. none year (first, last, e.0, e.1))
 
 -- what both grammars keep, their choice keeps
-after_word : {X : Type 0} (P : X → Type 0) (word : List ℕ) (g h : Grammar X) → ((bytes rest : List ℕ) (x : X) → Spells g bytes x rest → P x) → ((bytes rest : List ℕ) (x : X) → Spells h bytes x rest → P x) → (bytes rest : List ℕ) (x : X) → Spells (After word g h) bytes x rest → P x
+after_word : {X : Type 0} (P : X → Type 0) (word : List ℕ) (g h : Grammar X) → ((bytes rest : List ℕ) (x : X) → Spells g bytes x rest → P x)
+    → ((bytes rest : List ℕ) (x : X) → Spells h bytes x rest → P x) → (bytes rest : List ℕ) (x : X) → Spells (After word g h) bytes x rest → P x
 after_word P word g h first second bytes rest x (true, after, begins, spelled) = first after rest x spelled
 after_word P word g h first second bytes rest x (false, after, begins, spelled) = second after rest x spelled
 

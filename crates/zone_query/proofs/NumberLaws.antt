@@ -19,7 +19,8 @@ pub record ReadTo (text : List ℕ) (i n : ℕ) : Type 0 where
   pub value : value_from 0 (run_of is_digit text) ≡ value_from n (run_of is_digit (drop i text))
   pub rest : after_run is_digit text ≡ after_run is_digit (drop i text)
 
-pub read_digit : (text : List ℕ) (i n : ℕ) → i < length text → is_digit (get_or text i 0) ≡ true → ReadTo text i n → ReadTo text (i + 1) (10 * n + (get_or text i 0 - 48))
+pub read_digit : (text : List ℕ) (i n : ℕ) → i < length text → is_digit (get_or text i 0) ≡ true → ReadTo text i n
+    → ReadTo text (i + 1) (10 * n + (get_or text i 0 - 48))
 read_digit text i n h digit r =
     let e = drop_more text i 0 h in
     let size = rw (e, digit) at r.size in
@@ -28,7 +29,8 @@ read_digit text i n h digit r =
     record { size = omega (arith, size); value = value; rest = rest }
 
 -- the bytes after the digits
-ended : (text : List ℕ) (i n : ℕ) → (i < length text → is_digit (get_or text i 0) ≡ false) → (run_of is_digit (drop i text) ≡ []) × (after_run is_digit (drop i text) ≡ drop i text)
+ended : (text : List ℕ) (i n : ℕ) → (i < length text → is_digit (get_or text i 0) ≡ false)
+    → (run_of is_digit (drop i text) ≡ []) × (after_run is_digit (drop i text) ≡ drop i text)
 ended text i n stops = elim (cases_lt i (length text)) [
   | inl inside ↦ let e = drop_more text i 0 inside in let other = stops inside in rw (e, other) (refl, refl)
   | inr end ↦ let e = drop_all i text end in rw e (refl, refl)
@@ -42,7 +44,8 @@ above_is : (max : ℕ) (run : List ℕ) → 0 < length run → max < value_from 
 above_is max [] some above = absurd (omega (arith, some))
 above_is max (d ∷ ds) some above = let t : nat_le (value_from 0 (d ∷ ds)) max ≡ false = grind (arith, nat_tests) in rw t refl
 
-pub number_ends : (text : List ℕ) (max i n : ℕ) → 0 < i → n ≤ max → (i < length text → is_digit (get_or text i 0) ≡ false) → ReadTo text i n → scan (Number max) text ≡ Ok (n, drop i text)
+pub number_ends : (text : List ℕ) (max i n : ℕ) → 0 < i → n ≤ max → (i < length text → is_digit (get_or text i 0) ≡ false) → ReadTo text i n
+    → scan (Number max) text ≡ Ok (n, drop i text)
 unfolding int_at
 number_ends text max i n some limit stops r =
     let end = ended text i n stops in
@@ -63,7 +66,8 @@ no_number [] max i first inside other = absurd (omega (arith, inside))
 no_number (c ∷ bytes) max zero first inside other = let t = not_digit c other in rw t refl
 no_number (c ∷ bytes) max (suc i) first inside other = absurd (omega (arith, first))
 
-pub number_stops : (text : List ℕ) (max i n : ℕ) → i < length text → is_digit (get_or text i 0) ≡ true → (10 * n + (get_or text i 0 - 48) ≤ max → ⊥) → ReadTo text i n → scan (Number max) text ≡ Err Hopeless
+pub number_stops : (text : List ℕ) (max i n : ℕ) → i < length text → is_digit (get_or text i 0) ≡ true → (10 * n + (get_or text i 0 - 48) ≤ max → ⊥)
+    → ReadTo text i n → scan (Number max) text ≡ Err Hopeless
 unfolding int_at
 number_stops text max i n inside digit above r =
     let next = read_digit text i n inside digit r in

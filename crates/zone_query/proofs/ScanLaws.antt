@@ -29,16 +29,19 @@ same_unfinished : {A : Type 0} (r : Result A Error) → Same (or_unfinished r) r
 same_unfinished (Ok x) = refl
 same_unfinished (Err e) = (e, refl)
 
-same_bind : {A B : Type 0} (a : Result A BadLine) (r : Result A Error) (f : A → Result B BadLine) (k : A → Result B Error) → Same a r → ((x : A) → Same (f x) (k x)) → Same (a >>= f) (fronts.◌>>=◌ r k)
+same_bind : {A B : Type 0} (a : Result A BadLine) (r : Result A Error) (f : A → Result B BadLine) (k : A → Result B Error) → Same a r
+    → ((x : A) → Same (f x) (k x)) → Same (a >>= f) (fronts.◌>>=◌ r k)
 same_bind (Ok x) r f k h each = rw h (each x)
 same_bind (Err e) r f k h each = (h.0, rw h.1 refl)
 
-same_mark : {A : Type 0} (t : Bool) (f : List ℕ → Result A BadLine) (e : Result A BadLine) (r s : List ℕ → Result A Error) (after bytes : List ℕ) → Same (f after) (r after) → Same e (s bytes)
+same_mark : {A : Type 0} (t : Bool) (f : List ℕ → Result A BadLine) (e : Result A BadLine) (r s : List ℕ → Result A Error) (after bytes : List ℕ)
+    → Same (f after) (r after) → Same e (s bytes)
     → Same (if_some (cond t (Some after) None) f e) (let mark : Bool × List ℕ = cond (t && true) (true, after) (false, bytes) in cond mark.0 (r mark.1) (s mark.1))
 same_mark true f e r s after bytes first second = first
 same_mark false f e r s after bytes first second = second
 
-same_marked : {X : Type 0} (tag : ℕ) (g h : Grammar X) (bytes : List ℕ) → ((after : List ℕ) → Same (scan g after) (read g after)) → Same (scan h bytes) (read h bytes) → Same (scan (Marked tag g h) bytes) (read (Marked tag g h) bytes)
+same_marked : {X : Type 0} (tag : ℕ) (g h : Grammar X) (bytes : List ℕ) → ((after : List ℕ) → Same (scan g after) (read g after))
+    → Same (scan h bytes) (read h bytes) → Same (scan (Marked tag g h) bytes) (read (Marked tag g h) bytes)
 unfolding after_byte optional_tag_at
 same_marked tag g h [] first second = second
 same_marked tag g h (b ∷ bytes) first second = same_mark (tag == b) (λ after. scan g after) (scan h (b ∷ bytes)) (λ after. read g after) (λ all. read h all) bytes (b ∷ bytes) (first bytes) second
@@ -48,7 +51,8 @@ unfolding after_byte tag_at
 same_byte tag [] = let none : Same {A = Unit {0} × List ℕ} (Err Unfinished) (Err (UnexpectedEnd Tag)) = (UnexpectedEnd Tag, refl) in none
 same_byte tag (b ∷ bytes) = let some : nat_lt (length (b ∷ bytes)) 1 ≡ false = grind (arith, nat_tests) in rw some (chosen (tag == b))
   where
-    chosen : (t : Bool) → Same {A = Unit {0} × List ℕ} (if_some (cond t (Some bytes) None) (λ after. Ok (tt, after)) (Err Hopeless)) (cond (t && true) (Ok (tt, bytes)) (Err (MissingTag OtherBytes)))
+    chosen : (t : Bool)
+        → Same {A = Unit {0} × List ℕ} (if_some (cond t (Some bytes) None) (λ after. Ok (tt, after)) (Err Hopeless)) (cond (t && true) (Ok (tt, bytes)) (Err (MissingTag OtherBytes)))
     chosen true = refl
     chosen false = (MissingTag OtherBytes, refl)
 
@@ -74,7 +78,8 @@ Stops (Ok (x, b ∷ rest)) = ⊥
 Stops (Err Unfinished) = Unit {0}
 Stops (Err Hopeless) = ⊥
 
-stops_bind : {A B : Type 0} (r : Result (A × List ℕ) BadLine) (f : A × List ℕ → Result (B × List ℕ) BadLine) → Stops r → ((x : A) → Stops (f (x, []))) → Stops (r >>= f)
+stops_bind : {A B : Type 0} (r : Result (A × List ℕ) BadLine) (f : A × List ℕ → Result (B × List ℕ) BadLine) → Stops r → ((x : A) → Stops (f (x, [])))
+    → Stops (r >>= f)
 stops_bind (Ok (x, [])) f h each = each x
 stops_bind (Ok (x, b ∷ rest)) f h each = absurd h
 stops_bind (Err Unfinished) f h each = tt
@@ -113,17 +118,21 @@ value_onward : {A : Type 0} (x : A) (bytes more : List ℕ) → Onward more (Ok 
 value_onward x [] more = tt
 value_onward x (b ∷ bytes) more = refl
 
-bind_onward : {A B : Type 0} (more : List ℕ) (r s : Result (A × List ℕ) BadLine) (f : A × List ℕ → Result (B × List ℕ) BadLine) → Onward more r s → ((x : A) → Stops (f (x, []))) → ((x : A) (rest : List ℕ) → Onward more (f (x, rest)) (f (x, rest ++ more))) → Onward more (r >>= f) (s >>= f)
+bind_onward : {A B : Type 0} (more : List ℕ) (r s : Result (A × List ℕ) BadLine) (f : A × List ℕ → Result (B × List ℕ) BadLine) → Onward more r s
+    → ((x : A) → Stops (f (x, []))) → ((x : A) (rest : List ℕ) → Onward more (f (x, rest)) (f (x, rest ++ more))) → Onward more (r >>= f) (s >>= f)
 bind_onward more (Ok (x, [])) s f h end each = from_end more (f (x, [])) (s >>= f) (end x)
 bind_onward more (Ok (x, b ∷ rest)) s f h end each = rw h (each x (b ∷ rest))
 bind_onward more (Err Unfinished) s f h end each = tt
 bind_onward more (Err Hopeless) s f h end each = rw h refl
 
-mark_onward : {A : Type 0} (t : Bool) (more after : List ℕ) (f : List ℕ → Result (A × List ℕ) BadLine) (r s : Result (A × List ℕ) BadLine) → Onward more (f after) (f (after ++ more)) → Onward more r s → Onward more (if_some (cond t (Some after) None) f r) (if_some (cond t (Some (after ++ more)) None) f s)
+mark_onward : {A : Type 0} (t : Bool) (more after : List ℕ) (f : List ℕ → Result (A × List ℕ) BadLine) (r s : Result (A × List ℕ) BadLine)
+    → Onward more (f after) (f (after ++ more)) → Onward more r s
+    → Onward more (if_some (cond t (Some after) None) f r) (if_some (cond t (Some (after ++ more)) None) f s)
 mark_onward true more after f r s first second = first
 mark_onward false more after f r s first second = second
 
-run_onward : (p : ℕ → Bool) (bytes more run rest : List ℕ) → IsRun p bytes run rest → Onward more (Ok (run, rest)) (Ok (run_of p (bytes ++ more), after_run p (bytes ++ more)))
+run_onward : (p : ℕ → Bool) (bytes more run rest : List ℕ) → IsRun p bytes run rest
+    → Onward more (Ok (run, rest)) (Ok (run_of p (bytes ++ more), after_run p (bytes ++ more)))
 run_onward p bytes more run [] h = tt
 run_onward p bytes more run (c ∷ rest) h =
     let whole : bytes ++ more ≡ run ++ (c ∷ (rest ++ more)) = ap (λ w. w ++ more) h.whole ∙ append_assoc run (c ∷ rest) more in
@@ -139,7 +148,8 @@ value_of_both : (n : ℕ) (ds more : List ℕ) → value_from n (ds ++ more) ≡
 value_of_both n [] more = refl
 value_of_both n (d ∷ ds) more = value_of_both (10 * n + (d - 48)) ds more
 
-still_above : (max d : ℕ) (ds more : List ℕ) (e : Error) → number_within max (d ∷ ds) ≡ Err e → number_within max (d ∷ (ds ++ more)) ≡ Err (ParseInt NumberWithinItsLimit)
+still_above : (max d : ℕ) (ds more : List ℕ) (e : Error) → number_within max (d ∷ ds) ≡ Err e
+    → number_within max (d ∷ (ds ++ more)) ≡ Err (ParseInt NumberWithinItsLimit)
 still_above max d ds more e h =
     let value = value_of_both 0 (d ∷ ds) more in
     let grows = value_grows (value_from 0 (d ∷ ds)) more in
@@ -151,7 +161,8 @@ still_above max d ds more e h =
     refused true h = cc
     refused false h = refl
 
-int_of_run : (max : ℕ) (run rest : List ℕ) → AllOf is_digit run → NoneFirst is_digit rest → int_at max (run ++ rest) ≡ fronts.◌>>=◌ (number_within max run) (λ n. Ok (n, rest))
+int_of_run : (max : ℕ) (run rest : List ℕ) → AllOf is_digit run → NoneFirst is_digit rest
+    → int_at max (run ++ rest) ≡ fronts.◌>>=◌ (number_within max run) (λ n. Ok (n, rest))
 unfolding int_at
 int_of_run max run rest all none = let again = run_again is_digit run rest all none in rw (again.0, again.1) refl
 
@@ -159,15 +170,18 @@ number_onward : (max b : ℕ) (bytes more : List ℕ) → Onward more (scan (Num
 unfolding int_at
 number_onward max b bytes more = by_rest (run_of is_digit (b ∷ bytes)) (after_run is_digit (b ∷ bytes)) (run_splits is_digit (b ∷ bytes))
   where
-    ended : (run rest : List ℕ) (c : ℕ) (r : Result ℕ Error) → Onward more (or_stop (b ∷ bytes) (fronts.◌>>=◌ r (λ n. Ok (n, c ∷ rest)))) (or_stop (b ∷ (bytes ++ more)) (fronts.◌>>=◌ r (λ n. Ok (n, c ∷ (rest ++ more)))))
+    ended : (run rest : List ℕ) (c : ℕ) (r : Result ℕ Error)
+        → Onward more (or_stop (b ∷ bytes) (fronts.◌>>=◌ r (λ n. Ok (n, c ∷ rest)))) (or_stop (b ∷ (bytes ++ more)) (fronts.◌>>=◌ r (λ n. Ok (n, c ∷ (rest ++ more)))))
     ended run rest c (Ok n) = refl
     ended run rest c (Err e) = refl
 
-    by_value : (r : Result ℕ Error) → number_within max (b ∷ bytes) ≡ r → AllOf is_digit (b ∷ bytes) → Onward more (or_stop (b ∷ bytes) (fronts.◌>>=◌ r (λ n. Ok (n, [])))) (scan (Number max) (b ∷ (bytes ++ more)))
+    by_value : (r : Result ℕ Error) → number_within max (b ∷ bytes) ≡ r → AllOf is_digit (b ∷ bytes)
+        → Onward more (or_stop (b ∷ bytes) (fronts.◌>>=◌ r (λ n. Ok (n, [])))) (scan (Number max) (b ∷ (bytes ++ more)))
     by_value (Ok n) e all = tt
     by_value (Err f) e all = let digits = run_more is_digit (b ∷ bytes) more all in let above = still_above max b bytes (run_of is_digit more) f e in rw (digits, above) refl
 
-    by_rest : (run rest : List ℕ) → IsRun is_digit (b ∷ bytes) run rest → Onward more (or_stop (b ∷ bytes) (fronts.◌>>=◌ (number_within max run) (λ n. Ok (n, rest)))) (scan (Number max) (b ∷ (bytes ++ more)))
+    by_rest : (run rest : List ℕ) → IsRun is_digit (b ∷ bytes) run rest
+        → Onward more (or_stop (b ∷ bytes) (fronts.◌>>=◌ (number_within max run) (λ n. Ok (n, rest)))) (scan (Number max) (b ∷ (bytes ++ more)))
     by_rest run [] h =
         let whole : run ≡ b ∷ bytes = sym (h.whole ∙ append-nil run) in
         rw whole (by_value (number_within max (b ∷ bytes)) refl (subst (AllOf is_digit) whole h.each))

@@ -63,12 +63,12 @@ slash = 47
 abbrev pub space : ℕ
 space = 32
 
-unfoldable pub negative : ℕ → Grammar ℤ
+abbrev pub negative : ℕ → Grammar ℤ
 negative max = do
   n ← Number max
   Nothing (neg_ℤ (pos n))
 
-unfoldable pub positive : ℕ → Grammar ℤ
+abbrev pub positive : ℕ → Grammar ℤ
 positive max = do
   n ← Number max
   Nothing (pos n)

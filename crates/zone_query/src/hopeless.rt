@@ -19,7 +19,8 @@ pub fn may_ask(front: &[u8], judged: usize) -> bool
         return true;
     }
     // A carriage return at the end may be no part of the line.
-    match Question::read(without_return(front)) {
+    let line = without_return(front);
+    match Question::read(line) {
         Err(BadLine::Hopeless) => false,
         _ => true,
     }

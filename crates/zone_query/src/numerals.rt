@@ -4,7 +4,7 @@ ghost use Rattle.std.specs.Prelude.{◌≡◌, ◌+◌, ◌-◌, ◌*◌, ◌^�
 ghost use Rattle.std.specs.Option.{SomeIff};
 ghost use Rattle.tz_base.specs.Fronts.{is_digit};
 ghost use Rattle.tz_base.specs.Grammar.{Number};
-ghost use Rattle.zone_query.specs.Questions.{seconds, integer, negative, positive, next};
+ghost use Rattle.zone_query.specs.Questions.{seconds, integer, next};
 ghost use Rattle.zone_query.specs.Steps.LineReading.{Gives, scan};
 
 use crate::bad_line::BadLine;
@@ -23,7 +23,7 @@ pub fn seconds(text: &[u8]) -> Result<(i64, &[u8]), BadLine>
 
 /// Returns a number, which may have a minus sign, and the bytes after it. It is at least `-least`
 /// and at most `most`.
-#[tactic(auto, unfolding(crate::specs::Questions::integer, crate::specs::Questions::negative, crate::specs::Questions::positive))]
+#[tactic(auto, unfolding(crate::specs::Questions::integer))]
 pub fn integer(text: &[u8], least: u64, most: u64) -> Result<(i64, &[u8]), BadLine>
     requires least { least ≤ 2 ^ 63 }
     requires most { most < 2 ^ 63 }

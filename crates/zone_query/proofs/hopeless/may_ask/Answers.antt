@@ -6,4 +6,4 @@ use Rattle.zone_query.proofs.hopeless.may_ask.Goals as goal
 
 pub returns-in-Err-Hopeless : goal.returns-in-Err-Hopeless
 returns-in-Err-Hopeless c = λ _.
-    hopeless c.args.front.now (ap (λ b. scan line b) (sym c.without_return.ensures) ∙ c.in-Err-Hopeless.ensures ∙ ap Err c.in-Err-Hopeless.field-0-is)
+    hopeless c.args.front.now (ap (λ b. scan line b) (sym c.without_return-line.ensures) ∙ c.in-Err-Hopeless.ensures ∙ ap Err c.in-Err-Hopeless.field-0-is)
