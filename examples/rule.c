@@ -39,7 +39,7 @@ int main(int count, char **words) {
         fprintf(stderr, "usage: %s TEXT NUMBER ..\n", words[0]);
         return 2;
     }
-    const uint8_t *text = (const uint8_t *)words[1];
+    const char *text = words[1];
     size_t len = strlen(words[1]), asked = (size_t)count - 2;
     uint32_t refused = zoned_parse(ZONED_TEXT, text, len);
     if (refused) {

@@ -84,9 +84,9 @@ int main(int count, char **words) {
     if (!refused) refused = answer(&zone, count - 2, words + 2);
     zoned_close(&zone);
     if (refused) {
-        uint8_t text[128];
+        char text[128];
         zoned_error_text(refused, text, sizeof text);
-        fprintf(stderr, "%s is refused: %" PRIu32 ", %s\n", words[1], refused, (char *)text);
+        fprintf(stderr, "%s is refused: %" PRIu32 ", %s\n", words[1], refused, text);
         return 1;
     }
     return 0;

@@ -106,7 +106,7 @@ static uint32_t fault_of(int32_t first, uint8_t first_index, int32_t second, uin
     return number == parsed || (number > 40 && parsed == ZONED_TIME_ZONE) ? number : 0xFFFF;
 }
 
-static uint32_t parsed(const char *text) { return zoned_parse(ZONED_TEXT, (const uint8_t *)text, strlen(text)); }
+static uint32_t parsed(const char *text) { return zoned_parse(ZONED_TEXT, text, strlen(text)); }
 
 int main(void) {
     const int64_t instants[3] = {1615705199, 1615705200, INT64_MAX};
@@ -140,7 +140,7 @@ int main(void) {
     /* Numbers of faults. */
     IS(zoned_parse(ZONED_TEXT, NEW_YORK, LEN), ZONED_OK);
     IS(zoned_parse(ZONED_FILE, NEW_YORK, LEN), 5);
-    IS(zoned_parse(ZONED_FILE, (const uint8_t *)"TZif", 4), 7);
+    IS(zoned_parse(ZONED_FILE, "TZif", 4), 7);
     IS(zoned_parse(2, NEW_YORK, LEN), ZONED_UNKNOWN_KIND);
     IS(fault_of(0, 0, 1, 0), ZONED_OK);
     IS(fault_of(0, 0, 1, 1), ZONED_OTHER_TYPE_INDEX);
@@ -223,7 +223,7 @@ int main(void) {
     IS(zoned_zone_changes(&zone, 0, INT64_MAX, changes, 3, &count), ZONED_NOT_OPEN);
     IS(count, 77);
     IS(changes[0].at, 1615705200);
-    uint8_t text[8] = "1234567";
+    char text[8] = "1234567";
     IS(zoned_error_text(17, text, 4), 13);
     IS(memcmp(text, "out\000567", 8), 0);
 

@@ -9,7 +9,7 @@
 # rattle_realloc and rattle_dealloc. CC, LD, NM, AR and OBJCOPY name other tools.
 set -eu
 [ $# -eq 0 ] || { sed -n 's/^# usage: /usage: /p' "$0" >&2; exit 2; }
-top=$(CDPATH= cd -- "$(dirname -- "$0")/.." && pwd)
+top=$(CDPATH='' cd -- "$(dirname -- "$0")/.." && pwd)
 crate=$top/crates/zoned_ffi
 prefix=${PREFIX:-/usr/local}
 to=${DESTDIR:-}$prefix

@@ -366,11 +366,27 @@ static void try_wrapping_count(void) {
     zoned_close(&zone);
 }
 
+/* NULL with a count of 0 is an empty array. */
+static void try_null(void) {
+    struct zoned_zone zone = {0};
+    size_t count = 77;
+    EXPECT(zoned_parse(ZONED_TEXT, NULL, 0) == ZONED_OK && zoned_fault(ZONED_FILE, NULL, 0) == ZONED_UNEXPECTED_END);
+    EXPECT(zoned_at(ZONED_TEXT, NULL, 0, NULL, 0, NULL, 0) == ZONED_OK && zoned_wall(ZONED_TEXT, NULL, 0, NULL, 0, NULL, 0) == ZONED_OK);
+    EXPECT(zoned_wall_instants(ZONED_TEXT, NULL, 0, NULL, 0, NULL, 0) == ZONED_OK);
+    EXPECT(zoned_open(ZONED_TEXT, NULL, 0, &zone) == ZONED_OK);
+    EXPECT(zoned_zone_at(&zone, NULL, 0, NULL, 0) == ZONED_OK && zoned_zone_types(&zone, NULL, 0, NULL, 0) == ZONED_OK);
+    EXPECT(zoned_zone_wall(&zone, NULL, 0, NULL, 0) == ZONED_OK && zoned_zone_wall_instants(&zone, NULL, 0, NULL, 0) == ZONED_OK);
+    EXPECT(zoned_zone_resolve(&zone, ZONED_GAP_REFUSE, ZONED_FOLD_REFUSE, NULL, 0, NULL, 0) == ZONED_OK);
+    EXPECT(zoned_zone_changes(&zone, 0, INT64_MAX / 1000, NULL, 0, &count) == ZONED_OK && count == 0);
+    EXPECT(zoned_error_text(ZONED_OK, NULL, 0) > 0);
+    zoned_close(&zone);
+}
+
 static void try_texts(void) {
-    for (uint32_t number = 0; number < 40; number++) {
-        uint8_t text[160], whole[160];
+    for (uint32_t number = 0; number < 50; number++) {
+        char text[160], whole[160];
         size_t len = zoned_error_text(number, whole, sizeof whole);
-        EXPECT(0 < len && len < 128 && strlen((char *)whole) == len);
+        EXPECT(0 < len && len < 128 && strlen(whole) == len);
         for (size_t room = 0; room < sizeof text; room++) {
             memset(text, 0x55, sizeof text);
             EXPECT(zoned_error_text(number, text, room) == len);
@@ -553,13 +569,12 @@ static void try_leaving(void) {
     zoned_change change;
     size_t count;
     int32_t offset;
-    EXPECT(zoned_open(ZONED_TEXT, (const uint8_t *)TEXTS[1], strlen(TEXTS[1]), &zone) == ZONED_OK);
+    EXPECT(zoned_open(ZONED_TEXT, TEXTS[1], strlen(TEXTS[1]), &zone) == ZONED_OK);
     const void *before = zone.zone;
     signal(SIGALRM, leave);
     if (sigsetjmp(left, 1) == 0) {
         ualarm(1000, 0);
-        zoned_zone_changes(&zone, 0, INT64_MAX, &change, 1, &count);
-        EXPECT(!"left");
+        EXPECT(zoned_zone_changes(&zone, 0, INT64_MAX, &change, 1, &count) != ZONED_OK);
     }
     signal(SIGALRM, SIG_DFL);
     EXPECT(zone.zone == before && zoned_zone_offset(&zone, 1615705200, &offset) == ZONED_OK && offset == -14400);
@@ -641,6 +656,7 @@ int main(int count, char **words) {
         zones[zone_count++] = copy((struct bytes){ZONED_TEXT, (uint8_t *)TEXTS[i], strlen(TEXTS[i])});
     for (size_t i = 0; i < zone_count; i++) EXPECT(zoned_parse(zones[i].kind, zones[i].at, zones[i].len) == ZONED_OK);
     try_wrapping_count();
+    try_null();
     try_texts();
     try_calls(wanted);
     try_orders();

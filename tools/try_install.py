@@ -35,7 +35,7 @@ OWN_HEAP = """
 int calls;
 struct tried { _Bool ok; void *p; };
 struct tried rattle_alloc(size_t size, size_t align) { (void)size, (void)align; calls++; return (struct tried){0, 0}; }
-int main(void) { return zoned_parse(ZONED_TEXT, (const uint8_t *)"EST5EDT,M3.2.0,M11.1.0", 22) != ZONED_OK || calls != 0; }
+int main(void) { return zoned_parse(ZONED_TEXT, "EST5EDT,M3.2.0,M11.1.0", 22) != ZONED_OK || calls != 0; }
 """
 CMAKE = """
 cmake_minimum_required(VERSION 3.10)

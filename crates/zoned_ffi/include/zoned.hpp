@@ -50,7 +50,7 @@ public:
 private:
     static std::string text(uint32_t number) {
         char words[128];
-        zoned_error_text(number, reinterpret_cast<uint8_t *>(words), sizeof words);
+        zoned_error_text(number, words, sizeof words);
         return words;
     }
 };
@@ -188,9 +188,7 @@ private:
 
     static time_zone open(uint32_t kind, const void *bytes, size_t count) {
         time_zone opened;
-        const unsigned char none = 0;
-        auto first = count == 0 ? &none : static_cast<const unsigned char *>(bytes);
-        check(zoned_open(kind, first, count, &opened.zone));
+        check(zoned_open(kind, bytes, count, &opened.zone));
         return opened;
     }
 
@@ -217,8 +215,7 @@ private:
         using time = std::remove_cv_t<std::remove_pointer_t<decltype(column.data())>>;
         static_assert(std::is_same_v<typename time::duration, seconds> && sizeof(time) == sizeof(int64_t));
         static_assert(std::is_same_v<seconds::rep, int64_t> && std::is_standard_layout_v<time>);
-        static const int64_t none = 0;
-        return column.size() == 0 ? &none : reinterpret_cast<const int64_t *>(column.data());
+        return reinterpret_cast<const int64_t *>(column.data());
     }
 };
 

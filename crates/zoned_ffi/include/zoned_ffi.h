@@ -49,10 +49,10 @@
 
    Arrays
    ------
-   An array is a pointer and a count of elements. Pointers, also those to one value, are never null and are aligned for what
-   they point to, also where a count is 0: pass the address of any element then. Within a call the answers overlap neither
-   the bytes, nor the questions, nor a handle, two handles are two structs, and nobody else changes any of them. What stands
-   in the answers before a call doesn't matter: they need not be initialised.
+   An array is a pointer and a count of elements, and the bytes of a zone are one too. The pointer may be NULL if the count is 0;
+   no other pointer may be, also that of zoned_close. Pointers are aligned for what they point to. Within a call the answers
+   overlap neither the bytes, nor the questions, nor a handle, two handles are two structs, and nobody else changes any of them.
+   The answers need not be initialised before a call.
 
    Lists of changes
    ----------------
@@ -109,12 +109,23 @@
 #include <stddef.h>
 #include <stdint.h>
 
+/* Compilers warn where the number of a call is dropped, or where NULL is passed for a handle or for the place of one answer. */
+#if defined(__GNUC__) || defined(__clang__)
+#define ZONED_MUST_CHECK __attribute__((warn_unused_result))
+#define ZONED_NONNULL(parameters) __attribute__((nonnull parameters))
+#else
+#define ZONED_MUST_CHECK
+#define ZONED_NONNULL(parameters)
+#endif
+
 #ifdef __cplusplus
 extern "C" {
 #endif
 
-/* The version of this header. The library's soname changes with its first number. */
+/* The version of this header, as a text and as a number: a million times its first number, a thousand times the second, and the
+   third. The soname of the library changes with the first. */
 #define ZONED_VERSION "0.3.0"
+#define ZONED_VERSION_NUMBER 3000
 
 /* How bytes are read: `kind`. */
 enum {
@@ -171,10 +182,10 @@ enum {
 };
 
 /* Reads a zone, and answers nothing: ZONED_OK, or why the bytes are refused. */
-uint32_t zoned_parse(uint32_t kind, const uint8_t *zone, size_t zone_len);
+uint32_t zoned_parse(uint32_t kind, const void *zone, size_t zone_len) ZONED_MUST_CHECK;
 
 /* As zoned_parse, and returns 41 to 44 in place of ZONED_TIME_ZONE (12). */
-uint32_t zoned_fault(uint32_t kind, const uint8_t *zone, size_t zone_len);
+uint32_t zoned_fault(uint32_t kind, const void *zone, size_t zone_len) ZONED_MUST_CHECK;
 
 /* offsets[i] is the offset in force at instants[i], in seconds east of UTC.
 
@@ -183,9 +194,9 @@ uint32_t zoned_fault(uint32_t kind, const uint8_t *zone, size_t zone_len);
    leap seconds. The other instants are answered all the same.
 
    offsets_len is instants_len. */
-uint32_t zoned_at(uint32_t kind, const uint8_t *zone, size_t zone_len,
+uint32_t zoned_at(uint32_t kind, const void *zone, size_t zone_len,
                   const int64_t *instants, size_t instants_len,
-                  int32_t *offsets, size_t offsets_len);
+                  int32_t *offsets, size_t offsets_len) ZONED_MUST_CHECK;
 
 /* Three numbers for each local time, the seconds from 1970-01-01 00:00:00 to it on the clock, every day counted as 86,400:
 
@@ -196,9 +207,9 @@ uint32_t zoned_at(uint32_t kind, const uint8_t *zone, size_t zone_len,
    Both offsets are 0 where the first number is ZONED_NEVER or ZONED_OUT_OF_RANGE.
 
    answers_len is 3 * locals_len. */
-uint32_t zoned_wall(uint32_t kind, const uint8_t *zone, size_t zone_len,
+uint32_t zoned_wall(uint32_t kind, const void *zone, size_t zone_len,
                     const int64_t *locals, size_t locals_len,
-                    int32_t *answers, size_t answers_len);
+                    int32_t *answers, size_t answers_len) ZONED_MUST_CHECK;
 
 /* When the clocks of a zone show a local time. */
 typedef struct zoned_wall_clock {
@@ -212,32 +223,34 @@ typedef struct zoned_wall_clock {
 /* answers[i] says when the zone's clocks show locals[i], as in zoned_wall, and at which seconds.
 
    answers_len is locals_len. */
-uint32_t zoned_wall_instants(uint32_t kind, const uint8_t *zone, size_t zone_len,
+uint32_t zoned_wall_instants(uint32_t kind, const void *zone, size_t zone_len,
                              const int64_t *locals, size_t locals_len,
-                             zoned_wall_clock *answers, size_t answers_len);
+                             zoned_wall_clock *answers, size_t answers_len) ZONED_MUST_CHECK;
 
 /* A zone that you keep: a handle. Start it as {0}. */
-struct zoned_zone {
-    void *zone; /* NULL where none is open */
-};
+typedef struct zoned_zone {
+    void *zone; /* NULL if none is open */
+} zoned_zone;
 
 /* Reads a zone, and opens it: ZONED_OK, or why the bytes are refused, and then `out` is as it was. */
-uint32_t zoned_open(uint32_t kind, const uint8_t *zone, size_t zone_len, struct zoned_zone *out);
+uint32_t zoned_open(uint32_t kind, const void *zone, size_t zone_len, struct zoned_zone *out)
+    ZONED_MUST_CHECK ZONED_NONNULL((4));
 
 /* Opens the zone of `zone` in `out` too, another struct, without reading it anew: ZONED_OK, ZONED_NOT_OPEN, or 17 where there
    is no memory, and then `out` is as it was. */
-uint32_t zoned_share(const struct zoned_zone *zone, struct zoned_zone *out);
+uint32_t zoned_share(const struct zoned_zone *zone, struct zoned_zone *out) ZONED_MUST_CHECK ZONED_NONNULL((1, 2));
 
 /* Closes the zone, if one is open. The last handle that is closed frees it. To close twice does no harm. */
-void zoned_close(struct zoned_zone *zone);
+void zoned_close(struct zoned_zone *zone) ZONED_NONNULL((1));
 
 /* *offset is the offset in force at the instant, and offsets[i] that at instants[i], as in zoned_at.
 
    offsets_len is instants_len. */
-uint32_t zoned_zone_offset(const struct zoned_zone *zone, int64_t instant, int32_t *offset);
+uint32_t zoned_zone_offset(const struct zoned_zone *zone, int64_t instant, int32_t *offset)
+    ZONED_MUST_CHECK ZONED_NONNULL((1, 3));
 uint32_t zoned_zone_at(const struct zoned_zone *zone,
                        const int64_t *instants, size_t instants_len,
-                       int32_t *offsets, size_t offsets_len);
+                       int32_t *offsets, size_t offsets_len) ZONED_MUST_CHECK ZONED_NONNULL((1));
 
 /* A local time type: what is in force at an instant. */
 typedef struct zoned_local_type {
@@ -250,10 +263,11 @@ typedef struct zoned_local_type {
 /* *local_type is the type in force at the instant, and types[i] that at instants[i].
 
    types_len is instants_len. */
-uint32_t zoned_zone_type(const struct zoned_zone *zone, int64_t instant, zoned_local_type *local_type);
+uint32_t zoned_zone_type(const struct zoned_zone *zone, int64_t instant, zoned_local_type *local_type)
+    ZONED_MUST_CHECK ZONED_NONNULL((1, 3));
 uint32_t zoned_zone_types(const struct zoned_zone *zone,
                           const int64_t *instants, size_t instants_len,
-                          zoned_local_type *types, size_t types_len);
+                          zoned_local_type *types, size_t types_len) ZONED_MUST_CHECK ZONED_NONNULL((1));
 
 /* A change of the clocks: at the second `at` another type is in force than at the second before it, one of another offset,
    mark or abbreviation. */
@@ -270,8 +284,10 @@ typedef struct zoned_change {
    begins or ends to have a type is no change either: the last change of the rule EST5EDT,M3.2.0,M11.1.0, which answers up to the
    year 2147483645, is that of November of that year, 67767976165557600, also before INT64_MAX. The calls step over transitions
    that change nothing one by one. */
-uint32_t zoned_zone_next_change(const struct zoned_zone *zone, int64_t after, zoned_change *change);
-uint32_t zoned_zone_previous_change(const struct zoned_zone *zone, int64_t before_or_at, zoned_change *change);
+uint32_t zoned_zone_next_change(const struct zoned_zone *zone, int64_t after, zoned_change *change)
+    ZONED_MUST_CHECK ZONED_NONNULL((1, 3));
+uint32_t zoned_zone_previous_change(const struct zoned_zone *zone, int64_t before_or_at, zoned_change *change)
+    ZONED_MUST_CHECK ZONED_NONNULL((1, 3));
 
 /* *count is how many changes there are from the second `from` on and before the second `until`: none where `until` is `from` or
    comes before it. The first of them, as many as changes_len, are written to `changes`, in the order of time; what stood behind
@@ -280,22 +296,23 @@ uint32_t zoned_zone_previous_change(const struct zoned_zone *zone, int64_t befor
 
    A change at INT64_MAX comes before no second: zoned_zone_previous_change tells it. */
 uint32_t zoned_zone_changes(const struct zoned_zone *zone, int64_t from, int64_t until,
-                            zoned_change *changes, size_t changes_len, size_t *count);
+                            zoned_change *changes, size_t changes_len, size_t *count) ZONED_MUST_CHECK ZONED_NONNULL((1, 6));
 
 /* *clock says when the zone's clocks show the local time, and clocks[i] when they show locals[i], as in zoned_wall_instants.
 
    clocks_len is locals_len. */
-uint32_t zoned_zone_wall_clock(const struct zoned_zone *zone, int64_t local, zoned_wall_clock *clock);
+uint32_t zoned_zone_wall_clock(const struct zoned_zone *zone, int64_t local, zoned_wall_clock *clock)
+    ZONED_MUST_CHECK ZONED_NONNULL((1, 3));
 uint32_t zoned_zone_wall_instants(const struct zoned_zone *zone,
                                   const int64_t *locals, size_t locals_len,
-                                  zoned_wall_clock *clocks, size_t clocks_len);
+                                  zoned_wall_clock *clocks, size_t clocks_len) ZONED_MUST_CHECK ZONED_NONNULL((1));
 
 /* Three numbers for each local time, as in zoned_wall.
 
    answers_len is 3 * locals_len. */
 uint32_t zoned_zone_wall(const struct zoned_zone *zone,
                          const int64_t *locals, size_t locals_len,
-                         int32_t *answers, size_t answers_len);
+                         int32_t *answers, size_t answers_len) ZONED_MUST_CHECK ZONED_NONNULL((1));
 
 /* What to take of a local time in a gap, which the clocks skipped: `gap`. */
 enum {
@@ -328,14 +345,15 @@ typedef struct zoned_resolved {
 /* *resolved is the instant of the local time under the choice, and resolved[i] that of locals[i].
 
    resolved_len is locals_len. */
-uint32_t zoned_zone_instant(const struct zoned_zone *zone, uint32_t gap, uint32_t fold, int64_t local, zoned_resolved *resolved);
+uint32_t zoned_zone_instant(const struct zoned_zone *zone, uint32_t gap, uint32_t fold, int64_t local, zoned_resolved *resolved)
+    ZONED_MUST_CHECK ZONED_NONNULL((1, 5));
 uint32_t zoned_zone_resolve(const struct zoned_zone *zone, uint32_t gap, uint32_t fold,
                             const int64_t *locals, size_t locals_len,
-                            zoned_resolved *resolved, size_t resolved_len);
+                            zoned_resolved *resolved, size_t resolved_len) ZONED_MUST_CHECK ZONED_NONNULL((1));
 
 /* Writes what a number of this header means, in English, as far as it fits into `text` before a zero byte, which is written
    too unless text_len is 0. Returns the length of the whole text. 128 bytes are enough for each. */
-size_t zoned_error_text(uint32_t number, uint8_t *text, size_t text_len);
+size_t zoned_error_text(uint32_t number, char *text, size_t text_len);
 
 #ifdef __cplusplus
 }
