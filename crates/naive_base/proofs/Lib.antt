@@ -6,4 +6,6 @@ pub mod Alike
 pub mod Values
 pub mod Orders
 pub mod IsoWeeks
+pub mod Named
+pub mod MonthDates
 pub mod ForCallers

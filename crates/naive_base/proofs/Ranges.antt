@@ -1,5 +1,5 @@
 -- The days of the years in range, and the seconds.
-use Rattle.std.proofs.Common.{◌≡◌, ℕ, ◌<◌, arith, refl, ℤ, pos, neg_ℤ, ◌+ℤ◌, ◌-ℤ◌, ◌⊎◌, inl, inr}
+use Rattle.std.proofs.Common.{◌≡◌, ℕ, ◌<◌, arith, refl, ℤ, pos, neg_ℤ, ◌+ℤ◌, ◌-ℤ◌, ◌≤ℤ◌, ◌<ℤ◌, ◌⊎◌, inl, inr}
 use Rattle.std.proofs.lemmas.Int.{by_lt_z}
 use Rattle.gregorian.specs.Year.{year_start, days_in_year}
 use Rattle.gregorian.specs.Date.{IsDate, day_number}
@@ -63,12 +63,16 @@ end_wide : year_start (pos 262_144) ≡ pos 95_026_602
 unfolding year_start
 end_wide = refl
 
-pub wide_year : (day : ℤ) → IsWideDay day → IsWideYear (year_of day)
-wide_year day wide =
+-- the days of the years from -262144 to 262143
+pub year_within : (day : ℤ) → neg_ℤ (pos 96_465_658) ≤ℤ day → day <ℤ pos 95_026_602 → IsWideYear (year_of day)
+year_within day from to =
     let y = year_of day in let lies = lies_in day in (
       by_lt_z y (neg_ℤ (pos 262_144)) (λ less. let rise = starts_rise (y +ℤ pos 1) (neg_ℤ (pos 262_144)) (omega (arith, floors)) in absurd (omega (arith, floors, first_wide))) (λ more. more),
       by_lt_z (pos 262_143) y (λ less. let rise = starts_rise (pos 262_144) y (omega (arith, floors)) in absurd (omega (arith, floors, end_wide))) (λ more. more),
     )
+
+pub wide_year : (day : ℤ) → IsWideDay day → IsWideYear (year_of day)
+wide_year day wide = year_within day (omega (arith, floors, wide.0)) (omega (arith, floors, wide.1))
 
 -- the days in range are those of the years in range
 pub years_in_range : (day : ℤ) → IsDayInRange day → IsYearInRange (year_of day)
@@ -91,6 +95,13 @@ day_in_years y n h k =
     let high = starts_rise (y +ℤ pos 1) (pos 262_142 +ℤ pos 1) (omega (arith, floors)) in
     let step = year_step y in
     (omega (arith, floors, first_day_is), omega (arith, floors, end_day))
+
+pub inner_day_in_years : (y : ℤ) (n : ℕ) → IsInnerYear y → n < days_in_year y → IsInnerDay (year_start y +ℤ pos n)
+inner_day_in_years y n h k =
+    let low = starts_rise (neg_ℤ (pos 262_142)) y h.0 in
+    let high = starts_rise (y +ℤ pos 1) (pos 262_141 +ℤ pos 1) (omega (arith, floors)) in
+    let step = year_step y in
+    (omega (arith, floors, second_year), omega (arith, floors, last_year_start))
 
 pub in_range_or_not : (s : ℤ) → IsInRange s ⊎ (IsInRange s → ⊥)
 in_range_or_not s = by_lt_z s (neg_ℤ (pos 8_334_601_228_800))

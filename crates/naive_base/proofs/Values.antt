@@ -4,7 +4,7 @@ use Rattle.std.proofs.Props.{props}
 use Rattle.naive_base.specs.declared.date.NaiveDate.{NaiveDate}
 use Rattle.naive_base.specs.declared.time.NaiveTime.{NaiveTime}
 use Rattle.naive_base.specs.declared.datetime.NaiveDateTime.{NaiveDateTime}
-use Rattle.naive_base.specs.Range.{IsWideDay, IsTime, IsReading}
+use Rattle.naive_base.specs.Range.{IsWideDay, IsWideYear, IsTime, IsReading}
 use Rattle.naive_base.specs.NaiveDate.{day_of}
 use Rattle.naive_base.specs.NaiveTime.{second_of, fraction_of}
 use Rattle.naive_base.specs.NaiveDateTime.{reading}
@@ -63,11 +63,11 @@ weekday_back Sun = refl
 pub same_weekday : (a b : Weekday) → weekday_number a ≡ weekday_number b → a ≡ b
 same_weekday a b numbers = sym (weekday_back a) ∙ ap weekday_at numbers ∙ weekday_back b
 
-InYear-once : (week : ℕ) → IsProp ((1 ≤ week) × (week ≤ 53))
-InYear-once week = hlevel props
+InYear-once : (year : ℤ) (week : ℕ) → IsProp (IsWideYear year × (1 ≤ week) × (week ≤ 53))
+InYear-once year week = hlevel props
 
 pub same_week : (a b : IsoWeek) → iso_year a ≡ iso_year b → iso_number a ≡ iso_number b → a ≡ b
 same_week a b years numbers =
-    let SameAt : ℤ → ℕ → Type 0 = λ year week. (in_year : (1 ≤ week) × (week ≤ 53)) → a ≡ record { year = year; week = week; in_year = in_year } in
-    let at_a : SameAt (iso_year a) (iso_number a) = λ in_year. ap (λ w. record a { in_year = w }) (InYear-once (iso_number a) a.in_year in_year) in
+    let SameAt : ℤ → ℕ → Type 0 = λ year week. (in_year : IsWideYear year × (1 ≤ week) × (week ≤ 53)) → a ≡ record { year = year; week = week; in_year = in_year } in
+    let at_a : SameAt (iso_year a) (iso_number a) = λ in_year. ap (λ w. record a { in_year = w }) (InYear-once (iso_year a) (iso_number a) a.in_year in_year) in
     subst (λ (year : ℤ). SameAt year (iso_number b)) years (subst (SameAt (iso_year a)) numbers at_a) b.in_year

@@ -11,6 +11,10 @@ pub mod Reading
 pub mod Stamp
 pub mod Text
 pub mod NaiveDate
+pub mod Named
+pub mod MonthNames
+pub mod Runs
+pub mod Week
 pub mod NaiveTime
 pub mod NaiveDateTime
 pub mod Fields

@@ -1,5 +1,5 @@
 -- The days of the week, and their numbers.
-use Rattle.std.specs.Prelude.{ℕ, ◌+◌, ◌%◌}
+use Rattle.std.specs.Prelude.{ℕ, ◌+◌, ◌%◌, List, codes}
 pub use Rattle.gregorian.specs.Weekdays.{weekday_of}
 use Rattle.naive_base.specs.declared.weekday.Weekday.{Weekday}
 use Rattle.naive_base.specs.declared.weekday.Weekday.TheVariants.{Mon, Tue, Wed, Thu, Fri, Sat, Sun}
@@ -17,3 +17,13 @@ weekday_number Sat = 6
 -- the days from the Monday of its week to a weekday
 abbrev pub days_from_monday : Weekday → ℕ
 days_from_monday weekday = (weekday_number weekday + 6) % 7
+
+-- its first three letters, the bytes of its `Display`
+abbrev pub weekday_text : Weekday → List ℕ
+weekday_text Sun = codes "Sun"
+weekday_text Mon = codes "Mon"
+weekday_text Tue = codes "Tue"
+weekday_text Wed = codes "Wed"
+weekday_text Thu = codes "Thu"
+weekday_text Fri = codes "Fri"
+weekday_text Sat = codes "Sat"

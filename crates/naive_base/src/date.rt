@@ -7,11 +7,15 @@ ghost use Rattle.naive_base.specs.Range.{IsYearInRange, IsInnerYear, IsWideYear,
 ghost use Rattle.naive_base.specs.Clock.{IsClock, clock_second};
 ghost use Rattle.naive_base.specs.Reading.{reading_at, day_at, second_at};
 
+mod days;
 mod fields;
+mod found;
 mod moves;
+mod operators;
 
 use crate::range::{FIRST_DAY_IN_RANGE, FIRST_YEAR, LAST_DAY_IN_RANGE, LAST_YEAR};
 use crate::{NaiveDateTime, NaiveTime};
+pub use days::{NaiveDateDaysIterator, NaiveDateWeeksIterator};
 use gregorian::YearMonthDay;
 
 /// A day of the proleptic Gregorian calendar, in the years -262143 to 262142.
@@ -42,6 +46,16 @@ impl NaiveDate {
     ghost use Rattle.naive_base.specs.NaiveDate.{day_of, IsDateOf, IsDateOfDay};
     ghost use Rattle.naive_base.specs.NaiveTime.{second_of, fraction_of};
     ghost use Rattle.naive_base.specs.NaiveDateTime.{reading, IsReadingOn};
+
+    /// The first date in range, 1 January of the year -262143.
+    pub const MIN: NaiveDate = NaiveDate {
+        day: FIRST_DAY_IN_RANGE,
+    };
+
+    /// The last date in range, 31 December of the year 262142.
+    pub const MAX: NaiveDate = NaiveDate {
+        day: LAST_DAY_IN_RANGE,
+    };
 
     /// The date of a year, a month from 1 and a day of the month from 1. `None` where the calendar
     /// has no such date, or the year is not one from -262143 to 262142.
@@ -76,7 +90,13 @@ impl NaiveDate {
     pub fn from_num_days_from_ce_opt(days: i32) -> Option<NaiveDate>
         ensures { IsDateOfDay (days -ℤ pos 719_163) result }
     {
-        let day = days as i64 - EPOCH_FROM_CE;
+        NaiveDate::in_range(days as i64 - EPOCH_FROM_CE)
+    }
+
+    // The date of a day number, if it is in range.
+    pub(crate) fn in_range(day: i64) -> Option<NaiveDate>
+        ensures { IsDateOfDay day result }
+    {
         if day < FIRST_DAY_IN_RANGE as i64 || day > LAST_DAY_IN_RANGE as i64 {
             return None;
         }
@@ -97,7 +117,7 @@ impl NaiveDate {
         ensures day { day_at (reading result) ≡ day_of self.now }
         ensures second { second_at (reading result) ≡ second_of time }
     {
-        NaiveDateTime::of_date_and_time(*self, time)
+        NaiveDateTime::new(*self, time)
     }
 
     /// The reading at an hour from 0 to 23, a minute and a second from 0 to 59 of this day. `None`

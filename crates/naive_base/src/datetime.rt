@@ -7,6 +7,7 @@ ghost use Rattle.naive_base.specs.Stamp.{of_secs, IsStamp};
 
 mod fields;
 mod moves;
+mod operators;
 
 use crate::range::{FIRST_SECOND, LAST_SECOND};
 use crate::{NaiveDate, NaiveTime, Timelike};
@@ -43,8 +44,12 @@ impl NaiveDateTime {
         frac: 999_999_999,
     };
 
-    pub(crate) fn of_date_and_time(date: NaiveDate, time: NaiveTime) -> NaiveDateTime
-        ensures { reading result ≡ reading_at (day_of date) (second_of time) (fraction_of time) }
+    /// Returns the reading of a clock at a time of a day, as [`NaiveDate::and_time`] does.
+    pub fn new(date: NaiveDate, time: NaiveTime) -> NaiveDateTime
+        ensures value { reading result ≡ reading_at (day_of date) (second_of time)
+            (fraction_of time) }
+        ensures day { day_at (reading result) ≡ day_of date }
+        ensures second { second_at (reading result) ≡ second_of time }
     {
         NaiveDateTime {
             secs: date.midnight() + time.num_seconds_from_midnight() as i64,

@@ -1,17 +1,18 @@
 //! Weeks of ISO 8601.
-ghost use Rattle.std.specs.Prelude.{◌≡◌, ◌+◌, ◌≤◌};
-ghost use Rattle.naive_base.specs.Range.{IsWideDay};
+ghost use Rattle.std.specs.Prelude.{◌≡◌, ◌+◌, ◌≤◌, pos, neg_ℤ, ◌≤ℤ◌};
+ghost use Rattle.gregorian.specs.DateOf.{year_of};
+ghost use Rattle.naive_base.specs.Range.{IsWideDay, IsWideYear};
 
 /// A week by the rule of ISO 8601: it runs from Monday to Sunday, and belongs to the year that its
 /// Thursday lies in, whose weeks are counted from 1.
 ///
 /// 2021-01-03 was the Sunday of the last week of 2020, which had 53. Weeks compare and hash by
-/// their years, then by their numbers.
-#[derive(Clone, Copy, PartialEq, Eq, PartialOrd, Ord, Hash, Debug)]
+/// their years, then by their numbers. `{:?}` prints a week as `2020-W53`.
+#[derive(Clone, Copy, PartialEq, Eq, PartialOrd, Ord, Hash)]
 pub struct IsoWeek {
     year: i32,
     week: u32,
-    pub ghost in_year: { (1 ≤ week) × (week ≤ 53) },
+    pub ghost in_year: { IsWideYear year × (1 ≤ week) × (week ≤ 53) },
 }
 
 impl IsoWeek {
@@ -24,14 +25,15 @@ impl IsoWeek {
     {
         let thursday = gregorian::thursday_of_week(day);
         IsoWeek {
-            year: gregorian::year_of(thursday),
+            year: year_of_thursday(thursday),
             week: gregorian::day_of_year(thursday) / 7 + 1,
         }
     }
 
     /// The year that the week's Thursday lies in.
     pub fn year(&self) -> i32
-        ensures { result ≡ iso_year self.now }
+        ensures value { result ≡ iso_year self.now }
+        ensures bound { IsWideYear result }
     {
         self.year
     }
@@ -51,4 +53,14 @@ impl IsoWeek {
     {
         self.week - 1
     }
+}
+
+// The year of a Thursday at most three days from a day of the range or a buffer day.
+fn year_of_thursday(thursday: i64) -> i32
+    requires first { neg_ℤ (pos 96_465_296) ≤ℤ thursday }
+    requires last { thursday ≤ℤ pos 95_026_240 }
+    ensures value { result ≡ year_of thursday }
+    ensures bound { IsWideYear result }
+{
+    gregorian::year_of(thursday)
 }

@@ -5,7 +5,7 @@ ghost use Rattle.gregorian.specs.Year.{floor_div};
 ghost use Rattle.gregorian.specs.Date.{day_number};
 ghost use Rattle.gregorian.specs.DateOf.{year_of};
 ghost use Rattle.naive_base.specs.IsoWeek.{IsWeekOf, iso_year, iso_number};
-ghost use Rattle.naive_base.specs.Range.{IsYearInRange, IsInnerYear, IsWideYear, IsDayInRange, IsInnerDay, IsWideDay, IsInRange, IsInner, IsWide, first_reading, last_reading};
+ghost use Rattle.naive_base.specs.Range.{IsYearInRange, IsInnerYear, IsWideYear, IsDayInRange, IsInnerDay, IsWideDay, IsInRange, IsInner, IsWide, first_day, last_day, first_reading, last_reading};
 ghost use Rattle.naive_base.specs.Reading.{Reading, reading_at, day_at, second_at, moved, difference, IsEarlier, IsEarlierTime, IsEarlierByDay};
 ghost use Rattle.naive_base.specs.NaiveDate.{day_of, printed_date};
 ghost use Rattle.naive_base.specs.NaiveTime.{second_of, fraction_of, printed_time};
@@ -15,7 +15,7 @@ ghost use Rattle.naive_base.specs.declared.iso_week.IsoWeek.{IsoWeek as AnyWeek}
 ghost use Rattle.naive_base.specs.declared.time.NaiveTime.{NaiveTime as AnyTime};
 ghost use Rattle.naive_base.specs.declared.datetime.NaiveDateTime.{NaiveDateTime as AnyReading};
 
-use crate::{NaiveDateTime, NaiveTime};
+use crate::{NaiveDate, NaiveDateTime, NaiveTime};
 
 pub mod comparisons;
 
@@ -37,6 +37,14 @@ pub fn constants() -> (NaiveDateTime, NaiveDateTime, NaiveTime)
     ensures midnight { (second_of result.2 ≡ 0) × (fraction_of result.2 ≡ 0) }
 {
     (NaiveDateTime::MIN, NaiveDateTime::MAX, NaiveTime::MIN)
+}
+
+/// The first and the last date in range.
+pub fn first_and_last_date() -> (NaiveDate, NaiveDate)
+    ensures first { day_of result.0 ≡ first_day }
+    ensures last { day_of result.1 ≡ last_day }
+{
+    (NaiveDate::MIN, NaiveDate::MAX)
 }
 
 /// A reading is its day and its time, and any day and time make a reading.

@@ -6,8 +6,9 @@ ghost use Rattle.naive_base.specs.Text.{four_digits, year_text, clock_text, frac
 ghost use Rattle.naive_base.specs.NaiveDate.{printed_date};
 ghost use Rattle.naive_base.specs.NaiveTime.{printed_time};
 ghost use Rattle.naive_base.specs.NaiveDateTime.{reading, printed_reading, debug_reading};
+ghost use Rattle.naive_base.specs.IsoWeek.{printed_week};
 
-use crate::{NaiveDate, NaiveDateTime, NaiveTime, Timelike};
+use crate::{IsoWeek, NaiveDate, NaiveDateTime, NaiveTime, Timelike};
 use offset_core::ShortText;
 use std::fmt;
 
@@ -69,6 +70,26 @@ impl fmt::Debug for NaiveDateTime {
         let text = text_of(*self, b'T');
         f.write_str(text.as_str())
     }
+}
+
+impl fmt::Debug for IsoWeek {
+    ghost debug_output = { λ week. Some (printed_week week) };
+
+    fn fmt<W: fmt::Write>(&self, f: &mut fmt::Formatter<W>) -> fmt::Result {
+        let mut text = ShortText::new();
+        push_week(*self, &mut text);
+        f.write_str(text.as_str())
+    }
+}
+
+fn push_week(week: IsoWeek, text: &mut ShortText)
+    requires { length text.old + 11 ≤ 32 }
+    ensures { text.new ≡ text.old ++ printed_week week }
+{
+    push_year(week.year(), text);
+    text.push(b'-');
+    text.push(b'W');
+    text.push_two_digits(week.week());
 }
 
 // A reading, with that byte between its date and its time.

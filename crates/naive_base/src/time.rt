@@ -5,6 +5,7 @@ ghost use Rattle.naive_base.specs.Range.{IsTime};
 ghost use Rattle.naive_base.specs.Clock.{IsClock, clock_second};
 
 mod fields;
+mod moves;
 
 /// A second of the day and nanoseconds, which from 10^9 on are those of a leap second after that
 /// second.

@@ -1,6 +1,9 @@
 //! Weekdays.
-ghost use Rattle.std.specs.Prelude.{◌≡◌, ◌+◌, ◌<◌, ◌≤◌};
-ghost use Rattle.naive_base.specs.Weekday.{weekday_number, days_from_monday};
+ghost use Rattle.std.specs.Prelude.{◌≡◌, ◌+◌, ◌-◌, ◌%◌, ◌<◌, ◌≤◌, Some, MatchResult};
+ghost use Rattle.naive_base.specs.Weekday.{weekday_number, days_from_monday, weekday_text};
+
+use crate::OutOfRange;
+use std::fmt;
 
 /// A day of the week. Weekdays have no order: a week may be said to begin with any of them.
 #[derive(Clone, Copy, PartialEq, Eq, Hash, Debug)]
@@ -22,6 +25,20 @@ pub enum Weekday {
 }
 
 impl Weekday {
+    fn short_name(&self) -> &'static str
+        ensures { result.now ≡ weekday_text self.now }
+    {
+        match self {
+            Weekday::Mon => "Mon",
+            Weekday::Tue => "Tue",
+            Weekday::Wed => "Wed",
+            Weekday::Thu => "Thu",
+            Weekday::Fri => "Fri",
+            Weekday::Sat => "Sat",
+            Weekday::Sun => "Sun",
+        }
+    }
+
     // The weekday of a number from 0, for Sunday, to 6.
     pub(crate) fn of_number(number: u32) -> Weekday
         requires { number < 7 }
@@ -36,6 +53,31 @@ impl Weekday {
             5 => Weekday::Fri,
             _ => Weekday::Sat,
         }
+    }
+
+    /// Returns the next day of the week.
+    pub fn succ(&self) -> Weekday
+        ensures { weekday_number result ≡ (weekday_number self.now + 1) % 7 }
+    {
+        Weekday::of_number((self.num_days_from_sunday() + 1) % 7)
+    }
+
+    /// Returns the day of the week before this one.
+    pub fn pred(&self) -> Weekday
+        ensures { weekday_number result ≡ (weekday_number self.now + 6) % 7 }
+    {
+        Weekday::of_number((self.num_days_from_sunday() + 6) % 7)
+    }
+
+    /// Returns the days from another day of the week to the next day that is this one, from 0 for
+    /// the same day to 6.
+    ///
+    /// From Thursday to Monday there are four days: `Weekday::Mon.days_since(Weekday::Thu)` is 4.
+    pub fn days_since(&self, other: Weekday) -> u32
+        ensures value { result ≡ (weekday_number self.now + 7 - weekday_number other) % 7 }
+        ensures bound { result < 7 }
+    {
+        (self.num_days_from_sunday() + 7 - other.num_days_from_sunday()) % 7
     }
 
     /// The days from the Monday before it, 0 for Monday to 6 for Sunday.
@@ -76,5 +118,29 @@ impl Weekday {
         ensures bound { (1 ≤ result) × (result ≤ 7) }
     {
         self.num_days_from_sunday() + 1
+    }
+}
+
+/// Its first three letters, such as `Mon`, in the width, fill and alignment of the formatter.
+impl fmt::Display for Weekday {
+    ghost output = { λ weekday. Some (weekday_text weekday) };
+
+    fn fmt<W: fmt::Write>(&self, f: &mut fmt::Formatter<W>) -> fmt::Result {
+        f.pad(self.short_name())
+    }
+}
+
+impl TryFrom<u8> for Weekday {
+    type Error = OutOfRange;
+
+    ghost try_from_gives = { λ number r. MatchResult r
+        (λ weekday. days_from_monday weekday ≡ number) (λ _. 7 ≤ number) };
+
+    // A number from 0, for Monday, to 6.
+    fn try_from(value: u8) -> Result<Weekday, OutOfRange> {
+        if value > 6 {
+            return Err(OutOfRange::new());
+        }
+        Ok(Weekday::of_number((value as u32 + 1) % 7))
     }
 }

@@ -1,6 +1,8 @@
 -- Printed numbers of a fixed width.
-use Rattle.std.proofs.Common.{◌≡◌, ℕ, zero, suc, ◌+◌, ◌/◌, ◌%◌, ◌^◌, ◌<◌, List, [], ◌∷◌, ◌++◌, length, arith, refl, ap, ◌∙◌, append_assoc, length-append}
+use Rattle.std.proofs.Common.{◌≡◌, ℕ, zero, suc, ◌+◌, ◌/◌, ◌%◌, ◌^◌, ◌<◌, ◌≤◌, List, [], ◌∷◌, ◌++◌, length, arith, refl, ap, ◌∙◌, append_assoc, length-append}
 use Rattle.std.proofs.Math.Nat.{pow-suc}
+use Rattle.std.specs.Fmt.{decimal}
+use Rattle.std.proofs.lemmas.Fmt.{decimal_digit, decimal_step, length-decimal-le}
 use Rattle.offset_core.specs.Digits.{in_digits}
 
 -- texts that begin with parts of one length are equal only part by part
@@ -55,6 +57,18 @@ three_digits n low =
     let hundreds : n / 100 % 10 ≡ n / 100 = omega arith in
     in_digits-two_more 1 n ∙ rw hundreds refl
 
+-- Numbers in as many digits as they have.
+
+pub length-decimal-more : (n : ℕ) → 10 ≤ n → n < 2 ^ 64 → length (decimal n) ≡ length (decimal (n / 10)) + 1
+length-decimal-more n more fits = ap length (decimal_step n more fits) ∙ length-append (decimal (n / 10)) ((48 + n % 10) ∷ [])
+
+pub length-decimal-digit : (n : ℕ) → n < 10 → length (decimal n) ≡ 1
+length-decimal-digit n low = ap length (decimal_digit n low)
+
+-- the seconds of the longest length have 16 digits
+pub seconds_fit : (n : ℕ) → n < 10 ^ 16 → length (decimal n) ≤ 16
+seconds_fit n low = length-decimal-le 16 n (omega arith) low (omega arith)
+
 -- the last three digits come after the others
 pub in_digits-three_more : (j n : ℕ) → in_digits (suc (suc (suc j))) n ≡ in_digits j (n / 1_000) ++ in_digits 3 (n % 1_000)
 unfolding in_digits
@@ -66,3 +80,5 @@ in_digits-three_more j n =
     in_digits-two_more 1 (n % 1_000) ∙ rw (hundreds, rest) refl in
     in_digits-two_more (suc j) n
     ∙ rw (front, last) (append_assoc (in_digits j (n / 1_000)) ((48 + n / 100 % 10) ∷ []) (in_digits 2 (n % 100)))
+
+pub ruleset decimals = (decimal_digit, decimal_step, length-decimal-more, length-decimal-digit, seconds_fit)

@@ -1,5 +1,4 @@
 pub mod Digits
-pub mod Decimals
 pub mod FixedOffsets
 pub mod LocalResults
 pub mod Printed

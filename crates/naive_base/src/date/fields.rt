@@ -1,6 +1,6 @@
 //! A date's fields, and dates with a field changed.
 ghost use Rattle.std.specs.Prelude.{◌≡◌, ◌-◌, ◌≤◌, pos, ◌+ℤ◌, ◌↔◌, IsTrue, SomeIff, option_map};
-ghost use Rattle.naive_base.specs.Range.{IsYearInRange};
+ghost use Rattle.naive_base.specs.Range.{IsYearInRange, IsInnerYear, IsDayInRange, IsInnerDay};
 ghost use Rattle.gregorian.specs.Date.{day_number};
 ghost use Rattle.gregorian.specs.Year.{year_start, days_in_year};
 ghost use Rattle.naive_base.specs.Fields.{MayShow, MayShowOrdinal};
@@ -51,10 +51,12 @@ impl NaiveDate {
     }
 
     // The n-th day of a year in range, which has it.
-    fn of_ordinal(year: i32, ordinal: u32) -> NaiveDate
+    pub(crate) fn of_ordinal(year: i32, ordinal: u32) -> NaiveDate
         requires year { IsYearInRange year }
         requires ordinal { (1 ≤ ordinal) × (ordinal ≤ days_in_year year) }
-        ensures { day_of result ≡ year_start year +ℤ pos (ordinal - 1) }
+        ensures value { day_of result ≡ year_start year +ℤ pos (ordinal - 1) }
+        ensures in_range { IsDayInRange (day_of result) }
+        ensures inner { IsInnerYear year → IsInnerDay (day_of result) }
     {
         NaiveDate::of_day(day_of_ordinal(year, ordinal))
     }

@@ -1,5 +1,7 @@
 //! Dates moved by months and by days.
-ghost use Rattle.std.specs.Prelude.{◌≡◌, ◌≤◌, ℤ, pos, neg_ℤ, ◌+ℤ◌, ◌-ℤ◌, ◌*ℤ◌, ◌≤ℤ◌, SomeIff, option_map, min};
+ghost use Rattle.std.specs.Prelude.{◌≡◌, ◌≤◌, ℤ, pos, neg_ℤ, ◌+ℤ◌, ◌-ℤ◌, ◌*ℤ◌, ◌≤ℤ◌, SomeIff, option_map, min, int_div};
+ghost use Rattle.offset_core.specs.Nanoseconds.{nanos_per_day};
+ghost use Rattle.offset_core.specs.TimeDelta.{nanos_of};
 ghost use Rattle.naive_base.specs.Months.{month_number, year_of_number, month_of_number, months_of, days_of};
 ghost use Rattle.gregorian.specs.Date.{IsDate, day_number};
 ghost use Rattle.gregorian.specs.DateOf.{month_of, day_of_month};
@@ -10,6 +12,7 @@ ghost use Rattle.naive_base.specs.NaiveDate.{day_of, IsDateOn};
 
 use crate::range::{FIRST_DAY_IN_RANGE, LAST_DAY_IN_RANGE};
 use crate::{Days, Months, NaiveDate};
+use offset_core::TimeDelta;
 
 impl NaiveDate {
     /// The date so many months later: on the same day of the month, or on the month's last where it
@@ -41,7 +44,7 @@ impl NaiveDate {
     pub fn checked_add_days(self, days: Days) -> Option<NaiveDate>
         ensures { IsDaysLater day_of IsDateOn (day_of self) (pos (days_of days)) result }
     {
-        self.on_day(self.day as i128 + days.count() as i128)
+        self.days_later(days.count() as i128)
     }
 
     /// The date so many days earlier. `None` where the year is not one from -262143 to 262142,
@@ -49,7 +52,35 @@ impl NaiveDate {
     pub fn checked_sub_days(self, days: Days) -> Option<NaiveDate>
         ensures { IsDaysLater day_of IsDateOn (day_of self) (neg_ℤ (pos (days_of days))) result }
     {
-        self.on_day(self.day as i128 - days.count() as i128)
+        self.days_later(-(days.count() as i128))
+    }
+
+    /// Returns the date as many days later as the length has whole days, or earlier for a negative
+    /// length. `None` if the year is not one from -262143 to 262142, unless it is the date itself.
+    ///
+    /// A length of 86,399 seconds has no whole day, so it leaves the date as it is.
+    pub fn checked_add_signed(self, rhs: TimeDelta) -> Option<NaiveDate>
+        ensures { IsDaysLater day_of IsDateOn (day_of self)
+            (int_div (nanos_of rhs) nanos_per_day) result }
+    {
+        self.days_later(rhs.num_days() as i128)
+    }
+
+    /// Returns the date as many days earlier as the length has whole days, by the rule of
+    /// [`NaiveDate::checked_add_signed`].
+    pub fn checked_sub_signed(self, rhs: TimeDelta) -> Option<NaiveDate>
+        ensures { IsDaysLater day_of IsDateOn (day_of self)
+            (neg_ℤ (int_div (nanos_of rhs) nanos_per_day)) result }
+    {
+        self.days_later(-(rhs.num_days() as i128))
+    }
+
+    // The date so many days later, where this date may change to it.
+    pub(crate) fn days_later(self, days: i128) -> Option<NaiveDate>
+        requires { IsWithin 20_000_000_000_000_000_000 days }
+        ensures { IsDaysLater day_of IsDateOn (day_of self) days result }
+    {
+        self.on_day(self.day as i128 + days)
     }
 
     // That day, where this date may change to it.

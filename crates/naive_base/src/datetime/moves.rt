@@ -49,6 +49,17 @@ fn sum_of(secs: i64, nanos: i64) -> TimeDelta
         .unwrap()
 }
 
+// The second and the nanoseconds of a reading that is no leap second.
+fn parts_of(total: i128) -> (i64, u32)
+    requires { IsSmall total }
+    ensures value { record { s = result.0; f = result.1 } ≡ of_total total }
+    ensures second { IsWithin 100_000_000_000_000_000 result.0 }
+    ensures fraction { result.1 < 1_000_000_000 }
+{
+    let (secs, frac) = split(total);
+    (secs as i64, frac)
+}
+
 impl NaiveDateTime {
     /// The reading so much later, or earlier for a negative length. `None` where that isn't in
     /// range.
@@ -59,7 +70,8 @@ impl NaiveDateTime {
     pub fn checked_add_signed(self, rhs: TimeDelta) -> Option<NaiveDateTime>
         ensures { IsReadingOf (moved (reading self) (nanos_of rhs)) result }
     {
-        self.moved(rhs.whole_nanoseconds())
+        let (secs, frac) = self.moved(rhs.whole_nanoseconds());
+        NaiveDateTime::at_second(secs, frac)
     }
 
     /// The reading so much earlier, or later for a negative length. `None` where that isn't in
@@ -69,42 +81,40 @@ impl NaiveDateTime {
     pub fn checked_sub_signed(self, rhs: TimeDelta) -> Option<NaiveDateTime>
         ensures { IsReadingOf (moved (reading self) (neg_ℤ (nanos_of rhs))) result }
     {
-        self.moved(opposite(rhs))
+        let (secs, frac) = self.moved(opposite(rhs));
+        NaiveDateTime::at_second(secs, frac)
     }
 
+    // The second and the nanoseconds of the reading so much later.
     #[tactic(auto, using(crate::proofs::Moves::moves))]
-    fn moved(self, nanos: i128) -> Option<NaiveDateTime>
+    pub(crate) fn moved(self, nanos: i128) -> (i64, u32)
         requires { FitsTimeDelta nanos }
-        ensures { IsReadingOf (moved (reading self) nanos) result }
+        ensures value { record { s = result.0; f = result.1 } ≡ moved (reading self) nanos }
+        ensures second { IsWithin 100_000_000_000_000_000 result.0 }
+        ensures fraction { result.1 < 2_000_000_000 }
     {
         if self.frac < 1_000_000_000 {
-            return NaiveDateTime::of_total(self.total_after(nanos));
+            return parts_of(self.total_after(nanos));
         }
         self.moved_leap(self.within_after(nanos))
     }
 
-    // The reading at so many nanoseconds from the start of this second, which a leap second
-    // follows.
+    // Those of the reading at so many nanoseconds from the start of this second, which a leap
+    // second follows.
     #[tactic(auto, using(crate::proofs::Moves::moves))]
-    fn moved_leap(self, within: i128) -> Option<NaiveDateTime>
+    fn moved_leap(self, within: i128) -> (i64, u32)
         requires { IsShort within }
-        ensures { IsReadingOf (moved_leap (reading self).s within) result }
+        ensures value { record { s = result.0; f = result.1 } ≡ moved_leap (reading self).s within }
+        ensures second { IsWithin 100_000_000_000_000_000 result.0 }
+        ensures fraction { result.1 < 2_000_000_000 }
     {
         if within < 0 {
-            return NaiveDateTime::of_total(self.total_at(within));
+            return parts_of(self.total_at(within));
         }
         if within >= 2_000_000_000 {
-            return NaiveDateTime::of_total(self.total_past(within));
+            return parts_of(self.total_past(within));
         }
-        NaiveDateTime::at_second(self.secs, within as u32)
-    }
-
-    fn of_total(total: i128) -> Option<NaiveDateTime>
-        requires { IsSmall total }
-        ensures { IsReadingOf (of_total total) result }
-    {
-        let (secs, frac) = split(total);
-        NaiveDateTime::at_second(secs as i64, frac)
+        (self.secs, within as u32)
     }
 
     // The nanoseconds since this second began, so much later.

@@ -1,5 +1,5 @@
 //! Theorems: each function is empty, its contract is proved; never called.
-ghost use Rattle.std.specs.Prelude.{◌≡◌, ◌↔◌, IsTrue, pos, ◌++◌};
+ghost use Rattle.std.specs.Prelude.{◌≡◌, ◌↔◌, ◌-◌, IsTrue, pos, ◌++◌};
 ghost use Rattle.std.specs.Ordering.{MatchOrdering, int_cmp, nat_cmp, ordering_then};
 ghost use Rattle.std.specs.Hash as fed;
 ghost use Rattle.naive_base.specs.declared.date.NaiveDate.{NaiveDate as AnyDate};
@@ -9,6 +9,14 @@ ghost use Rattle.naive_base.specs.declared.months_days.Months.{Months as AnyMont
 ghost use Rattle.naive_base.specs.declared.months_days.Days.{Days as AnyDays};
 ghost use Rattle.naive_base.specs.declared.weekday.Weekday.{Weekday as AnyWeekday};
 ghost use Rattle.naive_base.specs.declared.iso_week.IsoWeek.{IsoWeek as AnyWeek};
+ghost use Rattle.naive_base.specs.declared.date.days.NaiveDateDaysIterator.{NaiveDateDaysIterator as AnyDaysRun};
+ghost use Rattle.naive_base.specs.declared.date.days.NaiveDateWeeksIterator.{NaiveDateWeeksIterator as AnyWeeksRun};
+ghost use Rattle.naive_base.specs.declared.month.Month.{Month as AnyMonth};
+ghost use Rattle.naive_base.specs.declared.out_of_range.OutOfRange.{OutOfRange as AnyFault};
+ghost use Rattle.naive_base.specs.declared.week.NaiveWeek.{NaiveWeek as AnyNaiveWeek};
+ghost use Rattle.naive_base.specs.MonthNames.{number_of};
+ghost use Rattle.naive_base.specs.Runs.{days_from, weeks_from};
+ghost use Rattle.naive_base.specs.Week.{first_of};
 ghost use Rattle.naive_base.specs.Reading.{IsEarlier, IsEarlierTime};
 ghost use Rattle.naive_base.specs.NaiveDate.{day_of};
 ghost use Rattle.naive_base.specs.NaiveTime.{second_of, fraction_of};
@@ -17,7 +25,10 @@ ghost use Rattle.naive_base.specs.Months.{months_of, days_of};
 ghost use Rattle.naive_base.specs.Weekday.{weekday_number, days_from_monday};
 ghost use Rattle.naive_base.specs.IsoWeek.{iso_year, iso_number};
 
-use crate::{Days, IsoWeek, Months, NaiveDate, NaiveDateTime, NaiveTime, Weekday};
+use crate::{
+    Days, IsoWeek, Month, Months, NaiveDate, NaiveDateDaysIterator, NaiveDateTime,
+    NaiveDateWeeksIterator, NaiveTime, NaiveWeek, OutOfRange, Weekday,
+};
 use std::hash::Hash;
 
 /// Dates are equal if and only if their days are, and compare by these; a hash looks at the day,
@@ -114,4 +125,56 @@ pub fn iso_weeks()
         ≡ fed.i32 (iso_year a) ++ fed.u32 (iso_number a) }
     ensures cloned { (a b : AnyWeek) → ⟦<IsoWeek as Clone>⟧.is_clone a b ↔ (a ≡ b) }
     ensures infallible { (a : AnyWeek) → ⟦<IsoWeek as Clone>⟧.is_infallible a }
+{}
+
+/// Months of the year are equal if and only if they are the same, and compare by their numbers; a
+/// hash looks at the months before it, and a clone is the month.
+pub fn months_by_name()
+    ensures equal { (a b : AnyMonth) → IsTrue (⟦<Month as PartialEq>⟧.eq a b) ↔ (a ≡ b) }
+    ensures numbered { (a b : AnyMonth) → number_of a ≡ number_of b → a ≡ b }
+    ensures order { (a b : AnyMonth) → ⟦<Month as Ord>⟧.cmp a b
+        ≡ nat_cmp (number_of a) (number_of b) }
+    ensures hashed { (a : AnyMonth) → ⟦<Month as Hash>⟧.hash_input a
+        ≡ fed.isize (pos (number_of a - 1)) }
+    ensures cloned { (a b : AnyMonth) → ⟦<Month as Clone>⟧.is_clone a b ↔ (a ≡ b) }
+    ensures infallible { (a : AnyMonth) → ⟦<Month as Clone>⟧.is_infallible a }
+{}
+
+/// Weeks are equal if and only if their first days are; a hash looks at the first day, and a clone
+/// is the week.
+pub fn weeks()
+    ensures equal { (a b : AnyNaiveWeek) → IsTrue (⟦<NaiveWeek as PartialEq>⟧.eq a b)
+        ↔ (first_of a ≡ first_of b) }
+    ensures hashed { (a : AnyNaiveWeek) → ⟦<NaiveWeek as Hash>⟧.hash_input a
+        ≡ fed.i32 (first_of a) }
+    ensures cloned { (a b : AnyNaiveWeek) → ⟦<NaiveWeek as Clone>⟧.is_clone a b ↔ (a ≡ b) }
+    ensures infallible { (a : AnyNaiveWeek) → ⟦<NaiveWeek as Clone>⟧.is_infallible a }
+{}
+
+/// Runs of days, or of weeks, are equal if and only if their next dates are, and compare and hash
+/// by these; a clone is the run.
+pub fn runs()
+    ensures days_equal { (a b : AnyDaysRun)
+        → IsTrue (⟦<NaiveDateDaysIterator as PartialEq>⟧.eq a b) ↔ (days_from a ≡ days_from b) }
+    ensures days_order { (a b : AnyDaysRun) → ⟦<NaiveDateDaysIterator as Ord>⟧.cmp a b
+        ≡ int_cmp (days_from a) (days_from b) }
+    ensures days_hashed { (a : AnyDaysRun) → ⟦<NaiveDateDaysIterator as Hash>⟧.hash_input a
+        ≡ fed.i32 (days_from a) }
+    ensures days_cloned { (a b : AnyDaysRun)
+        → ⟦<NaiveDateDaysIterator as Clone>⟧.is_clone a b ↔ (a ≡ b) }
+    ensures weeks_equal { (a b : AnyWeeksRun)
+        → IsTrue (⟦<NaiveDateWeeksIterator as PartialEq>⟧.eq a b) ↔ (weeks_from a ≡ weeks_from b) }
+    ensures weeks_order { (a b : AnyWeeksRun) → ⟦<NaiveDateWeeksIterator as Ord>⟧.cmp a b
+        ≡ int_cmp (weeks_from a) (weeks_from b) }
+    ensures weeks_hashed { (a : AnyWeeksRun) → ⟦<NaiveDateWeeksIterator as Hash>⟧.hash_input a
+        ≡ fed.i32 (weeks_from a) }
+    ensures weeks_cloned { (a b : AnyWeeksRun)
+        → ⟦<NaiveDateWeeksIterator as Clone>⟧.is_clone a b ↔ (a ≡ b) }
+{}
+
+/// Errors of numbers that no weekday and no month has are equal, and a clone is the error.
+pub fn out_of_range()
+    ensures equal { (a b : AnyFault) → IsTrue (⟦<OutOfRange as PartialEq>⟧.eq a b) }
+    ensures cloned { (a b : AnyFault) → ⟦<OutOfRange as Clone>⟧.is_clone a b ↔ (a ≡ b) }
+    ensures infallible { (a : AnyFault) → ⟦<OutOfRange as Clone>⟧.is_infallible a }
 {}

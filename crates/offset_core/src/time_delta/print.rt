@@ -52,7 +52,7 @@ fn text_of(nanos: i128) -> ShortText
 }
 
 // `PT`, the seconds of so many nanoseconds, their fraction and `S`.
-#[tactic(auto, using(crate::proofs::Decimals::seconds_fit))]
+#[tactic(auto, using(crate::proofs::Digits::decimals))]
 fn push_seconds(nanos: u128, text: &mut ShortText)
     requires nanos { nanos < 10_000_000_000_000_000_000_000_000 }
     requires room { length text.old ≤ 1 }
@@ -66,7 +66,7 @@ fn push_seconds(nanos: u128, text: &mut ShortText)
 }
 
 // A number in as many digits as it has.
-#[tactic(auto, using(crate::proofs::Decimals::decimals))]
+#[tactic(auto, using(crate::proofs::Digits::decimals))]
 fn push_decimal(number: u64, text: &mut ShortText)
     requires { length text.old + length (decimal number) ≤ 32 }
     ensures text { text.new ≡ text.old ++ decimal number }

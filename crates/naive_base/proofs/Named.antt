@@ -1,0 +1,170 @@
+-- Days of ISO weeks, and the n-th weekday of a month.
+use Rattle.std.proofs.Common.{◌≡◌, ◌∙◌, sym, ap, subst, refl, ℕ, ◌+◌, ◌-◌, ◌*◌, ◌/◌, ◌%◌, ◌<◌, ◌≤◌, arith, ℤ, pos, ◌+ℤ◌, ◌-ℤ◌, ◌≤ℤ◌, ◌<ℤ◌}
+use Rattle.gregorian.specs.Date.{IsDate, day_number}
+use Rattle.gregorian.specs.DateOf.{year_of, day_of_year, month_of, day_of_month}
+use Rattle.gregorian.specs.Weekdays.{weekday_of}
+use Rattle.gregorian.specs.Weeks.{IsThursdayOf}
+use Rattle.gregorian.specs.Year.{year_start, days_in_year, LiesIn}
+use Rattle.gregorian.proofs.ForCallers.{floors, floor_mod_parts, date_is, date_only, number_at, weekday_later, weekday_below, lies_in, one_year, year_step, day_of_year_is}
+use Rattle.std.specs.Prelude.{Option, Some, None, MatchOption, IsSome}
+use Rattle.gregorian.specs.Month.{days_in_month}
+use Rattle.gregorian.specs.Year.{is_leap}
+use Rattle.gregorian.proofs.ForCallers.{month_bounds, days_at_least}
+use Rattle.naive_base.specs.Named.{IsWeekdayOfMonth, IsThursdayOfWeek, IsDayOfIsoWeek}
+use Rattle.naive_base.specs.NaiveDate.{day_of, IsDateOf, IsDateOfDay}
+use Rattle.naive_base.specs.Range.{IsYearInRange, IsInnerYear, IsInnerDay, IsDayInRange}
+use Rattle.naive_base.specs.declared.date.NaiveDate.{NaiveDate}
+use Rattle.naive_base.specs.Weekday.{weekday_number}
+use Rattle.naive_base.specs.declared.weekday.Weekday.{Weekday}
+use Rattle.naive_base.specs.declared.weekday.Weekday.TheVariants.{Mon, Tue, Wed, Thu, Fri, Sat, Sun}
+
+-- the day of the month of the n-th weekday w, where the month begins on the weekday f
+abbrev pub nth_day : ℕ → ℕ → ℕ → ℕ
+nth_day f w n = (w + 7 - f) % 7 + 7 * (n - 1) + 1
+
+nth_is : (f w n : ℕ) → f < 7 → w < 7 → 1 ≤ n → ((f + (nth_day f w n - 1)) % 7 ≡ w) × ((nth_day f w n + 6) / 7 ≡ n)
+nth_is f w n h k l = (omega arith, omega arith)
+
+nth_once : (f w n d : ℕ) → f < 7 → 1 ≤ d → (f + (d - 1)) % 7 ≡ w → (d + 6) / 7 ≡ n → nth_day f w n ≡ d
+nth_once f w n d h k weekday nth = omega (arith, weekday, nth)
+
+pub found_nth : (y : ℤ) (m w n : ℕ) → w < 7 → 1 ≤ n
+    → IsDate y m (nth_day (weekday_of (day_number y m 1)) w n)
+    → IsWeekdayOfMonth y m w n (day_number y m (nth_day (weekday_of (day_number y m 1)) w n))
+found_nth y m w n h k date =
+    let f = weekday_of (day_number y m 1) in
+    let d = nth_day f w n in
+    let only = date_only (day_number y m d) y m d date refl in
+    let is = nth_is f w n (weekday_below (day_number y m 1)) h k in
+    record {
+      year = only.0;
+      month = only.1;
+      weekday = ap weekday_of (number_at y m d date.2) ∙ weekday_later (day_number y m 1) (d - 1) ∙ is.0;
+      nth = ap (λ (e : ℕ). (e + 6) / 7) only.2 ∙ is.1;
+    }
+
+-- which has that day of the month, and the calendar has the date
+pub only_nth : (y : ℤ) (m w n : ℕ) (day : ℤ) → IsWeekdayOfMonth y m w n day
+    → IsDate y m (nth_day (weekday_of (day_number y m 1)) w n) × IsDate y m 1 × (1 ≤ n)
+only_nth y m w n day h =
+    let is = date_is day in
+    let date : IsDate y m (day_of_month day) =
+    subst (λ (n : ℕ). IsDate y n (day_of_month day)) h.month (subst (λ (x : ℤ). IsDate x (month_of day) (day_of_month day)) h.year is.0) in
+    let number : day_number y m (day_of_month day) ≡ day =
+    subst (λ (n : ℕ). day_number y n (day_of_month day) ≡ day) h.month
+    (subst (λ (x : ℤ). day_number x (month_of day) (day_of_month day) ≡ day) h.year is.1) in
+    let later = weekday_later (day_number y m 1) (day_of_month day - 1) in
+    let weekday = sym later ∙ ap weekday_of (sym (number_at y m (day_of_month day) date.2) ∙ number) ∙ h.weekday in
+    let same = nth_once (weekday_of (day_number y m 1)) w n (day_of_month day) (weekday_below (day_number y m 1)) date.2 weekday h.nth in
+    (subst (λ (d : ℕ). IsDate y m d) (sym same) date, (date.0, date.1, omega arith, omega (arith, date.2, date.3)), omega (arith, h.nth, date.2))
+
+-- the place in its year of the Thursday of the n-th week, where the year begins on the weekday f
+abbrev pub thursday_place : ℕ → ℕ → ℕ
+thursday_place f n = (11 - f) % 7 + 7 * (n - 1)
+
+place_is : (f n : ℕ) → f < 7 → 1 ≤ n → ((f + thursday_place f n) % 7 ≡ 4) × (thursday_place f n / 7 + 1 ≡ n)
+place_is f n h k = (omega arith, omega arith)
+
+place_once : (f n p : ℕ) → f < 7 → (f + p) % 7 ≡ 4 → p / 7 + 1 ≡ n → (1 ≤ n) × (thursday_place f n ≡ p)
+place_once f n p h weekday nth = (omega (arith, nth), omega (arith, weekday, nth))
+
+in_place : (y : ℤ) (p : ℕ) → p < days_in_year y → (year_of (year_start y +ℤ pos p) ≡ y) × (day_of_year (year_start y +ℤ pos p) ≡ p)
+in_place y p h =
+    let t = year_start y +ℤ pos p in
+    let step = year_step y in
+    let lies : LiesIn t y = (omega (arith, floors), omega (arith, floors)) in
+    let year = one_year t (year_of t) y (lies_in t) lies in
+    let place = rw year at (day_of_year_is t).0 in
+    (year, omega (arith, floors))
+
+pub found_thursday : (y : ℤ) (n : ℕ) → 1 ≤ n → thursday_place (weekday_of (year_start y)) n < days_in_year y
+    → IsThursdayOfWeek y n (year_start y +ℤ pos (thursday_place (weekday_of (year_start y)) n))
+found_thursday y n h k =
+    let p = thursday_place (weekday_of (year_start y)) n in
+    let is = place_is (weekday_of (year_start y)) n (weekday_below (year_start y)) h in
+    let place = in_place y p k in
+    record {
+      weekday = weekday_later (year_start y) p ∙ is.0;
+      year = place.0;
+      number = ap (λ (q : ℕ). q / 7 + 1) place.1 ∙ is.1;
+    }
+
+pub only_thursday : (y : ℤ) (n : ℕ) (t : ℤ) → IsThursdayOfWeek y n t
+    → (1 ≤ n) × (thursday_place (weekday_of (year_start y)) n < days_in_year y)
+    × (year_start y +ℤ pos (thursday_place (weekday_of (year_start y)) n) ≡ t)
+only_thursday y n t h =
+    let is = day_of_year_is t in
+    let place : year_start y +ℤ pos (day_of_year t) ≡ t = subst (λ (x : ℤ). year_start x +ℤ pos (day_of_year t) ≡ t) h.year is.0 in
+    let below : day_of_year t < days_in_year y = subst (λ (x : ℤ). day_of_year t < days_in_year x) h.year is.1 in
+    let weekday = sym (weekday_later (year_start y) (day_of_year t)) ∙ ap weekday_of place ∙ h.weekday in
+    let once = place_once (weekday_of (year_start y)) n (day_of_year t) (weekday_below (year_start y)) weekday h.number in
+    (once.0, subst (λ (q : ℕ). q < days_in_year y) (sym once.1) below, subst (λ (q : ℕ). year_start y +ℤ pos q ≡ t) (sym once.1) place)
+
+-- the day of the weekday w in the week of a Thursday
+pub found_day : (t : ℤ) (w : ℕ) → w < 7 → weekday_of t ≡ 4
+    → IsThursdayOf (t -ℤ pos 3 +ℤ pos ((w + 6) % 7)) t × (weekday_of (t -ℤ pos 3 +ℤ pos ((w + 6) % 7)) ≡ w)
+found_day t w h e =
+    let here = floor_mod_parts (t +ℤ pos 4) 7 (omega arith) in
+    let there = floor_mod_parts (t -ℤ pos 3 +ℤ pos ((w + 6) % 7) +ℤ pos 4) 7 (omega arith) in
+    ((e, omega (arith, floors), omega (arith, floors)), omega (arith, floors, e))
+
+pub only_day : (day t : ℤ) (w : ℕ) → weekday_of day ≡ w → IsThursdayOf day t → t -ℤ pos 3 +ℤ pos ((w + 6) % 7) ≡ day
+only_day day t w e h =
+    let here = floor_mod_parts (day +ℤ pos 4) 7 (omega arith) in
+    let there = floor_mod_parts (t +ℤ pos 4) 7 (omega arith) in
+    omega (arith, floors, e, h.0)
+
+pub number_below : (w : Weekday) → weekday_number w < 7
+number_below Sun = omega arith
+number_below Mon = omega arith
+number_below Tue = omega arith
+number_below Wed = omega arith
+number_below Thu = omega arith
+number_below Fri = omega arith
+number_below Sat = omega arith
+
+-- a week that begins on the weekday w
+pub week_start : (day f : ℤ) (w : ℕ) → w < 7 → f +ℤ pos ((weekday_of day + 7 - w) % 7) ≡ day → weekday_of f ≡ w
+week_start day f w h e =
+    let here = floor_mod_parts (day +ℤ pos 4) 7 (omega arith) in
+    let there = floor_mod_parts (f +ℤ pos 4) 7 (omega arith) in
+    omega (arith, floors, e)
+
+-- The answers of the calls.
+
+pub nth_answer : (y : ℤ) (m w n : ℕ) (answer : Option NaiveDate) → w < 7 → 1 ≤ n
+    → IsDateOf y m (nth_day (weekday_of (day_number y m 1)) w n) answer
+    → MatchOption answer (IsYearInRange y → (day : ℤ) → IsWeekdayOfMonth y m w n day → ⊥)
+    (λ d. IsYearInRange y × IsWeekdayOfMonth y m w n (day_of d))
+nth_answer y m w n (Some d) h k is = (is.0, subst (λ (day : ℤ). IsWeekdayOfMonth y m w n day) (sym is.2) (found_nth y m w n h k is.1))
+nth_answer y m w n None h k is = λ fits day only. is fits (only_nth y m w n day only).0
+
+pub first_four : (y : ℤ) (m w n : ℕ) (answer : Option NaiveDate) → 1 ≤ m → m ≤ 12 → 1 ≤ n → n ≤ 4 → IsYearInRange y
+    → IsDateOf y m (nth_day (weekday_of (day_number y m 1)) w n) answer → IsSome answer
+first_four y m w n (Some d) a b c e fits is = refl
+first_four y m w n None a b c e fits is =
+    let days = month_bounds (is_leap y) m in
+    absurd (is fits (a, b, omega arith, omega (arith, days.0)))
+
+pub iso_answer : (y : ℤ) (n w : ℕ) (t day : ℤ) (answer : Option NaiveDate) → w < 7 → IsThursdayOfWeek y n t
+    → day ≡ t -ℤ pos 3 +ℤ pos ((w + 6) % 7) → IsDateOfDay day answer
+    → MatchOption answer ((other : ℤ) → IsDayInRange other → IsDayOfIsoWeek y n w other → ⊥)
+    (λ d. IsDayInRange (day_of d) × IsDayOfIsoWeek y n w (day_of d))
+iso_answer y n w t day (Some d) h k e is =
+    let found = found_day t w h k.weekday in
+    let same = is.1 ∙ e in
+    let of_week : IsDayOfIsoWeek y n w (t -ℤ pos 3 +ℤ pos ((w + 6) % 7)) =
+    record { weekday = found.1; thursday = t; in_week = found.0; of_year = k } in
+    (subst IsDayInRange (sym is.1) is.0, subst (λ (u : ℤ). IsDayOfIsoWeek y n w u) (sym same) of_week)
+iso_answer y n w t day None h k e is = λ other inside in_week.
+    let one = only_thursday y n t k in
+    let two = only_thursday y n in_week.thursday in_week.of_year in
+    let same : in_week.thursday ≡ t = sym two.2 ∙ one.2 in
+    let day_is : t -ℤ pos 3 +ℤ pos ((w + 6) % 7) ≡ other =
+    subst (λ (u : ℤ). u -ℤ pos 3 +ℤ pos ((w + 6) % 7) ≡ other) same (only_day other in_week.thursday w in_week.weekday in_week.in_week) in
+    is (subst IsDayInRange (sym (e ∙ day_is)) inside)
+
+pub within_year : (y t : ℤ) (w : ℕ) (answer : Option NaiveDate) → w < 7 → IsInnerDay t
+    → IsDateOfDay (t -ℤ pos 3 +ℤ pos ((w + 6) % 7)) answer → IsSome answer
+within_year y t w (Some d) h inner is = refl
+within_year y t w None h inner is = absurd (is (omega (arith, floors, inner.0), omega (arith, floors, inner.1)))

@@ -1,0 +1,10 @@
+use Rattle.std.proofs.Common.{sym, pos, neg_ℤ}
+use Rattle.naive_base.specs.Months.{months_of}
+use Rattle.naive_base.specs.NaiveDate.{day_of, IsDateOn}
+use Rattle.naive_base.proofs.MonthDates.{months_found, mapped_none}
+use Rattle.naive_base.proofs.date.operators.NaiveDateAddMonths.add.Goals as goal
+
+pub unwrap-requires : goal.unwrap-requires
+unwrap-requires c =
+    months_found day_of IsDateOn (λ value e. sym e) (day_of c.args.self) (pos (months_of c.args.rhs))
+    c.checked_add_months.result c.requires c.checked_add_months.ensures

@@ -1,0 +1,117 @@
+//! The days around a date, and runs of days and weeks.
+ghost use Rattle.std.specs.Prelude.{◌≡◌, pos, ◌+ℤ◌, ◌-ℤ◌, ◌*ℤ◌, ◌<ℤ◌, ◌≤ℤ◌, MatchOption};
+ghost use Rattle.std.specs.Iterator.{at_most};
+ghost use Rattle.gregorian.specs.Year.{is_leap};
+ghost use Rattle.gregorian.specs.DateOf.{year_of};
+ghost use Rattle.offset_core.specs.Nanoseconds.{nanos_per_day};
+ghost use Rattle.offset_core.specs.TimeDelta.{nanos_of};
+ghost use Rattle.naive_base.specs.Range.{last_day};
+ghost use Rattle.naive_base.specs.NaiveDate.{day_of, IsDateOfDay};
+ghost use Rattle.naive_base.specs.Runs.{days_from, weeks_from, days_left, weeks_left};
+
+use crate::{Datelike, NaiveDate};
+use offset_core::TimeDelta;
+use std::iter::FusedIterator;
+
+impl NaiveDate {
+    /// Returns the next day, or `None` after the last day in range.
+    ///
+    /// The day after 2024-02-28 is 2024-02-29.
+    pub fn succ_opt(&self) -> Option<NaiveDate>
+        ensures { IsDateOfDay (day_of self.now +ℤ pos 1) result }
+    {
+        NaiveDate::in_range(self.number() + 1)
+    }
+
+    /// Returns the day before, or `None` before the first day in range.
+    pub fn pred_opt(&self) -> Option<NaiveDate>
+        ensures { IsDateOfDay (day_of self.now -ℤ pos 1) result }
+    {
+        NaiveDate::in_range(self.number() - 1)
+    }
+
+    /// Returns whether the year has a 29 February.
+    pub fn leap_year(&self) -> bool
+        ensures { result ≡ is_leap (year_of (day_of self.now)) }
+    {
+        gregorian::is_leap_year(self.year())
+    }
+
+    /// Returns the days from another date to this one, each of 24 hours, negative if this one is
+    /// earlier.
+    pub fn signed_duration_since(self, rhs: NaiveDate) -> TimeDelta
+        ensures { nanos_of result ≡ (day_of self -ℤ day_of rhs) *ℤ nanos_per_day }
+    {
+        TimeDelta::days(self.number() - rhs.number())
+    }
+
+    /// Returns this date and each day after it, in order. As in chrono, the last day in range
+    /// doesn't come.
+    ///
+    /// ```text
+    /// for date in first.iter_days().take(7) { .. }
+    /// ```
+    pub fn iter_days(&self) -> NaiveDateDaysIterator
+        ensures { days_from result ≡ day_of self.now }
+    {
+        NaiveDateDaysIterator { value: *self }
+    }
+
+    /// Returns this date and each date that is some weeks after it, in order, as long as the date a
+    /// week later is in range.
+    pub fn iter_weeks(&self) -> NaiveDateWeeksIterator
+        ensures { weeks_from result ≡ day_of self.now }
+    {
+        NaiveDateWeeksIterator { value: *self }
+    }
+}
+
+/// A date and the days after it. From [`NaiveDate::iter_days`].
+#[derive(Clone, Copy, PartialEq, Eq, PartialOrd, Ord, Hash, Debug)]
+pub struct NaiveDateDaysIterator {
+    value: NaiveDate,
+}
+
+/// A date and the dates that are some weeks after it. From [`NaiveDate::iter_weeks`].
+#[derive(Clone, Copy, PartialEq, Eq, PartialOrd, Ord, Hash, Debug)]
+pub struct NaiveDateWeeksIterator {
+    value: NaiveDate,
+}
+
+impl Iterator for NaiveDateDaysIterator {
+    type Item = NaiveDate;
+
+    ghost next_gives = { λ before item after. MatchOption item
+        ((last_day ≤ℤ days_from before) × (after ≡ before))
+        (λ date. (days_from before <ℤ last_day) × (day_of date ≡ days_from before)
+        × (days_from after ≡ days_from before +ℤ pos 1)) };
+
+    ghost remaining = { λ run. at_most (days_left run) };
+
+    fn next(&mut self) -> Option<NaiveDate> {
+        let date = self.value;
+        self.value = date.succ_opt()?;
+        Some(date)
+    }
+}
+
+impl Iterator for NaiveDateWeeksIterator {
+    type Item = NaiveDate;
+
+    ghost next_gives = { λ before item after. MatchOption item
+        ((last_day <ℤ (weeks_from before +ℤ pos 7)) × (after ≡ before))
+        (λ date. ((weeks_from before +ℤ pos 7) ≤ℤ last_day) × (day_of date ≡ weeks_from before)
+        × (weeks_from after ≡ weeks_from before +ℤ pos 7)) };
+
+    ghost remaining = { λ run. at_most (weeks_left run) };
+
+    fn next(&mut self) -> Option<NaiveDate> {
+        let date = self.value;
+        self.value = NaiveDate::in_range(date.number() + 7)?;
+        Some(date)
+    }
+}
+
+impl FusedIterator for NaiveDateDaysIterator {}
+
+impl FusedIterator for NaiveDateWeeksIterator {}

@@ -1,0 +1,143 @@
+//! Times moved by a length of time, past midnight too, and the time between two.
+ghost use Rattle.std.specs.Prelude.{◌≡◌, ◌<◌, pos, neg_ℤ, ◌*ℤ◌};
+ghost use Rattle.offset_core.specs.TimeDelta.{nanos_of};
+ghost use Rattle.naive_base.specs.Fields.{time_at};
+ghost use Rattle.naive_base.specs.NaiveTime.{second_of, fraction_of, time_of};
+ghost use Rattle.naive_base.specs.NaiveDateTime.{reading};
+ghost use Rattle.naive_base.specs.Reading.{reading_at, day_at, moved, difference};
+ghost use Rattle.naive_base.specs.Stamp.{of_secs};
+ghost use Rattle.naive_base.specs.Steps.Moves.{IsWithin};
+
+use crate::{NaiveDate, NaiveDateTime, NaiveTime};
+use offset_core::TimeDelta;
+use std::ops::{Add, AddAssign, Sub, SubAssign};
+
+impl NaiveTime {
+    /// Returns the time so much later, or earlier for a negative length, and the seconds of the
+    /// whole days that this passes over.
+    ///
+    /// A leap second counts as in [`NaiveDateTime::checked_add_signed`].
+    ///
+    /// ```text
+    /// 03:04:05 and 11 hours  (14:04:05, 0)
+    /// 03:04:05 and 23 hours  (02:04:05, 86_400)
+    /// 03:04:05 and -7 hours  (20:04:05, -86_400)
+    /// ```
+    pub fn overflowing_add_signed(&self, rhs: TimeDelta) -> (NaiveTime, i64)
+        ensures time { let day = reading_at (pos 0) (second_of self.now) (fraction_of self.now) in
+            time_of result.0 ≡ time_at (moved day (nanos_of rhs)) }
+        ensures days { let day = reading_at (pos 0) (second_of self.now) (fraction_of self.now) in
+            result.1 ≡ day_at (moved day (nanos_of rhs)) *ℤ pos 86_400 }
+    {
+        let (secs, frac) = self.on_epoch().moved(rhs.whole_nanoseconds());
+        time_and_days(secs, frac)
+    }
+
+    /// Returns the time so much earlier, or later for a negative length, and the seconds of the
+    /// whole days that this passes over, positive if it is earlier.
+    pub fn overflowing_sub_signed(&self, rhs: TimeDelta) -> (NaiveTime, i64)
+        ensures time { let day = reading_at (pos 0) (second_of self.now) (fraction_of self.now) in
+            time_of result.0 ≡ time_at (moved day (neg_ℤ (nanos_of rhs))) }
+        ensures days { let day = reading_at (pos 0) (second_of self.now) (fraction_of self.now) in
+            result.1 ≡ neg_ℤ (day_at (moved day (neg_ℤ (nanos_of rhs))) *ℤ pos 86_400) }
+    {
+        let (time, days) = self.overflowing_add_signed(-rhs);
+        (time, -days)
+    }
+
+    /// Returns the time from another time of the same day to this one, negative if this one is
+    /// earlier.
+    ///
+    /// A leap second counts as in [`NaiveDateTime::signed_duration_since`].
+    pub fn signed_duration_since(self, rhs: NaiveTime) -> TimeDelta
+        ensures { nanos_of result ≡ difference
+            (reading_at (pos 0) (second_of self) (fraction_of self))
+            (reading_at (pos 0) (second_of rhs) (fraction_of rhs)) }
+    {
+        self.on_epoch().signed_duration_since(rhs.on_epoch())
+    }
+
+    // The time on 1970-01-01.
+    fn on_epoch(&self) -> NaiveDateTime
+        ensures { reading result ≡ reading_at (pos 0) (second_of self.now) (fraction_of self.now) }
+    {
+        NaiveDate::default().and_time(*self)
+    }
+}
+
+// The time of day of a reading, and the seconds from 1970-01-01 to its day.
+fn time_and_days(secs: i64, frac: u32) -> (NaiveTime, i64)
+    requires second { IsWithin 100_000_000_000_000_000 secs }
+    requires fraction { frac < 2_000_000_000 }
+    ensures time { time_of result.0 ≡ time_at (of_secs secs frac) }
+    ensures days { result.1 ≡ day_at (of_secs secs frac) *ℤ pos 86_400 }
+{
+    let time = NaiveTime::of_second(secs, frac);
+    (time, secs - time.num_seconds_from_midnight() as i64)
+}
+
+/// [`NaiveTime::overflowing_add_signed`] without the days: after midnight the time goes on.
+impl Add<TimeDelta> for NaiveTime {
+    type Output = NaiveTime;
+
+    ghost add_gives = { λ time delta later. time_of later ≡ time_at
+        (moved (reading_at (pos 0) (second_of time) (fraction_of time)) (nanos_of delta)) };
+
+    fn add(self, rhs: TimeDelta) -> NaiveTime {
+        let (time, _) = self.overflowing_add_signed(rhs);
+        time
+    }
+}
+
+/// [`NaiveTime::overflowing_sub_signed`] without the days.
+impl Sub<TimeDelta> for NaiveTime {
+    type Output = NaiveTime;
+
+    ghost sub_gives = { λ time delta earlier. time_of earlier ≡ time_at
+        (moved (reading_at (pos 0) (second_of time) (fraction_of time)) (neg_ℤ (nanos_of delta))) };
+
+    fn sub(self, rhs: TimeDelta) -> NaiveTime {
+        let (time, _) = self.overflowing_sub_signed(rhs);
+        time
+    }
+}
+
+impl AddAssign<TimeDelta> for NaiveTime {
+    ghost add_assign_gives = { λ time delta later. time_of later ≡ time_at
+        (moved (reading_at (pos 0) (second_of time) (fraction_of time)) (nanos_of delta)) };
+
+    fn add_assign(&mut self, rhs: TimeDelta) {
+        *self = *self + rhs;
+    }
+}
+
+impl SubAssign<TimeDelta> for NaiveTime {
+    ghost sub_assign_gives = { λ time delta earlier. time_of earlier ≡ time_at
+        (moved (reading_at (pos 0) (second_of time) (fraction_of time)) (neg_ℤ (nanos_of delta))) };
+
+    fn sub_assign(&mut self, rhs: TimeDelta) {
+        *self = *self - rhs;
+    }
+}
+
+/// [`NaiveTime::signed_duration_since`].
+impl Sub for NaiveTime {
+    type Output = TimeDelta;
+
+    ghost sub_gives = { λ time other delta. nanos_of delta ≡ difference
+        (reading_at (pos 0) (second_of time) (fraction_of time))
+        (reading_at (pos 0) (second_of other) (fraction_of other)) };
+
+    fn sub(self, rhs: NaiveTime) -> TimeDelta {
+        self.signed_duration_since(rhs)
+    }
+}
+
+/// Midnight.
+impl Default for NaiveTime {
+    ghost is_default = { λ time. (second_of time ≡ 0) × (fraction_of time ≡ 0) };
+
+    fn default() -> NaiveTime {
+        NaiveTime::MIN
+    }
+}
