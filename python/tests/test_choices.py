@@ -195,21 +195,32 @@ def test_is_dst_of_each_row(drawn, flags, data):
         assert raised.value.row == wrong
 
 
-@pytest.mark.parametrize("name", ["America/New_York", "Australia/Lord_Howe", "Europe/London"])
-def test_is_dst_is_ambiguous_of_pandas(name):
-    """pandas' array for `ambiguous` has the DST flag. (Dublin's winter is its daylight saving time
-    in a tz database, and its summer in pytz.)"""
-    instants = pd.Series(pd.date_range("1990-01-01", "2030-01-01", freq="30min", tz="UTC"))
+@pytest.mark.parametrize(
+    "name", ["America/New_York", "Australia/Lord_Howe", "Europe/Dublin", "Africa/Casablanca"]
+)
+def test_flags_of_pandas(name):
+    """pandas' array for `ambiguous` is true for the first instant."""
+    instants = pd.Series(pd.date_range("1990-01-01", "2025-01-01", freq="30min", tz="UTC"))
     zone = Zone(name)
     types, locals_ = zone.types(instants), zone.to_local(instants)
-    theirs = locals_.dt.tz_localize(name, ambiguous=types["is_dst"].to_numpy()).dt.tz_convert("UTC")
+    folds = locals_.duplicated()
+    theirs = locals_.dt.tz_localize(name, ambiguous=~folds.to_numpy()).dt.tz_convert("UTC")
+    pd.testing.assert_series_equal(theirs, instants)
     for given_ in (
+        {"fold": folds},
         {"is_dst": types["is_dst"]},
         {"offset": types["offset"]},
-        {"fold": locals_.duplicated().to_numpy()},
     ):
         pd.testing.assert_series_equal(zone.localize(locals_, **given_), instants)
-    pd.testing.assert_series_equal(theirs, instants)
+
+
+def test_flags_of_dublin():
+    """Its winter time is the daylight saving time of the tz database."""
+    twice = pd.Series(pd.to_datetime(["2021-10-31 01:30"] * 2))
+    theirs = twice.dt.tz_localize("Europe/Dublin", ambiguous=[True, False]).dt.tz_convert("UTC")
+    dublin = Zone("Europe/Dublin")
+    pd.testing.assert_series_equal(dublin.localize(twice, fold=[0, 1]), theirs)
+    pd.testing.assert_series_equal(dublin.localize(twice, is_dst=[False, True]), theirs)
 
 
 def test_what_is_given_for_rows():

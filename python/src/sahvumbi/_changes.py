@@ -41,7 +41,7 @@ class Changes(NamedTuple):
     """The abbreviation from that second on."""
 
     def to_frame(self) -> pandas.DataFrame:
-        """A DataFrame with a row for each change. Seconds of datetime64 are told to be of UTC.
+        """Returns a DataFrame with a row for each change; `at` is in UTC if it has times.
 
         >>> from sahvumbi import Zone
         >>> paris = Zone("Europe/Paris")

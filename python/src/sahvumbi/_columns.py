@@ -1,8 +1,8 @@
 """Columns of time: what users hand over as int64 in one dimension, and answers in its form.
 
 A column counts units since 1970-01-01 00:00:00: seconds in an array of integers, and the unit of
-the type in one of datetime64. Units longer than a second become seconds, since an offset is told in
-seconds.
+the type in one of datetime64. Units longer than a second become seconds, since offsets are counted
+in seconds.
 """
 
 from __future__ import annotations
@@ -86,7 +86,7 @@ class Column:
         return self._times(values, None)
 
     def instants(self, values: Array, zone: Any = "UTC") -> Any:
-        """The answer of instants; those of pandas' types are told to be those of a zone."""
+        """The answer of instants; those of pandas' types and of datetime are in a zone."""
         return self._times(values, zone)
 
     def _times(self, values: Array, zone: Any) -> Any:

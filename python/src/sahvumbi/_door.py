@@ -1,6 +1,6 @@
 """The calls for C on numpy arrays. No other module knows them, nor how a zone is handed over.
 
-A zone is its bytes here, and each call reads them anew, which takes some microseconds: so a call
+A zone is its bytes here, and each call reads them again, which takes some microseconds: so a call
 should have some thousands of rows, and threads share nothing. Calls that take a handle open one and
 close it. What the calls promise is in crates/zoned_ffi/include/zoned_ffi.h.
 """

@@ -41,8 +41,7 @@ class Clocks:
 
     def __init__(self, door: Door, block: Block, choice: Choice):
         self.door, self.block, self.choice = door, block, choice
-        told = door.wall_clocks(block.seconds)
-        self.shown, self.first, self.last = told[:, 0], told[:, 1], told[:, 2]
+        self.shown, self.first, self.last = door.wall_clocks(block.seconds).T
         # The rows that become NaT, those that lose what is less than a second, and those that the
         # order of rows decides.
         self.lost = self.cut = self.open = np.empty(0, np.intp)
@@ -75,9 +74,9 @@ class Clocks:
     def _shift(self, skipped: Array) -> None:
         """Takes the offset before the gap for the rows that clocks skipped."""
         local_times = self.block.seconds[skipped]
-        told = self.door.resolved(SHIFT_FORWARD, REFUSE, local_times)
-        self.first[skipped] = self.last[skipped] = local_times - told["instant"]
-        outside = skipped[told["number"] != 0]
+        resolved = self.door.resolved(SHIFT_FORWARD, REFUSE, local_times)
+        self.first[skipped] = self.last[skipped] = local_times - resolved["instant"]
+        outside = skipped[resolved["number"] != 0]
         self.first[outside] = self.last[outside] = 0
         self._fail(outside, IS_OUT_OF_RANGE)
 

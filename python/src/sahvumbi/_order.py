@@ -33,8 +33,8 @@ def decide(column: Column, answers: Array, folds: Folds, groups: Optional[Array]
     row of its group.
 
     `answers` has the first instant of each row, and NaT for those that have no part in the order.
-    Raises `FoldError` at the first row that two such choices tell differently, or at the first row
-    up to which there is none.
+    Raises `FoldError` at the first row in which two such choices differ, or at the first row up to
+    which there is none.
     """
     faults = []
     for places, opens, last in _sequences(column, answers, folds, groups):

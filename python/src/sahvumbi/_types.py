@@ -45,7 +45,7 @@ class WallClocks(NamedTuple):
     last: npt.NDArray[Any]
     """The last one."""
     first_offset: npt.NDArray[Any]
-    """The offset at the first instant, as `Zone.offsets` tells it."""
+    """The offset at the first instant, as `Zone.offsets` returns it."""
     last_offset: npt.NDArray[Any]
     """The offset at the last one."""
 
@@ -54,7 +54,7 @@ class LocalTypes(NamedTuple):
     """The local time types in force at the instants of a column. Each field has its shape."""
 
     offset: npt.NDArray[Any]
-    """The offset, as `Zone.offsets` tells it; NaT for NaT."""
+    """The offset, as `Zone.offsets` returns it; NaT for NaT."""
     is_dst: npt.NDArray[np.bool_]
     """The DST flag: whether it is daylight saving time. False for NaT."""
     abbreviation: npt.NDArray[np.str_]

@@ -31,7 +31,7 @@ class Zone(Opened):
     NaT stays NaT. Questions are read where they are, if they are contiguous, aligned and of the
     machine's byte order, and are never written.
 
-    Where a row has no answer, an error tells the row, what stands there and why, and no row is
+    If a row has no answer, the call raises an error with the row, its value and why, and no row is
     answered.
 
     A zone is immutable. It can be pickled (with its bytes, so that it answers alike everywhere),
@@ -60,8 +60,8 @@ class Zone(Opened):
 
         They are seconds as int32, or timedelta64[s] for a column of times.
 
-        Times with a zone of their own are taken as the instants that they tell, and those without
-        as times of UTC. Raises `NoOffsetError` at an instant at which the zone has none: before the
+        Times with a zone of their own are the instants that they are in it, and those without are
+        times of UTC. Raises `NoOffsetError` at an instant at which the zone has none: before the
         year -2147483646 and after 2147483645, where the zone has a rule of two types.
 
         >>> Zone("America/New_York").offsets([1_615_705_199, 1_615_705_200])
@@ -88,8 +88,8 @@ class Zone(Opened):
     def to_local(self, instants: Any) -> Any:
         """Returns what the zone's clocks show at each instant: local times, which have no zone.
 
-        They are counted as the instants are. Times with a zone of their own are taken as the
-        instants that they tell, and those without as times of UTC. Raises `NoOffsetError` as
+        They are counted as the instants are. Times with a zone of their own are the
+        instants that they are in it, and those without are times of UTC. Raises `NoOffsetError` as
         `offsets` does, and `OutOfRangeError` where a local time doesn't fit the column's type.
 
         >>> from datetime import datetime
@@ -121,10 +121,10 @@ class Zone(Opened):
         is_nat = np.zeros(len(column), bool)
         abbreviations = np.empty(len(column), column.form.text)
         for block in column.blocks():
-            told = self._door.types(block.seconds)
-            self._must_have_offsets(block, told["offset"])
-            seconds[block.rows], is_dst[block.rows] = told["offset"], told["is_dst"] != 0
-            write_texts(told["abbreviation"], abbreviations[block.rows])
+            types = self._door.types(block.seconds)
+            self._must_have_offsets(block, types["offset"])
+            seconds[block.rows], is_dst[block.rows] = types["offset"], types["is_dst"] != 0
+            write_texts(types["abbreviation"], abbreviations[block.rows])
             if block.is_nat is not None:
                 is_nat[block.rows] = block.is_nat
         is_dst[is_nat], abbreviations[is_nat] = False, ""
@@ -205,7 +205,7 @@ class Zone(Opened):
 
         `fold` says what is taken for one that clocks showed several times: 'raise' a `FoldError`;
         'earliest' the first instant that shows it; 'latest' the last one; 'nat' NaT; 'infer' the
-        instant that the order of rows tells. For 'infer' rows are in order of time, and each row is
+        instant that the order of rows decides. For 'infer' rows are in order of time, and each row is
         a first or a last instant: where there is one choice of them by which no row comes before an
         earlier one, it is taken, and else `FoldError` is raised. (NaT has no part in the order.)
         `by`, a column of keys, makes it the order of the rows of each key.
@@ -270,12 +270,12 @@ class Zone(Opened):
         first, last = np.empty(len(column), np.int64), np.empty(len(column), np.int64)
         first_offset, last_offset = np.empty(len(column), np.int32), np.empty(len(column), np.int32)
         for block in column.blocks():
-            told = self._door.wall_clocks(block.seconds)
-            is_none = (told[:, 0] == NEVER) | (told[:, 0] == OUT_OF_RANGE)
-            shown[block.rows] = told[:, 0]
+            times, *ends = self._door.wall_clocks(block.seconds).T
+            is_none = (times == NEVER) | (times == OUT_OF_RANGE)
+            shown[block.rows] = times
             for offsets, its_offsets, its_instants in (
-                (told[:, 1], first_offset, first),
-                (told[:, 2], last_offset, last),
+                (ends[0], first_offset, first),
+                (ends[1], last_offset, last),
             ):
                 its_offsets[block.rows] = offsets
                 misfits = block.moved(-1, offsets, its_instants[block.rows])
