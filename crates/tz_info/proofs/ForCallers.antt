@@ -9,5 +9,5 @@ pub use Rattle.tz_info.proofs.PosixZoneLaws.{posix_zone_valid}
 pub use Rattle.tz_timeline.proofs.ForCallers.{le_is, le_true}
 pub use Rattle.tz_info.proofs.RuleLaws.{rule_year}
 pub use Rattle.tz_info.proofs.WallTimes.{wall_decided}
-pub use Rattle.tz_info.proofs.ZoneLaws.{type_once, type_not_refused, type_decided, type_listed}
+pub use Rattle.tz_info.proofs.ZoneLaws.{type_error_number, type_once, type_not_refused, type_decided, type_listed}
 pub use Rattle.tz_info.proofs.TextFits.{offset_fits}

@@ -6,10 +6,11 @@ use Rattle.std.proofs.lemmas.List.Sums.{length-filter, count_by-le-length}
 use mir.Val.{SFits}
 use Rattle.tz_base.specs.LocalTypes.{LocalType}
 use Rattle.tz_timeline.proofs.ForCallers.{le_true, le_false}
+use Rattle.tz_base.specs.Errors.{number_of}
 use Rattle.tz_info.specs.Leaps.{AreLeapSeconds, corrections, passed_count, correction_at, IsLeapTime, IsLeapTimeRefused}
 use Rattle.tz_info.specs.Lists.{last_else}
 use Rattle.tz_info.specs.Transitions.{passed, AreTransitions}
-use Rattle.tz_info.specs.Zones.{Zone, HasType, IsValid, RuleOrElse, IsRefusedBy, index_at, IsBeforeLast, IsFromLast, TypeAt, IsTypeRefused, by_leap_time, by_rule, IsRuleOrNone, IsTypeOf, zone_of_rule}
+use Rattle.tz_info.specs.Zones.{Zone, HasType, IsValid, RuleOrElse, IsRefusedBy, index_at, IsBeforeLast, IsFromLast, TypeAt, IsTypeRefused, type_error, by_leap_time, by_rule, IsRuleOrNone, IsTypeOf, zone_of_rule}
 use Rattle.tz_info.specs.declared.rule.transition_rule.TransitionRule.{TransitionRule}
 use Rattle.tz_info.specs.declared.zone.leap_second.LeapSecond.{LeapSecond}
 use Rattle.tz_info.specs.declared.zone.transition.Transition.{Transition}
@@ -121,6 +122,10 @@ decided_at z u x valid limits of_second =
         | inr refused ↦ inr (by_rule x of_second last refused)
       ]
     ]
+
+pub type_error_number : (z : Zone) (u : ℤ) (refused : IsTypeRefused z u) → number_of (type_error refused) ≡ 2
+type_error_number z u (by_leap_time some refused) = refl
+type_error_number z u (by_rule x of_second last refused) = refl
 
 pub type_decided : (z : Zone) (u : ℤ) → IsValid z → IsRuleOrNone z.rule → ((t : LocalType) × TypeAt z u t) ⊎ IsTypeRefused z u
 type_decided z u valid limits = elim (cases_lt 0 (length z.transitions)) [

@@ -31,13 +31,6 @@ pub all_hex_from : (digits : List ℕ) → ((k : ℕ) → k < length digits → 
 all_hex_from [] each = tt
 all_hex_from (c ∷ digits) each = (each 0 (omega arith), all_hex_from digits (λ k h. each (suc k) (omega (arith, h))))
 
-hex_decided : (digits : List ℕ) → Decides (are_hex digits) (AllDigits 16 digits)
-hex_decided [] = (λ _. tt, λ _. refl)
-hex_decided (c ∷ digits) = Decides-and _ _ (Decides-ltb (digit_value c) 16) (hex_decided digits)
-
-pub digits_spell : (digits : List ℕ) → Decides (spells_bytes digits) ((length digits % 2 ≡ 0) × AllDigits 16 digits)
-digits_spell digits = Decides-and _ _ (Decides-eqb (length digits % 2) 0) (hex_decided digits)
-
 -- ---- the crate `hex`
 small_letter : (c : ℕ) → 97 ≤ c → c < 103 → hex_digit_value c ≡ Some (digit_value c)
 small_letter c from to =

@@ -13,6 +13,7 @@ use Rattle.naive_base.specs.Reading.{Reading}
 use Rattle.naive_base.specs.declared.date.NaiveDate.{NaiveDate}
 use Rattle.naive_base.proofs.ForCallers.{date_in_years}
 use Rattle.tz_base.specs.Grammar.{Grammar, Spells}
+use Rattle.tz_base.specs.Tests.{between}
 use Rattle.zone_query.specs.Questions.{Query, Text, Data, At, Wall, Resolve, Show, Asks, IsBadLine, After, integer, next, date, local_time, text, data_of_file, at, resolve, wall, show, question, line}
 use Rattle.zone_query.specs.Steps.LineReading.{scan}
 use Rattle.zone_query.specs.declared.bad_line.BadLine.{BadLine}
@@ -33,12 +34,6 @@ asks_or_bad bytes = decided (scan line bytes) refl
     decided (Err fault) e = inr (λ query. not_scanned line bytes fault e query [])
 
 -- ---- dates and times
-pub at_most : (a b : ℕ) → Decides (nat_le a b) (a ≤ b)
-at_most a b = (λ t. grind (arith, nat_tests), λ le. grind (arith, nat_tests))
-
-pub day_exists : (y : ℤ) (m d : ℕ) → Decides (nat_le 1 d && nat_le d (days_in_month (is_leap y) m)) ((1 ≤ d) × (d ≤ days_in_month (is_leap y) m))
-day_exists y m d = Decides-and _ _ (at_most 1 d) (at_most d (days_in_month (is_leap y) m))
-
 year_in_range : (bytes rest : List ℕ) (y : ℤ) → Spells (integer 262_143 262_142) bytes y rest → IsYearInRange y
 unfolding integer
 year_in_range bytes rest y (inl (after, sign, (n, end, number, (value, same)))) = let limit = number.limit in rw value (omega (arith, ints, limit), omega (arith, ints, limit))
@@ -50,9 +45,7 @@ within max bytes rest n (u, after, space, number) = number.limit
 
 date_in_range : (bytes rest : List ℕ) (day : ℤ) → Spells date bytes day rest → IsDayInRange day
 unfolding date
-date_in_range bytes rest day (y, a, year, (m, b, month, (u, c, (some, one, stays), (d, e, number, (fits, value, same))))) =
-    let first = (at_most 1 m).0 some in
-    let exists = (day_exists y m d).0 fits in
+date_in_range bytes rest day (y, a, year, (m, b, month, (u, c, (first, one, stays), (d, e, number, (exists, value, same))))) =
     rw value (date_in_years y m d (year_in_range bytes a y year) (first, within 12 a b m month, exists.0, exists.1))
 
 time_in_range : (bytes rest : List ℕ) (l : Reading) → Spells local_time bytes l rest → IsInRange l.s
@@ -67,10 +60,10 @@ time_in_range bytes rest l (day, a, spelled, (h, b, hour, (min, c, minute, (s, d
 
 -- what the calendar says of the numbers
 pub dated : (y : ℤ) (m d : ℕ) (found : NaiveDate) → IsDateOf y m d (Some found) → (nat_le 1 d && nat_le d (days_in_month (is_leap y) m)) ≡ true
-dated y m d found h = (day_exists y m d).1 (h.1.2, h.1.3)
+dated y m d found h = (between 1 d (days_in_month (is_leap y) m)).decides.1 (h.1.2, h.1.3)
 
 pub undated : (y : ℤ) (m d : ℕ) → IsYearInRange y → 1 ≤ m → m ≤ 12 → IsDateOf y m d None → (nat_le 1 d && nat_le d (days_in_month (is_leap y) m)) ≡ false
-undated y m d year first last none = refuted (nat_le 1 d && nat_le d (days_in_month (is_leap y) m)) (day_exists y m d) (λ e. none year (first, last, e.0, e.1))
+undated y m d year first last none = refuted (nat_le 1 d && nat_le d (days_in_month (is_leap y) m)) (between 1 d (days_in_month (is_leap y) m)).decides (λ e. none year (first, last, e.0, e.1))
 
 -- what both grammars keep, their choice keeps
 after_word : {X : Type 0} (P : X → Type 0) (word : List ℕ) (g h : Grammar X) → ((bytes rest : List ℕ) (x : X) → Spells g bytes x rest → P x)

@@ -4,17 +4,17 @@ use Rattle.std.proofs.lemmas.Bool.Decides.{nat_tests}
 use Rattle.std.proofs.lemmas.Bool.{cases_lt}
 use Rattle.std.proofs.lemmas.List.{append-nil, length-append, take-append-drop, length-take}
 use Rattle.tz_base.specs.Fronts.{is_digit, run_of, after_run, value_from, number_within, int_at, exact_at, tag_at, optional_tag_at, AllOf, NoneFirst}
-use Rattle.tz_base.specs.Grammar.{Grammar, Nothing, Then, Marked, Ended, Byte, Run, Number, Exact, Rest, Refused, Check, Spells, IsRun, read}
+use Rattle.tz_base.specs.Grammar.{Grammar, Nothing, Then, Marked, Ended, Byte, Run, Number, Exact, Rest, Refused, Check, Spells, IsRun, checked, read}
 use Rattle.tz_base.specs.declared.error.Error.{Error}
 use Rattle.tz_base.specs.declared.error.Error.TheVariants.{UnexpectedEnd, MissingTag, ParseInt}
 use Rattle.tz_base.specs.declared.error.Expected.TheVariants.{Tag, OtherBytes, NumberWithinItsLimit}
-use Rattle.tz_base.specs.Refusals.{error}
+use Rattle.tz_base.specs.Refusals.{Refusal, error}
 use Rattle.tz_base.specs.Fronts as fronts
 use Rattle.tz_base.proofs.ForCallers.{lawful, run_splits, run_again, exact_cut}
 use Rattle.tz_base.proofs.RunLaws.{value_grows}
 use Rattle.zone_query.specs.declared.bad_line.BadLine.{BadLine}
 use Rattle.zone_query.specs.declared.bad_line.BadLine.TheVariants.{Unfinished, Hopeless}
-use Rattle.zone_query.specs.Steps.LineReading.{◌>>=◌, or_stop, or_unfinished, after_byte, if_some, scan}
+use Rattle.zone_query.specs.Steps.LineReading.{◌>>=◌, or_stop, or_unfinished, stop, after_byte, if_some, scan}
 
 -- ---- the same value as `read` gives, or none
 abbrev Same : {A : Type 0} → Result A BadLine → Result A Error → Type 0
@@ -56,6 +56,11 @@ same_byte tag (b ∷ bytes) = let some : nat_lt (length (b ∷ bytes)) 1 ≡ fal
     chosen true = refl
     chosen false = (MissingTag OtherBytes, refl)
 
+same_check : {X : Type 0} (passes : Bool) (refusal : Refusal) (v : X) (bytes : List ℕ)
+    → Same {A = X × List ℕ} (cond passes (Ok (v, bytes)) (Err (stop bytes))) (fronts.◌>>=◌ (checked passes refusal v) (λ x. Ok (x, bytes)))
+same_check true refusal v bytes = refl
+same_check false refusal v bytes = (error refusal, refl)
+
 pub same : {X : Type 0} (g : Grammar X) (bytes : List ℕ) → Same (scan g bytes) (read g bytes)
 same (Nothing v) bytes = refl
 same (Then g f) bytes = same_bind (scan g bytes) (read g bytes) (λ p. scan (f p.0) p.1) (λ p. read (f p.0) p.1) (same g bytes) (λ p. same (f p.0) p.1)
@@ -68,8 +73,7 @@ same (Number max) bytes = same_stop bytes (int_at max bytes)
 same (Exact count) bytes = same_unfinished (exact_at count bytes)
 same Rest bytes = refl
 same (Refused refusal) bytes = (error refusal, refl)
-same (Check true refusal v) bytes = refl
-same (Check false refusal v) bytes = (error refusal, refl)
+same (Check P test refusal v) bytes = same_check test.passes refusal v bytes
 
 -- ---- at the end of the bytes nothing is hopeless, and nothing is left
 abbrev Stops : {A : Type 0} → Result (A × List ℕ) BadLine → Type 0
@@ -85,6 +89,10 @@ stops_bind (Ok (x, b ∷ rest)) f h each = absurd h
 stops_bind (Err Unfinished) f h each = tt
 stops_bind (Err Hopeless) f h each = absurd h
 
+stops_check : {X : Type 0} (passes : Bool) (v : X) → Stops (cond passes (Ok (v, [])) (Err (stop [])))
+stops_check true v = tt
+stops_check false v = tt
+
 pub stops : {X : Type 0} (g : Grammar X) → Stops (scan g [])
 unfolding after_byte int_at exact_at
 stops (Nothing v) = tt
@@ -98,8 +106,7 @@ stops (Exact zero) = tt
 stops (Exact (suc count)) = let t : nat_lt 0 (suc count) ≡ true = grind (arith, nat_tests) in rw t tt
 stops Rest = tt
 stops (Refused refusal) = tt
-stops (Check true refusal v) = tt
-stops (Check false refusal v) = tt
+stops (Check P test refusal v) = stops_check test.passes v
 
 -- ---- what is read before the end is read also if more bytes follow, and what is hopeless stays so
 abbrev Onward : {A : Type 0} → List ℕ → Result (A × List ℕ) BadLine → Result (A × List ℕ) BadLine → Type 0
@@ -203,6 +210,11 @@ exact_onward count bytes more = elim (cases_lt (length bytes) count) [
       rw (t, u, cut.0, cut.1) (value_onward (take count bytes) (drop count bytes) more)
 ]
 
+check_onward : {X : Type 0} (passes : Bool) (v : X) (b : ℕ) (bytes more : List ℕ)
+    → Onward more (cond passes (Ok (v, b ∷ bytes)) (Err Hopeless)) (cond passes (Ok (v, b ∷ (bytes ++ more))) (Err Hopeless))
+check_onward true v b bytes more = refl
+check_onward false v b bytes more = refl
+
 pub onward : {X : Type 0} (g : Grammar X) (bytes more : List ℕ) → Onward more (scan g bytes) (scan g (bytes ++ more))
 unfolding after_byte
 onward g [] more = from_end more (scan g []) (scan g more) (stops g)
@@ -216,8 +228,7 @@ onward (Number max) (b ∷ bytes) more = number_onward max b bytes more
 onward (Exact count) (b ∷ bytes) more = exact_onward count (b ∷ bytes) more
 onward Rest (b ∷ bytes) more = tt
 onward (Refused refusal) (b ∷ bytes) more = refl
-onward (Check true refusal v) (b ∷ bytes) more = refl
-onward (Check false refusal v) (b ∷ bytes) more = refl
+onward (Check P test refusal v) (b ∷ bytes) more = check_onward test.passes v b bytes more
 
 -- ---- what callers use
 pub scanned : {X : Type 0} (g : Grammar X) (bytes : List ℕ) (x : X) (rest : List ℕ) → scan g bytes ≡ Ok (x, rest) → Spells g bytes x rest

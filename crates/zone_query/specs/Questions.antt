@@ -1,7 +1,8 @@
 -- What a line asks. The lines are one grammar: words are parted by exactly one space, and a text is all that follows the
 -- space after `text`.
-use Rattle.std.specs.Prelude.{ℕ, ℤ, pos, neg_ℤ, ◌-◌, ◌^◌, nat_le, Bool, true, false, ◌&&◌, List, [], ◌∷◌, codes}
-use Rattle.std.specs.Str.{is_utf8}
+use Rattle.std.specs.Prelude.{ℕ, ℤ, pos, neg_ℤ, ◌≤◌, ◌-◌, ◌^◌, Bool, true, false, List, [], ◌∷◌, codes}
+use Rattle.std.specs.Str.{IsUtf8, is_utf8}
+use Rattle.std.proofs.lemmas.Str.{IsUtf8-from_is_utf8, is_utf8-from_IsUtf8}
 use Rattle.offset_core.specs.declared.choice.Choice.{Choice}
 use Rattle.offset_core.specs.declared.choice.GapChoice.{GapChoice}
 use Rattle.offset_core.specs.declared.choice.GapChoice.TheVariants as gaps
@@ -14,8 +15,9 @@ use Rattle.naive_base.specs.Reading.{Reading, reading_at}
 use Rattle.naive_base.specs.Year.{is_leap}
 use Rattle.tz_base.specs.Grammar.{Grammar, Nothing, Marked, Ended, End, Byte, Number, Rest, Refused, Check, ◌>>=◌, ◌>>◌, Spells}
 use Rattle.tz_base.specs.Refusals.{Refusal, InvalidTzString}
+use Rattle.tz_base.specs.Tests.{Test, at_most, between}
 use Rattle.tz_base.specs.declared.error.Expected.TheVariants.{OtherBytes}
-use Rattle.zone_query.specs.Hex.{spells_bytes, bytes_of}
+use Rattle.zone_query.specs.Hex.{SpellBytes, bytes_test, bytes_of}
 
 -- a question: to read a TZ text or the bytes of a TZif file as the zone; for the type in force at a Unix time; for the
 -- types that are in force when a clock shows a local time, the seconds from 1970-01-01 00:00:00 on the clock, every day
@@ -93,9 +95,10 @@ unfoldable pub date : Grammar ℤ
 date = do
   y ← integer 262_143 262_142
   m ← next 12
-  Check (nat_le 1 m) bad (tt {0})
+  Check (1 ≤ m) (at_most 1 m) bad (tt {0})
   d ← next 31
-  Check (nat_le 1 d && nat_le d (days_in_month (is_leap y) m)) bad (day_number y m d)
+  let last = days_in_month (is_leap y) m
+  Check ((1 ≤ d) × (d ≤ last)) (between 1 d last) bad (day_number y m d)
 
 -- a date, an hour, a minute and a second, as the local time that a clock shows
 unfoldable pub local_time : Grammar Reading
@@ -123,15 +126,18 @@ choice = do
   Nothing (record { gap = in_gap; fold = in_fold })
 
 -- ---- what follows the first word of a line
+abbrev pub utf8_test : (bytes : List ℕ) → Test (IsUtf8 bytes)
+utf8_test bytes = record { passes = is_utf8 bytes; decides = (IsUtf8-from_is_utf8 bytes, is_utf8-from_IsUtf8 bytes) }
+
 unfoldable pub text : Grammar Query
 text = do
   bytes ← Rest
-  Check (is_utf8 bytes) bad (Text bytes)
+  Check (IsUtf8 bytes) (utf8_test bytes) bad (Text bytes)
 
 unfoldable pub data_of_file : Grammar Query
 data_of_file = do
   digits ← Rest
-  Check (spells_bytes digits) bad (Data (bytes_of digits))
+  Check (SpellBytes digits) (bytes_test digits) bad (Data (bytes_of digits))
 
 unfoldable pub at : Grammar Query
 at = do

@@ -1,5 +1,7 @@
-use Rattle.std.proofs.Common.{codes, inr, refl, to_z-of_z}
+use Rattle.std.proofs.Common.{ap, codes, inr, refl, ◌∙◌, to_z-of_z}
 use Rattle.std.proofs.lemmas.Result.{on_ok_weaker}
+use Rattle.tz_base.specs.Errors.{number_of}
+use Rattle.tz_info.proofs.ForCallers.{type_error_number}
 use Rattle.zone_query.specs.Answers.{refusal_text}
 use Rattle.zone_query.proofs.answer.tell_type.Goals as goal
 
@@ -10,5 +12,6 @@ pub returns-in-Err : goal.returns-in-Err
 returns-in-Err c =
     let fits = c.ranges.seconds in
     let refused = simp to_z-of_z at c.in-Err.ensures in
-    let written = rw (c.number.ensures, refused.0) at c.writeln-in-Err.ensures.bytes in
-    on_ok_weaker c.writeln-in-Err.result (λ bytes. (refusal_text 2, bytes, rw c.in-Some.is (inr (refused.1, refl)))) written
+    let number = ap number_of refused.1 ∙ type_error_number c.in-Some.zone.now c.args.seconds refused.0 in
+    let written = rw (c.number.ensures, number) at c.writeln-in-Err.ensures.bytes in
+    on_ok_weaker c.writeln-in-Err.result (λ bytes. (refusal_text 2, bytes, rw c.in-Some.is (inr (refused.0, refl)))) written
