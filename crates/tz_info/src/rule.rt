@@ -1,6 +1,7 @@
 //! The rule of a TZ text: one type for ever, or two that take turns each year.
 
 mod alternate;
+mod beside;
 mod changes;
 mod day;
 mod kinds;
@@ -10,6 +11,7 @@ mod transition_rule;
 mod wall_clock;
 
 pub use alternate::AlternateTime;
-pub(crate) use changes::{Beside, later_of};
+pub(crate) use beside::Beside;
+pub(crate) use changes::later_of;
 pub use day::{DayForm, RuleDay};
 pub use transition_rule::TransitionRule;

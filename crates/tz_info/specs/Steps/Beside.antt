@@ -3,7 +3,7 @@ use Rattle.std.specs.Prelude.{ℤ, ◌≤ℤ◌, ◌<ℤ◌}
 use Rattle.tz_base.specs.LocalTypes.{LocalType}
 use Rattle.tz_info.specs.Changes.{IsFirst, IsLast}
 use Rattle.tz_info.specs.Moments.{IsRuleTime}
-use Rattle.tz_info.specs.declared.rule.changes.Beside.{Beside}
+use Rattle.tz_info.specs.declared.rule.beside.Beside.{Beside}
 
 -- the second lies in the rule's years, and these are the last change at it or before it and the first one after it
 pub record IsBeside (in_force : ℤ → LocalType → Type 0) (u : ℤ) (b : Beside) : Type 0 where

@@ -3,13 +3,12 @@
 //! They do so at moments of the rule, and at a turn of the year where the one moment comes first in
 //! the old year, and the other one in the new. Every 400 years they do so alike.
 
-ghost use Rattle.std.specs.Prelude.{◌≡◌, ◌≤◌, pos, ◌+ℤ◌, length, ◌<ℤ◌, ◌-ℤ◌, ◌≤ℤ◌, IsTrue, ◌↔◌, FitsSigned, MatchOption, MatchResult, ⊤};
+ghost use Rattle.std.specs.Prelude.{◌≡◌, ◌≤◌, pos, ◌+ℤ◌, length, ◌<ℤ◌, ◌-ℤ◌, ◌≤ℤ◌, IsTrue, ◌↔◌, FitsSigned, MatchOption, MatchResult};
 ghost use Rattle.std.specs.Int.{w64};
 ghost use Rattle.tz_info.specs.Changes.{IsChange, HasNoChange, IsFirst, IsFirstChange, IsLast, IsLastChange};
 ghost use Rattle.tz_info.specs.Moments.{AlternateAt, IsRuleYear, IsRuleTime, IsYearOf, type_when};
 ghost use Rattle.tz_info.specs.Rules.{IsAlternateRule};
 ghost use Rattle.tz_info.specs.Steps.Changes.{IsIdle, IsIdleUntil, IsInStretch, IsEarlierOf, IsLaterOf, IsNearRuleTime, IsNearest, IsOfYear, IsOneOf, moments_near, near_end, new_year, year_at};
-ghost use Rattle.tz_info.specs.Steps.Beside.{IsBeside};
 ghost use Rattle.tz_info.specs.Steps.Seasons.{IsAmid, IsDecidedIn, IsSeason};
 
 use crate::change::{change_between, nearer};
@@ -29,13 +28,6 @@ const LAST_RULE_YEAR: i64 = 2_147_483_645;
 struct Stretch {
     after: i64,
     last: i64,
-}
-
-// The last change up to a second, and the first one after it.
-#[derive(Clone, Copy)]
-pub(crate) struct Beside {
-    pub(crate) previous: Option<Change>,
-    pub(crate) next: Option<Change>,
 }
 
 impl Stretch {
@@ -65,7 +57,7 @@ impl AlternateTime {
     }
 
     // The same where the second's year does not tell it.
-    fn next_change_behind(&self, after: i64) -> Option<Change>
+    pub(super) fn next_change_behind(&self, after: i64) -> Option<Change>
         ensures { IsFirst (AlternateAt self.now) (λ u. after <ℤ u) result }
     {
         match self.next_change_near(after) {
@@ -99,7 +91,7 @@ impl AlternateTime {
 
     // The same by the season's moments, where these decide at the second.
     #[inline(always)]
-    fn next_change_amid(&self, season: Season, after: i64) -> Result<Change, i64>
+    pub(super) fn next_change_amid(&self, season: Season, after: i64) -> Result<Change, i64>
         requires season { IsSeason self.now season }
         requires time { IsRuleTime after }
         requires decides { IsDecidedIn season after }
@@ -150,7 +142,7 @@ impl AlternateTime {
     }
 
     // The same where the second's year does not tell it.
-    fn previous_change_before(&self, last: i64) -> Option<Change>
+    pub(super) fn previous_change_before(&self, last: i64) -> Option<Change>
         ensures { IsLast (AlternateAt self.now) (λ u. u ≤ℤ last) result }
     {
         match self.previous_change_near(last) {
@@ -184,7 +176,7 @@ impl AlternateTime {
 
     // The same by the season's moments, where these decide at the second.
     #[inline(always)]
-    fn previous_change_amid(&self, season: Season, last: i64) -> Result<Change, i64>
+    pub(super) fn previous_change_amid(&self, season: Season, last: i64) -> Result<Change, i64>
         requires season { IsSeason self.now season }
         requires time { IsRuleTime last }
         requires decides { IsDecidedIn season last }
@@ -199,51 +191,6 @@ impl AlternateTime {
         match self.change_amid(season, moment) {
             Some(change) => Ok(change),
             None => Err(moment - 1),
-        }
-    }
-
-    // The changes on both sides of the second, if its year's moments decide at it.
-    #[inline(always)]
-    pub(crate) fn changes_beside(&self, second: i64) -> Option<Beside>
-        ensures { MatchOption result ⊤ (IsBeside (AlternateAt self.now) second) }
-    {
-        if !is_rule_time(second) {
-            return None;
-        }
-        let season = self.season(second);
-        if !season.decides(second) {
-            return None;
-        }
-        let previous = self.previous_change_from(season, second);
-        let next = self.next_change_from(season, second);
-        Some(Beside { previous, next })
-    }
-
-    // The last change up to that second, by the season's moments or by those of earlier years.
-    #[inline(always)]
-    fn previous_change_from(&self, season: Season, last: i64) -> Option<Change>
-        requires season { IsSeason self.now season }
-        requires time { IsRuleTime last }
-        requires decides { IsDecidedIn season last }
-        ensures { IsLast (AlternateAt self.now) (λ u. u ≤ℤ last) result }
-    {
-        match self.previous_change_amid(season, last) {
-            Ok(change) => Some(change),
-            Err(second) => self.previous_change_before(second),
-        }
-    }
-
-    // The first change after that second, by the season's moments or by those of later years.
-    #[inline(always)]
-    fn next_change_from(&self, season: Season, after: i64) -> Option<Change>
-        requires season { IsSeason self.now season }
-        requires time { IsRuleTime after }
-        requires decides { IsDecidedIn season after }
-        ensures { IsFirst (AlternateAt self.now) (λ u. after <ℤ u) result }
-    {
-        match self.next_change_amid(season, after) {
-            Ok(change) => Some(change),
-            Err(second) => self.next_change_behind(second),
         }
     }
 
