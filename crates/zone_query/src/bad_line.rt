@@ -4,7 +4,7 @@ ghost use Rattle.std.specs.Prelude.{◌≡◌};
 ghost use Rattle.zone_query.specs.Steps.LineReading.{stop};
 
 /// Why a line asks nothing.
-#[derive(Clone, Copy)]
+#[derive(Drop)]
 pub enum BadLine {
     /// It ends too early: a line that goes on from it may ask something.
     Unfinished,
