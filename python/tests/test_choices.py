@@ -246,6 +246,32 @@ def test_meters_one_after_another():
     pd.testing.assert_series_equal(answer, expected[mixed.index])
 
 
+@settings(max_examples=300)
+@given(COLUMNS, st.data())
+def test_infer_with_nat_between(drawn, data):
+    """As without NaT, but for the numbers of rows."""
+    lists, locals_ = drawn
+    if data.draw(st.booleans()):
+        locals_ = [instant + lists.offset(instant) for instant in sorted(locals_)]
+    places = sorted(data.draw(st.sets(st.integers(0, 19), min_size=len(locals_), max_size=20)))
+    places = places[: len(locals_)]
+    clocks, short = np.full(20, "NaT", "M8[s]"), np.array(locals_, "M8[s]")
+    clocks[places] = short
+    zone = Zone.from_bytes(lists.file())
+    for by in (None, [0] * 20):
+        try:
+            expected = zone.localize(short, "shift", "infer")
+        except sahvumbi.FoldError as error:
+            with pytest.raises(sahvumbi.FoldError) as raised:
+                zone.localize(clocks, "shift", "infer", by=by)
+            assert raised.value.row == places[error.row]
+            assert raised.value.words == error.words
+        else:
+            answers = zone.localize(clocks, "shift", "infer", by=by)
+            np.testing.assert_array_equal(answers[places], expected)
+            assert np.isnat(np.delete(answers, places)).all()
+
+
 def test_infer_passes_over_nat():
     clocks = column("NaT", "2021-11-07T01:50", "NaT", "2021-11-07T01:10", GAP)
     expected = column("NaT", "2021-11-07T05:50", "NaT", "2021-11-07T06:10", "NaT")
@@ -257,9 +283,13 @@ def test_infer_passes_over_nat():
 def test_infer_takes_little_memory():
     tracemalloc = pytest.importorskip("tracemalloc")
     rows = 1_000_000
-    local = NEW_YORK.to_local(np.arange(1_600_000_000, 1_600_000_000 + 60 * rows, 60))
-    tracemalloc.start()
-    NEW_YORK.localize(local, fold="infer")
-    peak = tracemalloc.get_traced_memory()[1]
-    tracemalloc.stop()
-    assert peak < (8 + 16) * rows
+    instants = np.arange(1_600_000_000, 1_600_000_000 + 60 * rows, 60).astype("M8[s]")
+    local = NEW_YORK.to_local(instants)
+    with_nat = local.copy()
+    with_nat[::1_000] = "NaT"
+    for clocks in (local, with_nat):
+        tracemalloc.start()
+        NEW_YORK.localize(clocks, fold="infer")
+        peak = tracemalloc.get_traced_memory()[1]
+        tracemalloc.stop()
+        assert peak < (8 + 16) * rows
