@@ -5,7 +5,7 @@
 #
 # It needs crates/zoned_ffi/out/libzoned_ffi.a, which `rt lib` builds in crates/zoned_ffi, gcc, and
 # Debian's packages below, for Debian's own python3. What of them is missing is installed by
-# apt-get, as root. Nothing else is fetched. It tries, in a minute or less,
+# apt-get, as root. Nothing else is fetched. It tries, in two minutes or less,
 #
 # - the lines of python/README.md that build the library and install the package, in an environment
 #   of its own;

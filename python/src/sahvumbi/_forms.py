@@ -120,7 +120,8 @@ class IndexForm(SeriesForm):
         return pandas.DataFrame(columns._asdict(), index=self.of, copy=False)
 
     def _instants(self, values: Array, unit: str, zone: Any) -> Any:
-        return self.plain(values.view(f"M8[{unit}]")).tz_localize("UTC").tz_convert(zone)
+        aware = self.plain(values.view(f"M8[{unit}]")).tz_localize("UTC")
+        return aware if zone == "UTC" else aware.tz_convert(zone)
 
 
 class TimestampForm(ArrayForm):

@@ -10,7 +10,7 @@ import numpy as np
 
 from ._columns import GREATEST, Column
 from ._forms import EPOCH, NAT, Array, ArrayForm, DatetimeForm, IndexForm, SeriesForm, TimestampForm
-from .errors import OUT_OF_RANGE, OutOfRangeError, printable
+from .errors import OUT_OF_RANGE, OutOfRangeError
 
 SECONDS = {"m": 60, "h": 3_600, "D": 86_400, "W": 604_800}
 # Numbers of months and years that numpy turns into seconds without leaving 64 bits.

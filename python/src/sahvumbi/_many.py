@@ -6,6 +6,7 @@ from typing import Any, Callable, Iterator, Mapping, Sequence, Union
 
 import numpy as np
 
+from ._asked import local_times
 from ._choice import chosen, factorized, row_by_row
 from ._columns import Column
 from ._forms import Array
@@ -62,7 +63,7 @@ def to_local_many(zones: Zones, codes: Any, instants: Any) -> Any:
     column = taken(instants, may_be_aware=True)
 
     def ask(zone: Zone, places: Array) -> Array:
-        return zone._local_times(column.part(places))
+        return local_times(zone._door, column.part(places))
 
     return column.local_times(_answered(zones, codes, column, ask))
 

@@ -40,8 +40,8 @@ class Opened:
     def from_file(cls: type[Self], path: Union[str, os.PathLike[str]]) -> Self:
         """Returns the zone of a TZif file (RFC 8536, versions 1 to 3).
 
-        No more is read of the file than its headers say, and no pipe is waited for. Raises
-        `ZoneRefusedError` if it is no such file, and OSError if it can't be read.
+        Of the file no more is read than its headers say and a footer of 64 KB. No pipe is waited
+        for. Raises `ZoneRefusedError` if it is no such file, and OSError if it can't be read.
         """
         name = os.fspath(path)
         return cls._of(FILE, bytes_of_file(path), name, None, f"Zone.from_file({name!r})")

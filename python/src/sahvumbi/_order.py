@@ -2,7 +2,7 @@
 
 from __future__ import annotations
 
-from typing import Iterator, NamedTuple, Optional
+from typing import Any, Callable, Iterator, NamedTuple, Optional
 
 import numpy as np
 
@@ -37,41 +37,59 @@ def decide(column: Column, answers: Array, folds: Folds, groups: Optional[Array]
     which there is none.
     """
     faults = []
-    for places, opens, last in _sequences(column, answers, folds, groups):
-        instants, fault = _decided(answers[places], opens, last)
+    for sequence in _sequences(column, answers, folds, groups):
+        instants, fault = _decided(sequence.first, sequence.opens, sequence.last)
         if fault is None:
-            rows = opens if isinstance(places, slice) else places[opens]
-            answers[rows] = instants
+            answers[sequence.rows(sequence.opens)] = instants
         else:
-            row = fault.row if isinstance(places, slice) else int(places[fault.row])
-            faults.append(Undecided(row, fault.words))
+            faults.append(Undecided(int(sequence.rows(fault.row)), fault.words))
     if faults:
         row, words = min(faults)
         raise column.error(FoldError, row, FOLD, words)
 
 
+class Sequence(NamedTuple):
+    """Rows that are in order: their first instants, the places in them that are open, with the last
+    instants of those, and what gives the rows of places."""
+
+    first: Array
+    opens: Array
+    last: Array
+    rows: Callable[[Any], Any]
+
+
 def _sequences(
     column: Column, answers: Array, folds: Folds, groups: Optional[Array]
-) -> Iterator[tuple[slice | Array, Array, Array]]:
-    """The rows of each group that has a fold, and which of them are open, with their last
-    instants."""
-    is_kept = answers != NAT if column.has_nat else None
+) -> Iterator[Sequence]:
+    """The rows of each group that has a fold, but for those without an instant."""
+    left_out = np.flatnonzero(answers == NAT) if column.has_nat else np.empty(0, np.intp)
     if groups is None:
-        if is_kept is None or is_kept.all():
-            yield slice(None), folds.rows, folds.last
-            return
-        places = np.flatnonzero(is_kept)
-        yield places, np.searchsorted(places, folds.rows), folds.last
+        yield _but_for(left_out, answers, folds)
         return
     order = np.argsort(groups, kind="stable")
-    if is_kept is not None:
-        order = order[is_kept[order]]
+    if left_out.size:
+        order = order[answers[order] != NAT]
     ends = np.cumsum(np.bincount(groups[order], minlength=int(groups.max()) + 1))
     by_group = np.argsort(groups[folds.rows], kind="stable")
     found, begins = np.unique(groups[folds.rows][by_group], return_index=True)
     for group, mine in zip(found.tolist(), np.split(by_group, begins[1:])):
         places = order[ends[group - 1] if group else 0 : ends[group]]
-        yield places, np.searchsorted(places, folds.rows[mine]), folds.last[mine]
+        opens = np.searchsorted(places, folds.rows[mine])
+        yield Sequence(answers[places], opens, folds.last[mine], places.__getitem__)
+
+
+def _but_for(left_out: Array, answers: Array, folds: Folds) -> Sequence:
+    """All rows but those that are left out: a list of the others would be long."""
+    if not left_out.size:
+        return Sequence(answers, folds.rows, folds.last, lambda places: places)
+    # How many rows are kept before each that is left out.
+    kept = left_out - np.arange(left_out.size)
+    return Sequence(
+        np.delete(answers, left_out),
+        folds.rows - np.searchsorted(left_out, folds.rows),
+        folds.last,
+        lambda places: places + np.searchsorted(kept, places, side="right"),
+    )
 
 
 def _decided(first: Array, opens: Array, last: Array) -> tuple[Array, Optional[Undecided]]:

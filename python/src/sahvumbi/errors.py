@@ -90,7 +90,7 @@ class RowError(ZoneError):
     """A row that has no answer. No row is answered then.
 
     `row` is its place from 0 on, in the order of the rows (of an array of several dimensions in C
-    order), `value` is what the column has there, and `label` is its label in the index of a pandas Series,
+    order), `value` is what the column has there, and `label` is its label in the index of a Series,
     else None. Of an end of a stretch `row` is None, and `label` the end's name.
     """
 

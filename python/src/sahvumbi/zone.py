@@ -6,19 +6,14 @@ from datetime import datetime
 from typing import Any, Literal, Union, overload
 from zoneinfo import ZoneInfo
 
-import numpy as np
-
+from . import _asked as asked
 from ._changes import Changes, Time, of_stretch
 from ._choice import chosen
-from ._columns import Block, Column
-from ._door import NEVER, NO_OFFSET, ONCE, OUT_OF_RANGE, SEVERAL_TIMES
-from ._forms import NAT, Array, Failures
+from ._forms import Array, Failures
 from ._inputs import taken
 from ._localize import localized
 from ._opening import Opened
 from ._types import Fold, Gap, Labelled, Labels, LocalTypes, Moment, Rows, Single, Times, WallClocks
-from .errors import NO_OFFSET as HAS_NO_OFFSET
-from .errors import NoOffsetError
 
 
 class Zone(Opened):
@@ -67,14 +62,7 @@ class Zone(Opened):
         >>> Zone("America/New_York").offsets([1_615_705_199, 1_615_705_200])
         array([-18000, -14400], dtype=int32)
         """
-        column = taken(instants, may_be_aware=True)
-        seconds = np.empty(len(column), np.int32)
-        is_nat = np.zeros(len(column), bool)
-        for block in column.blocks():
-            seconds[block.rows] = self._offsets_of(block)
-            if block.is_nat is not None:
-                is_nat[block.rows] = block.is_nat
-        return column.offsets(seconds, is_nat)
+        return asked.offsets(self._door, taken(instants, may_be_aware=True))
 
     @overload
     def to_local(self, instants: Rows) -> Array: ...
@@ -97,7 +85,7 @@ class Zone(Opened):
         datetime.datetime(2021, 7, 1, 17, 30)
         """
         column = taken(instants, may_be_aware=True)
-        return column.local_times(self._local_times(column))
+        return column.local_times(asked.local_times(self._door, column))
 
     @overload
     def types(self, instants: Union[Rows, Single, datetime]) -> LocalTypes: ...
@@ -116,43 +104,7 @@ class Zone(Opened):
         >>> types.abbreviation
         array(['EST', 'EDT'], dtype='<U7')
         """
-        column = taken(instants, may_be_aware=True)
-        seconds, is_dst = np.empty(len(column), np.int32), np.empty(len(column), bool)
-        is_nat = np.zeros(len(column), bool)
-        abbreviations = np.empty(len(column), column.form.text)
-        for block in column.blocks():
-            types = self._door.types(block.seconds)
-            self._must_have_offsets(block, types["offset"])
-            seconds[block.rows], is_dst[block.rows] = types["offset"], types["is_dst"] != 0
-            write_texts(types["abbreviation"], abbreviations[block.rows])
-            if block.is_nat is not None:
-                is_nat[block.rows] = block.is_nat
-        is_dst[is_nat], abbreviations[is_nat] = False, ""
-        offsets = column.offsets(seconds, is_nat)
-        return column.form.table(
-            LocalTypes(offsets, column.plain(is_dst), column.plain(abbreviations))
-        )
-
-    def _local_times(self, column: Column) -> Array:
-        answers = np.empty(len(column), np.int64)
-        is_least_no_number = column.has_nat or not (column.values == NAT).any()
-        if is_least_no_number and self._door.local_times(column.per_second, column.values, answers):
-            return answers
-        for block in column.blocks():
-            misfits = block.moved(1, self._offsets_of(block), answers[block.rows])
-            if misfits.size:
-                raise column.misfit(block.start + int(misfits[0]))
-        return answers
-
-    def _offsets_of(self, block: Block) -> Array:
-        offsets = self._door.offsets(block.seconds)
-        self._must_have_offsets(block, offsets)
-        return offsets
-
-    def _must_have_offsets(self, block: Block, offsets: Array) -> None:
-        if int(offsets.min()) == NO_OFFSET:
-            row = block.start + int(offsets.argmin())
-            raise block.column.error(NoOffsetError, row, HAS_NO_OFFSET)
+        return asked.types(self._door, taken(instants, may_be_aware=True))
 
     # Local times
 
@@ -205,8 +157,8 @@ class Zone(Opened):
 
         `fold` says what is taken for one that clocks showed several times: 'raise' a `FoldError`;
         'earliest' the first instant that shows it; 'latest' the last one; 'nat' NaT; 'infer' the
-        instant that the order of rows decides. For 'infer' rows are in order of time, and each row is
-        a first or a last instant: where there is one choice of them by which no row comes before an
+        instant that the order of rows decides. For 'infer' rows are in order of time, and each row
+        is a first or a last instant: if there is one choice of them by which no row comes before an
         earlier one, it is taken, and else `FoldError` is raised. (NaT has no part in the order.)
         `by`, a column of keys, makes it the order of the rows of each key.
 
@@ -265,35 +217,7 @@ class Zone(Opened):
         >>> explained.last_offset
         array([     0, -18000], dtype=int32)
         """
-        column = taken(local_times, may_be_aware=False)
-        shown = np.empty(len(column), np.int8)
-        first, last = np.empty(len(column), np.int64), np.empty(len(column), np.int64)
-        first_offset, last_offset = np.empty(len(column), np.int32), np.empty(len(column), np.int32)
-        for block in column.blocks():
-            times, *ends = self._door.wall_clocks(block.seconds).T
-            is_none = (times == NEVER) | (times == OUT_OF_RANGE)
-            shown[block.rows] = times
-            for offsets, its_offsets, its_instants in (
-                (ends[0], first_offset, first),
-                (ends[1], last_offset, last),
-            ):
-                its_offsets[block.rows] = offsets
-                misfits = block.moved(-1, offsets, its_instants[block.rows])
-                if misfits.size:
-                    raise column.misfit(block.start + int(misfits[0]))
-                its_instants[block.rows][is_none] = NAT if column.has_nat else 0
-            if block.is_nat is not None:
-                shown[block.rows][block.is_nat] = -1
-        is_none = (shown != ONCE) & (shown != SEVERAL_TIMES)
-        return column.form.table(
-            WallClocks(
-                column.plain(shown),
-                column.instants(first),
-                column.instants(last),
-                column.offsets(first_offset, is_none),
-                column.offsets(last_offset, is_none),
-            )
-        )
+        return asked.explained(self._door, taken(local_times, may_be_aware=False))
 
     # Changes
 
@@ -310,6 +234,7 @@ class Zone(Opened):
         and `OutOfRangeError` if one doesn't fit 64 bits of seconds. A rule has some two changes in
         a year, and those of all 64 bits are 8.6 billion, so give a stretch that can be listed.
 
+        >>> import numpy as np
         >>> new_york = Zone("America/New_York")
         >>> changes = new_york.changes(np.datetime64("2021-01-01"), np.datetime64("2022-01-01"))
         >>> changes.at
@@ -321,17 +246,6 @@ class Zone(Opened):
         array([-14400, -18000], dtype=int32)
         """
         return of_stretch(self._door, from_, to)
-
-
-def write_texts(words: Array, out: Array) -> None:
-    """Writes short words as texts, of which there are few different ones: each is made once."""
-    numbers = np.ascontiguousarray(words).view(np.int64)
-    is_left = np.ones(words.size, bool)
-    while is_left.any():
-        first = int(is_left.argmax())
-        same = numbers == numbers[first]
-        out[same] = words[first].decode()
-        is_left &= ~same
 
 
 def zone_of_answer(tz: Any) -> Any:
