@@ -1,6 +1,6 @@
 //! Dates: the days around them, weeks, and dates by other names.
 
-use naive_base::{Days, Month, NaiveDate, Weekday};
+use naive_base::{Days, Month, NaiveDate, NaiveDateTime, Weekday};
 use offset_core::TimeDelta;
 use std::alloc::{AllocError, Global};
 
@@ -75,4 +75,32 @@ pub fn year_day() -> NaiveDate {
 pub fn month_end(year: i32, month: Month) -> Option<NaiveDate> {
     let days = month.num_days(year)?;
     NaiveDate::from_ymd_opt(year, month.number_from_month(), days as u32)
+}
+
+/// When something takes place.
+#[derive(Clone, Copy)]
+pub enum When {
+    AllDay { first: NaiveDate, days: u32 },
+    At(NaiveDateTime),
+}
+
+/// With a guard in place of a literal, `days: 1`, which isn't covered beside a date.
+pub fn single_day(when: When) -> Option<NaiveDate> {
+    match when {
+        When::AllDay { first, days } if days == 1 => Some(first),
+        _ => None,
+    }
+}
+
+/// In place of a guard, `Some(next) if next <= until`, which isn't covered over a date.
+pub fn is_due(next: Option<NaiveDate>, until: NaiveDate) -> bool {
+    next.is_some_and(|next| next <= until)
+}
+
+/// The same by `let .. else`.
+pub fn due_date(next: Option<NaiveDate>, until: NaiveDate) -> Option<NaiveDate> {
+    let Some(next) = next else {
+        return None;
+    };
+    if next <= until { Some(next) } else { None }
 }
