@@ -1,5 +1,5 @@
 -- The month so many months from a day's has the day of the month, or its own last one.
-use Rattle.std.proofs.Common.{◌≡◌, refl, subst, inl, ℕ, ◌≤◌, arith, ℤ, min}
+use Rattle.std.proofs.Common.{◌≡◌, refl, subst, inl, arith, ℤ, min}
 use Rattle.std.proofs.Math.Nat.{le-min, min-le_right}
 use Rattle.gregorian.specs.Date.{IsDate}
 use Rattle.gregorian.specs.DateOf.{day_of_month}

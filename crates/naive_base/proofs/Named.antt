@@ -1,18 +1,17 @@
 -- Days of ISO weeks, and the n-th weekday of a month.
-use Rattle.std.proofs.Common.{◌≡◌, ◌∙◌, sym, ap, subst, refl, ℕ, ◌+◌, ◌-◌, ◌*◌, ◌/◌, ◌%◌, ◌<◌, ◌≤◌, arith, ℤ, pos, ◌+ℤ◌, ◌-ℤ◌, ◌≤ℤ◌, ◌<ℤ◌}
+use Rattle.std.proofs.Common.{◌≡◌, ◌∙◌, sym, ap, subst, refl, ℕ, ◌+◌, ◌-◌, ◌*◌, ◌/◌, ◌%◌, ◌<◌, ◌≤◌, arith, ℤ, pos, ◌+ℤ◌, ◌-ℤ◌}
 use Rattle.gregorian.specs.Date.{IsDate, day_number}
 use Rattle.gregorian.specs.DateOf.{year_of, day_of_year, month_of, day_of_month}
 use Rattle.gregorian.specs.Weekdays.{weekday_of}
 use Rattle.gregorian.specs.Weeks.{IsThursdayOf}
 use Rattle.gregorian.specs.Year.{year_start, days_in_year, LiesIn}
 use Rattle.gregorian.proofs.ForCallers.{floors, floor_mod_parts, date_is, date_only, number_at, weekday_later, weekday_below, lies_in, one_year, year_step, day_of_year_is}
-use Rattle.std.specs.Prelude.{Option, Some, None, MatchOption, IsSome}
-use Rattle.gregorian.specs.Month.{days_in_month}
+use Rattle.std.specs.Prelude.{Option, Some, None, MatchOption, IsSome, true, false}
 use Rattle.gregorian.specs.Year.{is_leap}
-use Rattle.gregorian.proofs.ForCallers.{month_bounds, days_at_least}
-use Rattle.naive_base.specs.Named.{IsWeekdayOfMonth, IsThursdayOfWeek, IsDayOfIsoWeek}
+use Rattle.gregorian.proofs.ForCallers.{month_bounds}
+use Rattle.naive_base.specs.Named.{IsWeekdayOfMonth, IsThursdayOfWeek, IsDayOfIsoWeek, is_earlier_in_year, whole_years}
 use Rattle.naive_base.specs.NaiveDate.{day_of, IsDateOf, IsDateOfDay}
-use Rattle.naive_base.specs.Range.{IsYearInRange, IsInnerYear, IsInnerDay, IsDayInRange}
+use Rattle.naive_base.specs.Range.{IsYearInRange, IsInnerDay, IsDayInRange}
 use Rattle.naive_base.specs.declared.date.NaiveDate.{NaiveDate}
 use Rattle.naive_base.specs.Weekday.{weekday_number}
 use Rattle.naive_base.specs.declared.weekday.Weekday.{Weekday}
@@ -129,6 +128,16 @@ week_start day f w h e =
     let here = floor_mod_parts (day +ℤ pos 4) 7 (omega arith) in
     let there = floor_mod_parts (f +ℤ pos 4) 7 (omega arith) in
     omega (arith, floors, e)
+
+-- Whole years by the two cases of the month and the day.
+
+pub years_early : (day base : ℤ) → is_earlier_in_year (month_of day) (day_of_month day) (month_of base) (day_of_month base) ≡ true
+    → whole_years day base ≡ year_of day -ℤ year_of base -ℤ pos 1
+years_early day base e = rw e refl
+
+pub years_late : (day base : ℤ) → is_earlier_in_year (month_of day) (day_of_month day) (month_of base) (day_of_month base) ≡ false
+    → whole_years day base ≡ year_of day -ℤ year_of base -ℤ pos 0
+years_late day base e = rw e refl
 
 -- The answers of the calls.
 

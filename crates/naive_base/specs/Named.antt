@@ -1,5 +1,5 @@
--- Days by other names than a year, a month and a day of the month.
-use Rattle.std.specs.Prelude.{◌≡◌, ℕ, ◌+◌, ◌/◌, ℤ}
+-- Days by other names than a year, a month and a day of the month, and the whole years between two days.
+use Rattle.std.specs.Prelude.{◌≡◌, ℕ, ◌+◌, ◌/◌, Bool, ◌==◌, nat_lt, ◌&&◌, ◌||◌, if◌then◌else◌, ℤ, pos, ◌-ℤ◌}
 use Rattle.gregorian.specs.DateOf.{year_of, day_of_year, month_of, day_of_month}
 use Rattle.gregorian.specs.Weeks.{IsThursdayOf}
 use Rattle.gregorian.specs.Weekdays.{weekday_of}
@@ -23,3 +23,13 @@ pub record IsDayOfIsoWeek (y : ℤ) (n w : ℕ) (day : ℤ) : Type 0 where
   pub thursday : ℤ
   pub in_week : IsThursdayOf day thursday
   pub of_year : IsThursdayOfWeek y n thursday
+
+-- a month and a day of it come earlier in a year than others
+abbrev pub is_earlier_in_year : ℕ → ℕ → ℕ → ℕ → Bool
+is_earlier_in_year m d base_m base_d = nat_lt m base_m || ((m == base_m) && nat_lt d base_d)
+
+-- the difference of the years, one less if the later of the two dates is earlier in its year
+abbrev pub whole_years : ℤ → ℤ → ℤ
+whole_years day base =
+    year_of day -ℤ year_of base
+    -ℤ (if is_earlier_in_year (month_of day) (day_of_month day) (month_of base) (day_of_month base) then pos 1 else pos 0)

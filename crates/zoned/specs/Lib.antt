@@ -2,11 +2,14 @@
 -- one name, that of the lower one keeps it.
 pub use Rattle.offset_core.specs.Digits as TextDigits
 pub use Rattle.offset_core.specs.FixedOffset
+pub use Rattle.offset_core.specs.LengthText
 pub use Rattle.offset_core.specs.LocalResult
 pub use Rattle.offset_core.specs.Nanoseconds
 pub use Rattle.offset_core.specs.Offset
 pub use Rattle.offset_core.specs.TimeDelta
 pub use Rattle.offset_core.specs.WallAnswer
+pub use Rattle.gregorian.specs.Weekdays
+pub use Rattle.gregorian.specs.Weeks
 pub use Rattle.naive_base.specs.Year
 pub use Rattle.naive_base.specs.Month
 pub use Rattle.naive_base.specs.Months
@@ -23,6 +26,10 @@ pub use Rattle.naive_base.specs.NaiveDate
 pub use Rattle.naive_base.specs.NaiveTime
 pub use Rattle.naive_base.specs.NaiveDateTime
 pub use Rattle.naive_base.specs.Fields
+pub use Rattle.naive_base.specs.MonthNames
+pub use Rattle.naive_base.specs.Named
+pub use Rattle.naive_base.specs.Runs
+pub use Rattle.naive_base.specs.Week
 pub use Rattle.tz_base.specs.Errors
 pub use Rattle.tz_base.specs.Names
 pub use Rattle.tz_base.specs.LocalTypes

@@ -123,6 +123,8 @@
 //! | two instants | the time between them | [`DateTime::signed_duration_since`], `-` |
 //! | an instant | it, rounded | [`DurationRound`], [`SubsecRound`] |
 //! | a wall-clock time | it, on each day | [`DailySeries::new`] |
+//! | a date | the next day, the days or the week from it | [`NaiveDate::succ_opt`], [`NaiveDate::iter_days`], [`NaiveDate::week`] |
+//! | a year and a month | the n-th Sunday; the days of the month | [`NaiveDate::from_weekday_of_month_opt`]; [`Month::num_days`], [`gregorian::days_in_month`] |
 //! | the bytes or a text, and a wall clock | types of local time and instants in one call | [`WallClock`] |
 //! | a rule, or a zone that is its rule alone | its TZ text | [`ToTzString::to_tz_string`], [`ToPosixTz::to_posix_tz`] |
 //! | a parsed zone | the bytes of its TZif file | [`ToTzData::to_tz_data`] |
@@ -151,13 +153,15 @@
 //!
 //! What is written every day needs no contract, no lemma and no proof file: the repository's crates
 //! `idioms_utc`, `idioms_borrowed` and `idioms_kept` have sixty such functions and more for each kind
-//! of zone. These aren't covered yet:
+//! of zone, and `idioms_dates` has those over dates, times of day and lengths. These aren't covered
+//! yet:
 //!
 //! | of | in place of | write |
 //! |---|---|---|
 //! | an instant of a borrowed or of a kept zone | a copy in place: `*instant`, `(instant, instant)`, `map.insert(*instant, ..)` | `iter().copied()`, `instant.clone()?`, or `copy_of(instant)` by `fn copy_of<T: Copy>(value: &T) -> T { *value }` |
 //! | instants of a borrowed zone | a closure that captures an instant, as `any(\|instant\| instant > than)`, or asks the zone, as `map(\|instant\| instant.hour())` | a `for`, or a kept zone |
-//! | instants of UTC | a guard with `<` over what its pattern takes: `Some(best) if now < best` | `max`, or an `if` in the arm |
+//! | instants, dates | a guard that compares what its pattern takes: `Some(next) if next <= until` | `next.is_some_and(\|next\| next <= until)`, `let .. else` and an `if`, or `max` |
+//! | an enum that holds an instant or a date | a literal in its pattern: `When::AllDay { first, days: 1 }` | a guard on the number: `When::AllDay { first, days } if days == 1` |
 //! | a map keyed by instants or dates | `map.entry(key)` | `map.get` and `map.insert` |
 //! | loops | `while` | a `for` with a bound |
 //! | a struct over any zone | `#[derive(Clone, Copy)]` alone | a `where` line, `Tz::Offset: Copy`, beside it |
@@ -167,11 +171,14 @@
 pub mod client_laws;
 pub mod headline;
 
+pub use gregorian;
 pub use naive_base::{
-    Datelike, Days, IsoWeek, Months, NaiveDate, NaiveDateTime, NaiveTime, Timelike, Weekday,
+    Datelike, Days, IsoWeek, Month, Months, NaiveDate, NaiveDateDaysIterator, NaiveDateTime,
+    NaiveDateWeeksIterator, NaiveTime, NaiveWeek, OutOfRange, Timelike, Weekday,
 };
 pub use offset_core::{
-    Choice, FixedOffset, FoldChoice, GapChoice, LocalResult, MappedLocalTime, TimeDelta,
+    Choice, FixedOffset, FoldChoice, GapChoice, LocalResult, MappedLocalTime, OutOfRangeError,
+    TimeDelta,
 };
 pub use tz_base;
 pub use tz_info;

@@ -1,5 +1,5 @@
 //! The days around a date, and runs of days and weeks.
-ghost use Rattle.std.specs.Prelude.{◌≡◌, pos, ◌+ℤ◌, ◌-ℤ◌, ◌*ℤ◌, ◌<ℤ◌, ◌≤ℤ◌, MatchOption};
+ghost use Rattle.std.specs.Prelude.{◌≡◌, pos, ◌+ℤ◌, ◌-ℤ◌, ◌*ℤ◌, ◌<ℤ◌, ◌≤ℤ◌, SomeIff, MatchOption, unsigned_abs};
 ghost use Rattle.std.specs.Iterator.{at_most};
 ghost use Rattle.gregorian.specs.Year.{is_leap};
 ghost use Rattle.gregorian.specs.DateOf.{year_of};
@@ -7,6 +7,7 @@ ghost use Rattle.offset_core.specs.Nanoseconds.{nanos_per_day};
 ghost use Rattle.offset_core.specs.TimeDelta.{nanos_of};
 ghost use Rattle.naive_base.specs.Range.{last_day};
 ghost use Rattle.naive_base.specs.NaiveDate.{day_of, IsDateOfDay};
+ghost use Rattle.naive_base.specs.Named.{whole_years, is_earlier_in_year};
 ghost use Rattle.naive_base.specs.Runs.{days_from, weeks_from, days_left, weeks_left};
 
 use crate::{Datelike, NaiveDate};
@@ -45,6 +46,28 @@ impl NaiveDate {
         TimeDelta::days(self.number() - rhs.number())
     }
 
+    /// Returns the whole years from another date to this one, or `None` if this one is earlier.
+    ///
+    /// From 2004-02-29 the first year has passed on 2005-03-01.
+    pub fn years_since(&self, base: NaiveDate) -> Option<u32>
+        ensures { let years = whole_years (day_of self.now) (day_of base) in
+            SomeIff result (pos 0 ≤ℤ years) (unsigned_abs years) }
+    {
+        u32::try_from(self.whole_years(base)).ok()
+    }
+
+    // The same, negative if this date is earlier.
+    fn whole_years(&self, base: NaiveDate) -> i32
+        ensures { result ≡ whole_years (day_of self.now) (day_of base) }
+    {
+        let (date, base) = (self.year_month_day(), base.year_month_day());
+        let years = date.year - base.year;
+        if is_earlier_in_year(date.month, date.day, base.month, base.day) {
+            return years - 1;
+        }
+        years
+    }
+
     /// Returns this date and each day after it, in order. As in chrono, the last day in range
     /// doesn't come.
     ///
@@ -64,6 +87,12 @@ impl NaiveDate {
     {
         NaiveDateWeeksIterator { value: *self }
     }
+}
+
+fn is_earlier_in_year(month: u32, day: u32, base_month: u32, base_day: u32) -> bool
+    ensures { result ≡ is_earlier_in_year month day base_month base_day }
+{
+    month < base_month || (month == base_month && day < base_day)
 }
 
 /// A date and the days after it. From [`NaiveDate::iter_days`].

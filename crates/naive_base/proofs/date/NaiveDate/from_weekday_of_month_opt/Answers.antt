@@ -2,7 +2,7 @@ use Rattle.std.proofs.Common.{arith, to_z-of_z, ◌≡◌, ◌∙◌, ap, subst,
 use Rattle.gregorian.specs.Date.{day_number}
 use Rattle.naive_base.specs.NaiveDate.{IsDateOf}
 use Rattle.naive_base.specs.Weekday.{weekday_of, weekday_number}
-use Rattle.naive_base.proofs.Named.{number_below, only_nth, nth_answer, nth_day, first_four}
+use Rattle.naive_base.proofs.Named.{number_below, only_nth, nth_answer, first_four}
 use Rattle.naive_base.proofs.date.NaiveDate.from_weekday_of_month_opt.Goals as goal
 
 pub returns-then-n-eq0-clause-value : goal.returns-then-n-eq0-clause-value

@@ -1,4 +1,4 @@
-use Rattle.std.proofs.Common.{arith, ◌≡◌, ◌∙◌, sym, ap, List, ℕ, [], ◌∷◌, ◌++◌, ◌%◌, ◌/◌, ◌+◌, append_assoc}
+use Rattle.std.proofs.Common.{arith, ◌∙◌, sym, ap, List, ℕ, [], ◌∷◌, ◌++◌, ◌%◌, ◌/◌, ◌+◌, append_assoc}
 use Rattle.std.specs.Fmt.{decimal}
 use Rattle.std.proofs.lemmas.Fmt.{decimal_step}
 use Rattle.offset_core.proofs.time_delta.print.+push_decimal.Goals as goal

@@ -1,7 +1,7 @@
-use Rattle.std.proofs.Common.{sym, pos, neg_ℤ}
+use Rattle.std.proofs.Common.{sym, pos}
 use Rattle.naive_base.specs.Months.{months_of}
 use Rattle.naive_base.specs.NaiveDate.{day_of, IsDateOn}
-use Rattle.naive_base.proofs.MonthDates.{months_found, mapped_none}
+use Rattle.naive_base.proofs.MonthDates.{months_found}
 use Rattle.naive_base.proofs.date.operators.NaiveDateAddMonths.add.Goals as goal
 
 pub unwrap-requires : goal.unwrap-requires

@@ -1,4 +1,4 @@
-use Rattle.std.proofs.Common.{sym, pos, neg_ℤ}
+use Rattle.std.proofs.Common.{pos}
 use Rattle.naive_base.specs.Months.{months_of}
 use Rattle.naive_base.specs.NaiveDateTime.{reading, day_shown_by, IsReadingOnDay}
 use Rattle.naive_base.proofs.MonthDates.{months_found, mapped_none}
