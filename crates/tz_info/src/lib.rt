@@ -13,4 +13,5 @@ pub use tz_base::{Change, Cursor, Error, Expected, LocalTimeType, TimeZoneName};
 pub use tz_timeline::Probes;
 pub use zone::all_changes::Changes;
 pub use zone::around::{Gap, TypesAround};
+pub use zone::offset_stretch::OffsetStretch;
 pub use zone::{LeapSecond, TimeZone, Transition};

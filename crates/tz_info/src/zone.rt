@@ -9,6 +9,7 @@ mod index;
 mod leap_second;
 mod leap_time;
 mod lookup;
+pub(crate) mod offset_stretch;
 mod one_pass;
 mod pieces;
 mod posix;
