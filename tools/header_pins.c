@@ -223,6 +223,24 @@ int main(void) {
     IS(zoned_zone_changes(&zone, 0, INT64_MAX, changes, 3, &count), ZONED_NOT_OPEN);
     IS(count, 77);
     IS(changes[0].at, 1615705200);
+    /* 2021-03-14 06:59:59.999 and 07:00:00 UTC, on both sides of the gap; no time; and a row whose sum doesn't fit. */
+    const int64_t column[4] = {1615705199999, 1615705200000, ZONED_NO_TIME, INT64_MIN + 1};
+    int64_t locals[4] = {77, 77, 77, 77};
+    size_t row = 77;
+    IS(zoned_zone_local(&zone, 1000, column, 3, locals, 3, &row), ZONED_NOT_OPEN);
+    IS(zoned_open(ZONED_TEXT, NEW_YORK, LEN, &zone), ZONED_OK);
+    IS(zoned_zone_local(&zone, 60, column, 3, locals, 3, &row), ZONED_UNKNOWN_UNIT);
+    IS(locals[0], 77);
+    IS(zoned_zone_local(&zone, 1000, column, 3, locals, 3, &row), ZONED_OK);
+    IS(locals[0], 1615687199999);
+    IS(locals[1], 1615690800000);
+    IS(locals[2], ZONED_NO_TIME);
+    IS(row, 77);
+    IS(zoned_zone_local(&zone, 1000, column, 4, locals, 4, &row), ZONED_NO_LOCAL_TIME);
+    IS(row, 3);
+    IS(locals[3], 77);
+    zoned_close(&zone);
+    IS(zoned_version(), ZONED_VERSION_NUMBER);
     char text[8] = "1234567";
     IS(zoned_error_text(17, text, 4), 13);
     IS(memcmp(text, "out\000567", 8), 0);

@@ -29,7 +29,7 @@
         }                                                                                                                  \
     } while (0)
 
-enum { HANDLES = 12, MOST = 6, ROOM = 24, THREADS = 8, NONE = -1, SIZE_OF_RANDOM_BYTES = 300 };
+enum { HANDLES = 12, MOST = 6, ROOM = 24, COLUMN = 48, THREADS = 8, NONE = -1, SIZE_OF_RANDOM_BYTES = 300 };
 
 static uint64_t calls;
 
@@ -355,6 +355,48 @@ static void try_locals(struct tried *of) {
     if (!number) expect_resolved(of, &expected[0], gap, fold, locals[0], &one);
 }
 
+/* A time of a column: somewhere in 64 bits, or near the seconds that are tried, or no time. */
+static int64_t time_of(int64_t per_second) {
+    __int128 at = (__int128)second() * per_second + (__int128)below((uint64_t)per_second);
+    if (below(8) == 0) return ZONED_NO_TIME + (int64_t)below(2);
+    return below(8) == 0 || at < INT64_MIN || at > INT64_MAX ? (int64_t)next() : (int64_t)at;
+}
+
+/* The local time of an instant by the offset at its second, or none. */
+static int has_local(struct tried *of, int64_t per_second, int64_t instant, int64_t *local) {
+    int64_t at = instant / per_second - (instant % per_second < 0);
+    int32_t offset;
+    *local = instant;
+    if (instant == ZONED_NO_TIME) return 1;
+    EXPECT(zoned_at(of->of.kind, of->of.at, of->of.len, &at, 1, &offset, 1) == ZONED_OK);
+    __int128 sum = (__int128)instant + (__int128)offset * per_second;
+    *local = (int64_t)sum;
+    return offset != ZONED_NO_OFFSET && sum > INT64_MIN && sum <= INT64_MAX;
+}
+
+/* A column of instants, in order or not: what zoned_at says of each, up to the first row that has no local time. */
+static void try_column(struct tried *of) {
+    static const int64_t UNITS[] = {1, 1000, 1000000, 1000000000, 0, -1, 60};
+    int64_t instants[COLUMN], locals[COLUMN], per_second = UNITS[below(below(8) ? 4 : 7)];
+    size_t count = below(COLUMN + 1), room = below(8) ? count : below(COLUMN + 1), row = 77, first = 0;
+    int is_unit = per_second > 0 && per_second != 60, is_sorted = below(2) == 0;
+    int64_t step = (int64_t)below(1000000) * (is_unit ? per_second : 1);
+    for (size_t i = 0; i < count; i++) {
+        instants[i] = time_of(is_unit ? per_second : 1);
+        if (is_sorted && i > 0 && instants[i - 1] < INT64_MAX - step) instants[i] = instants[i - 1] + step;
+    }
+    memset(locals, 0x55, sizeof locals);
+    uint32_t number = zoned_zone_local(&of->zone, per_second, instants, count, locals, room, &row);
+    if (!is_unit || due(of, count, room) != ZONED_OK) {
+        EXPECT(number == (is_unit ? due(of, count, room) : ZONED_UNKNOWN_UNIT));
+    } else {
+        for (int64_t local; first < count && has_local(of, per_second, instants[first], &local); first++) EXPECT(locals[first] == local);
+        EXPECT(number == (first < count ? ZONED_NO_LOCAL_TIME : ZONED_OK));
+    }
+    EXPECT(row == (number == ZONED_NO_LOCAL_TIME ? first : 77));
+    EXPECT(is_untouched(locals + first, (COLUMN - first) * sizeof *locals));
+}
+
 /* A count whose product by three wraps to the room is told, and nothing is written. */
 static void try_wrapping_count(void) {
     struct zoned_zone zone = {0};
@@ -378,6 +420,7 @@ static void try_null(void) {
     EXPECT(zoned_zone_wall(&zone, NULL, 0, NULL, 0) == ZONED_OK && zoned_zone_wall_instants(&zone, NULL, 0, NULL, 0) == ZONED_OK);
     EXPECT(zoned_zone_resolve(&zone, ZONED_GAP_REFUSE, ZONED_FOLD_REFUSE, NULL, 0, NULL, 0) == ZONED_OK);
     EXPECT(zoned_zone_changes(&zone, 0, INT64_MAX / 1000, NULL, 0, &count) == ZONED_OK && count == 0);
+    EXPECT(zoned_zone_local(&zone, 1, NULL, 0, NULL, 0, &count) == ZONED_OK);
     EXPECT(zoned_error_text(ZONED_OK, NULL, 0) > 0);
     zoned_close(&zone);
 }
@@ -436,6 +479,10 @@ static void try_calls(uint64_t count) {
             try_list(one);
             calls += 1;
             break;
+        case 11:
+            try_column(one);
+            calls += 1;
+            break;
         default:
             try_locals(one);
             calls += 5;
@@ -486,20 +533,22 @@ static uint64_t ask_many(const struct zoned_zone *zone, const int64_t *at, uint6
     zoned_wall_clock clocks[MOST];
     zoned_resolved resolved[MOST];
     zoned_change changes[MOST] = {{0}};
-    size_t count;
+    int64_t locals[MOST];
+    size_t count, row;
     uint32_t numbers[] = {zoned_zone_at(zone, at, MOST, offsets, MOST),
                           zoned_zone_types(zone, at, MOST, types, MOST),
                           zoned_zone_wall_instants(zone, at, MOST, clocks, MOST),
                           zoned_zone_wall(zone, at, MOST, triples, 3 * MOST),
                           zoned_zone_resolve(zone, ZONED_GAP_REFUSE, ZONED_FOLD_EARLIEST, at, MOST, resolved, MOST),
-                          zoned_zone_changes(zone, at[0], at[0] + 100000000, changes, MOST, &count)};
+                          zoned_zone_changes(zone, at[0], at[0] + 100000000, changes, MOST, &count),
+                          zoned_zone_local(zone, 1, at, MOST, locals, MOST, &row)};
     sum = mix(mix(mix(sum, numbers, sizeof numbers), offsets, sizeof offsets), triples, sizeof triples);
     for (int i = 0; i < MOST; i++) sum = mix_clock(sum, &clocks[i]);
-    sum = mix(mix(sum, types, sizeof types), resolved, sizeof resolved);
+    sum = mix(mix(mix(sum, types, sizeof types), resolved, sizeof resolved), locals, sizeof locals);
     return mix(mix(sum, &count, sizeof count), changes, sizeof changes);
 }
 
-/* A sum of the answers of all twelve questions by handle. */
+/* A sum of the answers of all thirteen questions by handle. */
 static uint64_t ask(const struct zoned_zone *zone) {
     uint64_t sum = 14695981039346656037u, seed = 1;
     for (uint64_t i = 0; i < rounds; i++) {

@@ -49,7 +49,7 @@ begun_earlier z (suc k) t valid some item later =
     omega (arith, ints)
 
 -- the transition's time, whatever stands in for a missing one
-time_at : (ts : List Transition) (place : ℕ) (t d : Transition) → place < length ts → t ≡ get_or ts place t → (get_or ts place d).unix_leap_time ≡ t.unix_leap_time
+pub time_at : (ts : List Transition) (place : ℕ) (t d : Transition) → place < length ts → t ≡ get_or ts place t → (get_or ts place d).unix_leap_time ≡ t.unix_leap_time
 time_at ts place t d some item = ap (λ (s : Transition). s.unix_leap_time) (get_or_default ts place d t some ∙ sym item)
 
 type_earlier : (z : Zone) (place : ℕ) (t : Transition) (s : LocalType) → IsValid z → length z.leaps ≡ 0 → place < length z.transitions → t ≡ get_or z.transitions place t → least_time <ℤ t.unix_leap_time

@@ -14,4 +14,5 @@ pub use tz_timeline::Probes;
 pub use zone::all_changes::Changes;
 pub use zone::around::TypesAround;
 pub use zone::lookups::Lookups;
+pub use zone::offset_stretch::OffsetStretch;
 pub use zone::{LeapSecond, TimeZone, Transition};

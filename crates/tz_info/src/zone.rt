@@ -10,6 +10,7 @@ mod leap_second;
 mod leap_time;
 mod lookup;
 pub(crate) mod lookups;
+pub(crate) mod offset_stretch;
 mod one_pass;
 mod pieces;
 mod posix;

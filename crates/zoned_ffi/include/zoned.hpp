@@ -156,22 +156,29 @@ public:
         return {local_info::nonexistent, get_info(sys(change.at - 1)), get_info(sys(change.at))};
     }
 
-    // Columns: vectors, std::span or whatever else has data() and size(), of sys_seconds and local_seconds. The second is as
-    // long as the first. Throws error with the first row that has no answer.
+    // Columns: vectors, std::span or whatever else has data() and size(). The second is as long as the first. Throws error with
+    // the first row that has no answer.
+
+    // Instants as local times, in seconds, milliseconds, microseconds or nanoseconds of 64 bits. The least number is no time,
+    // as NaT of numpy, and stays.
     template <class Instants, class Locals> void to_local_column(const Instants &instants, Locals &&locals) const {
-        std::vector<int32_t> offsets(instants.size());
-        check_size(instants, locals);
-        check(zoned_zone_at(&zone, numbers(instants), instants.size(), offsets.data(), offsets.size()));
-        for (size_t row = 0; row < offsets.size(); row++)
-            locals.data()[row] = local_seconds(instants.data()[row].time_since_epoch() + seconds(known(offsets[row], row)));
+        auto from = numbers<std::chrono::system_clock>(instants.data());
+        auto to = numbers<local_t>(locals.data());
+        using unit = typename std::remove_reference_t<decltype(*instants.data())>::period;
+        static_assert(unit::num == 1, "a unit of which no whole number makes a second");
+        static_assert(std::is_same_v<unit, typename std::remove_reference_t<decltype(*locals.data())>::period>, "two units");
+        size_t row = 0;
+        auto number = zoned_zone_local(&zone, unit::den, from, instants.size(), to, locals.size(), &row);
+        check(number, row);
     }
 
+    // Local times as instants, of seconds.
     template <class Locals, class Instants>
     void to_sys_column(const Locals &locals, Instants &&instants, policy choice = {}) const {
         std::vector<zoned_resolved> resolved(locals.size());
-        check_size(locals, instants);
-        check(zoned_zone_resolve(&zone, uint32_t(choice.gap), uint32_t(choice.fold), numbers(locals), locals.size(),
-                                 resolved.data(), resolved.size()));
+        if (instants.size() != locals.size()) throw error(ZONED_OTHER_SIZE);
+        check(zoned_zone_resolve(&zone, uint32_t(choice.gap), uint32_t(choice.fold), numbers<local_t>(locals.data()),
+                                 locals.size(), resolved.data(), resolved.size()));
         for (size_t row = 0; row < resolved.size(); row++) {
             check(resolved[row].number, row);
             instants.data()[row] = sys(resolved[row].instant);
@@ -201,21 +208,16 @@ private:
     template <class Time> static int64_t count(Time at) { return at.time_since_epoch().count(); }
     static sys_seconds sys(int64_t at) { return sys_seconds(seconds(at)); }
 
-    static int32_t known(int32_t offset, size_t row = 0) {
-        if (offset == ZONED_NO_OFFSET) throw error(ZONED_INSTANT_OUT_OF_RANGE, row);
+    static int32_t known(int32_t offset) {
+        if (offset == ZONED_NO_OFFSET) throw error(ZONED_INSTANT_OUT_OF_RANGE);
         return offset;
     }
 
-    template <class One, class Other> static void check_size(const One &one, const Other &other) {
-        if (one.size() != other.size()) throw error(ZONED_OTHER_SIZE);
-    }
-
-    // A time point of whole seconds is the number of them, and nothing else.
-    template <class Column> static const int64_t *numbers(const Column &column) {
-        using time = std::remove_cv_t<std::remove_pointer_t<decltype(column.data())>>;
-        static_assert(std::is_same_v<typename time::duration, seconds> && sizeof(time) == sizeof(int64_t));
-        static_assert(std::is_same_v<seconds::rep, int64_t> && std::is_standard_layout_v<time>);
-        return reinterpret_cast<const int64_t *>(column.data());
+    // A time point of 64 bits is the number of its units, and nothing else.
+    template <class Clock, class Time> static auto numbers(Time *column) {
+        static_assert(std::is_same_v<typename Time::clock, Clock> && std::is_same_v<typename Time::rep, int64_t>);
+        static_assert(sizeof(Time) == sizeof(int64_t) && std::is_standard_layout_v<Time>);
+        return reinterpret_cast<std::conditional_t<std::is_const_v<Time>, const int64_t, int64_t> *>(column);
     }
 };
 

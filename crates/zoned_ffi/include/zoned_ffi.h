@@ -13,8 +13,8 @@
 
    The number that a call returns
    ------------------------------
-   ZONED_OK (0): every answer is written. Any other number: the call returned an error, and neither an answer nor a handle
-   that it was to open is changed. The first of these that holds (those of a handle, and of a choice, if there is one):
+   ZONED_OK (0): every answer is written. Any other number but ZONED_NO_LOCAL_TIME: the call returned an error, and neither an
+   answer nor a handle that it was to open is changed. The first of these that holds (those of a handle, and of a choice, if there is one):
 
      ZONED_UNKNOWN_KIND    `kind` is neither ZONED_FILE nor ZONED_TEXT
      ZONED_UNKNOWN_CHOICE  `gap` or `fold` is none of its enum
@@ -23,6 +23,8 @@
      3 .. 17               the bytes make no zone: the enum of these numbers is below, and docs/ZONEQ.md says more of each.
                            ZONED_OUT_OF_MEMORY (17) says nothing about the bytes
      ZONED_NO_CHANGE       zoned_zone_next_change and zoned_zone_previous_change only: there is no such change
+     ZONED_UNKNOWN_UNIT    zoned_zone_local only, before ZONED_NOT_OPEN: no unit has that count in a second
+     ZONED_NO_LOCAL_TIME   zoned_zone_local only: a row has no local time. The rows before it are written, and its number
 
    Handles
    -------
@@ -159,7 +161,9 @@ enum {
     ZONED_OTHER_SIZE = 32,
     ZONED_NOT_OPEN = 33,
     ZONED_UNKNOWN_CHOICE = 34,
-    ZONED_NO_CHANGE = 35
+    ZONED_NO_CHANGE = 35,
+    ZONED_UNKNOWN_UNIT = 36,
+    ZONED_NO_LOCAL_TIME = 37
 };
 
 /* What is wrong with a TZif file whose lists make no valid zone: zoned_fault returns these in place of ZONED_TIME_ZONE. */
@@ -251,6 +255,22 @@ uint32_t zoned_zone_offset(const struct zoned_zone *zone, int64_t instant, int32
 uint32_t zoned_zone_at(const struct zoned_zone *zone,
                        const int64_t *instants, size_t instants_len,
                        int32_t *offsets, size_t offsets_len) ZONED_MUST_CHECK ZONED_NONNULL((1));
+
+/* No time: what a column has where a time is missing, as NaT of numpy. */
+#define ZONED_NO_TIME INT64_MIN
+
+/* locals[i] is the local time of instants[i]. Both are counted in one unit, of which per_second make a second: 1, 1000, 1000000
+   or 1000000000. The local time is the instant plus the offset in force at the second that the instant lies in: -1 nanosecond
+   lies in second -1. ZONED_NO_TIME stays. Columns in the order of time are answered several times faster than by zoned_zone_at.
+
+   ZONED_UNKNOWN_UNIT: there is no such unit, and nothing is written. ZONED_NO_LOCAL_TIME: instants[*row] is the first that has
+   no local time, since the zone has no offset there or the sum doesn't fit 64 bits; the rows before it are written. In all other
+   cases *row is as it was.
+
+   locals_len is instants_len. */
+uint32_t zoned_zone_local(const struct zoned_zone *zone, int64_t per_second,
+                          const int64_t *instants, size_t instants_len,
+                          int64_t *locals, size_t locals_len, size_t *row) ZONED_MUST_CHECK ZONED_NONNULL((1, 7));
 
 /* A local time type: what is in force at an instant. */
 typedef struct zoned_local_type {
@@ -350,6 +370,9 @@ uint32_t zoned_zone_instant(const struct zoned_zone *zone, uint32_t gap, uint32_
 uint32_t zoned_zone_resolve(const struct zoned_zone *zone, uint32_t gap, uint32_t fold,
                             const int64_t *locals, size_t locals_len,
                             zoned_resolved *resolved, size_t resolved_len) ZONED_MUST_CHECK ZONED_NONNULL((1));
+
+/* Returns the version of the library: ZONED_VERSION_NUMBER of the header that it was built with. */
+uint32_t zoned_version(void);
 
 /* Writes what a number of this header means, in English, as far as it fits into `text` before a zero byte, which is written
    too unless text_len is 0. Returns the length of the whole text. 128 bytes are enough for each. */

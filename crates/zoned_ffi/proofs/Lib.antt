@@ -1,4 +1,5 @@
 pub mod ChangesWritten
+pub mod Columns
 pub mod Handles
 pub mod Lending
 pub mod Slices

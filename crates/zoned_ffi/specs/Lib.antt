@@ -6,6 +6,7 @@ pub mod WrittenTypes
 pub mod WrittenChanges
 pub mod Resolved
 pub mod Texts
+pub mod Units
 pub mod Owned
 pub mod Handles
 pub mod Steps

@@ -1,22 +1,26 @@
 //! Questions to a zone that C keeps.
 
-ghost use Rattle.std.specs.Prelude.{◌≡◌, ◌≢◌, ◌*◌, ◌⊎◌, ◌≤ℤ◌, ◌<ℤ◌, length};
+ghost use Rattle.std.specs.Prelude.{◌≡◌, ◌≢◌, ◌*◌, ◌⊎◌, ◌≤ℤ◌, ◌<ℤ◌, pos, length};
 ghost use Rattle.offset_core.specs.declared.choice.Choice.{Choice as AnyChoice};
 ghost use Rattle.tz_info.specs.Changes.{HasNoChange};
 ghost use Rattle.tz_info.specs.Zones.{Zone, TypeAt};
 ghost use Rattle.zoned_ffi.specs.Handles.{IsLent, IsNoneLent, IsUnanswered};
 ghost use Rattle.zoned_ffi.specs.Instants.{AreOffsetsAt, IsOffsetAt};
 ghost use Rattle.zoned_ffi.specs.Resolved.{AreResolved, IsChoice, IsChoiceOf, IsResolvedAt};
+ghost use Rattle.zoned_ffi.specs.Units.{AreLocals, IsFirstWithout, IsUnit, per_second};
 ghost use Rattle.zoned_ffi.specs.WallClocks.{AreTriples, AreWallClocks, IsWallClockAt};
 ghost use Rattle.zoned_ffi.specs.WrittenChanges.{AreWrittenChanges, IsFirstWritten, IsLastWritten};
+ghost use Rattle.zoned_ffi.specs.declared.unit.Unit.{Unit as AnyUnit};
 ghost use Rattle.zoned_ffi.specs.WrittenTypes.{AreWrittenTypesAt, IsWrittenTypeAt};
 
 use crate::changes::{WrittenChange, answer_next, answer_previous, write_changes};
+use crate::column::answer_locals;
 use crate::instants::{answer_instants, offset_at};
 use crate::lent::Lent;
 use crate::local_type::{WrittenType, answer_types};
-use crate::refusal::{NOT_OPEN, UNKNOWN_CHOICE};
+use crate::refusal::{NOT_OPEN, UNKNOWN_CHOICE, UNKNOWN_UNIT};
 use crate::resolved::{Resolved, answer_resolved, choice_of};
+use crate::unit::Unit;
 use crate::wall_clock::{WallClock, answer_triples, answer_wall_clocks};
 
 /// Writes the offset in force at the instant, as [`crate::zoned_at`] does.
@@ -246,4 +250,36 @@ pub extern "C" fn zoned_zone_changes(
     };
     *count = write_changes(share, from, until, changes);
     0
+}
+
+/// Writes the local time of each instant, both counted in the unit of which `count` make a second.
+/// The least number of 64 bits is no time, and stays.
+#[unsafe(no_mangle)]
+pub extern "C" fn zoned_zone_local(
+    zone: &Lent,
+    count: i64,
+    instants: &[i64],
+    locals: &mut [i64],
+    row: &mut usize,
+) -> u32
+    // 0: each answer is that of the zone.
+    ensures answered { result ≡ 0 → (unit : AnyUnit) × (count ≡ pos (per_second unit))
+        × ((z : Zone) × IsLent zone.now z × AreLocals z unit instants.now locals.new)
+        × (row.new ≡ row.old) }
+    // 37: the instant in the row that is written has none. Those before it are answered.
+    ensures without { result ≡ 37 → (unit : AnyUnit) × (count ≡ pos (per_second unit))
+        × ((z : Zone) × IsLent zone.now z
+        × IsFirstWithout z unit instants.now locals.new row.new) }
+    // 36: no unit has that count in a second. Others as in the calls above. Nothing is written.
+    ensures refused { result ≢ 0 → result ≢ 37 → (((result ≡ 36) × ¬ (IsUnit count))
+        ⊎ (IsUnit count × IsUnanswered zone.now (length instants.now) (length locals.old) result))
+        × (locals.new ≡ locals.old) × (row.new ≡ row.old) }
+{
+    let Some(unit) = Unit::of_count(count) else {
+        return UNKNOWN_UNIT;
+    };
+    let Some(share) = zone.share() else {
+        return NOT_OPEN;
+    };
+    answer_locals(share, unit, instants, locals, row)
 }

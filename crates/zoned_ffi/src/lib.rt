@@ -14,6 +14,7 @@ ghost use Rattle.zoned_ffi.specs.WallClocks.{AreTriples, AreWallClocks};
 
 mod asking;
 mod changes;
+mod column;
 mod handle;
 mod instants;
 mod kind;
@@ -26,6 +27,8 @@ mod refusal;
 mod resolved;
 mod slot;
 mod texts;
+mod unit;
+mod version;
 mod wall_clock;
 
 use instants::write_offsets;

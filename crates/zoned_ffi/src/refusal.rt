@@ -17,6 +17,12 @@ pub const UNKNOWN_CHOICE: u32 = 34;
 /// What it returns where no change of the clocks comes after a second, or up to it.
 pub const NO_CHANGE: u32 = 35;
 
+/// What it returns if no unit of time has that count in a second.
+pub const UNKNOWN_UNIT: u32 = 36;
+
+/// What it returns if an instant of a column has no local time.
+pub const NO_LOCAL_TIME: u32 = 37;
+
 /// What a call returns where memory runs out.
 pub const OUT_OF_MEMORY: u32 = 17;
 

@@ -14,7 +14,7 @@ use crate::instants::offset_at;
 use crate::refusal::OTHER_SIZE;
 use naive_base::NaiveDateTime;
 use offset_core::{Choice, FoldChoice, GapChoice};
-use tz_info::{TimeZone, TypesAround};
+use tz_info::{Probes, TimeZone, TypesAround};
 
 // The local time lies in a gap, and the choice refuses gaps.
 const GAP: u32 = 21;
@@ -154,7 +154,8 @@ fn offset_taken(zone: &TimeZone, choice: Choice, local: NaiveDateTime) -> Result
     ensures { MatchResult result (λ taken. IsTakenAs zone.now (reading local).s choice taken)
         (λ n. IsNoneTaken zone.now (reading local).s choice n) }
 {
-    match zone.find_local_time_type_around(local) {
+    let mut probes = Probes::new();
+    match zone.find_local_time_type_around_counted(local, &mut probes) {
         TypesAround::Single(only) => Ok(Taken::InForce(only.offset())),
         TypesAround::Ambiguous(first, last) => match choice.fold {
             FoldChoice::Refuse => Err(FOLD),

@@ -8,7 +8,7 @@ ghost use Rattle.zoned_ffi.specs.WallClocks.{AreTriples, AreWallClocks, IsWallCl
 use crate::refusal::OTHER_SIZE;
 use naive_base::NaiveDateTime;
 use offset_core::MappedLocalTime;
-use tz_info::{LocalTimeType, TimeZone};
+use tz_info::{LocalTimeType, Probes, TimeZone};
 
 // The number of seconds that show a local time, as [`WallClock::shown`] has it: none.
 const NEVER: i32 = 0;
@@ -50,7 +50,8 @@ impl WallClock {
         let Some(reading) = NaiveDateTime::from_timestamp_opt(local, 0) else {
             return WallClock::nowhere(OUT_OF_RANGE);
         };
-        match zone.find_local_time_type_from_local(reading) {
+        let mut probes = Probes::new();
+        match zone.find_local_time_type_from_local_counted(reading, &mut probes) {
             Ok(types) => WallClock::of_types(local, types),
             Err(_) => unreachable!(),
         }

@@ -57,6 +57,7 @@ impl TimeZone {
     /// In a gap that the rule makes, its types around the gap are not counted as questions.
     ///
     /// Requires: [`Probes::has_room`].
+    #[inline(always)]
     pub fn find_local_time_type_around_counted(
         &self,
         local: NaiveDateTime,

@@ -65,6 +65,12 @@ returns-in-34 c = says c.args.number 34 _ c.in-34.is IsSaidOf.Unknown_choice
 pub returns-in-35 : goal.returns-in-35
 returns-in-35 c = says c.args.number 35 _ c.in-35.is IsSaidOf.No_change
 
+pub returns-in-36 : goal.returns-in-36
+returns-in-36 c = says c.args.number 36 _ c.in-36.is IsSaidOf.Unknown_unit
+
+pub returns-in-37 : goal.returns-in-37
+returns-in-37 c = says c.args.number 37 _ c.in-37.is IsSaidOf.No_local_time
+
 pub returns-in-41 : goal.returns-in-41
 returns-in-41 c = says c.args.number 41 _ c.in-41.is IsSaidOf.Other_index
 

@@ -11,6 +11,6 @@ returns c =
     let fits : FitsSigned w64 c.args.local = c.ranges.local in
     let stamp = simp to_z-of_z at c.in-Some.ensures in
     let second = ap (λ r. r.s) stamp.1 in
-    let types = subst (λ l. IsWallAnswer (Shows (TypeAt c.args.zone.now) l) c.in-Ok.types) second c.in-Ok.ensures in
+    let types = subst (λ l. IsWallAnswer (Shows (TypeAt c.args.zone.now) l) c.in-Ok.types) second c.in-Ok.ensures.found in
     let told = simp to_z-of_z at c.of_types.ensures in
     inl (stamp.0.0, (told_of c.args.local c.in-Ok.types, told_answer c.args.zone.now c.args.local c.in-Ok.types types, told))

@@ -1,0 +1,32 @@
+use Rattle.std.proofs.Common.{◌≡◌, ◌∙◌, None, Some, ap, length, pos, sym, ℤ, w32, w64, to_z-of_z, rules}
+use mir.Val.{SFits}
+use Rattle.tz_info.specs.Steps.Segments.{index_of}
+use Rattle.tz_info.specs.Zones.{HasType, RuleOrType, Zone}
+use Rattle.tz_info.specs.declared.rule.transition_rule.TransitionRule.{TransitionRule}
+use Rattle.tz_info.specs.declared.rule.transition_rule.TransitionRule.TheVariants.{Fixed}
+use Rattle.tz_info.proofs.OffsetStretchLaws.{by_fixed, by_none, offset_stretch_behind}
+use Rattle.tz_info.proofs.zone.time_zone.TimeZone.offset_stretch_behind.Goals as goal
+use Rattle.tz_info.proofs.zone.time_zone.TimeZone.offset_stretch_behind.Goals.{in-None, in-Some+in_ok-found-in-Some}
+
+pub returns : goal.returns
+returns c =
+    let z = c.args.self.now in
+    let index = index_of z.transitions (length z.transitions) in
+    let from : SFits w64 c.args.last.unix_leap_time = search rules in
+    let offset : SFits w32 c.offset.result = search rules in
+    let rule = ap (λ (y : Zone). y.rule) c.self.view_is in
+    let told : (u : ℤ) → RuleOrType z u index c.match-self.found.now = elim c.match-self.branch [
+      | in-None w ↦
+          let a = w.in-None.is in
+          let absent : z.rule ≡ None = cc in
+          let found = w.found-is in
+          let has : HasType z index c.match-self.found.now = rw found (rw c.requires.index at w.listed-found.ensures) in
+          by_none z index c.match-self.found.now absent has
+      | in-Some+in_ok-found-in-Some w ↦
+          let a = w.in-Some.is in
+          let d = w.found-is in
+          let b = w.in_ok-found-in-Some.ensures in
+          let is : z.rule ≡ Some (Fixed c.match-self.found.now) = rw d (sym rule ∙ (a ∙ ap (λ (r : TransitionRule). Some r) b)) in
+          by_fixed z index c.match-self.found.now is
+    ] in
+    simp to_z-of_z (offset_stretch_behind z c.args.last.unix_leap_time (pos 9223372036854775807) c.offset.result c.match-self.found.now c.local_time_types-types.ensures.valid c.requires.leaps c.requires.begin told c.offset.ensures.value)

@@ -1,0 +1,46 @@
+//! Units in which instants are counted.
+
+ghost use Rattle.std.specs.Prelude.{◌≡◌, ◌*ℤ◌, ℤ, pos, MatchOption};
+ghost use Rattle.gregorian.specs.Year.{floor_div};
+ghost use Rattle.zoned_ffi.specs.Units.{IsUnit, per_second};
+
+/// What instants are counted in.
+#[derive(Clone, Copy)]
+pub enum Unit {
+    /// One in a second.
+    Seconds,
+    /// 1,000 in a second.
+    Milliseconds,
+    /// 1,000,000 in a second.
+    Microseconds,
+    /// 1,000,000,000 in a second.
+    Nanoseconds,
+}
+
+impl Unit {
+    /// The unit of which `count` make a second.
+    pub fn of_count(count: i64) -> Option<Unit>
+        ensures { MatchOption result (¬ (IsUnit count)) (λ unit. count ≡ pos (per_second unit)) }
+    {
+        match count {
+            1 => Some(Unit::Seconds),
+            1_000 => Some(Unit::Milliseconds),
+            1_000_000 => Some(Unit::Microseconds),
+            1_000_000_000 => Some(Unit::Nanoseconds),
+            _ => None,
+        }
+    }
+
+    /// The second that an instant counted in this unit lies in.
+    #[inline(always)]
+    pub fn second_of(self, instant: i64) -> i64
+        ensures { result ≡ floor_div instant (per_second self) }
+    {
+        match self {
+            Unit::Seconds => instant,
+            Unit::Milliseconds => instant.div_euclid(1_000),
+            Unit::Microseconds => instant.div_euclid(1_000_000),
+            Unit::Nanoseconds => instant.div_euclid(1_000_000_000),
+        }
+    }
+}
