@@ -40,6 +40,9 @@ pub mod AroundLaws
 pub mod AroundEquality
 pub mod ZoneChanges
 pub mod LeaplessChanges
+pub mod RunLaws
+pub mod ShownSecondLaws
+pub mod DifferenceLaws
 pub mod PosixZoneLaws
 pub mod HeaderLaws
 pub mod FilePieceLaws

@@ -13,6 +13,8 @@ pub mod Gaps
 pub mod Around
 pub mod Changes
 pub mod ChangesLeft
+pub mod ShownSeconds
+pub mod Differences
 pub mod Windows
 pub mod Looks
 pub mod Questions

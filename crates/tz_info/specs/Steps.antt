@@ -22,6 +22,8 @@ pub mod FileLists
 pub mod Gaps
 pub mod Changes
 pub mod ChangeLists
+pub mod Runs
+pub mod Differences
 pub mod Asked
 pub mod KindPlaces
 pub mod Kinds

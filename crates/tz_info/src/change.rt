@@ -67,7 +67,7 @@ pub(crate) fn if_before(change: Change, second: i64) -> Option<Change>
     }
 }
 
-fn is_same_type(a: &LocalTimeType, b: &LocalTimeType) -> bool
+pub(crate) fn is_same_type(a: &LocalTimeType, b: &LocalTimeType) -> bool
     ensures { IsTrue result ↔ (a.now ≡ b.now) }
 {
     *a == *b

@@ -2,8 +2,10 @@
 //! zones at every year and every second.
 
 pub mod changes;
+pub mod differences;
 pub mod equality;
 pub mod files;
+pub mod shown_seconds;
 pub mod texts;
 pub mod wall_clocks;
 

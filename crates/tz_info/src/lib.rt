@@ -13,4 +13,6 @@ pub use tz_base::{Change, Cursor, Error, Expected, LocalTimeType, TimeZoneName};
 pub use tz_timeline::Probes;
 pub use zone::all_changes::Changes;
 pub use zone::around::{Gap, TypesAround};
+pub use zone::differences::Difference;
+pub use zone::shown_seconds::{ShownSeconds, TypedSecond};
 pub use zone::{LeapSecond, TimeZone, Transition};

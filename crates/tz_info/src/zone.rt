@@ -3,6 +3,7 @@
 pub(crate) mod all_changes;
 pub(crate) mod around;
 mod changes;
+pub(crate) mod differences;
 mod extremes;
 mod gap;
 mod index;
@@ -12,8 +13,10 @@ mod lookup;
 mod one_pass;
 mod pieces;
 mod posix;
+mod runs;
 mod segments;
 mod shown;
+pub(crate) mod shown_seconds;
 mod starts;
 mod table;
 mod time_zone;
