@@ -40,11 +40,11 @@ near_rule (Some (Alternate a)) u near h =
     h (year_of (floor_div u 86_400)) lies (rule_year u (year_of (floor_div u 86_400)) lies (omega (arith, ints, near), omega (arith, ints, near)))
 near_rule None u near h = h
 
-near_not_refused : (z : Zone) (u : ℤ) → IsValid z → IsNear u → IsTypeRefused z u → ⊥
+pub near_not_refused : (z : Zone) (u : ℤ) → IsValid z → IsNear u → IsTypeRefused z u → ⊥
 near_not_refused z u valid near (by_leap_time some refused) = leap_times_answer z.leaps u valid.leaps near.0 near.1 refused
 near_not_refused z u valid near (by_rule x of_second last refused) = near_rule z.rule u near refused
 
-near_type : (z : Zone) (u : ℤ) → IsValid z → IsRuleOrNone z.rule → IsNear u → (t : LocalType) × TypeAt z u t
+pub near_type : (z : Zone) (u : ℤ) → IsValid z → IsRuleOrNone z.rule → IsNear u → (t : LocalType) × TypeAt z u t
 near_type z u valid limits near = elim (type_decided z u valid limits) [
   | inl t ↦ t
   | inr refused ↦ absurd (near_not_refused z u valid near refused)

@@ -44,6 +44,9 @@ pub mod ZoneChanges
 pub mod LeaplessChanges
 pub mod SpanLaws
 pub mod SpanSearch
+pub mod RunLaws
+pub mod ShownSecondLaws
+pub mod DifferenceLaws
 pub mod PosixZoneLaws
 pub mod HeaderLaws
 pub mod FilePieceLaws

@@ -14,6 +14,8 @@ pub mod Around
 pub mod Changes
 pub mod ChangesLeft
 pub mod Spans
+pub mod ShownSeconds
+pub mod Differences
 pub mod Windows
 pub mod Looks
 pub mod Questions

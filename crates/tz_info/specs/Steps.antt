@@ -25,6 +25,8 @@ pub mod ChangeLists
 pub mod Spans
 pub mod Beside
 pub mod Held
+pub mod Runs
+pub mod Differences
 pub mod Asked
 pub mod KindPlaces
 pub mod Kinds

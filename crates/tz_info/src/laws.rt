@@ -2,9 +2,11 @@
 //! zones at every year and every second.
 
 pub mod changes;
+pub mod differences;
 pub mod equality;
 pub mod files;
 pub mod spans;
+pub mod shown_seconds;
 pub mod texts;
 pub mod wall_clocks;
 

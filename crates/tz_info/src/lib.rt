@@ -15,4 +15,6 @@ pub use zone::all_changes::Changes;
 pub use zone::around::TypesAround;
 pub use zone::lookups::Lookups;
 pub use zone::offset_stretch::OffsetStretch;
+pub use zone::differences::Difference;
+pub use zone::shown_seconds::{ShownSeconds, TypedSecond};
 pub use zone::{LeapSecond, TimeZone, Transition};

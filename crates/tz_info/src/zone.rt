@@ -3,6 +3,7 @@
 pub(crate) mod all_changes;
 pub(crate) mod around;
 mod changes;
+pub(crate) mod differences;
 mod extremes;
 mod gap;
 mod index;
@@ -14,8 +15,10 @@ pub(crate) mod offset_stretch;
 mod one_pass;
 mod pieces;
 mod posix;
+mod runs;
 mod segments;
 mod shown;
+pub(crate) mod shown_seconds;
 mod span;
 mod starts;
 mod table;

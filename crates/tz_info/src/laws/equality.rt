@@ -7,12 +7,17 @@ ghost use Rattle.tz_info.specs.Zones.{Zone};
 ghost use Rattle.tz_info.specs.declared.rule.day.DayForm.{DayForm};
 ghost use Rattle.tz_info.specs.declared.rule.transition_rule.TransitionRule.{TransitionRule as Rule};
 ghost use Rattle.tz_info.specs.declared.zone.around.TypesAround.{TypesAround as Around};
+ghost use Rattle.tz_info.specs.declared.zone.differences.Difference.{Difference as Differing};
 ghost use Rattle.tz_info.specs.declared.zone.leap_second.LeapSecond.{LeapSecond as Leap};
+ghost use Rattle.tz_info.specs.declared.zone.shown_seconds.ShownSeconds.{ShownSeconds as Seconds};
+ghost use Rattle.tz_info.specs.declared.zone.shown_seconds.TypedSecond.{TypedSecond as Second};
 ghost use Rattle.tz_info.specs.declared.zone.transition.Transition.{Transition as ListedTransition};
 
 use crate::rule::{AlternateTime, RuleDay, TransitionRule};
 use crate::zone::all_changes::Changes;
 use crate::zone::around::TypesAround;
+use crate::zone::differences::Difference;
+use crate::zone::shown_seconds::{ShownSeconds, TypedSecond};
 use crate::zone::{LeapSecond, TimeZone, Transition};
 
 /// Transitions are equal if and only if their times and their indexes are. A clone is the value,
@@ -75,4 +80,28 @@ pub fn lists_of_changes<'a>(a: &Changes<'a>, b: &Changes<'a>)
     ensures cloned { ⟦<Changes<'a> as Clone>⟧.is_clone a.now b.now
         → changes_left b.now ≡ changes_left a.now }
     ensures infallible { ⟦<Changes<'a> as Clone>⟧.is_infallible a.now }
+{}
+
+/// Seconds with their types are equal if and only if the seconds and the types are. A clone is the
+/// value, and does not fail.
+pub fn typed_seconds()
+    ensures equal { (a b : Second) → IsTrue (⟦<TypedSecond as PartialEq>⟧.eq a b) ↔ (a ≡ b) }
+    ensures clone { (a b : Second) → ⟦<TypedSecond as Clone>⟧.is_clone a b ↔ (b ≡ a) }
+    ensures infallible { (a : Second) → ⟦<TypedSecond as Clone>⟧.is_infallible a }
+{}
+
+/// First and last seconds are equal if and only if both are. A clone is the value, and does not
+/// fail.
+pub fn shown_seconds()
+    ensures equal { (a b : Seconds) → IsTrue (⟦<ShownSeconds as PartialEq>⟧.eq a b) ↔ (a ≡ b) }
+    ensures clone { (a b : Seconds) → ⟦<ShownSeconds as Clone>⟧.is_clone a b ↔ (b ≡ a) }
+    ensures infallible { (a : Seconds) → ⟦<ShownSeconds as Clone>⟧.is_infallible a }
+{}
+
+/// Differences are equal if and only if their seconds and their types are. A clone is the value,
+/// and does not fail.
+pub fn differences()
+    ensures equal { (a b : Differing) → IsTrue (⟦<Difference as PartialEq>⟧.eq a b) ↔ (a ≡ b) }
+    ensures clone { (a b : Differing) → ⟦<Difference as Clone>⟧.is_clone a b ↔ (b ≡ a) }
+    ensures infallible { (a : Differing) → ⟦<Difference as Clone>⟧.is_infallible a }
 {}

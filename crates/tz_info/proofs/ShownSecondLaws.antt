@@ -1,0 +1,224 @@
+-- When clocks show the local times of a stretch: its first and its last second, from run to run, and the first second at or after a local time.
+use Rattle.std.proofs.Common.{◌≡◌, ◌↔◌, arith, refl, subst, ℤ, pos, ◌+ℤ◌, ◌-ℤ◌, ◌≤ℤ◌, ◌<ℤ◌, Option, Some, None, w64}
+use Rattle.std.proofs.lemmas.Int.{ints, by_lt_z}
+use mir.Val.{SFits}
+use Rattle.tz_base.specs.LocalTypes.{LocalType}
+use Rattle.tz_info.specs.Leaps.{IsNear}
+use Rattle.tz_info.specs.Steps.Runs.{IsRunUntil, IsRunSince, IsWithinRun, IsWindowOf, IsBeyondJumps, AreNoneBefore, AreNoneFrom}
+use Rattle.tz_info.specs.ShownSeconds.{ShowsWithin, IsFirstWithin, IsLastWithin, IsNeverWithin, AreEndsWithin, AreShownWithin, ShowsAtOrAfter, IsFirstAtOrAfter}
+use Rattle.tz_info.specs.WallClocks.{Shows}
+use Rattle.tz_info.specs.Windows.{IsGreatest, IsLeast, offsets}
+use Rattle.tz_info.specs.Zones.{Zone, IsValid, IsRuleOrNone, TypeAt}
+use Rattle.tz_info.specs.declared.zone.shown_seconds.ShownSeconds.{ShownSeconds}
+use Rattle.tz_info.proofs.ExtremeLaws.{at_most_greatest, at_least_least}
+use Rattle.tz_info.proofs.GapLaws.{near_type}
+use Rattle.tz_info.proofs.ZoneLaws.{type_once}
+
+-- what shows a local time of the stretch lies in the window
+shown_from : (z : Zone) (from until low high u : ℤ) (t : LocalType) → IsWindowOf z from until low high → ShowsWithin (TypeAt z) from until u t → low ≤ℤ u
+shown_from z from until low high u t w h = let g = at_most_greatest z u (from -ℤ low) t w.greatest h.type in let s = h.since in omega (arith, ints)
+
+shown_before : (z : Zone) (from until low high u : ℤ) (t : LocalType) → IsWindowOf z from until low high → ShowsWithin (TypeAt z) from until u t → u <ℤ high
+shown_before z from until low high u t w h = let g = at_least_least z u (until -ℤ high) t w.least h.type in let s = h.before in omega (arith, ints)
+
+-- ---- from the first second on
+pub first_begins : (z : Zone) (from until low high : ℤ) → IsWindowOf z from until low high → AreNoneBefore z from until low low
+first_begins z from until low high w = record { reached = omega (arith, ints); none = λ u t h. shown_from z from until low high u t w h }
+
+pub first_ends : (z : Zone) (from until low high at : ℤ) → IsWindowOf z from until low high → AreNoneBefore z from until low at → high ≤ℤ at → IsNeverWithin (TypeAt z) from until
+first_ends z from until low high at w all h u t k = let a = all.none u t k in let b = shown_before z from until low high u t w k in omega (arith, ints)
+
+-- in a run a second shows a local time of the stretch if and only if it lies between two seconds
+of_run : (z : Zone) (from until start end u : ℤ) (s t : LocalType) → s ≡ t → start ≤ℤ u → u <ℤ end → ShowsWithin (TypeAt z) from until u s → IsWithinRun start end (from -ℤ t.offset) (until -ℤ t.offset) u
+of_run z from until start end u s t same low high h =
+    let since : from ≤ℤ (u +ℤ t.offset) = subst (λ (x : LocalType). from ≤ℤ (u +ℤ x.offset)) same h.since in
+    let before : (u +ℤ t.offset) <ℤ until = subst (λ (x : LocalType). (u +ℤ x.offset) <ℤ until) same h.before in
+    record { low = low; high = high; since = omega (arith, ints); before = omega (arith, ints) }
+
+to_run : (z : Zone) (from until start end u : ℤ) (t : LocalType) → SFits w64 u → TypeAt z u t → IsWithinRun start end (from -ℤ t.offset) (until -ℤ t.offset) u → ShowsWithin (TypeAt z) from until u t
+to_run z from until start end u t fits here h =
+    let since = h.since in let before = h.before in
+    record { fits = fits; type = here; since = omega (arith, ints); before = omega (arith, ints) }
+
+pub first_goes_on : (z : Zone) (from until low high at end : ℤ) (t : LocalType) → IsWindowOf z from until low high → AreNoneBefore z from until low at → IsRunUntil (TypeAt z) at high end → TypeAt z at t
+    → ((u : ℤ) → IsWithinRun at end (from -ℤ t.offset) (until -ℤ t.offset) u → ⊥) → AreNoneBefore z from until low end
+first_goes_on z from until low high at end t w all run here none = record {
+  reached = let a = all.reached in let b = run.later in omega (arith, ints);
+  none = λ u s h. by_lt_z u end
+      (λ before.
+      let since = all.none u s h in
+      absurd (none u (of_run z from until at end u s t (type_once z u s t h.type (run.same u since before t here)) since before h)))
+      (λ later. later);
+}
+
+pub first_found : (z : Zone) (from until low high at end u : ℤ) (t : LocalType) → SFits w64 u → AreNoneBefore z from until low at → IsRunUntil (TypeAt z) at high end → TypeAt z at t
+    → IsWithinRun at end (from -ℤ t.offset) (until -ℤ t.offset) u → ((v : ℤ) → IsWithinRun at end (from -ℤ t.offset) (until -ℤ t.offset) v → u ≤ℤ v) → IsFirstWithin (TypeAt z) from until u t
+first_found z from until low high at end u t fits all run here is least = record {
+  shown = to_run z from until at end u t fits (run.same u is.low is.high t here) is;
+  first = λ v s h. by_lt_z v end
+      (λ before.
+      let since = all.none v s h in
+      least v (of_run z from until at end v s t (type_once z v s t h.type (run.same v since before t here)) since before h))
+      (λ later. let b = is.high in omega (arith, ints));
+}
+
+-- ---- from the last second back
+pub last_begins : (z : Zone) (from until low high : ℤ) → IsWindowOf z from until low high → AreNoneFrom z from until high high
+last_begins z from until low high w = record { reached = omega (arith, ints); none = λ u t h. shown_before z from until low high u t w h }
+
+pub last_ends : (z : Zone) (from until low high end : ℤ) → IsWindowOf z from until low high → AreNoneFrom z from until high end → end ≤ℤ low → IsNeverWithin (TypeAt z) from until
+last_ends z from until low high end w all h u t k = let a = all.none u t k in let b = shown_from z from until low high u t w k in omega (arith, ints)
+
+pub last_goes_on : (z : Zone) (from until low high end start : ℤ) (t : LocalType) → AreNoneFrom z from until high end → IsRunSince (TypeAt z) (end -ℤ pos 1) low start → TypeAt z (end -ℤ pos 1) t
+    → ((u : ℤ) → IsWithinRun start end (from -ℤ t.offset) (until -ℤ t.offset) u → ⊥) → AreNoneFrom z from until high start
+last_goes_on z from until low high end start t all run here none = record {
+  reached = let a = all.reached in let b = run.earlier in omega (arith, ints);
+  none = λ u s h. by_lt_z u start
+      (λ earlier. earlier)
+      (λ since.
+      let before = all.none u s h in
+      absurd (none u (of_run z from until start end u s t (type_once z u s t h.type (run.same u since (omega (arith, ints)) t here)) since before h)));
+}
+
+pub last_found : (z : Zone) (from until low high end start u : ℤ) (t : LocalType) → SFits w64 u → AreNoneFrom z from until high end → IsRunSince (TypeAt z) (end -ℤ pos 1) low start → TypeAt z (end -ℤ pos 1) t
+    → IsWithinRun start end (from -ℤ t.offset) (until -ℤ t.offset) u → ((v : ℤ) → IsWithinRun start end (from -ℤ t.offset) (until -ℤ t.offset) v → v ≤ℤ u) → IsLastWithin (TypeAt z) from until u t
+last_found z from until low high end start u t fits all run here is greatest = record {
+  shown = let b = is.high in to_run z from until start end u t fits (run.same u is.low (omega (arith, ints)) t here) is;
+  last = λ v s h. by_lt_z v start
+      (λ earlier. let b = is.low in omega (arith, ints))
+      (λ since.
+      let before = all.none v s h in
+      greatest v (of_run z from until start end v s t (type_once z v s t h.type (run.same v since (omega (arith, ints)) t here)) since before h));
+}
+
+-- ---- there is no other answer
+abbrev made : ℤ → LocalType → ℤ → LocalType → Option ShownSeconds
+made u s v t = Some (record { first = record { at = u; local_time_type = s }; last = record { at = v; local_time_type = t } })
+
+the_same : (u v a b : ℤ) (s t m n : LocalType) → u ≡ v → a ≡ b → s ≡ t → m ≡ n → made u s a m ≡ made v t b n
+the_same u v a b s t m n e g h k = cc
+
+equal : (u v : ℤ) → u ≤ℤ v → v ≤ℤ u → u ≡ v
+equal u v h k = omega (arith, ints)
+
+pub one_answer : (z : Zone) (from until : ℤ) (a b : Option ShownSeconds) → AreShownWithin (TypeAt z) from until a → AreShownWithin (TypeAt z) from until b → a ≡ b
+one_answer z from until None None h k = refl
+one_answer z from until None (Some b) h k = absurd (h b.first.at b.first.local_time_type k.first.shown)
+one_answer z from until (Some a) None h k = absurd (k a.first.at a.first.local_time_type h.first.shown)
+one_answer z from until (Some a) (Some b) h k =
+    let first = equal a.first.at b.first.at (h.first.first b.first.at b.first.local_time_type k.first.shown) (k.first.first a.first.at a.first.local_time_type h.first.shown) in
+    let last = equal a.last.at b.last.at (k.last.last a.last.at a.last.local_time_type h.last.shown) (h.last.last b.last.at b.last.local_time_type k.last.shown) in
+    the_same a.first.at b.first.at a.last.at b.last.at a.first.local_time_type b.first.local_time_type a.last.local_time_type b.last.local_time_type first last
+    (type_once z b.first.at a.first.local_time_type b.first.local_time_type (subst (λ u. TypeAt z u a.first.local_time_type) first h.first.shown.type) k.first.shown.type)
+    (type_once z b.last.at a.last.local_time_type b.last.local_time_type (subst (λ u. TypeAt z u a.last.local_time_type) last h.last.shown.type) k.last.shown.type)
+
+pub one_second : (z : Zone) (local u : ℤ) (t : LocalType) → ShowsWithin (TypeAt z) local (local +ℤ pos 1) u t ↔ Shows (TypeAt z) local u t
+one_second z local u t = (
+  λ h. let a = h.since in let b = h.before in record { fits = h.fits; type = h.type; shown = omega (arith, ints) },
+  λ h. let a = h.shown in record { fits = h.fits; type = h.type; since = omega (arith, ints); before = omega (arith, ints) },
+)
+
+pub own_answer : (z : Zone) (from until u : ℤ) (t : LocalType) (found : Option ShownSeconds) → ShowsWithin (TypeAt z) from until u t → AreShownWithin (TypeAt z) from until found
+    → (s : ShownSeconds) × (found ≡ Some s) × (s.first.at ≤ℤ u) × (u ≤ℤ s.last.at)
+own_answer z from until u t None h k = absurd (k u t h)
+own_answer z from until u t (Some s) h k = (s, refl, k.first.first u t h, k.last.last u t h)
+
+-- ---- where one type is in force near the stretch
+abbrev pub IsAllOf : Zone → ℤ → ℤ → LocalType → Type 0
+IsAllOf z low high t = (u : ℤ) → low ≤ℤ u → u <ℤ high → TypeAt z u t
+
+-- at a second that shows a local time of the stretch
+its_type : (z : Zone) (from until greatest least u : ℤ) (s t : LocalType) → IsGreatest (offsets z.types z.rule) greatest → IsLeast (offsets z.types z.rule) least
+    → IsAllOf z (from -ℤ greatest) (until -ℤ least) t → ShowsWithin (TypeAt z) from until u s → s ≡ t
+its_type z from until greatest least u s t g l all h =
+    let a = at_most_greatest z u greatest s g h.type in
+    let b = at_least_least z u least s l h.type in
+    let since = h.since in let before = h.before in
+    type_once z u s t h.type (all u (omega (arith, ints)) (omega (arith, ints)))
+
+shown_by : (z : Zone) (from until greatest least u : ℤ) (t : LocalType) → SFits w64 u → t.offset ≤ℤ greatest → least ≤ℤ t.offset → IsAllOf z (from -ℤ greatest) (until -ℤ least) t
+    → from ≤ℤ (u +ℤ t.offset) → (u +ℤ t.offset) <ℤ until → ShowsWithin (TypeAt z) from until u t
+shown_by z from until greatest least u t fits most fewest all since before = record { fits = fits; type = all u (omega (arith, ints)) (omega (arith, ints)); since = since; before = before }
+
+first_is : (z : Zone) (from until greatest least : ℤ) (t : LocalType) (s : ShownSeconds) → t.offset ≤ℤ greatest → least ≤ℤ t.offset → IsAllOf z (from -ℤ greatest) (until -ℤ least) t → AreEndsWithin (TypeAt z) from until s
+    → from ≤ℤ (s.first.at +ℤ t.offset) → (s.first.at +ℤ t.offset) <ℤ until → SFits w64 (from -ℤ t.offset) → s.first.at ≡ from -ℤ t.offset
+first_is z from until greatest least t s most fewest all h since before fits =
+    let shown = shown_by z from until greatest least (from -ℤ t.offset) t fits most fewest all (omega (arith, ints)) (omega (arith, ints)) in
+    let least_one = h.first.first (from -ℤ t.offset) t shown in
+    omega (arith, ints)
+
+last_is : (z : Zone) (from until greatest least : ℤ) (t : LocalType) (s : ShownSeconds) → t.offset ≤ℤ greatest → least ≤ℤ t.offset → IsAllOf z (from -ℤ greatest) (until -ℤ least) t → AreEndsWithin (TypeAt z) from until s
+    → from ≤ℤ (s.last.at +ℤ t.offset) → (s.last.at +ℤ t.offset) <ℤ until → SFits w64 ((until -ℤ t.offset) -ℤ pos 1) → (s.last.at +ℤ pos 1) ≡ until -ℤ t.offset
+last_is z from until greatest least t s most fewest all h since before fits =
+    let shown = shown_by z from until greatest least ((until -ℤ t.offset) -ℤ pos 1) t fits most fewest all (omega (arith, ints)) (omega (arith, ints)) in
+    let greatest_one = h.last.last ((until -ℤ t.offset) -ℤ pos 1) t shown in
+    omega (arith, ints)
+
+pub ordinary : (z : Zone) (from until greatest least : ℤ) (t : LocalType) (s : ShownSeconds) → SFits w64 (from -ℤ t.offset) → SFits w64 ((until -ℤ t.offset) -ℤ pos 1) → IsGreatest (offsets z.types z.rule) greatest → IsLeast (offsets z.types z.rule) least
+    → IsAllOf z (from -ℤ greatest) (until -ℤ least) t → AreEndsWithin (TypeAt z) from until s → (s.first.at ≡ from -ℤ t.offset) × ((s.last.at +ℤ pos 1) ≡ until -ℤ t.offset)
+ordinary z from until greatest least t s fits fits_last g l all h =
+    let first_type = its_type z from until greatest least s.first.at s.first.local_time_type t g l all h.first.shown in
+    let last_type = its_type z from until greatest least s.last.at s.last.local_time_type t g l all h.last.shown in
+    let since : from ≤ℤ (s.first.at +ℤ t.offset) = subst (λ (x : LocalType). from ≤ℤ (s.first.at +ℤ x.offset)) first_type h.first.shown.since in
+    let first_before : (s.first.at +ℤ t.offset) <ℤ until = subst (λ (x : LocalType). (s.first.at +ℤ x.offset) <ℤ until) first_type h.first.shown.before in
+    let last_since : from ≤ℤ (s.last.at +ℤ t.offset) = subst (λ (x : LocalType). from ≤ℤ (s.last.at +ℤ x.offset)) last_type h.last.shown.since in
+    let before : (s.last.at +ℤ t.offset) <ℤ until = subst (λ (x : LocalType). (s.last.at +ℤ x.offset) <ℤ until) last_type h.last.shown.before in
+    let most = at_most_greatest z s.first.at greatest t g (subst (TypeAt z s.first.at) first_type h.first.shown.type) in
+    let fewest = at_least_least z s.first.at least t l (subst (TypeAt z s.first.at) first_type h.first.shown.type) in (
+      first_is z from until greatest least t s most fewest all h since first_before fits,
+      last_is z from until greatest least t s most fewest all h last_since before fits_last,
+    )
+
+-- ---- the first second at or after a local time: that of a stretch so long that clocks can't be set forward over all of it
+to_reached : (z : Zone) (from until u : ℤ) (t : LocalType) → ShowsWithin (TypeAt z) from until u t → ShowsAtOrAfter (TypeAt z) from u t
+to_reached z from until u t h = record { fits = h.fits; type = h.type; reached = h.since }
+
+to_within : (z : Zone) (from until u : ℤ) (t : LocalType) → ShowsAtOrAfter (TypeAt z) from u t → (u +ℤ t.offset) <ℤ until → ShowsWithin (TypeAt z) from until u t
+to_within z from until u t h before = record { fits = h.fits; type = h.type; since = h.reached; before = before }
+
+-- by the least offset the local time has been reached
+pub shown_at_latest : (z : Zone) (from until : ℤ) → IsValid z → IsRuleOrNone z.rule → (b : IsBeyondJumps z from until) → (t : LocalType) × ShowsWithin (TypeAt z) from until (from -ℤ b.least) t
+shown_at_latest z from until valid limits b =
+    let near = b.near in
+    let there = near_type z (from -ℤ b.least) valid limits near in
+    let most = at_most_greatest z (from -ℤ b.least) b.greatest there.0 b.is_greatest there.1 in
+    let fewest = at_least_least z (from -ℤ b.least) b.least there.0 b.is_least there.1 in
+    let beyond = b.beyond in
+    (there.0, record { fits = omega (arith, ints, near); type = there.1; since = omega (arith, ints); before = omega (arith, ints) })
+
+pub never_before_until : (z : Zone) (from until : ℤ) → IsValid z → IsRuleOrNone z.rule → IsBeyondJumps z from until → IsNeverWithin (TypeAt z) from until → ⊥
+never_before_until z from until valid limits b never = let latest = shown_at_latest z from until valid limits b in never (from -ℤ b.least) latest.0 latest.1
+
+pub first_reached : (z : Zone) (from until u : ℤ) (t : LocalType) → IsValid z → IsRuleOrNone z.rule → IsBeyondJumps z from until → IsFirstWithin (TypeAt z) from until u t → IsFirstAtOrAfter (TypeAt z) from u t
+first_reached z from until u t valid limits b h =
+    let latest = shown_at_latest z from until valid limits b in
+    let not_later = h.first (from -ℤ b.least) latest.0 latest.1 in
+    let beyond = b.beyond in
+    record {
+      shown = to_reached z from until u t h.shown;
+      first = λ v s k. by_lt_z (v +ℤ s.offset) until
+          (λ before. h.first v s (to_within z from until v s k before))
+          (λ past. let most = at_most_greatest z v b.greatest s b.is_greatest k.type in omega (arith, ints));
+    }
+
+-- ---- laws of the first second at or after a local time
+pub one_first : (z : Zone) (local u v : ℤ) (s t : LocalType) → IsFirstAtOrAfter (TypeAt z) local u s → IsFirstAtOrAfter (TypeAt z) local v t → (u ≡ v) × (s ≡ t)
+one_first z local u v s t h k =
+    let same = equal u v (h.first v t k.shown) (k.first u s h.shown) in
+    (same, type_once z v s t (subst (λ w. TypeAt z w s) same h.shown.type) k.shown.type)
+
+pub first_rises : (z : Zone) (local later u v : ℤ) (s t : LocalType) → local ≤ℤ later → IsFirstAtOrAfter (TypeAt z) local u s → IsFirstAtOrAfter (TypeAt z) later v t → u ≤ℤ v
+first_rises z local later u v s t rise h k = let reached = k.shown.reached in h.first v t (record { fits = k.shown.fits; type = k.shown.type; reached = omega (arith, ints) })
+
+pub first_is_within : (z : Zone) (from until u : ℤ) (t : LocalType) → IsFirstAtOrAfter (TypeAt z) from u t → (u +ℤ t.offset) <ℤ until → IsFirstWithin (TypeAt z) from until u t
+first_is_within z from until u t h before = record {
+  shown = to_within z from until u t h.shown before;
+  first = λ v s k. h.first v s (to_reached z from until v s k);
+}
+
+pub none_within : (z : Zone) (from until u v : ℤ) (s t : LocalType) → from ≤ℤ until → IsNeverWithin (TypeAt z) from until → IsFirstAtOrAfter (TypeAt z) from u s → IsFirstAtOrAfter (TypeAt z) until v t → u ≡ v
+none_within z from until u v s t ordered never h k =
+    let rises = first_rises z from until u v s t ordered h k in
+    by_lt_z (u +ℤ s.offset) until
+    (λ before. absurd (never u s (to_within z from until u s h.shown before)))
+    (λ past. equal u v rises (k.first u s (record { fits = h.shown.fits; type = h.shown.type; reached = past })))

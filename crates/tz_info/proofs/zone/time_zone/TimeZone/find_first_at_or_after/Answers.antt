@@ -1,0 +1,22 @@
+use Rattle.std.proofs.Common.{rules, to_z-of_z, w64}
+use mir.Val.{SFits}
+use Rattle.tz_info.proofs.ShownSecondLaws.{never_before_until, first_reached}
+use Rattle.tz_info.proofs.zone.time_zone.TimeZone.find_first_at_or_after.Goals as goal
+
+pub unreachable-requires : goal.unreachable-requires
+unreachable-requires c =
+    let ff : SFits w64 c.secs_since_epoch-from.result = search rules in
+    let fu : SFits w64 c.beyond_jumps-until.result = search rules in
+    let v = c.local_time_types-types.ensures in
+    let beyond = simp to_z-of_z at c.beyond_jumps-until.ensures.beyond in
+    let never = simp to_z-of_z at c.in-None.ensures in
+    never_before_until c.args.self.now c.secs_since_epoch-from.result c.beyond_jumps-until.result v.valid v.rule beyond never
+
+pub returns : goal.returns
+returns c =
+    let ff : SFits w64 c.secs_since_epoch-from.result = search rules in
+    let fu : SFits w64 c.beyond_jumps-until.result = search rules in
+    let v = c.local_time_types-types.ensures in
+    let beyond = simp to_z-of_z at c.beyond_jumps-until.ensures.beyond in
+    let first = simp to_z-of_z at c.in-Some.ensures in
+    rw c.secs_since_epoch-from.ensures at (first_reached c.args.self.now c.secs_since_epoch-from.result c.beyond_jumps-until.result c.in-Some.first.at c.in-Some.first.local_time_type v.valid v.rule beyond first)

@@ -1,0 +1,22 @@
+use Rattle.std.proofs.Common.{◌≡◌, ◌∙◌, ap, arith, to_z-of_z, pos, ◌+ℤ◌, ◌*ℤ◌, w64}
+use mir.Val.{SFits}
+use Rattle.std.proofs.lemmas.Int.{ints}
+use Rattle.naive_base.specs.NaiveDate.{day_of}
+use Rattle.tz_info.proofs.zone.time_zone.TimeZone.find_seconds_of_day.Goals as goal
+
+pub seconds_between-requires-clause-until : goal.seconds_between-requires-clause-until
+seconds_between-requires-clause-until c =
+    let is : c.secs_since_epoch-midnight.result ≡ day_of c.args.date *ℤ pos 86_400 +ℤ pos 0 = c.secs_since_epoch-midnight.ensures ∙ ap (λ r. r.s) c.and_time.ensures.value in
+    let range = c.args.date.in_range in
+    let fm : SFits w64 c.secs_since_epoch-midnight.result = omega (arith, ints) in
+    let fn : SFits w64 (c.secs_since_epoch-midnight.result +ℤ pos 86_400) = omega (arith, ints) in
+    simp to_z-of_z (omega (arith, ints), omega (arith, ints))
+
+pub returns : goal.returns
+returns c =
+    let is : c.secs_since_epoch-midnight.result ≡ day_of c.args.date *ℤ pos 86_400 +ℤ pos 0 = c.secs_since_epoch-midnight.ensures ∙ ap (λ r. r.s) c.and_time.ensures.value in
+    let range = c.args.date.in_range in
+    let fm : SFits w64 c.secs_since_epoch-midnight.result = omega (arith, ints) in
+    let fn : SFits w64 (c.secs_since_epoch-midnight.result +ℤ pos 86_400) = omega (arith, ints) in
+    let same : c.secs_since_epoch-midnight.result ≡ pos 86_400 *ℤ day_of c.args.date = omega (arith, ints) in
+    rw same at (simp to_z-of_z at c.seconds_between.ensures)

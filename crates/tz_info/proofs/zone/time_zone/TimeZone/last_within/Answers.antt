@@ -1,0 +1,92 @@
+use Rattle.std.proofs.Common.{arith, rules, to_z, to_z-of_z, pos, ◌+ℤ◌, ◌-ℤ◌, ◌≡◌, w32, w64}
+use mir.Val.{SFits}
+use Rattle.std.proofs.lemmas.Int.{ints}
+use Rattle.tz_info.proofs.ShownSecondLaws.{last_begins, last_ends, last_goes_on, last_found}
+use Rattle.tz_info.proofs.zone.time_zone.TimeZone.last_within.Goals as goal
+
+pub loop-end-init : goal.loop-end-init
+loop-end-init c =
+    let ff = c.ranges.from in
+    let fu = c.ranges.until in
+    let fh : SFits w64 c.args.window.high = search rules in
+    simp to_z-of_z (last_begins c.args.self.now c.args.from c.args.until c.args.window.low c.args.window.high c.requires.window)
+
+pub loop-end-smaller : goal.loop-end-smaller
+loop-end-smaller c =
+    let ff = c.ranges.from in
+    let fu = c.ranges.until in
+    let fh : SFits w64 c.args.window.high = search rules in
+    let fl : SFits w64 c.args.window.low = search rules in
+    let all = simp to_z-of_z at c.loop-end.invariant in
+    let reached = all.reached in
+    let left = c.loop-end-test.true in
+    let near_low = c.requires.window.near_low in
+    let near_high = c.requires.window.near_high in
+    let fo : SFits w64 (to_z w64 c.loop-end.end-bits -ℤ pos 1) = omega (arith, ints) in
+    let fe : SFits w64 c.run_since-start.result = search rules in
+    let run = simp to_z-of_z at c.run_since-start.ensures in
+    let earlier = run.earlier in
+    let least = run.least in
+    simp to_z-of_z (omega (arith, ints))
+
+pub loop-end-preserved : goal.loop-end-preserved
+loop-end-preserved c =
+    let ff = c.ranges.from in
+    let fu = c.ranges.until in
+    let fh : SFits w64 c.args.window.high = search rules in
+    let fl : SFits w64 c.args.window.low = search rules in
+    let all = simp to_z-of_z at c.loop-end.invariant in
+    let reached = all.reached in
+    let left = c.loop-end-test.true in
+    let near_low = c.requires.window.near_low in
+    let near_high = c.requires.window.near_high in
+    let fo : SFits w64 (to_z w64 c.loop-end.end-bits -ℤ pos 1) = omega (arith, ints) in
+    let fe : SFits w64 c.run_since-start.result = search rules in
+    let run = simp to_z-of_z at c.run_since-start.ensures in
+    let back : (to_z w64 c.loop-end.end-bits -ℤ pos 1) +ℤ pos 1 ≡ to_z w64 c.loop-end.end-bits = omega (arith, ints) in
+    let fp : SFits w64 ((to_z w64 c.loop-end.end-bits -ℤ pos 1) +ℤ pos 1) = omega (arith, ints) in
+    let here = simp to_z-of_z at c.type_at-local_type.ensures in
+    let fs : SFits w64 c.second_by-since.result = search rules in
+    let fb : SFits w64 c.second_by-before.result = search rules in
+    let g1 : SFits w32 c.offset.result = search rules in
+    let g2 : SFits w32 c.offset-in-loop-end.result = search rules in
+    let since = simp to_z-of_z at c.second_by-since.ensures.value in
+    let before = simp to_z-of_z at c.second_by-before.ensures.value in
+    let none = rw (back, since, before, c.offset.ensures.value, c.offset-in-loop-end.ensures.value) at (simp to_z-of_z at c.in_default.ensures) in
+    simp to_z-of_z (last_goes_on c.args.self.now c.args.from c.args.until c.args.window.low c.args.window.high _ c.run_since-start.result c.type_at-local_type.result.now all run here none)
+
+pub returns-in-Some : goal.returns-in-Some
+returns-in-Some c =
+    let ff = c.ranges.from in
+    let fu = c.ranges.until in
+    let fh : SFits w64 c.args.window.high = search rules in
+    let fl : SFits w64 c.args.window.low = search rules in
+    let all = simp to_z-of_z at c.loop-end.invariant in
+    let reached = all.reached in
+    let left = c.loop-end-test.true in
+    let near_low = c.requires.window.near_low in
+    let near_high = c.requires.window.near_high in
+    let fo : SFits w64 (to_z w64 c.loop-end.end-bits -ℤ pos 1) = omega (arith, ints) in
+    let fe : SFits w64 c.run_since-start.result = search rules in
+    let run = simp to_z-of_z at c.run_since-start.ensures in
+    let back : (to_z w64 c.loop-end.end-bits -ℤ pos 1) +ℤ pos 1 ≡ to_z w64 c.loop-end.end-bits = omega (arith, ints) in
+    let fp : SFits w64 ((to_z w64 c.loop-end.end-bits -ℤ pos 1) +ℤ pos 1) = omega (arith, ints) in
+    let here = simp to_z-of_z at c.type_at-local_type.ensures in
+    let fs : SFits w64 c.second_by-since.result = search rules in
+    let fb : SFits w64 c.second_by-before.result = search rules in
+    let g1 : SFits w32 c.offset.result = search rules in
+    let g2 : SFits w32 c.offset-in-loop-end.result = search rules in
+    let since = simp to_z-of_z at c.second_by-since.ensures.value in
+    let before = simp to_z-of_z at c.second_by-before.ensures.value in
+    let fi : SFits w64 c.in-Some.greatest = search rules in
+    let found = rw (back, since, before, c.offset.ensures.value, c.offset-in-loop-end.ensures.value) at (simp to_z-of_z at c.in-Some.ensures) in
+    simp to_z-of_z (last_found c.args.self.now c.args.from c.args.until c.args.window.low c.args.window.high _ c.run_since-start.result c.in-Some.greatest c.type_at-local_type.result.now fi all run here found.0 found.1)
+
+pub returns : goal.returns
+returns c =
+    let ff = c.ranges.from in
+    let fu = c.ranges.until in
+    let fh : SFits w64 c.args.window.low = search rules in
+    let all = simp to_z-of_z at c.loop-end.invariant in
+    let over = c.loop-end-test.false in
+    last_ends c.args.self.now c.args.from c.args.until c.args.window.low c.args.window.high _ c.requires.window all (omega (arith, ints))

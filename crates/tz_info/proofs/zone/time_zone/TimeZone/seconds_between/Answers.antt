@@ -1,0 +1,8 @@
+use Rattle.std.proofs.Common.{to_z-of_z}
+use Rattle.tz_info.proofs.zone.time_zone.TimeZone.seconds_between.Goals as goal
+
+pub returns : goal.returns
+returns c =
+    let ff = c.ranges.from in
+    let fu = c.ranges.until in
+    record { first = simp to_z-of_z at c.in-Some.ensures; last = simp to_z-of_z at c.in-Some-last_within.ensures }

@@ -1,0 +1,9 @@
+use Rattle.std.proofs.Common.{to_z-of_z}
+use Rattle.tz_info.proofs.GapLaws.{near_not_refused}
+use Rattle.tz_info.proofs.zone.time_zone.TimeZone.type_at.Goals as goal
+
+pub unreachable-requires : goal.unreachable-requires
+unreachable-requires c =
+    let fs = c.ranges.second in
+    let refused = simp to_z-of_z at c.in-Err.ensures in
+    near_not_refused c.args.self.now c.args.second c.local_time_types-types.ensures.valid c.requires refused.1

@@ -1,0 +1,15 @@
+//! Theorems of the differences of two zones: each function is empty, its contract is proved; never
+//! called.
+
+ghost use Rattle.std.specs.Prelude.{◌≡◌, ℤ};
+ghost use Rattle.tz_info.specs.Differences.{IsDifference, IsInDifference};
+ghost use Rattle.tz_info.specs.Zones.{Zone, TypeAt};
+ghost use Rattle.tz_info.specs.declared.zone.differences.Difference.{Difference};
+
+/// Two differences of two zones that share a second are the same.
+pub fn one_difference_law()
+    ensures { (z w : Zone) (from until u : ℤ) (d e : Difference)
+        → IsDifference (TypeAt z) (TypeAt w) from until d
+        → IsDifference (TypeAt z) (TypeAt w) from until e
+        → IsInDifference u d → IsInDifference u e → d ≡ e }
+{}

@@ -1,0 +1,204 @@
+//! When clocks show certain local times: the first and the last second of a day or of any other
+//! stretch of local time, and the first second at or after a local time.
+
+ghost use Rattle.std.specs.Prelude.{◌≡◌, pos, ◌+ℤ◌, ◌*ℤ◌, ◌-ℤ◌, ◌<ℤ◌, ◌≤ℤ◌, MatchOption};
+ghost use Rattle.naive_base.specs.NaiveDate.{day_of};
+ghost use Rattle.naive_base.specs.NaiveDateTime.{reading};
+ghost use Rattle.naive_base.specs.Range.{IsWide};
+ghost use Rattle.tz_info.specs.Leaps.{IsNear};
+ghost use Rattle.tz_info.specs.ShownSeconds.{IsFirstWithin, IsLastWithin, IsNeverWithin, AreShownWithin, IsFirstAtOrAfter};
+ghost use Rattle.tz_info.specs.Steps.Runs.{IsEnd, IsBeyondJumps, IsWindowOf};
+ghost use Rattle.tz_info.specs.Zones.{TypeAt};
+
+use crate::zone::runs::{first_of_run, last_of_run};
+use crate::zone::time_zone::TimeZone;
+use naive_base::{NaiveDate, NaiveDateTime, NaiveTime};
+use tz_base::LocalTimeType;
+
+/// A second of Unix time, and the local time type in force then.
+#[derive(Clone, Copy, Debug, PartialEq, Eq)]
+pub struct TypedSecond {
+    /// The second.
+    pub at: i64,
+    /// The type in force.
+    pub local_time_type: LocalTimeType,
+}
+
+/// The first and the last second at which clocks show a local time of a certain stretch, such as a
+/// day. If clocks are set back, some seconds between the two may show other local times.
+#[derive(Clone, Copy, Debug, PartialEq, Eq)]
+pub struct ShownSeconds {
+    /// The first second.
+    pub first: TypedSecond,
+    /// The last second, which still shows a local time of the stretch.
+    pub last: TypedSecond,
+}
+
+// The seconds between which clocks may show certain local times: from `low` to before `high`.
+#[derive(Clone, Copy)]
+struct Window {
+    low: i64,
+    high: i64,
+}
+
+impl TimeZone {
+    /// Returns the first and the last second at which a clock of this zone shows a local time from
+    /// `from` to before `until`, both in whole seconds; `None` if no clock ever does.
+    ///
+    /// The search goes over the changes of the clocks that come in that stretch, or within the
+    /// zone's offsets from it, and takes no memory.
+    pub fn find_seconds_within(
+        &self,
+        from: NaiveDateTime,
+        until: NaiveDateTime,
+    ) -> Option<ShownSeconds>
+        ensures { AreShownWithin (TypeAt self.now) (reading from).s (reading until).s result }
+    {
+        self.seconds_between(from.secs_since_epoch(), until.secs_since_epoch())
+    }
+
+    /// Returns the first and the last second at which a clock of this zone shows that date; `None`
+    /// if clocks were set forward over the whole day.
+    ///
+    /// An ordinary day has 86,400 seconds. Two days may overlap: if clocks are set back over
+    /// midnight, they show the old date again after they have shown the new one.
+    ///
+    /// ```text
+    /// let apia = TimeZone::from_tz_data(alloc, bytes)?;
+    /// apia.find_seconds_of_day(NaiveDate::from_ymd(2011, 12, 30)); // None: 29 was followed by 31
+    /// let day = apia.find_seconds_of_day(NaiveDate::from_ymd(2011, 12, 31))?;
+    /// let at = day.first.at; // 1325239200: 2011-12-30 10:00:00 UTC
+    /// ```
+    pub fn find_seconds_of_day(&self, date: NaiveDate) -> Option<ShownSeconds>
+        ensures { AreShownWithin (TypeAt self.now)
+            (pos 86_400 *ℤ day_of date) (pos 86_400 *ℤ day_of date +ℤ pos 86_400) result }
+    {
+        let midnight = date.and_time(NaiveTime::MIN).secs_since_epoch();
+        self.seconds_between(midnight, midnight + 86_400)
+    }
+
+    /// Returns the first second at which a clock of this zone shows that local time, in whole
+    /// seconds, or a later one.
+    ///
+    /// If the local time lies in a gap, it is the second at which the gap ends; in a fold, the
+    /// first of its two seconds. A later local time never has an earlier answer. So the seconds of
+    /// midnights divide time into days, each of which lasts until the next one begins.
+    ///
+    /// ```text
+    /// let new_york = TimeZone::from_tz_data(alloc, bytes)?;
+    /// let local = NaiveDateTime::parse("2021-03-14 02:30:00")?; // in a gap
+    /// let at = new_york.find_first_at_or_after(local).at; // 1615705200: 03:00 EDT
+    /// ```
+    pub fn find_first_at_or_after(&self, local: NaiveDateTime) -> TypedSecond
+        ensures { IsFirstAtOrAfter (TypeAt self.now) (reading local).s
+            result.at result.local_time_type }
+    {
+        let _types = self.local_time_types();
+        let from = local.secs_since_epoch();
+        let until = self.beyond_jumps(from);
+        let window = self.window_of(from, until);
+        match self.first_within(from, until, window) {
+            Some(first) => first,
+            None => unreachable!(),
+        }
+    }
+
+    // A local time so much later that clocks cannot be set forward over all those between.
+    fn beyond_jumps(&self, from: i64) -> i64
+        requires { IsWide from }
+        ensures beyond { IsBeyondJumps self.now from result }
+        ensures end { IsEnd result }
+    {
+        let _types = self.local_time_types();
+        from + self.extremes.greatest as i64 - self.extremes.least as i64 + 1
+    }
+
+    fn seconds_between(&self, from: i64, until: i64) -> Option<ShownSeconds>
+        requires from { IsEnd from }
+        requires until { IsEnd until }
+        ensures { AreShownWithin (TypeAt self.now) from until result }
+    {
+        let window = self.window_of(from, until);
+        let Some(first) = self.first_within(from, until, window) else {
+            return None;
+        };
+        let Some(last) = self.last_within(from, until, window) else {
+            return None;
+        };
+        Some(ShownSeconds { first, last })
+    }
+
+    fn window_of(&self, from: i64, until: i64) -> Window
+        requires from { IsEnd from }
+        requires until { IsEnd until }
+        ensures { IsWindowOf self.now from until result.low result.high }
+    {
+        let _types = self.local_time_types();
+        Window {
+            low: second_by(from, self.extremes.greatest),
+            high: second_by(until, self.extremes.least),
+        }
+    }
+
+    // Goes from run to run, until one shows such a local time.
+    fn first_within(&self, from: i64, until: i64, window: Window) -> Option<TypedSecond>
+        requires from { IsEnd from }
+        requires until { IsEnd until }
+        requires window { IsWindowOf self.now from until window.low window.high }
+        ensures { MatchOption result (IsNeverWithin (TypeAt self.now) from until)
+            (λ s. IsFirstWithin (TypeAt self.now) from until s.at s.local_time_type) }
+    {
+        let _types = self.local_time_types();
+        let mut at = window.low;
+        while at < window.high {
+            let local_type = self.type_at(at);
+            let end = self.run_until(at, window.high);
+            let since = second_by(from, local_type.offset());
+            let before = second_by(until, local_type.offset());
+            if let Some(first) = first_of_run(at, end, since, before) {
+                return Some(TypedSecond {
+                    at: first,
+                    local_time_type: *local_type,
+                });
+            }
+            at = end;
+        }
+        None
+    }
+
+    // Goes back from the window's end: `end` is the second after those that are left.
+    fn last_within(&self, from: i64, until: i64, window: Window) -> Option<TypedSecond>
+        requires from { IsEnd from }
+        requires until { IsEnd until }
+        requires window { IsWindowOf self.now from until window.low window.high }
+        ensures { MatchOption result (IsNeverWithin (TypeAt self.now) from until)
+            (λ s. IsLastWithin (TypeAt self.now) from until s.at s.local_time_type) }
+    {
+        let _types = self.local_time_types();
+        let mut end = window.high;
+        while window.low < end {
+            let last = end - 1;
+            let local_type = self.type_at(last);
+            let start = self.run_since(last, window.low);
+            let since = second_by(from, local_type.offset());
+            let before = second_by(until, local_type.offset());
+            if let Some(greatest) = last_of_run(start, last, since, before) {
+                return Some(TypedSecond {
+                    at: greatest,
+                    local_time_type: *local_type,
+                });
+            }
+            end = start;
+        }
+        None
+    }
+}
+
+// The second at which a clock with that offset shows the local time.
+fn second_by(local: i64, offset: i32) -> i64
+    requires { IsEnd local }
+    ensures value { result ≡ local -ℤ offset }
+    ensures near { IsNear (local -ℤ offset) }
+{
+    local - offset as i64
+}
