@@ -23,7 +23,7 @@ and_both x y h k = rw (h, k) refl
 pub type_exact : IsExact type_eq.it
 type_exact a b = search rules
 
-second_exact : IsExact int_eq
+pub second_exact : IsExact int_eq
 second_exact a b = search rules
 
 abbrev the_change : ℤ → LocalType → LocalType → Change

@@ -1,6 +1,6 @@
 -- What shows a local time, seconds with types, and differences are equal by `==` if and only if they are equal.
-use Rattle.std.proofs.Common.{◌≡◌, IsTrue, refl, ap}
-use Rattle.tz_base.proofs.ChangeEquality.{change_exact}
+use Rattle.std.proofs.Common.{int_eq, ◌≡◌, IsTrue, refl, ap}
+use Rattle.tz_base.proofs.ChangeEquality.{change_exact, second_exact}
 use Rattle.tz_base.proofs.ForCallers.{IsExact, and_left, and_right, and_both, type_exact}
 use Rattle.tz_base.specs.LocalTypes.{LocalType}
 use Rattle.tz_base.specs.contracts.local_time_type.LocalTimeTypePartialEq.TheImpl.{eq-value as type_eq}

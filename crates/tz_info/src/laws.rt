@@ -5,8 +5,8 @@ pub mod changes;
 pub mod differences;
 pub mod equality;
 pub mod files;
-pub mod spans;
 pub mod shown_seconds;
+pub mod spans;
 pub mod texts;
 pub mod wall_clocks;
 

@@ -13,8 +13,8 @@ pub use tz_base::{Change, Cursor, Error, Expected, LocalTimeType, Span, TimeZone
 pub use tz_timeline::Probes;
 pub use zone::all_changes::Changes;
 pub use zone::around::TypesAround;
+pub use zone::differences::Difference;
 pub use zone::lookups::Lookups;
 pub use zone::offset_stretch::OffsetStretch;
-pub use zone::differences::Difference;
 pub use zone::shown_seconds::{ShownSeconds, TypedSecond};
 pub use zone::{LeapSecond, TimeZone, Transition};

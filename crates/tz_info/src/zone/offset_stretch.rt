@@ -30,7 +30,7 @@ impl TimeZone {
         ensures { IfSome result (λ s. (u : ℤ) → s.from ≤ℤ u → u <ℤ s.until
             → (t : LocalType) × TypeAt self.now u t × (s.offset ≡ t.offset)) }
     {
-        let _types = self.local_time_types();
+        let _ = &self.table;
         if !self.leap_seconds.is_empty() {
             return None;
         }
@@ -61,7 +61,7 @@ impl TimeZone {
         ensures { IfSome result (λ s. (u : ℤ) → s.from ≤ℤ u → u <ℤ s.until
             → (t : LocalType) × TypeAt self.now u t × (s.offset ≡ t.offset)) }
     {
-        let _types = self.local_time_types();
+        let _ = &self.table;
         let found = match &self.last_rule {
             None => self.listed(last.type_index),
             Some(rule) => only_type(rule)?,

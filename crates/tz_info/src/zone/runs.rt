@@ -14,7 +14,7 @@ impl TimeZone {
         requires { IsNear second }
         ensures { TypeAt self.now second result.now }
     {
-        let _types = self.local_time_types();
+        let _ = &self.table;
         match self.find_local_time_type(second) {
             Ok(local) => local,
             Err(_) => unreachable!(),
@@ -28,7 +28,7 @@ impl TimeZone {
         requires ahead { second <ℤ limit }
         ensures { IsRunUntil (TypeAt self.now) second limit result }
     {
-        let _types = self.local_time_types();
+        let _ = &self.table;
         match self.next_change(second) {
             Some(change) => { if change.at < limit { change.at } else { limit } }
             None => limit,
@@ -42,7 +42,7 @@ impl TimeZone {
         requires behind { limit ≤ℤ second }
         ensures { IsRunSince (TypeAt self.now) second limit result }
     {
-        let _types = self.local_time_types();
+        let _ = &self.table;
         match self.previous_change(second) {
             Some(change) => { if limit < change.at { change.at } else { limit } }
             None => limit,

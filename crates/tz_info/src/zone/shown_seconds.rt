@@ -93,7 +93,7 @@ impl TimeZone {
         ensures { IsFirstAtOrAfter (TypeAt self.now) (reading local).s
             result.at result.local_time_type }
     {
-        let _types = self.local_time_types();
+        let _ = &self.table;
         let from = local.secs_since_epoch();
         let until = self.beyond_jumps(from);
         let window = self.window_of(from, until);
@@ -109,7 +109,7 @@ impl TimeZone {
         ensures beyond { IsBeyondJumps self.now from result }
         ensures end { IsEnd result }
     {
-        let _types = self.local_time_types();
+        let _ = &self.table;
         from + self.extremes.greatest as i64 - self.extremes.least as i64 + 1
     }
 
@@ -133,7 +133,7 @@ impl TimeZone {
         requires until { IsEnd until }
         ensures { IsWindowOf self.now from until result.low result.high }
     {
-        let _types = self.local_time_types();
+        let _ = &self.table;
         Window {
             low: second_by(from, self.extremes.greatest),
             high: second_by(until, self.extremes.least),
@@ -148,7 +148,7 @@ impl TimeZone {
         ensures { MatchOption result (IsNeverWithin (TypeAt self.now) from until)
             (λ s. IsFirstWithin (TypeAt self.now) from until s.at s.local_time_type) }
     {
-        let _types = self.local_time_types();
+        let _ = &self.table;
         let mut at = window.low;
         while at < window.high {
             let local_type = self.type_at(at);
@@ -174,7 +174,7 @@ impl TimeZone {
         ensures { MatchOption result (IsNeverWithin (TypeAt self.now) from until)
             (λ s. IsLastWithin (TypeAt self.now) from until s.at s.local_time_type) }
     {
-        let _types = self.local_time_types();
+        let _ = &self.table;
         let mut end = window.high;
         while window.low < end {
             let last = end - 1;

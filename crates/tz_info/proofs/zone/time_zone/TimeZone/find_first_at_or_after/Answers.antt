@@ -7,16 +7,14 @@ pub unreachable-requires : goal.unreachable-requires
 unreachable-requires c =
     let ff : SFits w64 c.secs_since_epoch-from.result = search rules in
     let fu : SFits w64 c.beyond_jumps-until.result = search rules in
-    let v = c.local_time_types-types.ensures in
     let beyond = simp to_z-of_z at c.beyond_jumps-until.ensures.beyond in
     let never = simp to_z-of_z at c.in-None.ensures in
-    never_before_until c.args.self.now c.secs_since_epoch-from.result c.beyond_jumps-until.result v.valid v.rule beyond never
+    never_before_until c.args.self.now c.secs_since_epoch-from.result c.beyond_jumps-until.result (rw (← c.self.view_is) c.self.invariant.valid) (rw (← c.self.view_is) c.self.invariant.limits) beyond never
 
 pub returns : goal.returns
 returns c =
     let ff : SFits w64 c.secs_since_epoch-from.result = search rules in
     let fu : SFits w64 c.beyond_jumps-until.result = search rules in
-    let v = c.local_time_types-types.ensures in
     let beyond = simp to_z-of_z at c.beyond_jumps-until.ensures.beyond in
     let first = simp to_z-of_z at c.in-Some.ensures in
-    rw c.secs_since_epoch-from.ensures at (first_reached c.args.self.now c.secs_since_epoch-from.result c.beyond_jumps-until.result c.in-Some.first.at c.in-Some.first.local_time_type v.valid v.rule beyond first)
+    rw c.secs_since_epoch-from.ensures at (first_reached c.args.self.now c.secs_since_epoch-from.result c.beyond_jumps-until.result c.in-Some.first.at c.in-Some.first.local_time_type (rw (← c.self.view_is) c.self.invariant.valid) (rw (← c.self.view_is) c.self.invariant.limits) beyond first)

@@ -38,5 +38,5 @@ returns c =
     let offset : SFits w32 c.offset.result = search rules in
     let none : length z.leaps ≡ 0 = search rules in
     let some : place < length z.transitions = search rules in
-    simp to_z-of_z (offset_stretch_between z place latest.unix_leap_time next.unix_leap_time c.offset.result c.listed-found.result.now c.local_time_types-types.ensures.valid none some c.latest-latest.ensures.begin
+    simp to_z-of_z (offset_stretch_between z place latest.unix_leap_time next.unix_leap_time c.offset.result c.listed-found.result.now (rw (← c.self.view_is) c.self.invariant.valid) none some c.latest-latest.ensures.begin
     (λ d. time_at z.transitions place next d some c.transition-next.ensures.item) (rw c.latest-latest.ensures.index at c.listed-found.ensures) c.offset.ensures.value)

@@ -29,4 +29,4 @@ returns c =
           let is : z.rule ≡ Some (Fixed c.match-self.found.now) = rw d (sym rule ∙ (a ∙ ap (λ (r : TransitionRule). Some r) b)) in
           by_fixed z index c.match-self.found.now is
     ] in
-    simp to_z-of_z (offset_stretch_behind z c.args.last.unix_leap_time (pos 9223372036854775807) c.offset.result c.match-self.found.now c.local_time_types-types.ensures.valid c.requires.leaps c.requires.begin told c.offset.ensures.value)
+    simp to_z-of_z (offset_stretch_behind z c.args.last.unix_leap_time (pos 9223372036854775807) c.offset.result c.match-self.found.now (rw (← c.self.view_is) c.self.invariant.valid) c.requires.leaps c.requires.begin told c.offset.ensures.value)

@@ -9,25 +9,22 @@ returns-then-limit-change c =
     let fs = c.ranges.second in
     let fl = c.ranges.limit in
     let fc : SFits w64 c.in-Some.change.at = search rules in
-    let v = c.local_time_types-types.ensures in
     let last = simp to_z-of_z at c.in-Some.ensures in
     let more = c.if-limit-change.true in
-    simp to_z-of_z (run_since c.args.self.now c.args.second c.args.limit c.in-Some.change.at v.valid v.rule c.requires.near c.requires.limit (omega (arith, ints)) last.inside last.last)
+    simp to_z-of_z (run_since c.args.self.now c.args.second c.args.limit c.in-Some.change.at (rw (← c.self.view_is) c.self.invariant.valid) (rw (← c.self.view_is) c.self.invariant.limits) c.requires.near c.requires.limit (omega (arith, ints)) last.inside last.last)
 
 pub returns-else-limit-change : goal.returns-else-limit-change
 returns-else-limit-change c =
     let fs = c.ranges.second in
     let fl = c.ranges.limit in
     let fc : SFits w64 c.in-Some.change.at = search rules in
-    let v = c.local_time_types-types.ensures in
     let last = simp to_z-of_z at c.in-Some.ensures in
     let less = c.if-limit-change.false in
-    simp to_z-of_z (run_since c.args.self.now c.args.second c.args.limit c.args.limit v.valid v.rule c.requires.near c.requires.limit (omega (arith, ints)) c.requires.behind (λ d is h. let a = last.last d is h in omega (arith, ints)))
+    simp to_z-of_z (run_since c.args.self.now c.args.second c.args.limit c.args.limit (rw (← c.self.view_is) c.self.invariant.valid) (rw (← c.self.view_is) c.self.invariant.limits) c.requires.near c.requires.limit (omega (arith, ints)) c.requires.behind (λ d is h. let a = last.last d is h in omega (arith, ints)))
 
 pub returns-in-None : goal.returns-in-None
 returns-in-None c =
     let fs = c.ranges.second in
     let fl = c.ranges.limit in
-    let v = c.local_time_types-types.ensures in
     let none = simp to_z-of_z at c.in-None.ensures in
-    simp to_z-of_z (run_since c.args.self.now c.args.second c.args.limit c.args.limit v.valid v.rule c.requires.near c.requires.limit (omega (arith, ints)) c.requires.behind (λ d is h. absurd (none d is h)))
+    simp to_z-of_z (run_since c.args.self.now c.args.second c.args.limit c.args.limit (rw (← c.self.view_is) c.self.invariant.valid) (rw (← c.self.view_is) c.self.invariant.limits) c.requires.near c.requires.limit (omega (arith, ints)) c.requires.behind (λ d is h. absurd (none d is h)))

@@ -9,25 +9,22 @@ returns-then-change-limit c =
     let fs = c.ranges.second in
     let fl = c.ranges.limit in
     let fc : SFits w64 c.in-Some.change.at = search rules in
-    let v = c.local_time_types-types.ensures in
     let first = simp to_z-of_z at c.in-Some.ensures in
     let less = c.if-change-limit.true in
-    simp to_z-of_z (run_to_change c.args.self.now c.args.second c.args.limit c.in-Some.change v.valid v.rule c.requires.near c.requires.limit first (omega (arith, ints)))
+    simp to_z-of_z (run_to_change c.args.self.now c.args.second c.args.limit c.in-Some.change (rw (← c.self.view_is) c.self.invariant.valid) (rw (← c.self.view_is) c.self.invariant.limits) c.requires.near c.requires.limit first (omega (arith, ints)))
 
 pub returns-else-change-limit : goal.returns-else-change-limit
 returns-else-change-limit c =
     let fs = c.ranges.second in
     let fl = c.ranges.limit in
     let fc : SFits w64 c.in-Some.change.at = search rules in
-    let v = c.local_time_types-types.ensures in
     let first = simp to_z-of_z at c.in-Some.ensures in
     let more = c.if-change-limit.false in
-    simp to_z-of_z (run_to_limit c.args.self.now c.args.second c.args.limit v.valid v.rule c.requires.near c.requires.limit c.requires.ahead (λ d is h. let a = first.first d is h in omega (arith, ints)))
+    simp to_z-of_z (run_to_limit c.args.self.now c.args.second c.args.limit (rw (← c.self.view_is) c.self.invariant.valid) (rw (← c.self.view_is) c.self.invariant.limits) c.requires.near c.requires.limit c.requires.ahead (λ d is h. let a = first.first d is h in omega (arith, ints)))
 
 pub returns-in-None : goal.returns-in-None
 returns-in-None c =
     let fs = c.ranges.second in
     let fl = c.ranges.limit in
-    let v = c.local_time_types-types.ensures in
     let none = simp to_z-of_z at c.in-None.ensures in
-    simp to_z-of_z (run_to_limit c.args.self.now c.args.second c.args.limit v.valid v.rule c.requires.near c.requires.limit c.requires.ahead (λ d is h. absurd (none d is h)))
+    simp to_z-of_z (run_to_limit c.args.self.now c.args.second c.args.limit (rw (← c.self.view_is) c.self.invariant.valid) (rw (← c.self.view_is) c.self.invariant.limits) c.requires.near c.requires.limit c.requires.ahead (λ d is h. absurd (none d is h)))

@@ -6,4 +6,4 @@ pub unreachable-requires : goal.unreachable-requires
 unreachable-requires c =
     let fs = c.ranges.second in
     let refused = simp to_z-of_z at c.in-Err.ensures in
-    near_not_refused c.args.self.now c.args.second c.local_time_types-types.ensures.valid c.requires refused.1
+    near_not_refused c.args.self.now c.args.second (rw (← c.self.view_is) c.self.invariant.valid) c.requires refused.0
