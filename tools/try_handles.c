@@ -377,7 +377,7 @@ static int has_local(struct tried *of, int64_t per_second, int64_t instant, int6
 /* A column of instants, in order or not: what zoned_at says of each, up to the first row that has no local time. */
 static void try_column(struct tried *of) {
     static const int64_t UNITS[] = {1, 1000, 1000000, 1000000000, 0, -1, 60};
-    int64_t instants[COLUMN], locals[COLUMN], per_second = UNITS[below(below(8) ? 4 : 7)];
+    int64_t instants[COLUMN] = {0}, locals[COLUMN], per_second = UNITS[below(below(8) ? 4 : 7)];
     size_t count = below(COLUMN + 1), room = below(8) ? count : below(COLUMN + 1), row = 77, first = 0;
     int is_unit = per_second > 0 && per_second != 60, is_sorted = below(2) == 0;
     int64_t step = (int64_t)below(1000000) * (is_unit ? per_second : 1);
@@ -562,6 +562,15 @@ static uint64_t ask(const struct zoned_zone *zone) {
     return sum;
 }
 
+/* ThreadSanitizer doesn't see the counter of shares, an atomic of the archive, so it takes the last close, which frees the zone, for
+   a race with the questions of other shares: they end before it there. (helgrind and drd see the counter.) It also delays
+   signals. */
+#ifdef __SANITIZE_THREAD__
+enum { SEES_NO_COUNTER = 1 };
+#else
+enum { SEES_NO_COUNTER = 0 };
+#endif
+
 /* Asks the handle of all, and shares of it, which come and go meanwhile; then a share that outlives it. */
 static void *work(void *given) {
     struct zoned_zone last = {0};
@@ -576,6 +585,7 @@ static void *work(void *given) {
     pthread_barrier_wait(&asked_by_all);
     pthread_barrier_wait(&closed);
     EXPECT(ask(&last) == expected_sum);
+    if (SEES_NO_COUNTER) pthread_barrier_wait(&asked_by_all);
     zoned_close(&last);
     return given;
 }
@@ -598,6 +608,7 @@ static void try_threads(uint64_t count) {
         EXPECT(mprotect(zone, page, PROT_READ | PROT_WRITE) == 0);
         zoned_close(zone);
         pthread_barrier_wait(&closed);
+        if (SEES_NO_COUNTER) pthread_barrier_wait(&asked_by_all);
         for (int i = 0; i < THREADS; i++) EXPECT(pthread_join(threads[i], NULL) == 0);
         pthread_barrier_destroy(&asked_by_all);
         pthread_barrier_destroy(&closed);
@@ -704,13 +715,14 @@ int main(int count, char **words) {
     for (size_t i = 0; i < sizeof TEXTS / sizeof *TEXTS; i++)
         zones[zone_count++] = copy((struct bytes){ZONED_TEXT, (uint8_t *)TEXTS[i], strlen(TEXTS[i])});
     for (size_t i = 0; i < zone_count; i++) EXPECT(zoned_parse(zones[i].kind, zones[i].at, zones[i].len) == ZONED_OK);
+    EXPECT(zoned_version() == ZONED_VERSION_NUMBER);
     try_wrapping_count();
     try_null();
     try_texts();
     try_calls(wanted);
     try_orders();
     try_refusals();
-    try_leaving();
+    if (!SEES_NO_COUNTER) try_leaving();
     try_threads(wanted / 500);
     for (size_t i = 0; i < zone_count; i++) free(zones[i].at);
     printf("%" PRIu64 " random calls, %d threads, 24 orders, and each request refused\n", wanted, THREADS);
