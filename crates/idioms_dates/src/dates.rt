@@ -84,7 +84,7 @@ pub enum When {
     At(NaiveDateTime),
 }
 
-/// With a guard in place of a literal, `days: 1`, which isn't covered beside a date.
+/// With a guard in place of a literal, `days: 1`, which isn't covered in a pattern with a date.
 pub fn single_day(when: When) -> Option<NaiveDate> {
     match when {
         When::AllDay { first, days } if days == 1 => Some(first),

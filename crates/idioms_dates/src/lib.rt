@@ -1,4 +1,4 @@
-//! What is written every day over dates, times of day, readings and lengths of time, compiled,
+//! What is written every day over dates, times of day, local date-times and lengths of time, compiled,
 //! proved and tested. No function has a contract, a lemma or a proof file.
 #![tactic(auto)]
 

@@ -1,4 +1,4 @@
-//! Times of day and readings.
+//! Times of day and local date-times.
 
 use naive_base::{Days, NaiveDate, NaiveDateTime, NaiveTime};
 use offset_core::TimeDelta;

@@ -44,7 +44,7 @@ impl NaiveDateTime {
         frac: 999_999_999,
     };
 
-    /// Returns the reading of a clock at a time of a day, as [`NaiveDate::and_time`] does.
+    /// Returns the local date-time of a date and a time of day, as [`NaiveDate::and_time`] does.
     pub fn new(date: NaiveDate, time: NaiveTime) -> NaiveDateTime
         ensures value { reading result ≡ reading_at (day_of date) (second_of time)
             (fraction_of time) }

@@ -1,4 +1,4 @@
-//! The operators of readings. Each requires a result in range; the checked forms return `None` for
+//! The operators of local date-times. Each requires a result in range; the checked forms return `None` for
 //! any other.
 ghost use Rattle.std.specs.Prelude.{◌≡◌, pos, neg_ℤ, ◌+ℤ◌, Some};
 ghost use Rattle.offset_core.specs.TimeDelta.{nanos_of};
@@ -12,10 +12,10 @@ use crate::{Days, Months, NaiveDateTime};
 use offset_core::TimeDelta;
 use std::ops::{Add, AddAssign, Sub, SubAssign};
 
-/// [`NaiveDateTime::checked_add_signed`], which must return a reading.
+/// [`NaiveDateTime::checked_add_signed`], which must return a value.
 ///
 /// ```text
-/// start + TimeDelta::minutes(90)              the reading an hour and a half later
+/// start + TimeDelta::minutes(90)              an hour and a half later
 /// (start + TimeDelta::minutes(90)) - start    90 minutes
 /// start + Days::new(1)                        the same time on the next day
 /// ```
@@ -31,7 +31,7 @@ impl Add<TimeDelta> for NaiveDateTime {
     }
 }
 
-/// [`NaiveDateTime::checked_sub_signed`], which must return a reading.
+/// [`NaiveDateTime::checked_sub_signed`], which must return a value.
 impl Sub<TimeDelta> for NaiveDateTime {
     type Output = NaiveDateTime;
 
@@ -68,7 +68,7 @@ impl SubAssign<TimeDelta> for NaiveDateTime {
     }
 }
 
-/// [`NaiveDateTime::checked_add_days`], which must return a reading.
+/// [`NaiveDateTime::checked_add_days`], which must return a value.
 impl Add<Days> for NaiveDateTime {
     type Output = NaiveDateTime;
 
@@ -84,7 +84,7 @@ impl Add<Days> for NaiveDateTime {
     }
 }
 
-/// [`NaiveDateTime::checked_sub_days`], which must return a reading.
+/// [`NaiveDateTime::checked_sub_days`], which must return a value.
 impl Sub<Days> for NaiveDateTime {
     type Output = NaiveDateTime;
 
