@@ -12,6 +12,7 @@ mod kept_offset;
 mod kept_zone;
 pub mod laws;
 mod lookup;
+mod zone_days;
 
 pub use keep_error::KeepError;
 pub use kept_change::KeptChange;

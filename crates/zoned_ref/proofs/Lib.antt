@@ -7,3 +7,4 @@ pub mod Walls
 pub mod Gaps
 pub mod Choices
 pub mod Changes
+pub mod Days

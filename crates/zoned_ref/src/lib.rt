@@ -11,6 +11,7 @@ mod lookup;
 mod time_zone_ref;
 mod wall_clock;
 mod zone_change;
+mod zone_days;
 mod zone_offset;
 
 pub use time_zone_ref::TimeZoneRef;

@@ -1,4 +1,6 @@
 pub mod Answered
+pub mod Days
+pub mod DayStarts
 pub mod ForCallers
 pub mod Homes
 pub mod Instants

@@ -1,6 +1,7 @@
 pub mod Alike
 pub mod Choice
 pub mod DateTime
+pub mod Days
 pub mod Fields
 pub mod Order
 pub mod Relocal

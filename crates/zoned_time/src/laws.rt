@@ -1,4 +1,7 @@
 //! Theorems: what a function here does is its contract alone; never called.
+
+pub mod days;
+
 ghost use Rattle.std.specs.Prelude.{◌≡◌, ◌↔◌, ◌++◌, ◌⊎◌, IsTrue, ℕ, ℤ, Option, Some, SomeIff, FitsSigned};
 ghost use Rattle.std.specs.Hash as fed;
 ghost use Rattle.std.specs.declared.cmp.Ordering.TheVariants.{Less, Equal};

@@ -5,6 +5,7 @@
 mod around;
 mod datetime;
 mod fixed;
+mod fixed_days;
 pub mod laws;
 mod naive_zoned;
 mod offset;
@@ -12,6 +13,7 @@ mod resolve;
 mod resolve_error;
 mod time_zone;
 mod utc;
+mod zone_days;
 
 pub use around::OffsetsAround;
 pub use datetime::{DateTime, MAX_DATETIME, MIN_DATETIME};
@@ -20,3 +22,4 @@ pub use offset::Offset;
 pub use resolve_error::ResolveError;
 pub use time_zone::TimeZone;
 pub use utc::Utc;
+pub use zone_days::{ShownDay, ZoneDays};

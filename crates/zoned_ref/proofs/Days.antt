@@ -1,0 +1,77 @@
+-- When clocks show certain local times: by the types in force as by their offsets.
+use Rattle.std.proofs.Common.{◌≡◌, ℤ, pos, ◌+ℤ◌, ◌*ℤ◌, ◌≤ℤ◌, ◌<ℤ◌, arith, ap, ◌∙◌}
+use Rattle.std.proofs.lemmas.Int.{ints}
+use Rattle.naive_base.specs.Range.{IsWide, IsWideDay}
+use Rattle.tz_base.specs.LocalTypes.{LocalType}
+use Rattle.tz_info.specs.ShownSeconds.{ShowsWithin, AreEndsWithin, IsNeverWithin, ShowsAtOrAfter, IsFirstAtOrAfter}
+use Rattle.tz_info.specs.Zones.{Zone, TypeAt}
+use Rattle.tz_info.specs.declared.zone.shown_seconds.ShownSeconds.{ShownSeconds}
+use Rattle.tz_info.proofs.ForCallers.{type_once}
+use Rattle.zoned_time.specs.Days.{IsOnDay, AreEndsOfDay, IsNeverOnDay, HasReached, IsFirstToReach}
+use Rattle.zoned_time.specs.Zone.{IsZoneSecond}
+use Rattle.zoned_ref.specs.Offsets.{IsNarrow, AreOffsetsOf}
+use Rattle.zoned_ref.proofs.Offsets.{type_within}
+
+abbrev OnDayByType : Zone → ℤ → ℤ → LocalType → Type 0
+OnDayByType z day u t = ShowsWithin (TypeAt z) (pos 86_400 *ℤ day) (pos 86_400 *ℤ day +ℤ pos 86_400) u t
+
+-- the offset is that of the type in force
+same_offset : (z : Zone) (off : ℤ → ℤ) (u : ℤ) (t : LocalType) → AreOffsetsOf z off → IsZoneSecond u → TypeAt z u t → off u ≡ t.offset
+same_offset z off u t of_zone inside in_force =
+    let there = of_zone u inside in there.offset ∙ ap (λ (y : LocalType). y.offset) (type_once z u there.type t there.in_force in_force)
+
+-- ---- days
+on_day_by_type : (z : Zone) (off : ℤ → ℤ) (day u : ℤ) → AreOffsetsOf z off → IsOnDay off day u → (t : LocalType) × OnDayByType z day u t
+on_day_by_type z off day u of_zone h =
+    let there = of_zone u h.in_zone in
+    let inside = h.in_zone in
+    let since : (pos 86_400 *ℤ day) ≤ℤ (u +ℤ there.type.offset) = rw (← there.offset) h.since in
+    let before : (u +ℤ there.type.offset) <ℤ (pos 86_400 *ℤ day +ℤ pos 86_400) = rw (← there.offset) h.before in
+    (there.type, record { fits = omega (arith, ints, inside); type = there.in_force; since = since; before = before })
+
+on_day_by_offset : (z : Zone) (off : ℤ → ℤ) (day u : ℤ) (t : LocalType) → IsNarrow z → AreOffsetsOf z off → IsWideDay day → OnDayByType z day u t → IsOnDay off day u
+on_day_by_offset z off day u t narrow of_zone wide h =
+    let within = type_within z u t narrow h.type in
+    let since = h.since in let before = h.before in
+    let inside : IsZoneSecond u = (omega (arith, ints, wide, within, since, before), omega (arith, ints, wide, within, since, before)) in
+    let same = same_offset z off u t of_zone inside h.type in
+    record { in_zone = inside; since = rw same since; before = rw same before }
+
+pub never_on_day : (z : Zone) (off : ℤ → ℤ) (day : ℤ) → AreOffsetsOf z off → IsNeverWithin (TypeAt z) (pos 86_400 *ℤ day) (pos 86_400 *ℤ day +ℤ pos 86_400) → IsNeverOnDay off day
+never_on_day z off day of_zone never u h = let t = on_day_by_type z off day u of_zone h in never u t.0 t.1
+
+pub ends_of_day : (z : Zone) (off : ℤ → ℤ) (day : ℤ) (s : ShownSeconds) → IsNarrow z → AreOffsetsOf z off → IsWideDay day → AreEndsWithin (TypeAt z) (pos 86_400 *ℤ day) (pos 86_400 *ℤ day +ℤ pos 86_400) s → AreEndsOfDay off day s.first.at s.last.at
+ends_of_day z off day s narrow of_zone wide h = record {
+  shown_first = on_day_by_offset z off day s.first.at s.first.local_time_type narrow of_zone wide h.first.shown;
+  shown_last = on_day_by_offset z off day s.last.at s.last.local_time_type narrow of_zone wide h.last.shown;
+  not_before = λ u k. let t = on_day_by_type z off day u of_zone k in h.first.first u t.0 t.1;
+  not_after = λ u k. let t = on_day_by_type z off day u of_zone k in h.last.last u t.0 t.1;
+}
+
+-- ---- the first second at or after a local time
+reached_by_type : (z : Zone) (off : ℤ → ℤ) (l u : ℤ) → AreOffsetsOf z off → HasReached off l u → (t : LocalType) × ShowsAtOrAfter (TypeAt z) l u t
+reached_by_type z off l u of_zone h =
+    let there = of_zone u h.in_zone in
+    let inside = h.in_zone in
+    let reached : l ≤ℤ (u +ℤ there.type.offset) = rw (← there.offset) h.reached in
+    (there.type, record { fits = omega (arith, ints, inside); type = there.in_force; reached = reached })
+
+-- a day after the local time clocks have reached it
+reached_a_day_on : (z : Zone) (off : ℤ → ℤ) (l : ℤ) → IsNarrow z → AreOffsetsOf z off → IsWide l → HasReached off l (l +ℤ pos 86_399)
+reached_a_day_on z off l narrow of_zone wide =
+    let inside : IsZoneSecond (l +ℤ pos 86_399) = (omega (arith, ints, wide), omega (arith, ints, wide)) in
+    let there = of_zone (l +ℤ pos 86_399) inside in
+    let within = type_within z (l +ℤ pos 86_399) there.type narrow there.in_force in
+    record { in_zone = inside; reached = rw there.offset (omega (arith, ints, within)) }
+
+pub first_to_reach : (z : Zone) (off : ℤ → ℤ) (l u : ℤ) (t : LocalType) → IsNarrow z → AreOffsetsOf z off → IsWide l → IsFirstAtOrAfter (TypeAt z) l u t → IsFirstToReach off l u
+first_to_reach z off l u t narrow of_zone wide h =
+    let latest = reached_by_type z off l (l +ℤ pos 86_399) of_zone (reached_a_day_on z off l narrow of_zone wide) in
+    let not_later = h.first (l +ℤ pos 86_399) latest.0 latest.1 in
+    let within = type_within z u t narrow h.shown.type in
+    let reached = h.shown.reached in
+    let inside : IsZoneSecond u = (omega (arith, ints, wide, within, reached), omega (arith, ints, wide, not_later)) in
+    record {
+      reached = record { in_zone = inside; reached = rw (same_offset z off u t of_zone inside h.shown.type) reached };
+      first = λ v k. let s = reached_by_type z off l v of_zone k in h.first v s.0 s.1;
+    }

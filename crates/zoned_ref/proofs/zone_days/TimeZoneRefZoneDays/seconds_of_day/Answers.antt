@@ -1,0 +1,14 @@
+use Rattle.std.proofs.Common.{rules, to_z-of_z, w64, SFits}
+use Rattle.naive_base.specs.NaiveDate.{day_of}
+use Rattle.zoned_ref.specs.TimeZoneRef.{off_of}
+use Rattle.zoned_ref.proofs.Days.{never_on_day, ends_of_day}
+use Rattle.zoned_ref.proofs.zone_days.TimeZoneRefZoneDays.seconds_of_day.Goals as goal
+
+pub returns-in-Some : goal.returns-in-Some
+returns-in-Some c =
+    let ff : SFits w64 c.in-Some.found.first.at = search rules in
+    let fl : SFits w64 c.in-Some.found.last.at = search rules in
+    simp to_z-of_z (ends_of_day c.zone-zone.result.now (off_of c.args.self.now) (day_of c.args.date) c.in-Some.found c.zone-zone.ensures.narrow c.zone-zone.ensures.offsets c.args.date.in_range c.in-Some.ensures)
+
+pub returns-in-None : goal.returns-in-None
+returns-in-None c = never_on_day c.zone-zone.result.now (off_of c.args.self.now) (day_of c.args.date) c.zone-zone.ensures.offsets c.in-None.ensures

@@ -1,0 +1,23 @@
+//! The days of a borrowed zone: those of the parsed zone.
+
+use crate::TimeZoneRef;
+use naive_base::{NaiveDate, NaiveDateTime};
+use zoned_time::{ShownDay, ZoneDays};
+
+impl<'a> ZoneDays for TimeZoneRef<'a> {
+    fn seconds_of_day(&self, date: NaiveDate) -> Option<ShownDay<i64>> {
+        let zone = self.zone();
+        match zone.find_seconds_of_day(date) {
+            Some(found) => Some(ShownDay {
+                first: found.first.at,
+                last: found.last.at,
+            }),
+            None => None,
+        }
+    }
+
+    fn first_second_at_or_after(&self, local: &NaiveDateTime) -> i64 {
+        let zone = self.zone();
+        zone.find_first_at_or_after(*local).at
+    }
+}

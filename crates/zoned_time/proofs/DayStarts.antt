@@ -1,0 +1,159 @@
+-- The starts of days divide time: each instant lies in one day.
+use Rattle.std.proofs.Common.{◌≡◌, ◌<◌, ◌⊎◌, ℕ, zero, suc, ℤ, pos, neg_ℤ, negsuc, ◌+ℤ◌, ◌-ℤ◌, ◌*ℤ◌, ◌≤ℤ◌, ◌<ℤ◌, inl, inr, arith, refl, subst}
+use Rattle.std.proofs.lemmas.Int.{ints, by_lt_z}
+use Rattle.offset_core.specs.Offset.{IsWithinDay}
+use Rattle.naive_base.specs.Range.{IsInRange}
+use Rattle.naive_base.specs.Reading.{Reading, ahead, IsEarlier}
+use Rattle.naive_base.specs.Stamp.{of_secs}
+use Rattle.naive_base.specs.Year.{floor_div}
+use Rattle.naive_base.proofs.ForCallers.{floors}
+use Rattle.zoned_time.specs.Days.{IsOnDay, AreEndsOfDay, IsNeverOnDay, HasReached, IsFirstToReach, ShowsAtOrAfter, IsFirstAtOrAfter, IsInDay, midnight}
+use Rattle.zoned_time.specs.Zone.{IsZoneSecond}
+use Rattle.zoned_time.proofs.Days.{to_reached, first_whole}
+
+-- ---- the order of instants
+through : (x y z : Reading) → ¬ (IsEarlier x y) → ¬ (IsEarlier y z) → ¬ (IsEarlier x z)
+through x y z h k e = by_lt_z x.s y.s (λ less. h (inl less)) (λ more. by_lt_z y.s z.s (λ less. k (inl less)) (λ most. elim e [
+  | inl less ↦ omega (arith, ints)
+  | inr (same, fewer) ↦ by_lt_z (pos x.f) (pos y.f)
+      (λ less. h (inr (omega (arith, ints), omega (arith, ints))))
+      (λ not. k (inr (omega (arith, ints), omega (arith, ints))))
+]))
+
+same_reading : (x y : Reading) → x.s ≡ y.s → x.f ≡ y.f → x ≡ y
+same_reading x y p q = λ i. record { s = p i; f = q i }
+
+equal : (x y : Reading) → ¬ (IsEarlier x y) → ¬ (IsEarlier y x) → x ≡ y
+equal x y h k =
+    let same : x.s ≡ y.s = by_lt_z x.s y.s (λ less. absurd (h (inl less))) (λ more. by_lt_z y.s x.s (λ less. absurd (k (inl less))) (λ most. omega (arith, ints))) in
+    same_reading x y same (by_lt_z (pos x.f) (pos y.f)
+    (λ less. absurd (h (inr (same, omega (arith, ints)))))
+    (λ more. by_lt_z (pos y.f) (pos x.f) (λ less. absurd (k (inr (omega (arith, ints), omega (arith, ints))))) (λ most. omega (arith, ints))))
+
+-- a whole second, as of a midnight
+not_earlier_than : (x y : Reading) → y.f ≡ 0 → y.s ≤ℤ x.s → ¬ (IsEarlier x y)
+not_earlier_than x y whole h (inl less) = omega (arith, ints)
+not_earlier_than x y whole h (inr (_, less)) = omega (arith, ints)
+
+-- ---- laws of the first instant at or after a local time
+pub rises : (off : ℤ → ℤ) (l m a b : Reading) → ¬ (IsEarlier m l) → IsFirstAtOrAfter off l a → IsFirstAtOrAfter off m b → ¬ (IsEarlier b a)
+rises off l m a b later h k = h.first b (record { in_zone = k.shown.in_zone; not_before = through _ m l k.shown.not_before later })
+
+pub one_first : (off : ℤ → ℤ) (l a b : Reading) → IsFirstAtOrAfter off l a → IsFirstAtOrAfter off l b → a ≡ b
+one_first off l a b h k = equal a b (k.first a h.shown) (h.first b k.shown)
+
+-- ---- days
+not_earlier_day : (c d : ℤ) → c ≤ℤ d → ¬ (IsEarlier (midnight d) (midnight c))
+not_earlier_day c d h = not_earlier_than (midnight d) (midnight c) refl (omega (arith, ints))
+
+-- clocks that show the second of a midnight or a later one
+at_midnight : (off : ℤ → ℤ) (day : ℤ) (r : Reading) → IsZoneSecond r.s → (day *ℤ pos 86_400) ≤ℤ (r.s +ℤ off r.s) → ShowsAtOrAfter off (midnight day) r
+at_midnight off day r inside past = record { in_zone = inside; not_before = not_earlier_than (ahead r (off r.s)) (midnight day) refl (omega (arith, ints)) }
+
+-- a later day starts no earlier than the next day
+not_in_both : (off : ℤ → ℤ) (c d : ℤ) (r : Reading) → c <ℤ d → IsInDay off c r → IsInDay off d r → ⊥
+not_in_both off c d r less h k =
+    through r k.start h.next k.not_before (rises off (midnight (c +ℤ pos 1)) (midnight d) h.next k.start (not_earlier_day (c +ℤ pos 1) d (omega (arith, ints))) h.ends k.starts) h.before
+
+pub one_day : (off : ℤ → ℤ) (r : Reading) (c d : ℤ) → IsInDay off c r → IsInDay off d r → c ≡ d
+one_day off r c d h k = by_lt_z c d (λ less. absurd (not_in_both off c d r less h k)) (λ more. by_lt_z d c (λ less. absurd (not_in_both off d c r less k h)) (λ most. omega (arith, ints)))
+
+-- a day that is never shown starts with the next one
+pub skipped : (off : ℤ → ℤ) (day : ℤ) (a b : Reading) → IsNeverOnDay off day → IsFirstAtOrAfter off (midnight day) a → IsFirstAtOrAfter off (midnight (day +ℤ pos 1)) b → a ≡ b
+skipped off day a b never h k =
+    let reached = (to_reached off (midnight day) a h.shown).reached in
+    let past : ((day +ℤ pos 1) *ℤ pos 86_400) ≤ℤ (a.s +ℤ off a.s) =
+    by_lt_z (a.s +ℤ off a.s) ((day +ℤ pos 1) *ℤ pos 86_400) (λ less. absurd (never a.s (record { in_zone = h.shown.in_zone; since = omega (arith, ints); before = omega (arith, ints) }))) (λ m. m) in
+    equal a b
+    (k.first a (at_midnight off (day +ℤ pos 1) a h.shown.in_zone past))
+    (rises off (midnight day) (midnight (day +ℤ pos 1)) a b (not_earlier_day day (day +ℤ pos 1) (omega (arith, ints))) h k)
+
+-- in a day no later date is shown
+pub no_later_date : (off : ℤ → ℤ) (day : ℤ) (r : Reading) → IsZoneSecond r.s → IsInDay off day r → floor_div (r.s +ℤ off r.s) 86_400 ≤ℤ day
+no_later_date off day r inside h = by_lt_z (r.s +ℤ off r.s) ((day +ℤ pos 1) *ℤ pos 86_400)
+    (λ less. omega (arith, ints, floors))
+    (λ past. absurd (h.ends.first r (at_midnight off (day +ℤ pos 1) r inside past) h.before))
+
+-- if the date is shown when its day starts, that is the first second that shows it
+pub starts_with_first : (off : ℤ → ℤ) (day first last : ℤ) (r : Reading) → IsFirstAtOrAfter off (midnight day) r → IsOnDay off day r.s → AreEndsOfDay off day first last → r.s ≡ first
+starts_with_first off day first last r h on ends =
+    let least = ends.not_before r.s on in
+    let since = ends.shown_first.since in
+    by_lt_z first r.s
+    (λ less. absurd (h.first (of_secs first 0) (at_midnight off day (of_secs first 0) ends.shown_first.in_zone (omega (arith, ints))) (inl less)))
+    (λ more. omega (arith, ints))
+
+-- ---- each instant lies in a day
+abbrev Found : (ℤ → ℤ) → ℤ → ℤ → ℤ → Type 0
+Found off l low high = (u : ℤ) × (low ≤ℤ u) × (u <ℤ high) × (l ≤ℤ (u +ℤ off u)) × ((v : ℤ) → low ≤ℤ v → v <ℤ u → (v +ℤ off v) <ℤ l)
+
+abbrev NoneFound : (ℤ → ℤ) → ℤ → ℤ → ℤ → Type 0
+NoneFound off l low high = (v : ℤ) → low ≤ℤ v → v <ℤ high → (v +ℤ off v) <ℤ l
+
+-- the first of n seconds at which clocks show l or more
+find : (off : ℤ → ℤ) (l low high : ℤ) (n : ℕ) → high ≡ low +ℤ pos n → Found off l low high ⊎ NoneFound off l low high
+find off l low high zero e = inr (λ v a b. absurd (omega (arith, ints)))
+find off l low high (suc n) e = elim (find off l low (high -ℤ pos 1) n (omega (arith, ints))) [
+  | inl found ↦ inl (let b = found.2 in (found.0, found.1, omega (arith, ints), found.3, found.4))
+  | inr none ↦ by_lt_z ((high -ℤ pos 1) +ℤ off (high -ℤ pos 1)) l
+      (λ less. inr (λ v a b. by_lt_z v (high -ℤ pos 1) (λ c. none v a c) (λ c. let same : high -ℤ pos 1 ≡ v = omega (arith, ints) in subst (λ w. (w +ℤ off w) <ℤ l) same less)))
+      (λ reached. inl (high -ℤ pos 1, omega (arith, ints), omega (arith, ints), reached, none))
+]
+
+natural : (d : ℤ) → pos 0 ≤ℤ d → (n : ℕ) × (d ≡ pos n)
+natural (pos n) h = (n, refl)
+natural (negsuc n) h = absurd (omega (arith, ints))
+
+distance : (u v : ℤ) → u ≤ℤ v → (n : ℕ) × (v ≡ u +ℤ pos n)
+distance u v h = let n = natural (v -ℤ u) (omega (arith, ints)) in let e = n.1 in (n.0, omega (arith, ints))
+
+abbrev pub StayWithinDay : (ℤ → ℤ) → Type 0
+StayWithinDay off = (u : ℤ) → IsZoneSecond u → IsWithinDay (off u)
+
+-- clocks reach each second of a day that is in range or a buffer day, and the midnight after these days
+pub reaches : (off : ℤ → ℤ) (l : ℤ) → StayWithinDay off → neg_ℤ (pos 8_334_601_315_200) ≤ℤ l → l ≤ℤ pos 8_210_266_963_200 → (u : ℤ) × IsFirstToReach off l u
+reaches off l within low high =
+    let near = within (l +ℤ pos 86_399) (omega (arith, ints), omega (arith, ints)) in
+    let n = distance (neg_ℤ (pos 8_334_601_401_600)) (l +ℤ pos 86_400) (omega (arith, ints)) in
+    elim (find off l (neg_ℤ (pos 8_334_601_401_600)) (l +ℤ pos 86_400) n.0 n.1) [
+      | inl found ↦ let below = found.2 in (
+        found.0,
+        record {
+          reached = record { in_zone = (found.1, omega (arith, ints)); reached = found.3 };
+          first = λ v h. by_lt_z v found.0 (λ less. let c = found.4 v h.in_zone.0 less in let d = h.reached in absurd (omega (arith, ints))) (λ m. m);
+        },
+      )
+      | inr none ↦ let c = none (l +ℤ pos 86_399) (omega (arith, ints)) (omega (arith, ints)) in absurd (omega (arith, ints, near))
+    ]
+
+in_day : (off : ℤ → ℤ) (r : Reading) (day start next : ℤ) → IsFirstToReach off (midnight day).s start → IsFirstToReach off (midnight (day +ℤ pos 1)).s next → start ≤ℤ r.s → r.s <ℤ next → IsInDay off day r
+in_day off r day start next h k low high = record {
+  start = of_secs start 0;
+  next = of_secs next 0;
+  starts = first_whole off (midnight day) start refl h;
+  ends = first_whole off (midnight (day +ℤ pos 1)) next refl k;
+  not_before = not_earlier_than r (of_secs start 0) refl low;
+  before = inl high;
+}
+
+-- from a day that has started on, at most n days ahead
+climb : (off : ℤ → ℤ) (r : Reading) (n : ℕ) (day start : ℤ) → StayWithinDay off → IsInRange r.s → neg_ℤ (pos 8_334_601_315_200) ≤ℤ (day *ℤ pos 86_400) → (r.s +ℤ pos 86_399) <ℤ ((day *ℤ pos 86_400) +ℤ (pos n *ℤ pos 86_400))
+    → IsFirstToReach off (midnight day).s start → start ≤ℤ r.s → (d : ℤ) × IsInDay off d r
+climb off r zero day start within range low far h started =
+    let near = within start h.reached.in_zone in let reached = h.reached.reached in absurd (omega (arith, ints, near))
+climb off r (suc n) day start within range low far h started =
+    let near = within start h.reached.in_zone in
+    let reached = h.reached.reached in
+    let next = reaches off (midnight (day +ℤ pos 1)).s within (omega (arith, ints)) (omega (arith, ints, near, range)) in
+    by_lt_z r.s next.0
+    (λ less. (day, in_day off r day start next.0 h next.1 started less))
+    (λ later. climb off r n (day +ℤ pos 1) next.0 within range (omega (arith, ints)) (omega (arith, ints)) next.1 later)
+
+pub some_day : (off : ℤ → ℤ) (r : Reading) → StayWithinDay off → IsInRange r.s → (d : ℤ) × IsInDay off d r
+some_day off r within range =
+    let inside : IsZoneSecond r.s = (omega (arith, ints, range), omega (arith, ints, range)) in
+    let near = within r.s inside in
+    let day = floor_div (r.s +ℤ off r.s) 86_400 in
+    let start = reaches off (midnight day).s within (omega (arith, ints, floors, range, near)) (omega (arith, ints, floors, range, near)) in
+    climb off r 3 day start.0 within range (omega (arith, ints, floors, range, near)) (omega (arith, ints, floors, range, near)) start.1
+    (start.1.first r.s (record { in_zone = inside; reached = omega (arith, ints, floors) }))

@@ -1,0 +1,19 @@
+use Rattle.std.proofs.Common.{rules, to_z-of_z, w64, SFits}
+use Rattle.naive_base.specs.NaiveDate.{day_of}
+use Rattle.zoned_time.specs.DateTime.{zoned}
+use Rattle.zoned_time.proofs.Days.{no_day, instants_of_day}
+use Rattle.zoned_time.proofs.zone_days.ZoneDays.day.Goals as goal
+
+pub returns-in_err-last : goal.returns-in_err-last
+returns-in_err-last g c =
+    let fl : SFits w64 c.in_ok-seconds.seconds.last = search rules in
+    let out = simp to_z-of_z at c.in_err-last.ensures in
+    rw c.from_residual-in_err-last.ensures (no_day (g.Self.TimeZone.law c.args.self.now).off (day_of c.args.date) c.in_ok-seconds.seconds.last c.in_ok-seconds.ensures.shown_last out)
+
+pub returns : goal.returns
+returns g c =
+    let ff : SFits w64 c.in_ok-seconds.seconds.first = search rules in
+    let fl : SFits w64 c.in_ok-seconds.seconds.last = search rules in
+    let first = simp to_z-of_z at c.in_ok-first.ensures in
+    let last = simp to_z-of_z at c.in_ok-last.ensures in
+    instants_of_day (g.Self.TimeZone.law c.args.self.now) (day_of c.args.date) c.in_ok-seconds.seconds.first c.in_ok-seconds.seconds.last (zoned c.in_ok-first.first) (zoned c.in_ok-last.last) c.in_ok-seconds.ensures first.1 last.1

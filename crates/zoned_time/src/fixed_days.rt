@@ -1,0 +1,52 @@
+//! The days of zones of one offset.
+ghost use Rattle.std.specs.Prelude.{◌≡◌, ◌+ℤ◌};
+ghost use Rattle.naive_base.specs.NaiveDate.{day_of};
+ghost use Rattle.naive_base.specs.NaiveDateTime.{reading};
+ghost use Rattle.zoned_time.specs.Days.{AreEndsOfDay, IsFirstToReach};
+ghost use Rattle.zoned_time.specs.Zone.{IsFixed};
+
+use crate::{Offset, ShownDay, TimeZone, Utc, ZoneDays};
+use naive_base::{NaiveDate, NaiveDateTime, NaiveTime};
+use offset_core::FixedOffset;
+
+impl ZoneDays for Utc {
+    fn seconds_of_day(&self, date: NaiveDate) -> Option<ShownDay<i64>> {
+        Some(fixed_day(self, date))
+    }
+
+    fn first_second_at_or_after(&self, local: &NaiveDateTime) -> i64 {
+        fixed_second(self, local)
+    }
+}
+
+impl ZoneDays for FixedOffset {
+    fn seconds_of_day(&self, date: NaiveDate) -> Option<ShownDay<i64>> {
+        Some(fixed_day(self, date))
+    }
+
+    fn first_second_at_or_after(&self, local: &NaiveDateTime) -> i64 {
+        fixed_second(self, local)
+    }
+}
+
+// The day of a zone whose clocks are never set: 86,400 seconds.
+fn fixed_day<Tz: TimeZone>(zone: &Tz, date: NaiveDate) -> ShownDay<i64>
+    requires { IsFixed (Tz.law zone.now) }
+    ensures { AreEndsOfDay (Tz.law zone.now).off (day_of date) result.first result.last }
+{
+    let first = fixed_second(zone, &date.and_time(NaiveTime::MIN));
+    ShownDay {
+        first,
+        last: first + 86_399,
+    }
+}
+
+// The only second at which the clocks of such a zone show the local time.
+fn fixed_second<Tz: TimeZone>(zone: &Tz, local: &NaiveDateTime) -> i64
+    requires { IsFixed (Tz.law zone.now) }
+    ensures shown { result +ℤ (Tz.law zone.now).off result ≡ (reading local.now).s }
+    ensures first { IsFirstToReach (Tz.law zone.now).off (reading local.now).s result }
+{
+    let offset = zone.offset_from_utc_datetime(local).fix();
+    local.secs_since_epoch() - offset.local_minus_utc() as i64
+}

@@ -1,0 +1,49 @@
+//! Theorems of days and of the first instants at or after local times: each function is empty, its
+//! contract is proved; never called.
+ghost use Rattle.std.specs.Prelude.{◌≡◌, ◌↔◌, ℤ, pos, ◌+ℤ◌, ◌≤ℤ◌};
+ghost use Rattle.naive_base.specs.Range.{IsInRange};
+ghost use Rattle.naive_base.specs.Reading.{Reading, IsEarlier};
+ghost use Rattle.naive_base.specs.Year.{floor_div};
+ghost use Rattle.zoned_time.specs.Days.{IsOnDay, AreEndsOfDay, IsNeverOnDay, IsFirstAtOrAfter, IsInDay, midnight};
+ghost use Rattle.zoned_time.specs.Zone.{IsZoneSecond};
+ghost use Rattle.zoned_time.specs.declared.zone_days.ShownDay.{ShownDay as AnyDay};
+
+use crate::{ShownDay, TimeZone};
+
+/// A local time has one first instant at or after it, and a later local time no earlier one.
+pub fn first_instants()
+    ensures once { (off : ℤ → ℤ) (l a b : Reading) → IsFirstAtOrAfter off l a
+        → IsFirstAtOrAfter off l b → a ≡ b }
+    ensures rises { (off : ℤ → ℤ) (l m a b : Reading) → ¬ (IsEarlier m l)
+        → IsFirstAtOrAfter off l a → IsFirstAtOrAfter off m b → ¬ (IsEarlier b a) }
+{}
+
+/// The starts of days divide time: each instant in range lies in exactly one day.
+pub fn days_partition<Tz: TimeZone>()
+    ensures exists { (zone : Tz) (r : Reading) → IsInRange r.s
+        → (day : ℤ) × IsInDay (Tz.law zone).off day r }
+    ensures once { (zone : Tz) (r : Reading) (c d : ℤ) → IsInDay (Tz.law zone).off c r
+        → IsInDay (Tz.law zone).off d r → c ≡ d }
+{}
+
+/// A date that clocks never show starts when the next one does: no instant lies in it. In a day
+/// clocks show its date or, once they have been set back over midnight, an earlier one. If they show
+/// its date when it starts, that is the first second at which they do.
+pub fn dates_in_days()
+    ensures skipped { (off : ℤ → ℤ) (day : ℤ) (a b : Reading) → IsNeverOnDay off day
+        → IsFirstAtOrAfter off (midnight day) a
+        → IsFirstAtOrAfter off (midnight (day +ℤ pos 1)) b → a ≡ b }
+    ensures no_later_date { (off : ℤ → ℤ) (day : ℤ) (r : Reading) → IsZoneSecond r.s
+        → IsInDay off day r → floor_div (r.s +ℤ off r.s) 86_400 ≤ℤ day }
+    ensures first { (off : ℤ → ℤ) (day first last : ℤ) (r : Reading)
+        → IsFirstAtOrAfter off (midnight day) r → IsOnDay off day r.s
+        → AreEndsOfDay off day first last → r.s ≡ first }
+{}
+
+/// A clone of a day has clones of its ends, and fails only if one of these does.
+pub fn shown_days<T: Clone>()
+    ensures cloned { (x y : AnyDay T) → ⟦<ShownDay<T> as Clone>⟧.is_clone x y
+        ↔ (T.Clone.is_clone x.first y.first × T.Clone.is_clone x.last y.last) }
+    ensures infallible { (x : AnyDay T) → T.Clone.is_infallible x.first
+        → T.Clone.is_infallible x.last → ⟦<ShownDay<T> as Clone>⟧.is_infallible x }
+{}
