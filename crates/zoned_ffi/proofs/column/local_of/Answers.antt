@@ -21,5 +21,5 @@ returns-in-Err c =
     let x : FitsSigned w64 c.args.instant = c.ranges.instant in
     let u : FitsSigned w64 c.second_of.result = search rules in
     let second = simp to_z-of_z at c.second_of.ensures in
-    let refused = simp to_z-of_z at c.in-Err.ensures.1 in
+    let refused = simp to_z-of_z at c.in-Err.ensures.0 in
     no_type (subst (λ (v : ℤ). IsTypeRefused c.args.zone.now v) second refused)

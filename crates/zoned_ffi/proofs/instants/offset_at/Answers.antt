@@ -4,4 +4,4 @@ use Rattle.zoned_ffi.proofs.instants.offset_at.Goals as goal
 pub returns-in-Err : goal.returns-in-Err
 returns-in-Err c =
     let fits : FitsSigned w64 c.args.instant = c.ranges.instant in
-    inr ((simp to_z-of_z at c.in-Err.ensures.1), refl)
+    inr ((simp to_z-of_z at c.in-Err.ensures.0), refl)
