@@ -12,6 +12,6 @@ pub returns-in-Err : goal.returns-in-Err
 returns-in-Err c =
     let fits = c.ranges.seconds in
     let refused = simp to_z-of_z at c.in-Err.ensures in
-    let number = ap number_of refused.1 ∙ type_error_number c.in-Some.zone.now c.args.seconds refused.0 in
+    let number = ap number_of refused.1 ∙ type_error_number c.in-Some.zone c.args.seconds refused.0 in
     let written = rw (c.number.ensures, number) at c.writeln-in-Err.ensures.bytes in
     on_ok_weaker c.writeln-in-Err.result (λ bytes. (refusal_text 2, bytes, rw c.in-Some.is (inr (refused.0, refl)))) written
