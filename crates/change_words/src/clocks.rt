@@ -27,9 +27,9 @@ impl fmt::Display for Utc<'_> {
     }
 }
 
-// A date and a time, so many seconds after 1970-01-01 00:00:00.
+/// What UTC shows at a second of Unix time, or the second itself if the calendar's range ends before it.
 #[derive(Clone, Copy)]
-pub(crate) struct Clock(pub(crate) i128);
+pub struct Clock(pub i128);
 
 impl fmt::Display for Clock {
     ghost output = { λ clock. Some (clock_words clock.0) };

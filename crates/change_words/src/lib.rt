@@ -13,6 +13,7 @@ mod years;
 mod zdump;
 
 pub use change_lines::push_changes;
+pub use clocks::Clock;
 pub use picture::put_picture;
 pub use words::TypeWords;
 pub use years::Years;

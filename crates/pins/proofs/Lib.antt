@@ -15,3 +15,4 @@ pub mod SetClocks
 pub mod ChangeDays
 pub mod WrittenPins
 pub mod AskedWords
+pub mod SetDays

@@ -1,5 +1,6 @@
 pub mod Changes
 pub mod Choices
+pub mod Days
 pub mod Fields
 pub mod Files
 pub mod Honolulu

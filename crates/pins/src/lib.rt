@@ -10,6 +10,7 @@ pub mod asked_lines;
 pub mod calendar;
 pub mod choices;
 pub mod clock_changes;
+pub mod days;
 pub mod drawn_changes;
 pub mod fields;
 pub mod files;

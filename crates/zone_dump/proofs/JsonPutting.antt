@@ -13,9 +13,11 @@ use Rattle.tz_info.specs.declared.rule.day.DayForm.TheVariants as days
 use Rattle.tz_info.specs.declared.rule.day.DayTime.{DayTime}
 use Rattle.tz_info.specs.declared.rule.transition_rule.TransitionRule.{TransitionRule}
 use Rattle.tz_info.specs.declared.rule.transition_rule.TransitionRule.TheVariants as rules
+use Rattle.tz_info.specs.declared.zone.differences.Difference.{Difference}
 use Rattle.tz_info.specs.declared.zone.leap_second.LeapSecond.{LeapSecond}
 use Rattle.change_words.specs.ChangeValues.{change_value}
 use Rattle.change_words.proofs.ForCallers.{change_shallow, items_shallow, type_shallow}
+use Rattle.zone_dump.specs.DifferenceForms.{difference_value, differences_value}
 use Rattle.zone_dump.specs.JsonValues.{day_value, leap_value, moment_value, rule_value, zone_value}
 
 -- the printed tokens of a value are a text of that value
@@ -46,3 +48,9 @@ leap_shallow e = omega arith
 pub zone_shallow : (name : List ℕ) (first last : ℤ) (zone : Zone) (changes : List Change) → depth (zone_value name first last zone changes) ≤ max_depth
 zone_shallow name first last zone changes =
     omega (arith, rule_shallow zone.rule, items_shallow leap_value 2 leap_shallow zone.leaps, items_shallow change_value 2 change_shallow changes)
+
+difference_shallow : (d : Difference) → depth (difference_value d) ≤ 2
+difference_shallow d = omega (arith, type_shallow d.old, type_shallow d.new)
+
+pub differences_shallow : (old_name new_name : List ℕ) (first last : ℤ) (ds : List Difference) → depth (differences_value old_name new_name first last ds) ≤ max_depth
+differences_shallow old_name new_name first last ds = omega (arith, items_shallow difference_value 2 difference_shallow ds)

@@ -1,3 +1,4 @@
+pub mod DifferenceForms
 pub mod RuleWords
 pub mod JsonValues
 pub mod Tables

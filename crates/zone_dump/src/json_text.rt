@@ -95,7 +95,7 @@ fn put_head(
     put_counts(writer, zone)
 }
 
-fn put_years(writer: &mut Writer, years: Years) -> Result<(), AllocError>
+pub(crate) fn put_years(writer: &mut Writer, years: Years) -> Result<(), AllocError>
     ensures { Puts result writer.old writer.new
         (key (codes "from") ∷ number (signed_decimal years.first)
         ∷ key (codes "to") ∷ number (signed_decimal years.last) ∷ []) }

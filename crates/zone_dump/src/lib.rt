@@ -6,6 +6,8 @@
 #![tactic(auto)]
 
 mod changes;
+mod difference_json;
+mod differences;
 mod extended;
 mod form;
 mod json_text;
@@ -17,6 +19,8 @@ mod zdump;
 
 pub use change_words::Years;
 pub use changes::changes_in;
+pub use difference_json::differences_to_json;
+pub use differences::{differences_in, push_differences};
 pub use extended::extended_zone;
 pub use form::{Form, told};
 pub use json_text::to_json;

@@ -51,6 +51,8 @@ pub use Rattle.tz_info.specs.Around
 pub use Rattle.tz_info.specs.Changes
 pub use Rattle.tz_info.specs.ChangesLeft
 pub use Rattle.tz_info.specs.Spans
+pub use Rattle.tz_info.specs.ShownSeconds
+pub use Rattle.tz_info.specs.Differences
 pub use Rattle.tz_info.specs.Windows
 pub use Rattle.tz_info.specs.Looks
 pub use Rattle.tz_info.specs.Questions
@@ -76,6 +78,7 @@ pub use Rattle.tz_write.specs.FileBytes
 pub use Rattle.tz_write.specs.WrittenFiles
 pub use Rattle.zoned_time.specs.Alike
 pub use Rattle.zoned_time.specs.Choice
+pub use Rattle.zoned_time.specs.Days
 pub use Rattle.zoned_time.specs.DateTime
 pub use Rattle.zoned_time.specs.Fields as InstantFields
 pub use Rattle.zoned_time.specs.Order

@@ -23,6 +23,7 @@
 //! | [`TimeZone`], [`Offset`] | the traits that each zone, and each zone's offset, implements |
 //! | [`LocalResult`] | what a lookup by wall clock answers: `None`, `Single` or `Ambiguous` |
 //! | [`Choice`] | what to take in gaps and in folds |
+//! | [`ZoneDays`], [`ShownDay`] | the trait of zones whose days can be found, and a day |
 //! | [`DailySeries`] | a wall-clock time on each day |
 //!
 //! `TimeZone` is the trait, as in chrono. The parsed zone is `tz_info::TimeZone`.
@@ -83,6 +84,20 @@
 //! | 2021-03-14 03:30:00 -04:00 | 2021-11-07 01:30:00 -04:00 |
 //! | 2021-03-15 02:30:00 -04:00 | 2021-11-08 01:30:00 -05:00 |
 //!
+//! # When a day starts
+//!
+//! [`ZoneDays::start_of_day`] returns the first instant at which clocks show midnight or a later
+//! local time: midnight isn't always shown. It divides time into days, so each instant lies in exactly
+//! one. [`ZoneDays::first_at_or_after`] does so for any local time: in a gap it returns the end of the
+//! gap.
+//!
+//! ```
+//! let day = NaiveDate::from_ymd_opt(2021, 3, 14).ok_or(MyError::NoSuchTime)?;
+//! let start = new_york.start_of_day(day); // Some(2021-03-14 00:00:00 -05:00)
+//! let local = day.and_hms_opt(2, 30, 0).ok_or(MyError::NoSuchTime)?;
+//! let first = new_york.first_at_or_after(&local); // Some(2021-03-14 03:00:00 -04:00)
+//! ```
+//!
 //! # When the clocks change next
 //!
 //! A zone tells the next change of its clocks after an instant, and the last one up to it, by two
@@ -121,6 +136,10 @@
 //! | an instant | the same clock time some days later | [`DateTime::checked_add_days`] |
 //! | an instant | the same clock time some months later | [`DateTime::checked_add_months`] |
 //! | two instants | the time between them | [`DateTime::signed_duration_since`], `-` |
+//! | a date | when it starts | [`ZoneDays::start_of_day`] |
+//! | a date | the first and the last second at which clocks show it | [`ZoneDays::day`] |
+//! | a wall clock | the first instant at which clocks have reached it | [`ZoneDays::first_at_or_after`] |
+//! | two versions of a zone | what differs | [`tz_info::TimeZone::differences`] |
 //! | an instant | it, rounded | [`DurationRound`], [`SubsecRound`] |
 //! | a wall-clock time | it, on each day | [`DailySeries::new`] |
 //! | a date | the next day, the days or the week from it | [`NaiveDate::succ_opt`], [`NaiveDate::iter_days`], [`NaiveDate::week`] |
@@ -189,5 +208,5 @@ pub use zoned_round::{DurationRound, RoundingError, SubsecRound};
 pub use zoned_series::{DailyItems, DailySeries, SeriesError};
 pub use zoned_time::{
     DateTime, MAX_DATETIME, MIN_DATETIME, NaiveZoned, Offset, OffsetsAround, ResolveError,
-    TimeZone, Utc,
+    ShownDay, TimeZone, Utc, ZoneDays,
 };

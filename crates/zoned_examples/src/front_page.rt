@@ -5,7 +5,7 @@ use std::alloc::{AllocError, Global};
 use std::fmt;
 use zoned::{
     Choice, DailySeries, DateTime, KeptZone, LocalResult, NaiveDate, NaiveDateTime, NaiveTime,
-    TimeZone, TimeZoneRef, Utc, ZoneChange, tz_info,
+    TimeZone, TimeZoneRef, Utc, ZoneChange, ZoneDays, tz_info,
 };
 
 /// What a clock shows on a day, at a time of that day.
@@ -96,6 +96,36 @@ where
         lines.push(format!(in alloc; "{instant}")?)?;
     }
     Ok(lines)
+}
+
+/// The Unix times at which a day starts, and at which clocks have reached a time of that day.
+pub fn day_starts(
+    alloc: Global,
+    bytes: &[u8],
+    date: (i32, u32, u32),
+    hour: u32,
+    minute: u32,
+) -> Result<(Option<i64>, Option<i64>), MyError> {
+    let parsed = tz_info::TimeZone::from_tz_data(alloc, bytes)?;
+    day_starts_in(&parsed, date, hour, minute)
+}
+
+fn day_starts_in(
+    parsed: &tz_info::TimeZone,
+    date: (i32, u32, u32),
+    hour: u32,
+    minute: u32,
+) -> Result<(Option<i64>, Option<i64>), MyError> {
+    let new_york = TimeZoneRef::new(parsed).ok_or(MyError::WideZone)?;
+    let day = NaiveDate::from_ymd_opt(date.0, date.1, date.2).ok_or(MyError::NoSuchTime)?;
+    let start = new_york.start_of_day(day);
+    let local = day.and_hms_opt(hour, minute, 0).ok_or(MyError::NoSuchTime)?;
+    let first = new_york.first_at_or_after(&local);
+    Ok((second_of(start), second_of(first)))
+}
+
+fn second_of<Tz: TimeZone>(instant: Option<DateTime<Tz>>) -> Option<i64> {
+    Some(instant?.timestamp())
 }
 
 /// What the two instants of the next change of a zone's clocks print; `None` where they never

@@ -18,6 +18,6 @@ pub use facts::{
     abbreviation, bucket, clock_of, elsewhere, fire, later, months_later, next_change_twice,
     next_shown, offset_until, on_day, place, seconds, start_of_hour, twice,
 };
-pub use front_page::{Alarm, alarm_at, daily, next_change, outcome, reading, shown};
+pub use front_page::{Alarm, alarm_at, daily, day_starts, next_change, outcome, reading, shown};
 pub use own_zone::Nepal;
 pub use readme::{ChangeLines, FirstLines, clocks_change, half_past_two};
