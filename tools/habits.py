@@ -27,10 +27,10 @@ HABITS = [
     ("is none", "does not count, is not one", r"\b(?:is|are) none\b", 21, 15),
     ("alone after a noun", "only", r"\balone\b", 9, 21),
     ("beside", "with, compared with, as well as", r"\bbeside\b", 63, 12),
-    ("behind", "after", r"\bbehind\b", 6, 12),
+    ("behind", "after", r"\bbehind\b(?! UTC)", 4, 8),
     ("refused", "rejected, returns an error", r"\brefus\w+", 13, 28),
     ("reading for a local time", "local time, local date-time", r"\breadings?\b", 82, 124),
-    ("TZ text", "TZ string", r"\bTZ texts?\b", 16, 48),
+    ("TZ text", "TZ string", r"\bTZ texts?\b", 15, 48),
     ("wrong body", "planted bug", r"\bwrong bod\w+", 1, 0),
 ]
 

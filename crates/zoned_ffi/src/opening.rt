@@ -59,7 +59,7 @@ fn boxed(alloc: Global, zone: TimeZone) -> Option<Handle>
     Some(Handle::of(share))
 }
 
-/// Opens the zone of `zone` in `out` too, without reading it anew. A zone that `out` had open is
+/// Opens the zone of `zone` in `out` too, without reading it again. A zone that `out` had open is
 /// closed.
 #[unsafe(no_mangle)]
 pub extern "C" fn zoned_share(alloc: Global, zone: &Lent, out: &mut Handle) -> u32

@@ -27,10 +27,10 @@ pub struct ShownDay<T> {
 /// [`ZoneDays::first_second_at_or_after`]; the other calls mean the same in every zone.
 ///
 /// A day has two meanings. [`ZoneDays::day`] answers when clocks show a date. If clocks are set
-/// back over midnight, as in St. John's on 2005-10-30 at 00:01, they show the date before once more,
+/// back over midnight, as in St. John's on 2005-10-30 at 00:01, they show the date before again,
 /// and the two days overlap. [`ZoneDays::start_of_day`] divides time: each instant lies in exactly
 /// one day, which lasts from its start to before the next day's start, and clocks that show the date
-/// before once more do so within the new day. A date over which clocks were set forward, as
+/// before again do so within the new day. A date over which clocks were set forward, as
 /// 2011-12-30 in Apia, is never shown, and starts when the next date does: it is empty.
 pub trait ZoneDays: TimeZone {
     /// Returns the first and the last second of Unix time at which clocks show that date; `None` if
