@@ -12,8 +12,8 @@ const DIFFERENT: u8 = 1;
 
 const ERROR: u8 = 2;
 
-/// Prints the differences of the zones of two files, and returns the status: 0 if there are no differences, 1
-/// if there are some, and 2 for an error.
+/// Prints the differences of the zones of two files, and returns the status: 0 if they are equal, 1
+/// if there are differences, and 2 for an error.
 pub fn print(rt: &HostRuntime, old: &str, new: &str, years: Years, is_json: bool) -> u8 {
     match compare(rt, old, new, years, is_json) {
         Ok(status) => status,
