@@ -192,6 +192,45 @@ def try_extended(program, folder):
           ((folder / "extended").read_bytes()[:5], (folder / "extended").read_bytes()[-len(text) - 2:]))
 
 
+def differing(old, new, year):
+    """The stretches of a year in which two files differ in offset or abbreviation, found with zoneinfo at each quarter of an hour."""
+    begin = int(datetime(year, 1, 1, tzinfo=timezone.utc).timestamp())
+    end = int(datetime(year + 1, 1, 1, tzinfo=timezone.utc).timestamp())
+    with open(old, "rb") as file, open(new, "rb") as other:
+        zones = [ZoneInfo.from_file(file), ZoneInfo.from_file(other)]
+    found, last = [], None
+    for second in range(begin, end, 900):
+        times = [datetime.fromtimestamp(second, zone) for zone in zones]
+        pair = tuple((time.utcoffset().total_seconds(), time.tzname()) for time in times)
+        if pair != last and pair[0] != pair[1]:
+            found.append([second, second, *pair])
+        if pair[0] != pair[1]:
+            found[-1][1] = second + 900
+        last = pair
+    return found
+
+
+def try_diff(program, folder):
+    """The differences of two files are those that zoneinfo shows, as lines and as JSON, and the status is that of diff."""
+    check("a file for --diff", 0, run(program, "--write", "new", "--text", "EST5", folder=folder)[0])
+    years = ["--from", "2021", "--to", "2021"]
+    line = "2021-03-14 07:00:00 to 2021-11-07 06:00:00 UTC  -04:00 dst EDT -> -05:00 std EST  moved by -3600 s\n"
+    check("--diff", (1, line, ""), run(program, *years, "--diff", "good", "new", folder=folder))
+    check("--diff of one file", (0, "", ""), run(program, *years, "--diff", "good", "good", folder=folder))
+    status, output, errors = run(program, *years, "--json", "--diff", "good", "new", folder=folder)
+    told = json.loads(output)
+    stretches = [[d["from"], d["until"], *((d[side]["offset"], d[side]["name"]) for side in ("old", "new"))]
+                 for d in told["differences"]]
+    check("--json --diff", (1, "", differing(folder / "good", folder / "new", 2021)), (status, errors, stretches))
+    check("seconds moved", [-3600], [d["moved"] for d in told["differences"]])
+    status, output, errors = run(program, *years, "--json", "--diff", "good", "good", folder=folder)
+    check("--json --diff of one file", (0, "", []), (status, errors, json.loads(output)["differences"]))
+    check("--diff with a file missing", (2, ""), run(program, "--diff", "good", "none", folder=folder)[:2])
+    check("--diff with one file", (2, "", "zonedump: --diff takes two files\n"),
+          run(program, "--diff", "good", folder=folder))
+    check("--diff with --svg", (2, ""), run(program, "--svg", "new.svg", "--diff", "good", "new", folder=folder)[:2])
+
+
 def try_help(program):
     """What --help and --version say."""
     status, output, errors = run(program, "--help")
@@ -281,6 +320,7 @@ def main():
         try_names(program, folder)
         try_extended(program, folder)
         try_help(program)
+        try_diff(program, folder)
         over = "zonedump: --svg names the file that is read\n"
         for words in (["--svg", "good", "good"], ["--svg", "./good", "good"]):
             check(" ".join(words), (2, "", over), run(program, *words, folder=folder))

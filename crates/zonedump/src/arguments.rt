@@ -8,12 +8,15 @@ use zone_dump::Years;
 const VERSION: &str = "0.4.0";
 
 const USAGE: &str = "zonedump [OPTIONS] FILE..
-       zonedump [OPTIONS] --text TZ [--extended]";
+       zonedump [OPTIONS] --text TZ [--extended]
+       zonedump [--from YEAR] [--to YEAR] [--json] --diff OLD NEW";
 
 const NOTES: &str = "--write takes one zone and none of --from, --to, --zdump, --json and --svg.
 --svg takes one zone and none of --zdump and --json. --json and --zdump exclude each other.
+--diff takes two files and none of --zdump, --write, --svg and --text.
 
-Exit status: 0 if every zone was printed or written, 1 if one was not, 2 for wrong arguments.";
+Exit status: 0 if every zone was printed or written, 1 if one was not, 2 for wrong arguments.
+With --diff: 0 if the two zones are the same in the years, 1 if they differ, 2 for an error.";
 
 /// The words that the program takes.
 pub fn command<'a>(alloc: Global) -> Result<Command<'a>, AllocError> {
@@ -71,13 +74,19 @@ fn with_forms<'a>(alloc: Global, command: Command<'a>) -> Result<Command<'a>, Al
         "NEW",
         "Draws one zone as a picture of SVG in the file NEW, and prints nothing",
     );
-    without(command.arg(svg)?, "svg", &["zdump", "json", "write"])
+    let command = without(command.arg(svg)?, "svg", &["zdump", "json", "write"])?;
+    let diff = flag(
+        alloc,
+        "diff",
+        "Prints where the zones of two files differ, OLD and NEW",
+    );
+    without(command.arg(diff)?, "diff", &["zdump", "write", "svg"])
 }
 
 // The zones: those of files, or that of a TZ string.
 fn with_zones<'a>(alloc: Global, command: Command<'a>) -> Result<Command<'a>, AllocError> {
     let text = with_value(alloc, "text", "TZ", "A TZ string in place of files");
-    let command = without(command.arg(text)?, "text", &["FILE"])?;
+    let command = without(command.arg(text)?, "text", &["FILE", "diff"])?;
     let extended = flag(
         alloc,
         "extended",

@@ -2,6 +2,7 @@
 #![tactic(auto)]
 
 mod arguments;
+mod compared;
 mod files;
 mod told;
 mod words;
@@ -11,6 +12,7 @@ use std::fmt::Write;
 use std::io;
 use std::process::ExitCode;
 use told::{Asked, What, tell_file, tell_text};
+use zone_dump::Years;
 
 // The status of a run that told all that was asked, of one that did not, and of wrong arguments.
 const TOLD: u8 = 0;
@@ -61,8 +63,22 @@ fn tell_matched(rt: &HostRuntime, matches: &ArgMatches<'_>) -> io::Result<u8> {
     let Some(years) = arguments::years_of(matches) else {
         return refuse(rt, "years must be 1 to 9999, --from not after --to");
     };
+    if matches.get_flag("diff") {
+        return compare(rt, matches, years);
+    }
     let what = arguments::what_of(matches);
     tell_asked(rt, matches, Asked { years, what })
+}
+
+// Prints the differences of two files.
+fn compare(rt: &HostRuntime, matches: &ArgMatches<'_>, years: Years) -> io::Result<u8> {
+    match matches.get_strs("FILE") {
+        Some([old, new]) => {
+            let is_json = matches.get_flag("json");
+            Ok(compared::print(rt, old, new, years, is_json))
+        }
+        _ => refuse(rt, "--diff takes two files"),
+    }
 }
 
 fn tell_asked(rt: &HostRuntime, matches: &ArgMatches<'_>, asked: Asked<'_>) -> io::Result<u8> {

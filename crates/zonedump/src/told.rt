@@ -115,18 +115,42 @@ pub fn tell_text(
 /// Prints or writes the zone of a TZif file, or why it can't be read, and returns whether that was
 /// done.
 pub fn tell_file(rt: &HostRuntime, file: &str, asked: Asked<'_>) -> io::Result<bool> {
+    match bytes_of(rt, file)? {
+        Some(bytes) => tell(rt, file, Source::File(bytes.as_slice()), asked),
+        None => Ok(false),
+    }
+}
+
+/// Returns the zone of a TZif file, or says why it can't be read.
+pub fn zone_of_file(rt: &HostRuntime, file: &str) -> io::Result<Option<TimeZone>> {
+    let Some(bytes) = bytes_of(rt, file)? else {
+        return Ok(None);
+    };
+    let source = Source::File(bytes.as_slice());
+    match source.zone(rt.alloc()) {
+        Ok(zone) => Ok(Some(zone)),
+        Err(fault) => {
+            refuse(rt, file, source.kind(), &fault)?;
+            Ok(None)
+        }
+    }
+}
+
+// The bytes of a file, or why it can't be read.
+fn bytes_of(rt: &HostRuntime, file: &str) -> io::Result<Option<Vec<u8>>> {
     if let Some(name) = words::escaped(file) {
-        return refuse_name(rt, name);
+        refuse_name(rt, name)?;
+        return Ok(None);
     }
     match files::read_limited(rt, file) {
-        Ok(Some(bytes)) => tell(rt, file, Source::File(bytes.as_slice()), asked),
+        Ok(Some(bytes)) => Ok(Some(bytes)),
         Ok(None) => {
             eprintln!(rt; "zonedump: {file}: larger than 64 MiB")?;
-            Ok(false)
+            Ok(None)
         }
         Err(error) => {
             eprintln!(rt; "zonedump: {file}: {error}")?;
-            Ok(false)
+            Ok(None)
         }
     }
 }
@@ -249,8 +273,8 @@ fn put(rt: &HostRuntime, path: &str, bytes: &[u8]) -> io::Result<bool> {
     }
 }
 
-// Writes to standard output.
-fn print(rt: &HostRuntime, bytes: &[u8]) -> io::Result<bool> {
+/// Writes to standard output, and returns that it was done.
+pub fn print(rt: &HostRuntime, bytes: &[u8]) -> io::Result<bool> {
     let mut output = rt.stdout();
     output.write_all(bytes)?;
     output.flush()?;
