@@ -13,7 +13,7 @@ use Rattle.tz_base.specs.Grammar.{Spells, be_u32}
 use Rattle.tz_base.proofs.ForCallers.{lawful, apart}
 use Rattle.tz_info.specs.FileBlocks.{block as a_block}
 use Rattle.tz_info.specs.FileContents.{signed, least_offset, SpellsType, IsMark, SpellTransitions, SpellTypes, IndicatorsAgree}
-use Rattle.tz_info.specs.FileHeaders.{magic, tzif, version, version_1, six_counts, header as a_header}
+use Rattle.tz_info.specs.FileHeaders.{magic, tzif, version, version_1, six_counts, counts_test, header as a_header}
 use Rattle.tz_info.specs.FilePieces.{HasPieces, PieceFault, first_pieces, after_first_block, first_version, later_version, file as a_file}
 use Rattle.tz_info.specs.Footers.{IsFooter}
 use Rattle.tz_info.specs.TzFiles.{IsTzFile}
@@ -41,7 +41,7 @@ pub is_header : (place : Place) (byte : ℕ) (v : Version) (rest : List ℕ) →
     → Spells (a_header place) (header byte ++ rest) (record { version = v; counts = counts }) rest
 unfolding a_header tzif
 is_header place byte v rest stands =
-    (tt, _, (magic, _, (refl, refl), (refl, refl, refl)), (v, _, stands _, (0 ∷ 0 ∷ 0 ∷ 0 ∷ 0 ∷ 0 ∷ 0 ∷ 0 ∷ 0 ∷ 0 ∷ 0 ∷ 0 ∷ 0 ∷ 0 ∷ 0 ∷ [], _, (refl, refl), (counts, _, counted rest, (refl, refl, refl)))))
+    (tt, _, (magic, _, (refl, refl), (refl, refl, refl)), (v, _, stands _, (0 ∷ 0 ∷ 0 ∷ 0 ∷ 0 ∷ 0 ∷ 0 ∷ 0 ∷ 0 ∷ 0 ∷ 0 ∷ 0 ∷ 0 ∷ 0 ∷ 0 ∷ [], _, (refl, refl), (counts, _, counted rest, ((counts_test counts).decides.0 refl, refl, refl)))))
 
 pub version_2 : (place : Place) (after : List ℕ) → Spells (version place) (50 ∷ after) Two after
 unfolding version
