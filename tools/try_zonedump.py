@@ -235,7 +235,7 @@ def try_help(program):
     """What --help and --version say."""
     status, output, errors = run(program, "--help")
     check("--help", (0, "", True), (status, errors, all(word in output for word in HELP)))
-    version = re.search(r'version = "(.*)"', (HERE / "python" / "pyproject.toml").read_text()).group(1)
+    version = re.search(r'version__ = "(.*)"', (HERE / "python/src/sahvumbi/_version.py").read_text()).group(1)
     check("--version", (0, f"zonedump {version}\n", ""), run(program, "--version"))
     check("no arguments name --text", True, "--text TZ" in run(program)[2])
 
