@@ -13,7 +13,7 @@ Without words all four are tried:
   zoneq and zonedump.
 - c: each `c` block, under the name that the line before it gives, and the `console` block that compiles it and runs it. It needs
   the static library, gcc and rt.
-- python: each `pycon` block, by doctest. It needs python/src/sahvumbi/libzoned_ffi.so, which tools/python_tests.sh builds, and
+- python: the `pycon` blocks of each page, one after another, by doctest. It needs python/src/sahvumbi/libzoned_ffi.so, which tools/python_tests.sh builds, and
   Debian's python3 with numpy and pandas.
 
 `sh` blocks aren't run here: tools/python_tests.sh runs those that install the package, and the gate proves what `rt run` proves.
@@ -119,14 +119,16 @@ def c():
 def python():
     environment = {**os.environ, "PYTHONPATH": str(TOP / "python/src"), "PYTHONDONTWRITEBYTECODE": "1"}
     for path in PAGES:
-        for place, _, text in blocks(path, "pycon"):
-            with tempfile.NamedTemporaryFile("w", suffix=".txt") as file:
-                file.write(text)
-                file.flush()
-                made = [PYTHON, "-m", "doctest", file.name]
-                done = subprocess.run(made, cwd="/", env=environment, capture_output=True, text=True)
-            if done.returncode != 0:
-                yield f"{shown(path, place)}: {done.stdout}{done.stderr}"
+        found = list(blocks(path, "pycon"))
+        if not found:
+            continue
+        with tempfile.NamedTemporaryFile("w", suffix=".txt") as file:
+            file.write("\n".join(text for _, _, text in found))
+            file.flush()
+            made = [PYTHON, "-m", "doctest", file.name]
+            done = subprocess.run(made, cwd="/", env=environment, capture_output=True, text=True)
+        if done.returncode != 0:
+            yield f"{shown(path, found[0][0])}: {done.stdout}{done.stderr}"
 
 
 TRIED = {"rattle": rattle, "programs": programs, "c": c, "python": python}
