@@ -35,7 +35,7 @@ pub fn toronto()
 
 /// In St. John's clocks went from 2 hours 30 minutes behind UTC to 3 hours 30 minutes at 2005-10-30
 /// 02:31:00 UTC, when they showed 00:01. Day 13086, that date, had started a minute before; the
-/// instant 02:41:00 UTC, when they showed 23:11 of the date before once more, lies in it.
+/// instant 02:41:00 UTC, when they showed 23:11 of the date before again, lies in it.
 pub fn st_johns()
     ensures starts { (off : ℤ → ℤ)
         → AreSetAt off (pos 1_130_639_460) (neg_ℤ (pos 9_000)) (neg_ℤ (pos 12_600))

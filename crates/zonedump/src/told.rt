@@ -121,7 +121,7 @@ pub fn tell_file(rt: &HostRuntime, file: &str, asked: Asked<'_>) -> io::Result<b
     }
 }
 
-/// Returns the zone of a TZif file, or says why it can't be read.
+/// Returns the zone of a TZif file, or the error if it can't be read.
 pub fn zone_of_file(rt: &HostRuntime, file: &str) -> io::Result<Option<TimeZone>> {
     let Some(bytes) = bytes_of(rt, file)? else {
         return Ok(None);
@@ -136,7 +136,7 @@ pub fn zone_of_file(rt: &HostRuntime, file: &str) -> io::Result<Option<TimeZone>
     }
 }
 
-// The bytes of a file, or why it can't be read.
+// The bytes of a file, or the error if it can't be read.
 fn bytes_of(rt: &HostRuntime, file: &str) -> io::Result<Option<Vec<u8>>> {
     if let Some(name) = words::escaped(file) {
         refuse_name(rt, name)?;
@@ -273,7 +273,7 @@ fn put(rt: &HostRuntime, path: &str, bytes: &[u8]) -> io::Result<bool> {
     }
 }
 
-/// Writes to standard output, and returns that it was done.
+/// Writes the bytes to standard output. Returns `true`, or the error of a write.
 pub fn print(rt: &HostRuntime, bytes: &[u8]) -> io::Result<bool> {
     let mut output = rt.stdout();
     output.write_all(bytes)?;

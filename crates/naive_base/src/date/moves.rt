@@ -75,7 +75,7 @@ impl NaiveDate {
         self.days_later(-(rhs.num_days() as i128))
     }
 
-    // The date so many days later, where this date may change to it.
+    // The date that number of days later, if this date may change to it.
     pub(crate) fn days_later(self, days: i128) -> Option<NaiveDate>
         requires { IsWithin 20_000_000_000_000_000_000 days }
         ensures { IsDaysLater day_of IsDateOn (day_of self) days result }

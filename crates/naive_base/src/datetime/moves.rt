@@ -99,8 +99,8 @@ impl NaiveDateTime {
         self.moved_leap(self.within_after(nanos))
     }
 
-    // Those of the reading at so many nanoseconds from the start of this second, which a leap
-    // second follows.
+    // The second and the nanoseconds that lie `within` nanoseconds after the start of this second;
+    // a leap second follows it.
     #[tactic(auto, using(crate::proofs::Moves::moves))]
     fn moved_leap(self, within: i128) -> (i64, u32)
         requires { IsShort within }

@@ -51,7 +51,7 @@ fn text_of(nanos: i128) -> ShortText
     text
 }
 
-// `PT`, the seconds of so many nanoseconds, their fraction and `S`.
+// `PT`, the whole seconds of a number of nanoseconds, their fraction and `S`.
 #[tactic(auto, using(crate::proofs::Digits::decimals))]
 fn push_seconds(nanos: u128, text: &mut ShortText)
     requires nanos { nanos < 10_000_000_000_000_000_000_000_000 }
@@ -79,7 +79,7 @@ fn push_decimal(number: u64, text: &mut ShortText)
     text.push(b'0' + (number % 10) as u8);
 }
 
-// A point and the digits of so many nanoseconds of a second, nothing for 0.
+// A point and the digits of a fraction of a second in nanoseconds; nothing for 0.
 fn push_part(nanos: u32, text: &mut ShortText)
     requires nanos { nanos < 1_000_000_000 }
     requires room { length text.old + 10 ≤ 32 }
@@ -93,7 +93,7 @@ fn push_part(nanos: u32, text: &mut ShortText)
     push_digits(9, nanos, text);
 }
 
-// The last so many digits of a number, without the zeros at their end.
+// The last `count` digits of a number, without the zeros at their end.
 #[tactic(auto, unfolding(crate::specs::LengthText::without_zeros))]
 fn push_digits(count: u32, number: u32, text: &mut ShortText)
     requires count { count ≤ 9 }
@@ -110,7 +110,7 @@ fn push_digits(count: u32, number: u32, text: &mut ShortText)
     push_number(count, number, text);
 }
 
-// The last so many digits of a number.
+// The last `count` digits of a number.
 #[tactic(auto, unfolding(crate::specs::Digits::in_digits))]
 fn push_number(count: u32, number: u32, text: &mut ShortText)
     requires count { count ≤ 9 }

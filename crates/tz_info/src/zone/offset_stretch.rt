@@ -50,7 +50,7 @@ impl TimeZone {
         })
     }
 
-    // The stretch after the last transition, or that of all seconds if there is none.
+    // The stretch after the last transition, or all seconds if the zone has no transitions.
     fn offset_stretch_behind(&self, last: Transition) -> Option<OffsetStretch>
         requires leaps { length self.now.leaps ≡ 0 }
         requires begin { last.unix_leap_time
