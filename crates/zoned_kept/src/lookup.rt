@@ -7,12 +7,12 @@ ghost use Rattle.tz_info.specs.Gaps.{IsBeforeGap, IsShown};
 ghost use Rattle.tz_info.specs.WallClocks.{Shows};
 ghost use Rattle.tz_info.specs.Zones.{TypeAt};
 ghost use Rattle.zoned_time.specs.Choice.{AreOffsetsAround, IsOffsetBeforeGap};
-ghost use Rattle.zoned_time.specs.Zone.{IsOffsetAt, AreOffsetsFor};
+ghost use Rattle.zoned_time.specs.Zone.{IsOffsetAt, AreOffsetsFor, midnight_of};
 ghost use Rattle.zoned_kept.specs.KeptOffset.{meaning_of, law_of, type_of};
 ghost use Rattle.zoned_kept.specs.KeptZone.{zone_of};
 
 use crate::{KeptOffset, KeptZone};
-use naive_base::NaiveDateTime;
+use naive_base::{NaiveDate, NaiveDateTime, NaiveTime};
 use offset_core::LocalResult;
 use zoned_time::{OffsetsAround, TimeZone};
 
@@ -42,6 +42,13 @@ impl TimeZone for KeptZone {
         )
     }
 
+    fn offset_from_utc_date(&self, utc: &NaiveDate) -> KeptOffset
+        ensures offset { IsOffsetAt (law_of self.now) (midnight_of utc.now) result }
+        ensures local_type { TypeAt (zone_of self.now) (midnight_of utc.now) (type_of result) }
+    {
+        self.offset_from_utc_datetime(&midnight(utc))
+    }
+
     fn offset_from_local_datetime(&self, local: &NaiveDateTime) -> LocalResult<KeptOffset>
         ensures offsets { AreOffsetsFor (law_of self.now) (reading local.now).s result }
         // They are the offsets of the types in force.
@@ -59,6 +66,14 @@ impl TimeZone for KeptZone {
                 KeptOffset::of(self, last.local_type()),
             ),
         }
+    }
+
+    fn offset_from_local_date(&self, local: &NaiveDate) -> LocalResult<KeptOffset>
+        ensures offsets { AreOffsetsFor (law_of self.now) (midnight_of local.now) result }
+        ensures local_types { IsWallAnswer (Shows (TypeAt (zone_of self.now)) (midnight_of local.now))
+            (map_of type_of result) }
+    {
+        self.offset_from_local_datetime(&midnight(local))
     }
 
     fn offsets_around(&self, local: &NaiveDateTime) -> OffsetsAround<KeptOffset>
@@ -92,4 +107,11 @@ impl TimeZone for KeptZone {
             None => None,
         }
     }
+}
+
+// The local time at which a date begins.
+fn midnight(date: &NaiveDate) -> NaiveDateTime
+    ensures { (reading result).s ≡ midnight_of date.now }
+{
+    date.and_time(NaiveTime::MIN)
 }

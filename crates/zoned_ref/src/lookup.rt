@@ -7,13 +7,13 @@ ghost use Rattle.tz_info.specs.Gaps.{IsBeforeGap, IsShown};
 ghost use Rattle.tz_info.specs.WallClocks.{Shows};
 ghost use Rattle.tz_info.specs.Zones.{TypeAt};
 ghost use Rattle.zoned_time.specs.Choice.{AreOffsetsAround, IsOffsetBeforeGap};
-ghost use Rattle.zoned_time.specs.Zone.{IsZoneSecond, IsOffsetAt, AreOffsetsFor};
+ghost use Rattle.zoned_time.specs.Zone.{IsZoneSecond, IsOffsetAt, AreOffsetsFor, midnight_of};
 ghost use Rattle.zoned_ref.specs.Offsets.{AreOffsetsOf};
 ghost use Rattle.zoned_ref.specs.TimeZoneRef.{zone_of, off_of};
 ghost use Rattle.zoned_ref.specs.ZoneOffset.{meaning_of, law_of, type_of};
 
 use crate::{TimeZoneRef, ZoneOffset};
-use naive_base::NaiveDateTime;
+use naive_base::{NaiveDate, NaiveDateTime, NaiveTime};
 use offset_core::LocalResult;
 use tz_info::{LocalTimeType, TypesAround};
 use zoned_time::{OffsetsAround, TimeZone};
@@ -41,6 +41,13 @@ impl<'a> TimeZone for TimeZoneRef<'a> {
         self.offset_at(utc.secs_since_epoch())
     }
 
+    fn offset_from_utc_date(&self, utc: &NaiveDate) -> ZoneOffset<'a>
+        ensures offset { IsOffsetAt (law_of self.now) (midnight_of utc.now) result }
+        ensures local_type { TypeAt (zone_of self.now) (midnight_of utc.now) (type_of result) }
+    {
+        self.offset_from_utc_datetime(&midnight(utc))
+    }
+
     fn offset_from_local_datetime(&self, local: &NaiveDateTime) -> LocalResult<ZoneOffset<'a>>
         ensures offsets { AreOffsetsFor (law_of self.now) (reading local.now).s result }
         // They are the offsets of the types in force.
@@ -59,6 +66,14 @@ impl<'a> TimeZone for TimeZoneRef<'a> {
                 ZoneOffset::new(*self, &last),
             ),
         }
+    }
+
+    fn offset_from_local_date(&self, local: &NaiveDate) -> LocalResult<ZoneOffset<'a>>
+        ensures offsets { AreOffsetsFor (law_of self.now) (midnight_of local.now) result }
+        ensures local_types { IsWallAnswer (Shows (TypeAt (zone_of self.now)) (midnight_of local.now))
+            (map_of type_of result) }
+    {
+        self.offset_from_local_datetime(&midnight(local))
     }
 
     fn offsets_around(&self, local: &NaiveDateTime) -> OffsetsAround<ZoneOffset<'a>>
@@ -111,4 +126,11 @@ impl<'a> TimeZoneRef<'a> {
     {
         ZoneOffset::new(*self, local_type)
     }
+}
+
+// The local time at which a date begins.
+fn midnight(date: &NaiveDate) -> NaiveDateTime
+    ensures { (reading result).s ≡ midnight_of date.now }
+{
+    date.and_time(NaiveTime::MIN)
 }
