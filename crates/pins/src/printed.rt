@@ -1,6 +1,6 @@
 //! Printed bytes of offsets, times, dates and readings.
 
-ghost use Rattle.std.specs.Prelude.{◌≡◌, [], ◌∷◌, pos, neg_ℤ};
+ghost use Rattle.std.specs.Prelude.{◌≡◌, ◌∷◌, pos, neg_ℤ, codes};
 ghost use Rattle.std.specs.Fmt.{decimal};
 ghost use Rattle.offset_core.specs.Offset.{IsWithinDay, offset_text};
 ghost use Rattle.naive_base.specs.Reading.{Reading};
@@ -16,48 +16,37 @@ pub fn limits()
 
 /// `+00:00`, `+05:30`, `-05:00`, `+00:00:01` and `-23:59:59`.
 pub fn offsets()
-    ensures zero { offset_text (pos 0) ≡ 43 ∷ 48 ∷ 48 ∷ 58 ∷ 48 ∷ 48 ∷ [] }
-    ensures east { offset_text (pos 19_800) ≡ 43 ∷ 48 ∷ 53 ∷ 58 ∷ 51 ∷ 48 ∷ [] }
-    ensures west { offset_text (neg_ℤ (pos 18_000)) ≡ 45 ∷ 48 ∷ 53 ∷ 58 ∷ 48 ∷ 48 ∷ [] }
-    ensures second { offset_text (pos 1) ≡ 43 ∷ 48 ∷ 48 ∷ 58 ∷ 48 ∷ 48 ∷ 58 ∷ 48 ∷ 49 ∷ [] }
-    ensures far_west { offset_text (neg_ℤ (pos 86_399))
-        ≡ 45 ∷ 50 ∷ 51 ∷ 58 ∷ 53 ∷ 57 ∷ 58 ∷ 53 ∷ 57 ∷ [] }
+    ensures zero { offset_text (pos 0) ≡ codes "+00:00" }
+    ensures east { offset_text (pos 19_800) ≡ codes "+05:30" }
+    ensures west { offset_text (neg_ℤ (pos 18_000)) ≡ codes "-05:00" }
+    ensures second { offset_text (pos 1) ≡ codes "+00:00:01" }
+    ensures far_west { offset_text (neg_ℤ (pos 86_399)) ≡ codes "-23:59:59" }
 {}
 
 /// `23:59:60` is a leap second. A fraction has 3, 6 or 9 digits.
 pub fn times()
-    ensures midnight { time_text 0 0 ≡ 48 ∷ 48 ∷ 58 ∷ 48 ∷ 48 ∷ 58 ∷ 48 ∷ 48 ∷ [] }
-    ensures last { time_text 86_399 0 ≡ 50 ∷ 51 ∷ 58 ∷ 53 ∷ 57 ∷ 58 ∷ 53 ∷ 57 ∷ [] }
-    ensures leap { time_text 86_399 1_000_000_000 ≡ 50 ∷ 51 ∷ 58 ∷ 53 ∷ 57 ∷ 58 ∷ 54 ∷ 48 ∷ [] }
-    ensures leap_fraction { time_text 86_399 1_300_000_000
-        ≡ 50 ∷ 51 ∷ 58 ∷ 53 ∷ 57 ∷ 58 ∷ 54 ∷ 48 ∷ 46 ∷ 51 ∷ 48 ∷ 48 ∷ [] }
-    ensures millis { time_text 45_296 789_000_000
-        ≡ 49 ∷ 50 ∷ 58 ∷ 51 ∷ 52 ∷ 58 ∷ 53 ∷ 54 ∷ 46 ∷ 55 ∷ 56 ∷ 57 ∷ [] }
-    ensures micros { time_text 45_296 1_000
-        ≡ 49 ∷ 50 ∷ 58 ∷ 51 ∷ 52 ∷ 58 ∷ 53 ∷ 54 ∷ 46 ∷ 48 ∷ 48 ∷ 48 ∷ 48 ∷ 48 ∷ 49 ∷ [] }
-    ensures nanos { time_text 45_296 1
-        ≡ 49 ∷ 50 ∷ 58 ∷ 51 ∷ 52 ∷ 58 ∷ 53 ∷ 54 ∷ 46 ∷ 48 ∷ 48 ∷ 48 ∷ 48 ∷ 48 ∷ 48 ∷ 48 ∷ 48 ∷ 49
-        ∷ [] }
+    ensures midnight { time_text 0 0 ≡ codes "00:00:00" }
+    ensures last { time_text 86_399 0 ≡ codes "23:59:59" }
+    ensures leap { time_text 86_399 1_000_000_000 ≡ codes "23:59:60" }
+    ensures leap_fraction { time_text 86_399 1_300_000_000 ≡ codes "23:59:60.300" }
+    ensures millis { time_text 45_296 789_000_000 ≡ codes "12:34:56.789" }
+    ensures micros { time_text 45_296 1_000 ≡ codes "12:34:56.000001" }
+    ensures nanos { time_text 45_296 1 ≡ codes "12:34:56.000000001" }
 {}
 
 /// A year outside 0 to 9999 has a sign.
 pub fn dates()
-    ensures plain { date_text (pos 2015) 9 5
-        ≡ 50 ∷ 48 ∷ 49 ∷ 53 ∷ 45 ∷ 48 ∷ 57 ∷ 45 ∷ 48 ∷ 53 ∷ [] }
-    ensures year_0 { date_text (pos 0) 1 1 ≡ 48 ∷ 48 ∷ 48 ∷ 48 ∷ 45 ∷ 48 ∷ 49 ∷ 45 ∷ 48 ∷ 49 ∷ [] }
-    ensures year_9999 { date_text (pos 9_999) 12 31
-        ≡ 57 ∷ 57 ∷ 57 ∷ 57 ∷ 45 ∷ 49 ∷ 50 ∷ 45 ∷ 51 ∷ 49 ∷ [] }
+    ensures plain { date_text (pos 2015) 9 5 ≡ codes "2015-09-05" }
+    ensures year_0 { date_text (pos 0) 1 1 ≡ codes "0000-01-01" }
+    ensures year_9999 { date_text (pos 9_999) 12 31 ≡ codes "9999-12-31" }
     ensures year_10000 { year_text (pos 10_000) ≡ 43 ∷ decimal 10_000 }
-    ensures before_0 { date_text (neg_ℤ (pos 1)) 3 14
-        ≡ 45 ∷ 48 ∷ 48 ∷ 48 ∷ 49 ∷ 45 ∷ 48 ∷ 51 ∷ 45 ∷ 49 ∷ 52 ∷ [] }
+    ensures before_0 { date_text (neg_ℤ (pos 1)) 3 14 ≡ codes "-0001-03-14" }
 {}
 
 /// `2016-12-31 23:59:60`, and with a `T` `2017-01-01T00:00:00`.
 pub fn readings()
     ensures leap_second { reading_text 32 (record { s = pos 1_483_228_799; f = 1_000_000_000 })
-        ≡ 50 ∷ 48 ∷ 49 ∷ 54 ∷ 45 ∷ 49 ∷ 50 ∷ 45 ∷ 51 ∷ 49 ∷ 32 ∷ 50 ∷ 51 ∷ 58 ∷ 53 ∷ 57 ∷ 58 ∷ 54
-        ∷ 48 ∷ [] }
+        ≡ codes "2016-12-31 23:59:60" }
     ensures next { reading_text 84 (record { s = pos 1_483_228_800; f = 0 })
-        ≡ 50 ∷ 48 ∷ 49 ∷ 55 ∷ 45 ∷ 48 ∷ 49 ∷ 45 ∷ 48 ∷ 49 ∷ 84 ∷ 48 ∷ 48 ∷ 58 ∷ 48 ∷ 48 ∷ 58 ∷ 48
-        ∷ 48 ∷ [] }
+        ≡ codes "2017-01-01T00:00:00" }
 {}

@@ -41,11 +41,11 @@ pub fn zones()
 
 /// A name has three to seven letters, digits, `+` or `-`.
 pub fn names()
-    ensures three { IsName (69 ∷ 83 ∷ 84 ∷ []) }
-    ensures seven { IsName (43 ∷ 49 ∷ 50 ∷ 51 ∷ 45 ∷ 90 ∷ 122 ∷ []) }
-    ensures two { ¬ (IsName (69 ∷ 83 ∷ [])) }
-    ensures eight { ¬ (IsName (69 ∷ 83 ∷ 84 ∷ 69 ∷ 83 ∷ 84 ∷ 69 ∷ 83 ∷ [])) }
-    ensures underscore { ¬ (IsName (69 ∷ 95 ∷ 84 ∷ [])) }
+    ensures three { IsName (codes "EST") }
+    ensures seven { IsName (codes "+123-Zz") }
+    ensures two { ¬ (IsName (codes "ES")) }
+    ensures eight { ¬ (IsName (codes "ESTESTES")) }
+    ensures underscore { ¬ (IsName (codes "E_T")) }
 {}
 
 /// Hours of a time of day go to 24, and with extensions to 167. Of an offset 1:30:15 west is less

@@ -45,7 +45,7 @@ pub fn designation_places()
     ensures hst { place_of (text_of hst) designations ≡ 4 }
     ensures unnamed { place_of (text_of unnamed) designations ≡ 3 }
     ensures front { begins (codes "HST") (72 ∷ 83 ∷ 84 ∷ 0 ∷ []) ≡ true }
-    ensures no_end { begins (codes "HST") (72 ∷ 83 ∷ 84 ∷ []) ≡ false }
+    ensures no_end { begins (codes "HST") (codes "HST") ≡ false }
     ensures longer { begins (codes "HS") (72 ∷ 83 ∷ 84 ∷ 0 ∷ []) ≡ false }
     ensures not_shortest { ¬ (AreShortest (72 ∷ 83 ∷ 84 ∷ 0 ∷ 0 ∷ []) (hst ∷ [])) }
 {}

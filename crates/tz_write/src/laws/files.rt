@@ -1,6 +1,6 @@
 //! Theorems of the files that are written.
 
-ghost use Rattle.std.specs.Prelude.{◌≡◌, ℕ, pos, neg_ℤ, false, true, List, [], ◌∷◌, slice_index, Some, IfOk, IfSome, MatchOption, MatchResult};
+ghost use Rattle.std.specs.Prelude.{◌≡◌, ℕ, pos, neg_ℤ, false, true, List, [], ◌∷◌, slice_index, Some, IfOk, IfSome, MatchOption, MatchResult, codes};
 ghost use Rattle.tz_base.specs.Errors.{IsOutOfMemory};
 ghost use Rattle.tz_info.specs.TzFiles.{IsTzFile};
 ghost use Rattle.tz_info.specs.Zones.{Zone, IsValid, IsRuleOrNone};
@@ -50,12 +50,12 @@ pub fn headers()
 #[tactic(auto, unfolding(crate::specs::FileLayouts::laid, crate::specs::FileLayouts::before_last, crate::specs::FileLayouts::with_texts, crate::specs::FileLayouts::with_text, crate::specs::FileDesignations::begins))]
 pub fn names()
     ensures { laid [] (
-        record { offset = neg_ℤ (pos 37_886); dst = false; name = Some (76 ∷ 77 ∷ 84 ∷ []) } ∷
-        record { offset = neg_ℤ (pos 37_800); dst = false; name = Some (72 ∷ 83 ∷ 84 ∷ []) } ∷
-        record { offset = neg_ℤ (pos 34_200); dst = true; name = Some (72 ∷ 68 ∷ 84 ∷ []) } ∷
-        record { offset = neg_ℤ (pos 34_200); dst = true; name = Some (72 ∷ 87 ∷ 84 ∷ []) } ∷
-        record { offset = neg_ℤ (pos 34_200); dst = true; name = Some (72 ∷ 80 ∷ 84 ∷ []) } ∷
-        record { offset = neg_ℤ (pos 36_000); dst = false; name = Some (72 ∷ 83 ∷ 84 ∷ []) } ∷
+        record { offset = neg_ℤ (pos 37_886); dst = false; name = Some (codes "LMT") } ∷
+        record { offset = neg_ℤ (pos 37_800); dst = false; name = Some (codes "HST") } ∷
+        record { offset = neg_ℤ (pos 34_200); dst = true; name = Some (codes "HDT") } ∷
+        record { offset = neg_ℤ (pos 34_200); dst = true; name = Some (codes "HWT") } ∷
+        record { offset = neg_ℤ (pos 34_200); dst = true; name = Some (codes "HPT") } ∷
+        record { offset = neg_ℤ (pos 36_000); dst = false; name = Some (codes "HST") } ∷
         []) ≡
         76 ∷ 77 ∷ 84 ∷ 0 ∷
         72 ∷ 83 ∷ 84 ∷ 0 ∷

@@ -1,14 +1,10 @@
-#!/usr/bin/env python3
-"""Writes the TZ texts of a tz database again, and compares what is written with what stands there.
+"""Reads the TZ string in the footer of each TZif file of a tz database, and compares what `to_tz_string` writes of its rule.
 
-usage: tools/compare_written_texts.py [FOLDER]
+zic writes the shortest string, with minutes in two digits, so the bytes must be the same. `extended` must be true if and only if
+a time of day in the string is negative or above 24 hours.
 
-FOLDER is the database (/usr/share/zoneinfo). Each text that stands in the footer of a TZif file is read, and `to_tz_string` of
-its rule writes it. zic writes the shortest text, with minutes in two digits, and so the same bytes are due; extensions are told
-if and only if a time of day in the text is negative or has more than 24 hours.
-
-Each text is a test of its own, laid into a crate as `tools/try_tests.py` does it, run and not proved. It takes some 20 seconds
-for each hundred texts. Prints how many texts are the same, and the report if one differs. Ends with status 1 if one does.
+Each string is a test of its own, in a crate as `tools/try_tests.py` makes it, run and not proved: some 20 seconds for a hundred
+strings. Prints how many are the same, and the report if one differs.
 """
 
 import re
@@ -17,9 +13,9 @@ import tempfile
 from pathlib import Path
 
 import try_tests
+from comparing.database import FOLDER, TzFile, tzif_files
 from kit import tried
 
-FOLDER = "/usr/share/zoneinfo"
 MODULE = "of_tz_write"
 TIME = re.compile(r"/([+-]?)(\d+)")
 
@@ -50,16 +46,6 @@ fn text_{number}(rt: HostRuntime) {{
 """
 
 
-def footers(folder):
-    """The texts in the footers of a database's files, each once."""
-    found = set()
-    for path in folder.rglob("*"):
-        data = path.read_bytes() if path.is_file() else b""
-        if data.startswith(b"TZif") and data[4:5] >= b"2":
-            found.add(data[:-1].rsplit(b"\n", 1)[1].decode("ascii"))
-    return sorted(found - {""})
-
-
 def is_extended(text):
     return any(sign == "-" or int(hours) > 24 for sign, hours in TIME.findall(text))
 
@@ -69,9 +55,8 @@ def tests(texts):
     return HEAD + "".join(TEST.format(number=n, text=text, extended=str(is_extended(text)).lower()) for n, text in rows)
 
 
-def main():
-    folder = Path(sys.argv[1] if len(sys.argv) > 1 else FOLDER)
-    texts = footers(folder)
+def main(folder=FOLDER):
+    texts = sorted({TzFile(content).footer for _, content in tzif_files(folder)} - {""})
     if not texts:
         sys.exit(f"no TZif file with a text: {folder}")
     with tempfile.TemporaryDirectory() as top:
@@ -86,7 +71,3 @@ def main():
         print(report)
     print(f"{same} of {len(texts)} texts are written as they stand in the footers, status {status}")
     return 0 if status == 0 and same == len(texts) else 1
-
-
-if __name__ == "__main__":
-    sys.exit(main())

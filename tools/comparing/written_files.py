@@ -1,19 +1,13 @@
-#!/usr/bin/env python3
-"""Compares the files that are written of a tz database's zones with the files that were read.
+"""Writes the zone of each TZif file of a tz database by `TimeZone::to_tz_data`, and compares the written file with the one read.
 
-usage: tools/compare_written_files.py [FOLDER] [SLIM]
+Both must have the same clocks: by Python's zoneinfo around each transition and in each month of the years 1900 to 2100, and by
+`zdump -v` if that command is installed. Written again, the bytes must be the same. With SLIM, a folder with the same zones by
+`zic -b slim`, it also prints how many written files are the same, shorter and longer than those.
 
-Each TZif file of FOLDER (/usr/share/zoneinfo) is read, and the file of its zone is written by `TimeZone::to_tz_data`. The two
-must have the same clocks: by Python's zoneinfo around each transition and in each month of the years 1900 to 2100, and by
-`zdump -v`, where that command is there. Written again, the bytes must be the same. SLIM is a folder with the same zones as
-`zic -b slim` compiles them: the table says how many files are the same as there, shorter and longer.
-
-The program that reads and writes (tools/written_files.txt) is laid into a copy of this repository, and `rt try` runs it without a
-proof. Takes the command rt from the variable RT, if that is set. Is run by hand.
+The program that reads and writes (written_files.txt) is a crate in a copy of this repository, and `rt try` runs it without a proof.
 """
 
 import datetime
-import os
 import shutil
 import struct
 import subprocess
@@ -23,24 +17,12 @@ import zoneinfo
 from io import BytesIO
 from pathlib import Path
 
+from comparing.database import FOLDER, TzFile, tzif_files, zdump
 from sources import TOP
 
-RT = os.environ.get("RT", "rt")
 NAME = "written_files"
-ROOT = "/usr/share/zoneinfo"
 GROUP = 700_000
 UTC = datetime.timezone.utc
-
-
-def files_in(folder):
-    """The different TZif files by name."""
-    found = {}
-    for path in sorted(folder.rglob("*")):
-        if path.is_file():
-            data = path.read_bytes()
-            if data.startswith(b"TZif"):
-                found[str(path.relative_to(folder))] = data
-    return found
 
 
 def laid(top):
@@ -52,7 +34,7 @@ def laid(top):
     shutil.copytree(TOP / "crates", top / "crates", ignore=shutil.ignore_patterns("out", "must-fail*", "tried"))
     source = top / "crates" / NAME / "src"
     source.mkdir(parents=True)
-    shutil.copy(TOP / "tools" / f"{NAME}.txt", source / "main.rt")
+    shutil.copy(Path(__file__).with_suffix(".txt"), source / "main.rt")
     return source.parent
 
 
@@ -71,7 +53,7 @@ def groups_of(contents):
 def written_of_group(crate, contents):
     """What is written of each of these files, by one run."""
     given = b"".join(struct.pack(">I", len(data)) + data for data in contents)
-    ran = subprocess.run([RT, "try"], cwd=crate, input=given, capture_output=True)
+    ran = subprocess.run(["rt", "try"], cwd=crate, input=given, capture_output=True)
     if ran.returncode != 0:
         sys.exit(ran.stdout[-2000:].decode("utf8", "replace") + ran.stderr[-2000:].decode("utf8", "replace"))
     answers, place = [], 0
@@ -93,16 +75,6 @@ def written_of(crate, contents):
     return [answers[data] for data in contents]
 
 
-def transitions_in(data):
-    """The times of the second block."""
-    at = 0
-    for size in (4, 8):
-        ut, wall, leaps, times, types, designations = struct.unpack(">6I", data[at + 20 : at + 44])
-        here = at + 44
-        at = here + times * (size + 1) + types * 6 + designations + leaps * (size + 4) + wall + ut
-    return struct.unpack(f">{times}q", data[here : here + 8 * times])
-
-
 def clocks(data, seconds):
     zone = zoneinfo.ZoneInfo.from_file(BytesIO(data))
     shown = []
@@ -114,25 +86,27 @@ def clocks(data, seconds):
 
 def seconds_of(data):
     low, high = -2_208_988_800, 4_102_444_800
-    around = [t + d for t in transitions_in(data) for d in (-1, 0, 1) if low < t < high]
+    around = [t + d for t in TzFile(data).transitions for d in (-1, 0, 1) if low < t < high]
     return sorted(set(around) | set(range(low, high, 2_629_746)))
 
 
-def dumped(folder, number, data):
-    path = folder / f"{number}"
+def dumped(folder, data):
+    path = folder / "zone"
     path.write_bytes(data)
-    lines = subprocess.run(["zdump", "-v", "-c", "1800,2200", str(path)], capture_output=True, text=True).stdout
-    path.unlink()
-    return lines
+    return zdump(path, (1800, 2200))
 
 
-def main():
-    root = Path(sys.argv[1] if len(sys.argv) > 1 else ROOT)
-    slim = files_in(Path(sys.argv[2])) if len(sys.argv) > 2 else {}
-    read = files_in(root)
+def files_in(folder):
+    """The TZif files by name."""
+    return {str(path.relative_to(folder)): content for path, content in tzif_files(folder)}
+
+
+def main(folder=FOLDER, slim=None):
+    slim = files_in(slim) if slim else {}
+    read = files_in(folder)
     names = list(read)
-    with tempfile.TemporaryDirectory() as folder:
-        crate = laid(Path(folder))
+    with tempfile.TemporaryDirectory() as room:
+        crate = laid(Path(room))
         written = dict(zip(names, written_of(crate, read.values())))
         again = dict(zip(names, written_of(crate, written.values())))
         refused = [name for name in names if not written[name]]
@@ -148,7 +122,7 @@ def main():
             seconds = seconds_of(read[name])
             if clocks(read[name], seconds) != clocks(written[name], seconds):
                 wrong.append(f"{name}: other clocks by zoneinfo")
-            if shutil.which("zdump") and dumped(Path(folder), 0, read[name]) != dumped(Path(folder), 0, written[name]):
+            if shutil.which("zdump") and dumped(Path(room), read[name]) != dumped(Path(room), written[name]):
                 wrong.append(f"{name}: other lines by zdump")
     print("\n".join(wrong) or "no difference")
     if refused:
@@ -162,8 +136,4 @@ def main():
             f" {sum(len(a) < len(b) for a, b in both)} shorter, {sum(len(a) > len(b) for a, b in both)} longer,"
             f" {sum(len(a) for a, b in both)} bytes beside {sum(len(b) for a, b in both)}"
         )
-    return 1 if wrong else 0
-
-
-if __name__ == "__main__":
-    sys.exit(main())
+    return 1 if wrong or not names else 0

@@ -1,47 +1,33 @@
-#!/usr/bin/env python3
-"""Lists the changes of the clocks of every TZif file of a tz database, both ways, and compares them with `zdump -v`.
+"""Lists the clock changes of every TZif file of a tz database by the C library, in both directions, and compares them with zdump.
 
-usage: tools/compare_changes_with_zdump.py [FOLDER [ARCHIVE]]
-
-FOLDER is the database (/usr/share/zoneinfo), ARCHIVE the static library (crates/zoned_ffi/out/libzoned_ffi.a, which `rt lib`
-builds in crates/zoned_ffi). It needs zdump and gcc. Of each zone, once for all files of the same bytes:
+For each zone, once for all files with the same bytes:
 
 - `zoned_zone_next_change` lists the changes from 1900 on and before 2037, each from the one before it, and
-  `zoned_zone_previous_change` the same backwards. Both are what zdump lists, seconds and types: offset, daylight saving time
-  and abbreviation. zdump writes two lines for a change, of the second before it and of its own. In a file with leap seconds it
-  writes two for each leap second too, which change nothing.
-- From the year 1 to 2500 each call's list is the other's, backwards. By the definition, with `zoned_zone_types`: at each
-  change the type is another one than at the second before, and both are those that are told; at the seconds that are drawn
-  between one change and the next it is that of the first. So it is before the first change and after the last.
+  `zoned_zone_previous_change` the same backwards. Both must be zdump's: second, offset, DST flag and abbreviation.
+- From the year 1 to 2500 one call's list must be the other's in reverse. `zoned_zone_types` checks them by the definition: at
+  each change the type differs from that of the second before, both are the change's, and at random seconds up to the next
+  change the type is the one after it. So it is before the first change and after the last.
 
-Prints the counts, and each difference. It takes half a minute. Ends with status 1 where anything differs.
+It takes half a minute and needs gcc. Prints the counts, and each difference.
 """
 
 import calendar
 import ctypes
 import random
-import re
 import subprocess
-import sys
 import tempfile
-import time
-from collections import Counter, namedtuple
+from collections import Counter
 from ctypes import POINTER, byref, c_char, c_char_p, c_int32, c_int64, c_size_t, c_uint32, c_void_p
 from pathlib import Path
 
-TOP = Path(__file__).resolve().parent.parent
-FOLDER = "/usr/share/zoneinfo"
+from comparing.database import FOLDER, Change, Type, changes_by_zdump, tzif_files
+from sources import TOP
+
 ARCHIVE = TOP / "crates/zoned_ffi/out/libzoned_ffi.a"
 YEARS = (1900, 2037)
 WIDE_YEARS = (1, 2500)
 DRAWN = 3
 FILE, OK, NO_CHANGE = 0, 0, 35
-
-LINE = re.compile(r"  \w{3} (\w{3} +\d+) ([\d:]{8}) (\d+) UT = .* (\S+) isdst=([01]) gmtoff=(-?\d+)$")
-
-# A local time type, and a change from one to another.
-Type = namedtuple("Type", "offset is_dst name")
-Change = namedtuple("Change", "at before after")
 
 
 class WrittenType(ctypes.Structure):
@@ -133,37 +119,6 @@ def new_year(year):
     return calendar.timegm((year, 1, 1, 0, 0, 0))
 
 
-def lines_of(path):
-    """Of each line that zdump writes for a second: the second as it prints in UTC, and the type then."""
-    printed = subprocess.run(["zdump", "-v", "-c", "{},{}".format(*YEARS), path], capture_output=True, text=True, check=True)
-    for line in printed.stdout.splitlines():
-        if line.endswith("= NULL"):
-            continue
-        read = LINE.search(line)
-        if read is None:
-            raise ValueError(f"zdump's line isn't read: {line}")
-        day, clock, year, name, is_dst, offset = read.groups()
-        yield (day, clock, year), Type(int(offset), int(is_dst), name)
-
-
-def unix_second(day, clock, year):
-    return calendar.timegm(time.strptime(f"{day} {clock} {year}", "%b %d %H:%M:%S %Y"))
-
-
-def listed(path):
-    """The changes that zdump lists."""
-    lines = list(lines_of(path))
-    for (earlier, before), (later, after) in zip(lines[::2], lines[1::2], strict=True):
-        at, in_leap_second = unix_second(*later), earlier[1].endswith(":60")
-        # A leap second is the second before the midnight that ends it.
-        if not in_leap_second and unix_second(*earlier) != at - 1:
-            raise ValueError(f"zdump's two lines of {at} aren't of seconds one after the other")
-        if before != after:
-            yield Change(at, before, after)
-        elif not in_leap_second:
-            raise ValueError(f"zdump's two lines of {at} change nothing")
-
-
 def stretches(changes, first, end):
     """The seconds between one change and the next, with the type that the changes tell for them."""
     starts = [first, *(change.at for change in changes)]
@@ -195,7 +150,7 @@ def by_definition(zone, changes, first, end, chance):
 def compared(zone, path, counts, chance):
     """What differs."""
     first, end = map(new_year, YEARS)
-    wanted = list(listed(path))
+    wanted = list(changes_by_zdump(path, YEARS))
     for way, found in ("next", zone.forwards(first, end)), ("previous", zone.backwards(first, end)[::-1]):
         if found != wanted:
             yield f"{way}: {sorted(set(found) ^ set(wanted))[:3]}"
@@ -215,10 +170,7 @@ def main(folder=FOLDER, archive=ARCHIVE):
     counts, seen, differences = Counter(), set(), 0
     with tempfile.TemporaryDirectory() as made:
         library = loaded(archive, Path(made))
-        for path in sorted(path for path in Path(folder).rglob("*") if path.is_file()):
-            content = path.read_bytes()
-            if content[:4] != b"TZif":
-                continue
+        for path, content in tzif_files(folder):
             counts["files"] += 1
             if content in seen:
                 continue
@@ -230,7 +182,3 @@ def main(folder=FOLDER, archive=ARCHIVE):
                     print(f"{path}: {difference}")
     print(", ".join(f"{count:,} {what}" for what, count in counts.items()), f"{differences} differences", sep="; ")
     return 1 if differences or not seen else 0
-
-
-if __name__ == "__main__":
-    sys.exit(main(*sys.argv[1:]))

@@ -1,29 +1,27 @@
-#!/usr/bin/env python3
-"""Gives every TZif file of a tz database to zoneq, and compares what it answers with Python's zoneinfo.
+"""Gives every TZif file of a tz database to zoneq, and compares its answers with Python's zoneinfo.
 
-usage: tools/compare_with_zoneinfo.py [ZONEQ [FOLDER]]
+Each file is one `data` line. A hundred instants from 1900 to 2100 follow, half of them near changes: `at` and `show`, and `wall`
+for the local time then or up to an hour from it. zoneinfo's two folds show whether no, one or two instants show a local time.
+`show` is compared with the local time that Python prints.
 
-ZONEQ is the built program (crates/zoneq/out/zoneq), FOLDER the database (/usr/share/zoneinfo). Each file goes in whole, as
-a `data` line. Then a hundred instants from 1900 to 2100 are asked of it, half of them near changes: by `at` and `show`, and
-by `wall` the clocks that show there or up to an hour beside. Of a wall clock zoneinfo tells by its two folds whether none,
-one or two instants show it, and `show` is compared with the local time that Python prints.
+A file with leap seconds has its transitions in leap time, which zoneinfo would take for Unix time. Its answers are compared with
+zoneinfo's for the same zone's file without them (`right/Asia/Tokyo` with `Asia/Tokyo`): at Unix seconds both zones have the same
+offsets. Such files may end without a rule, and are then asked up to the first change that they don't list. A file without such a
+twin is only read.
 
-A file with leap seconds counts its changes in leap time, and zoneinfo would take that for Unix time. Its answers are
-compared with zoneinfo's for the file of the same zone without them (`right/Asia/Tokyo` with `Asia/Tokyo`): at Unix seconds
-both zones have the same offsets. Such files may end without a rule, and then are asked up to the first change that they
-don't list. A file without such a twin is read, and no more.
-
-Prints each difference with the reason that is known for it, and the counts.
+Prints each difference with the known reason, and the counts.
 """
 
 import random
-import struct
 import subprocess
-import sys
 from collections import Counter, namedtuple
 from datetime import datetime, timedelta, timezone
+from io import BytesIO
 from pathlib import Path
 from zoneinfo import ZoneInfo
+
+from comparing.database import FOLDER, TzFile, tzif_files
+from sources import TOP
 
 EPOCH = datetime(1970, 1, 1, tzinfo=timezone.utc)
 FIRST = int((datetime(1900, 1, 1, tzinfo=timezone.utc) - EPOCH).total_seconds())
@@ -32,7 +30,6 @@ HOUR = 3_600
 DAY = 24 * HOUR
 WEEK = 7 * DAY
 INSTANTS = 100
-HEADER = 44
 # Nanoseconds past the second, and the digits of a second that Python is told to print.
 FRACTIONS = [(0, "seconds"), (250_000_000, "milliseconds"), (1_000, "microseconds"), (999_999_000, "microseconds")]
 
@@ -40,40 +37,18 @@ FRACTIONS = [(0, "seconds"), (250_000_000, "milliseconds"), (1_000, "microsecond
 Question = namedtuple("Question", "source kind line want instant")
 
 
-class File:
-    """What has to be known of a TZif file to ask about it: leap seconds, times of transitions, whether a rule follows."""
-
-    def __init__(self, content):
-        self.content = content
-        self.version = 1 if content[4] == 0 else int(content[4:5])
-        # From version 2 on the second block decides.
-        start, letter = (0, "i") if self.version == 1 else (self.first_block_end(), "q")
-        _, _, self.leap_seconds, count, _, _ = self.counts(start)
-        self.transitions = struct.unpack_from(f">{count}{letter}", content, start + HEADER)
-        self.has_rule = self.version > 1 and not content.endswith(b"\n\n")
-
-    def counts(self, start):
-        """The counts of the header at `start`: UT/local, standard/wall, leap seconds, transitions, types, name bytes."""
-        return struct.unpack_from(">6I", self.content, start + 20)
-
-    def first_block_end(self):
-        ut, standard, leap_seconds, transitions, types, names = self.counts(0)
-        return HEADER + transitions * 5 + types * 6 + names + leap_seconds * 8 + standard + ut
-
-
 class Source:
     """A file of the database, and the zone that zoneinfo makes of it or of its twin without leap seconds."""
 
-    def __init__(self, path, folder):
+    def __init__(self, path, content, folder):
         self.path = path
-        self.file = File(path.read_bytes())
+        self.file = TzFile(content)
         self.has_leap_seconds = self.file.leap_seconds > 0
         twin = folder / Path(*path.relative_to(folder).parts[1:]) if self.has_leap_seconds else path
         self.zone = None
-        if is_tzif(twin) and File(twin.read_bytes()).leap_seconds == 0:
-            with twin.open("rb") as content:
-                self.zone = ZoneInfo.from_file(content)
-            self.transitions = File(twin.read_bytes()).transitions
+        if twin.is_file() and (content := twin.read_bytes()).startswith(b"TZif") and TzFile(content).leap_seconds == 0:
+            self.zone = ZoneInfo.from_file(BytesIO(content))
+            self.transitions = TzFile(content).transitions
 
     def local(self, second, nanos=0):
         return (EPOCH + timedelta(seconds=second, microseconds=nanos // 1_000)).astimezone(self.zone)
@@ -99,7 +74,7 @@ class Source:
 
     def instants(self, chance):
         changes, last = self.changes(), LAST
-        if not self.file.has_rule:
+        if not self.file.footer:
             listed = max(self.file.transitions, default=FIRST)
             last = min([change - DAY for change in changes if change > listed] + [LAST])
             changes = [change for change in changes if change < last]
@@ -123,13 +98,6 @@ class Source:
             reading = local.replace(tzinfo=None, fold=0) + timedelta(seconds=chance.choice([-HOUR, -1, 0, 0, 1, HOUR]))
             fields = f"{reading.year} {reading.month} {reading.day} {reading.hour} {reading.minute} {reading.second}"
             yield Question(self, "wall", f"wall {fields}", wall_of(self.zone, reading), second)
-
-
-def is_tzif(path):
-    if not path.is_file():
-        return False
-    with path.open("rb") as file:
-        return file.read(4) == b"TZif"
 
 
 def type_of(local):
@@ -169,7 +137,7 @@ def reason(question, answer):
     near = [second for second in source.transitions if abs(second - instant) <= DAY]
     if len(near) > 1:
         return "zoneinfo tells offsets by wall clock and fold, and changes are so close that three instants show one clock"
-    if source.file.has_rule and len({(EPOCH + timedelta(seconds=instant + shift)).year for shift in (-DAY, DAY)}) > 1:
+    if source.file.footer and len({(EPOCH + timedelta(seconds=instant + shift)).year for shift in (-DAY, DAY)}) > 1:
         return "zoneinfo takes a rule's year from the wall clock, and the order of the rule's changes turns at the new year"
     return "not explained"
 
@@ -200,11 +168,9 @@ def report(title, sources, results):
     print("        of them " + ", ".join(f"{walls[word]} {word}" for word in ("none", "single", "ambiguous")))
 
 
-def main():
-    program = sys.argv[1] if len(sys.argv) > 1 else "crates/zoneq/out/zoneq"
-    folder = Path(sys.argv[2] if len(sys.argv) > 2 else "/usr/share/zoneinfo")
+def main(program=TOP / "crates/zoneq/out/zoneq", folder=FOLDER):
     chance = random.Random(2026)
-    sources = [Source(path, folder) for path in sorted(folder.rglob("*")) if is_tzif(path)]
+    sources = [Source(path, content, Path(folder)) for path, content in tzif_files(folder)]
     questions = [question for source in sources for question in source.questions(chance)]
     results, reasons = [], Counter()
     for question, answer in zip(questions, ask(program, questions)):
@@ -223,7 +189,4 @@ def main():
         )
     for why, count in reasons.most_common():
         print(f"{count} differences: {why}")
-
-
-if __name__ == "__main__":
-    main()
+    return 1 if reasons["not explained"] + reasons["not answered"] or not sources else 0

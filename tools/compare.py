@@ -1,0 +1,27 @@
+#!/usr/bin/env python3
+"""Compares the library and its programs with other readers of a tz database. It is run by hand.
+
+usage: tools/compare.py zoneinfo [ZONEQ [FOLDER]]    zoneq's answers with Python's zoneinfo
+       tools/compare.py changes [FOLDER [ARCHIVE]]   clock changes of the C library, both ways, with zdump
+       tools/compare.py dumps [ZONEDUMP [FOLDER]]    zonedump's table and its --zdump with zdump
+       tools/compare.py files [FOLDER [SLIM]]        written TZif files with the files that were read
+       tools/compare.py strings [FOLDER]             written TZ strings with those in footers
+
+ZONEQ and ZONEDUMP are the built programs (crates/zoneq/out/zoneq), ARCHIVE is the static library
+(crates/zoned_ffi/out/libzoned_ffi.a), FOLDER the database (/usr/share/zoneinfo), SLIM one that `zic -b slim` compiled.
+tools/comparing has a module for each word, whose head says what it compares. The exit status is 1 if anything differs that
+has no known reason.
+"""
+
+import sys
+
+from comparing import changes, dumps, with_zoneinfo, written_files, written_strings
+
+COMPARISONS = {
+    "zoneinfo": with_zoneinfo.main, "changes": changes.main, "dumps": dumps.main, "files": written_files.main,
+    "strings": written_strings.main,
+}
+
+if __name__ == "__main__":
+    word, *given = sys.argv[1:] or [""]
+    sys.exit(COMPARISONS[word](*given) if word in COMPARISONS else __doc__)
