@@ -24,8 +24,8 @@ usage: tools/check_documents.py [--write]
 - The code blocks in Rattle are code of the crates (tools/try_documents.py).
 - README.md and docs/TESTING.md have the counts of tests, planted bugs and wrong definitions (tools/counts.py). --write puts them
   there, and lowers the counts of tools/habits.py.
-- README.md names the version of the kit that `rt version` prints (if there is rt), and docs/FROM_CHRONO.md how many functions
-  idioms_utc and the crates like it have.
+- README.md names the version of the kit that `rt version` prints (if there is rt), and has New York's figures of docs/SPEED.md;
+  docs/FROM_CHRONO.md has how many functions idioms_utc and the crates like it have.
 
 Prints a line for each fault, with its place, and ends with status 1 if there is one.
 """
@@ -53,6 +53,7 @@ FACADE = TOP / "crates/zoned"
 KNOWN = TOP / "tools/known_words.txt"
 README = TOP / "README.md"
 FROM_CHRONO = TOP / "docs/FROM_CHRONO.md"
+SPEED = TOP / "docs/SPEED.md"
 ZONEQ = TOP / "docs/ZONEQ.md"
 ERROR = TOP / "crates/tz_base/src/error.rt"
 TEXTS = TOP / "crates/zoned_ffi/specs/Texts.antt"
@@ -385,6 +386,9 @@ def facts_of_documents():
     version = subprocess.run(["rt", "version"], capture_output=True, text=True).stdout.strip() if shutil.which("rt") else ""
     if version and f"`{version}`" not in text:
         yield f"{shown(README)}: it doesn't name the version of the kit, {version}"
+    for figures in re.findall(r"(?m)^\| New_York (\|.*\|) [\d.]+ \(.*\) \|$", text_of(SPEED)):
+        if figures not in text:
+            yield f"{shown(README)}: it doesn't have New York's figures of {shown(SPEED)}: {figures}"
     idioms = ["idioms_utc", "idioms_borrowed", "idioms_kept"]
     counts = [str(sum(len(re.findall(r"(?m)^ *pub fn ", text_of(path))) for path in files("src", ".rt", [crate]))) for crate in idioms]
     due = f"`crates/{idioms[0]}`, `{idioms[1]}` and `{idioms[2]}` have {counts[0]}, {counts[1]} and {counts[2]} "
