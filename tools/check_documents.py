@@ -14,8 +14,8 @@ usage: tools/check_documents.py [--write]
 - docs/MAP.md names each crate and each module of a library.
 - Each page that a public contract of the libraries of `zoned` cites is passed on by zoned/specs/Lib.antt, and each type that
   one cites is a name of `zoned`.
-- Each wrong definition of crates/pins/wrong has its texts once in its page and names pins that there are, and docs/PINS.md has the
-  table of them (tools/try_definitions.py --write).
+- Each wrong definition of crates/pins/wrong has its texts once in its page and names pins that there are, and docs/DEFINITIONS.md
+  has each pin once, with the wrong definitions that it rejects, which --write puts there (tools/try_definitions.py).
 - No call for C requires anything: what C passes is checked, or is what the header says.
 - The numbers of tz_info::Error, 1 to 17, have the same words in docs/ZONEQ.md, in the comments of `Error`, in the texts of
   zoned_ffi, in its header and in the Python package, and these have all that C returns.
@@ -42,7 +42,7 @@ from habits import faults as habits, lower
 from sources import (
     NAME, TOP, cited, crates, files, imports_of, module_of, public_clauses, shown, text_of, without_comments, words_of,
 )
-from try_definitions import faults as wrong_definitions
+from try_definitions import faults as wrong_definitions, write_rejected
 from try_documents import rattle as rattle_blocks
 
 DOCUMENTS = [*sorted(TOP.glob("*.md")), *sorted((TOP / "docs").glob("*.md"))]
@@ -439,6 +439,7 @@ CHECKS = [
 def main():
     if sys.argv[1:] == ["--write"]:
         write_index()
+        write_rejected()
         write_counts()
         lower()
         text_of.cache_clear()
