@@ -9,7 +9,7 @@ usage: tools/check_documents.py [--write]
 - The index at the end of docs/DEFINITIONS.md has a line for each word of specs/ that a public contract cites, other than a pin:
   its page and its meaning, which is the comment before its definition. --write writes the index.
 - No clause of a public function cites a step of a proof (specs/Steps).
-- Each must-fail edit is listed in docs/WRONG_BODIES.md, under what tries it, and each of its old texts stands once in its file.
+- docs/TESTING.md ends with the list of planted bugs, which --write puts there, and each of their old texts is once in its file.
 - A lemma that nothing names is an error, and so is a page of lemmas that its proofs/Lib.antt doesn't name.
 - docs/MAP.md names each crate and each module of a library.
 - Each page that a public contract of the libraries of `zoned` cites is passed on by zoned/specs/Lib.antt, and each type that
@@ -47,7 +47,7 @@ from try_documents import rattle as rattle_blocks
 
 DOCUMENTS = [*sorted(TOP.glob("*.md")), *sorted((TOP / "docs").glob("*.md"))]
 DEFINITIONS = TOP / "docs/DEFINITIONS.md"
-WRONG_BODIES = TOP / "docs/WRONG_BODIES.md"
+TESTING = TOP / "docs/TESTING.md"
 MAP = TOP / "docs/MAP.md"
 FACADE = TOP / "crates/zoned"
 KNOWN = TOP / "tools/known_words.txt"
@@ -60,9 +60,8 @@ TEXTS = TOP / "crates/zoned_ffi/specs/Texts.antt"
 HEADER = TOP / "crates/zoned_ffi/include/zoned_ffi.h"
 PYTHON = TOP / "python/src/sahvumbi/errors.py"
 INDEX = "## Index of the words that contracts cite\n"
-EDITS = {
-    "## Tried by the gate": "must-fail-in-part", "## Tried by hand": "must-fail-by-hand",
-}
+PLANTED = "## The list of planted bugs\n"
+IN_PART, BY_HAND = "must-fail-in-part", "must-fail-by-hand"
 WORD = r"[A-Za-z_][A-Za-z0-9_]*"
 
 
@@ -220,27 +219,33 @@ def write_index():
 
 
 def edits():
-    paths = {
-        title: {(crate, path.stem): path for crate in crates() for path in files(folder, ".edit", [crate])}
-        for title, folder in EDITS.items()
-    }
-    known = set().union(*paths.values())
-    for title, tried in paths.items():
-        listed = set(listed_edits(title))
-        for crate, name in sorted(listed - known):
-            yield f"{shown(WRONG_BODIES)}: {title[3:]}: {crate} has no edit {name}"
-        for (crate, name), path in tried.items():
-            if (crate, name) not in listed:
-                yield f"{shown(path)}: {WRONG_BODIES.name} doesn't list it under {title[3:]}"
+    if planted() not in text_of(TESTING):
+        yield f"{shown(TESTING)}: its list of planted bugs isn't that of the crates (--write puts it there)"
+    for crate in crates():
+        for path in [*files(IN_PART, ".edit", [crate]), *files(BY_HAND, ".edit", [crate])]:
             yield from edit_faults(crate, path)
 
 
-def listed_edits(title):
-    """The edits that a part of the list names, each with its crate, which its row begins with."""
-    part = text_of(WRONG_BODIES).partition(f"\n{title}\n")[2].partition("\n## ")[0]
-    for row in re.findall(r"(?m)^- .*$", part):
-        crate, *names = re.findall(r"`(\w+)`", row)
-        yield from ((crate, name) for name in names if "_" in name and name not in crates())
+def planted():
+    """The list of planted bugs: those of each crate by the file that they change, each with what its line `says:` adds to its name."""
+
+    def row(path):
+        text = text_of(path)
+        says = re.search(r"(?m)^says: (.*)$", text)
+        name = f"`{path.stem}`" if path.parent.name == BY_HAND else f"**`{path.stem}`**"
+        return re.search(r"(?m)^file: (.*)$", text)[1], path.parent.name == BY_HAND, name + (f" ({says[1]})" if says else "")
+
+    head = "Each is a file of its crate, in bold one of `must-fail-in-part/`, which the gate tries; the others are in `must-fail-by-hand/`.\n"
+    rows = []
+    for crate in crates():
+        names = [name for _, _, name in sorted(row(path) for folder in (IN_PART, BY_HAND) for path in files(folder, ".edit", [crate]))]
+        rows += [f"- `{crate}`: {', '.join(names)}."] * bool(names)
+    return PLANTED + "\n" + head + "\n" + "\n".join(rows) + "\n"
+
+
+def write_planted():
+    text = text_of(TESTING)
+    TESTING.write_text(text[: text.find(PLANTED)] + planted())
 
 
 def edit_faults(crate, path):
@@ -439,6 +444,7 @@ CHECKS = [
 def main():
     if sys.argv[1:] == ["--write"]:
         write_index()
+        write_planted()
         write_rejected()
         write_counts()
         lower()

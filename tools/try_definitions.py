@@ -116,7 +116,7 @@ def faults():
     listed = [pin for found in PINNED.finditer(text_of(DEFINITIONS)) for pin in re.findall(r"[\w:]+", found[1])]
     for pin in sorted(pins() ^ set(listed)) + [pin for pin in set(listed) if listed.count(pin) > 1]:
         yield f"docs/DEFINITIONS.md: it doesn't list the pin {pin} once, or there is none"
-    if rejected(text_of(DEFINITIONS)) != text_of(DEFINITIONS):
+    if with_rejected(text_of(DEFINITIONS)) != text_of(DEFINITIONS):
         yield "docs/DEFINITIONS.md: its wrong definitions aren't those of crates/pins/wrong: run tools/try_definitions.py --write"
 
 
@@ -129,7 +129,7 @@ def pins():
     return {f"{path.stem}::{pin}" for path in paths for pin in re.findall(r"(?m)^pub fn (\w+)\(", text_of(path))}
 
 
-def rejected(text):
+def with_rejected(text):
     """The text of the page, with the wrong definitions that each pin rejects."""
 
     def line(found):
@@ -142,7 +142,7 @@ def rejected(text):
 
 
 def write_rejected():
-    DEFINITIONS.write_text(rejected(DEFINITIONS.read_text()))
+    DEFINITIONS.write_text(with_rejected(DEFINITIONS.read_text()))
 
 
 # Copies of crates, without code and without proofs
