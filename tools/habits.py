@@ -29,8 +29,8 @@ HABITS = [
     ("beside", "with, compared with, as well as", r"\bbeside\b", 6, 12),
     ("behind", "after", r"\bbehind\b(?! UTC)", 2, 8),
     ("refused", "rejected, returns an error", r"\brefus\w+", 13, 28),
-    ("reading for a local time", "local time, local date-time", r"\breadings?\b", 74, 124),
-    ("TZ text", "TZ string", r"\bTZ texts?\b", 15, 48),
+    ("reading for a local time", "local time, local date-time", r"\breadings?\b", 73, 124),
+    ("TZ text", "TZ string", r"\bTZ texts?\b", 14, 48),
     ("wrong body", "planted bug", r"\bwrong bod\w+", 1, 0),
 ]
 
