@@ -11,7 +11,8 @@ usage: tools/check_documents.py [--write]
 - No clause of a public function cites a step of a proof (specs/Steps).
 - docs/TESTING.md ends with the list of planted bugs, which --write puts there, and each of their old texts is once in its file.
 - A lemma that nothing names is an error, and so is a page of lemmas that its proofs/Lib.antt doesn't name.
-- docs/MAP.md names each crate and each module of a library.
+- docs/MAP.md names each crate and each module of a library, and the libraries that crates.txt has for each crate, which --write
+  puts there.
 - Each page that a public contract of the libraries of `zoned` cites is passed on by zoned/specs/Lib.antt, and each type that
   one cites is a name of `zoned`.
 - Each wrong definition of crates/pins/wrong has its texts once in its page and names pins that there are, and docs/DEFINITIONS.md
@@ -40,7 +41,7 @@ from itertools import chain
 from counts import count_faults, write_counts
 from habits import faults as habits, lower
 from sources import (
-    NAME, TOP, cited, crates, files, imports_of, module_of, public_clauses, shown, text_of, without_comments, words_of,
+    NAME, TOP, cited, crates, files, imports_of, module_of, public_clauses, shown, text_of, uses, without_comments, words_of,
 )
 from try_definitions import faults as wrong_definitions, write_rejected
 from try_documents import rattle as rattle_blocks
@@ -324,8 +325,20 @@ def unlisted_pages():
 # The map, and the calls for C
 
 
+def with_uses(text):
+    """The map with the libraries of each crate in the second column of its row."""
+
+    def row(found):
+        used = [libraries for crate, libraries in uses().items() if f"`{crate}`" in found[1]]
+        return found[1] + (", ".join(f"`{library}`" for library in used[0]) or "std") + found[3] if used else found[0]
+
+    return re.sub(r"(?m)^(\| `[^|]*\| )([^|]*)( \| )", row, text)
+
+
 def map_faults():
     text = text_of(MAP)
+    if with_uses(text) != text:
+        yield f"{shown(MAP)}: its libraries of a crate aren't those of crates.txt (--write puts them there)"
     words = set(re.findall(WORD, text))
     for crate in crates():
         if f"`{crate}`" not in text:
@@ -445,6 +458,7 @@ def main():
     if sys.argv[1:] == ["--write"]:
         write_index()
         write_planted()
+        MAP.write_text(with_uses(text_of(MAP)))
         write_rejected()
         write_counts()
         lower()
