@@ -1,7 +1,7 @@
 #!/usr/bin/env python3
-"""Draws the picture docs/speed.svg from the tables of docs/SPEED.md.
+"""Draws the picture docs/speed.svg from the tables of a run.
 
-usage: bench/draw.py TABLES PICTURE     TABLES is docs/SPEED.md, or what print_tables.py printed
+usage: bench/draw.py TABLES PICTURE     TABLES is what print_tables.py printed: a file of bench/results/
 
 Above, for each question and zone, this library's time divided by that of the fastest peer whose answers are the same, by one call
 for each question if the table has that column; below, times for each number of transitions. The date and the machine are those of

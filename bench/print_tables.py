@@ -1,5 +1,5 @@
 #!/usr/bin/env python3
-"""Prints the figures and the answers of a run as the tables of docs/SPEED.md.
+"""Prints the figures and the answers of a run as tables, to be kept in bench/results/.
 
 usage: bench/print_tables.py INPUTS OUTPUTS
 
@@ -18,8 +18,8 @@ from pathlib import Path
 OURS = "sahvumbi"
 HANDLE = "handle"
 PEERS = {
-    OURS: "Sahvumbi",
     HANDLE: "one call a question",
+    OURS: "Sahvumbi",
     "cctz": "cctz",
     "hinnant": "date",
     "java": "java.time",
@@ -147,8 +147,9 @@ def best_peer(figures, wrong, question, years, zone):
 
 
 def ratio(figures, wrong, question, years, zone):
-    """Our time by that of the best peer, and its name."""
-    ours, best = figures.get((question, years, zone, OURS)), best_peer(figures, wrong, question, years, zone)
+    """Our time, by one call for each question if that was measured, divided by that of the best peer; and its name."""
+    ours = figures.get((question, years, zone, HANDLE)) or figures.get((question, years, zone, OURS))
+    best = best_peer(figures, wrong, question, years, zone)
     return (ours / best[0], PEERS[best[1]]) if ours and best else None
 
 

@@ -1,6 +1,6 @@
 #!/bin/sh
-# Times lookups of this library, and what it does with instants, beside other libraries, prints the tables of docs/SPEED.md, and
-# draws docs/speed.svg from them.
+# Times lookups of this library, and what it does with instants, compared with other libraries, prints tables for bench/results/,
+# and draws docs/speed.svg from them.
 #
 # usage: bench/run.sh [PEER ..]     of sahvumbi cctz hinnant java glibc cpython chrono zoneq calls misses (else all of them)
 #

@@ -9,13 +9,14 @@ usage: tools/check_documents.py [--write]
 - The index at the end of docs/DEFINITIONS.md has a line for each word of specs/ that a public contract cites, other than a pin:
   its page and its meaning, which is the comment before its definition. --write writes the index.
 - No clause of a public function cites a step of a proof (specs/Steps).
-- Each must-fail edit is listed in docs/WRONG_BODIES.md, under what tries it, and each of its old texts stands once in its file.
+- docs/TESTING.md ends with the list of planted bugs, which --write puts there, and each of their old texts is once in its file.
 - A lemma that nothing names is an error, and so is a page of lemmas that its proofs/Lib.antt doesn't name.
-- docs/MAP.md names each crate and each module of a library.
+- docs/MAP.md names each crate and each module of a library, and the libraries that crates.txt has for each crate, which --write
+  puts there.
 - Each page that a public contract of the libraries of `zoned` cites is passed on by zoned/specs/Lib.antt, and each type that
   one cites is a name of `zoned`.
-- Each wrong definition of crates/pins/wrong has its texts once in its page and names pins that there are, and docs/PINS.md has the
-  table of them (tools/try_definitions.py --write).
+- Each wrong definition of crates/pins/wrong has its texts once in its page and names pins that there are, and docs/DEFINITIONS.md
+  has each pin once, with the wrong definitions that it rejects, which --write puts there (tools/try_definitions.py).
 - No call for C requires anything: what C passes is checked, or is what the header says.
 - The numbers of tz_info::Error, 1 to 17, have the same words in docs/ZONEQ.md, in the comments of `Error`, in the texts of
   zoned_ffi, in its header and in the Python package, and these have all that C returns.
@@ -24,8 +25,8 @@ usage: tools/check_documents.py [--write]
 - The code blocks in Rattle are code of the crates (tools/try_documents.py).
 - README.md and docs/TESTING.md have the counts of tests, planted bugs and wrong definitions (tools/counts.py). --write puts them
   there, and lowers the counts of tools/habits.py.
-- README.md names the version of the kit that `rt version` prints (if there is rt), and docs/FROM_CHRONO.md how many functions
-  idioms_utc and the crates like it have.
+- README.md names the version of the kit that `rt version` prints (if there is rt), and has New York's figures of docs/SPEED.md;
+  docs/FROM_CHRONO.md has how many functions idioms_utc and the crates like it have.
 
 Prints a line for each fault, with its place, and ends with status 1 if there is one.
 """
@@ -40,28 +41,28 @@ from itertools import chain
 from counts import count_faults, write_counts
 from habits import faults as habits, lower
 from sources import (
-    NAME, TOP, cited, crates, files, imports_of, module_of, public_clauses, shown, text_of, without_comments, words_of,
+    NAME, TOP, cited, crates, files, imports_of, module_of, public_clauses, shown, text_of, uses, without_comments, words_of,
 )
-from try_definitions import faults as wrong_definitions
+from try_definitions import faults as wrong_definitions, write_rejected
 from try_documents import rattle as rattle_blocks
 
 DOCUMENTS = [*sorted(TOP.glob("*.md")), *sorted((TOP / "docs").glob("*.md"))]
 DEFINITIONS = TOP / "docs/DEFINITIONS.md"
-WRONG_BODIES = TOP / "docs/WRONG_BODIES.md"
+TESTING = TOP / "docs/TESTING.md"
 MAP = TOP / "docs/MAP.md"
 FACADE = TOP / "crates/zoned"
 KNOWN = TOP / "tools/known_words.txt"
 README = TOP / "README.md"
 FROM_CHRONO = TOP / "docs/FROM_CHRONO.md"
+SPEED = TOP / "docs/SPEED.md"
 ZONEQ = TOP / "docs/ZONEQ.md"
 ERROR = TOP / "crates/tz_base/src/error.rt"
 TEXTS = TOP / "crates/zoned_ffi/specs/Texts.antt"
 HEADER = TOP / "crates/zoned_ffi/include/zoned_ffi.h"
 PYTHON = TOP / "python/src/sahvumbi/errors.py"
 INDEX = "## Index of the words that contracts cite\n"
-EDITS = {
-    "## Tried by the gate": "must-fail-in-part", "## Tried by hand": "must-fail-by-hand",
-}
+PLANTED = "## The list of planted bugs\n"
+IN_PART, BY_HAND = "must-fail-in-part", "must-fail-by-hand"
 WORD = r"[A-Za-z_][A-Za-z0-9_]*"
 
 
@@ -219,27 +220,33 @@ def write_index():
 
 
 def edits():
-    paths = {
-        title: {(crate, path.stem): path for crate in crates() for path in files(folder, ".edit", [crate])}
-        for title, folder in EDITS.items()
-    }
-    known = set().union(*paths.values())
-    for title, tried in paths.items():
-        listed = set(listed_edits(title))
-        for crate, name in sorted(listed - known):
-            yield f"{shown(WRONG_BODIES)}: {title[3:]}: {crate} has no edit {name}"
-        for (crate, name), path in tried.items():
-            if (crate, name) not in listed:
-                yield f"{shown(path)}: {WRONG_BODIES.name} doesn't list it under {title[3:]}"
+    if planted() not in text_of(TESTING):
+        yield f"{shown(TESTING)}: its list of planted bugs isn't that of the crates (--write puts it there)"
+    for crate in crates():
+        for path in [*files(IN_PART, ".edit", [crate]), *files(BY_HAND, ".edit", [crate])]:
             yield from edit_faults(crate, path)
 
 
-def listed_edits(title):
-    """The edits that a part of the list names, each with its crate, which its row begins with."""
-    part = text_of(WRONG_BODIES).partition(f"\n{title}\n")[2].partition("\n## ")[0]
-    for row in re.findall(r"(?m)^- .*$", part):
-        crate, *names = re.findall(r"`(\w+)`", row)
-        yield from ((crate, name) for name in names if "_" in name and name not in crates())
+def planted():
+    """The list of planted bugs: those of each crate by the file that they change, each with what its line `says:` adds to its name."""
+
+    def row(path):
+        text = text_of(path)
+        says = re.search(r"(?m)^says: (.*)$", text)
+        name = f"`{path.stem}`" if path.parent.name == BY_HAND else f"**`{path.stem}`**"
+        return re.search(r"(?m)^file: (.*)$", text)[1], path.parent.name == BY_HAND, name + (f" ({says[1]})" if says else "")
+
+    head = "Each is a file of its crate, in bold one of `must-fail-in-part/`, which the gate tries; the others are in `must-fail-by-hand/`.\n"
+    rows = []
+    for crate in crates():
+        names = [name for _, _, name in sorted(row(path) for folder in (IN_PART, BY_HAND) for path in files(folder, ".edit", [crate]))]
+        rows += [f"- `{crate}`: {', '.join(names)}."] * bool(names)
+    return PLANTED + "\n" + head + "\n" + "\n".join(rows) + "\n"
+
+
+def write_planted():
+    text = text_of(TESTING)
+    TESTING.write_text(text[: text.find(PLANTED)] + planted())
 
 
 def edit_faults(crate, path):
@@ -318,8 +325,20 @@ def unlisted_pages():
 # The map, and the calls for C
 
 
+def with_uses(text):
+    """The map with the libraries of each crate in the second column of its row."""
+
+    def row(found):
+        used = [libraries for crate, libraries in uses().items() if f"`{crate}`" in found[1]]
+        return found[1] + (", ".join(f"`{library}`" for library in used[0]) or "std") + found[3] if used else found[0]
+
+    return re.sub(r"(?m)^(\| `[^|]*\| )([^|]*)( \| )", row, text)
+
+
 def map_faults():
     text = text_of(MAP)
+    if with_uses(text) != text:
+        yield f"{shown(MAP)}: its libraries of a crate aren't those of crates.txt (--write puts them there)"
     words = set(re.findall(WORD, text))
     for crate in crates():
         if f"`{crate}`" not in text:
@@ -385,6 +404,9 @@ def facts_of_documents():
     version = subprocess.run(["rt", "version"], capture_output=True, text=True).stdout.strip() if shutil.which("rt") else ""
     if version and f"`{version}`" not in text:
         yield f"{shown(README)}: it doesn't name the version of the kit, {version}"
+    for figures in re.findall(r"(?m)^\| New_York (\|.*\|) [\d.]+ \(.*\) \|$", text_of(SPEED)):
+        if figures not in text:
+            yield f"{shown(README)}: it doesn't have New York's figures of {shown(SPEED)}: {figures}"
     idioms = ["idioms_utc", "idioms_borrowed", "idioms_kept"]
     counts = [str(sum(len(re.findall(r"(?m)^ *pub fn ", text_of(path))) for path in files("src", ".rt", [crate]))) for crate in idioms]
     due = f"`crates/{idioms[0]}`, `{idioms[1]}` and `{idioms[2]}` have {counts[0]}, {counts[1]} and {counts[2]} "
@@ -435,6 +457,9 @@ CHECKS = [
 def main():
     if sys.argv[1:] == ["--write"]:
         write_index()
+        write_planted()
+        MAP.write_text(with_uses(text_of(MAP)))
+        write_rejected()
         write_counts()
         lower()
         text_of.cache_clear()

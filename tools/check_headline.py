@@ -1,5 +1,5 @@
 #!/usr/bin/env python3
-"""Check that each clause that docs/HEADLINE.md cites is one of the code.
+"""Check that each clause that docs/PROVED.md cites is one of the code.
 
 A citation is `crate::module::function` {`clause`}, or `crate::module::function` {} for a function
 whose only clause has no name: the clause is one of the function's `ensures`. A ghost member is cited
@@ -75,14 +75,14 @@ def missing(path, clauses):
 
 
 def main():
-    text = text_of(TOP / "docs" / "HEADLINE.md")
+    text = text_of(TOP / "docs" / "PROVED.md")
     citations = CITATION.findall(text)
     faults = [missing(path, re.findall(r"`(\w+)`", clauses) or [""]) for path, clauses in citations]
     faults = [fault for fault in faults if fault]
     for fault in faults:
         print(fault)
     if not citations:
-        print("docs/HEADLINE.md cites no clause")
+        print("docs/PROVED.md cites no clause")
     print(f"{len(citations)} citations, {len(faults)} missing")
     return 1 if faults or not citations else 0
 

@@ -12,7 +12,7 @@ def how_often(pattern, paths):
 
 
 def counts():
-    """The words after the number at the start of a row: `| 468 | tests in Rattle ..`."""
+    """The words after the number, at the start of a row or in bold: `| 468 | tests in Rattle ..`, `**468** tests in Rattle ..`."""
     pins = [*files("src", ".rt", ["pins"]), TOP / "crates/zoned_ffi/src/pins.rt"]
     in_part, by_hand = files("must-fail-in-part", ".edit"), files("must-fail-by-hand", ".edit")
     return {
@@ -27,7 +27,7 @@ def counts():
 
 
 def row(words):
-    return re.compile(rf"(?m)^\| ([\d,]+) \| {re.escape(words)}\b")
+    return re.compile(rf"(?m)(^\| |\*\*)([\d,]+)( \| |\*\* )(?={re.escape(words)}\b)")
 
 
 def count_faults():
@@ -38,13 +38,13 @@ def count_faults():
     for path in PAGES:
         for words, count in due.items():
             for found in row(words).finditer(text_of(path)):
-                if found[1] != f"{count:,}":
-                    yield f"{shown(path, found.start())}: {found[1]} {words}, and there are {count:,} (--write puts it there)"
+                if found[2] != f"{count:,}":
+                    yield f"{shown(path, found.start())}: {found[2]} {words}, and there are {count:,} (--write puts it there)"
 
 
 def write_counts():
     for path in PAGES:
         text = path.read_text()
         for words, count in counts().items():
-            text = row(words).sub(f"| {count:,} | {words}", text)
+            text = row(words).sub(rf"\g<1>{count:,}\g<3>", text)
         path.write_text(text)

@@ -18,19 +18,19 @@ INDEX = "## Index of the words that contracts cite\n"
 HEADER = TOP / "crates/zoned_ffi/include/zoned_ffi.h"
 # A habit, what to write in its place, its pattern, and the counts allowed in documents and in doc comments.
 HABITS = [
-    ("told, tells", "returned, reported, shows, says", r"\b(?:told|tells?)\b", 11, 37),
-    ("stands", "is, means, is listed", r"\b(?:stands?|stood)\b", 17, 37),
-    ("anew, once more", "again", r"\b(?:anew|once more)\b", 0, 3),
+    ("told, tells", "returned, reported, shows, says", r"\b(?:told|tells?)\b", 0, 37),
+    ("stands", "is, means, is listed", r"\b(?:stands?|stood)\b", 3, 37),
+    ("anew, once more", "again", r"\b(?:anew|once more)\b", 0, 2),
     ("want of", "lack of, out of", r"\bwant of\b", 0, 0),
     ("be they", "whether", r"\bbe (?:they|it)\b", 0, 4),
-    ("so many, such a one", "n, one", r"\b(?:so many|such a one|no more do)\b", 6, 72),
-    ("is none", "does not count, is not one", r"\b(?:is|are) none\b", 21, 15),
-    ("alone after a noun", "only", r"\balone\b", 9, 21),
-    ("beside", "with, compared with, as well as", r"\bbeside\b", 63, 12),
-    ("behind", "after", r"\bbehind\b(?! UTC)", 4, 8),
-    ("refused", "rejected, returns an error", r"\brefus\w+", 13, 28),
-    ("reading for a local time", "local time, local date-time", r"\breadings?\b", 82, 124),
-    ("TZ text", "TZ string", r"\bTZ texts?\b", 15, 48),
+    ("so many, such a one", "n, one", r"\b(?:so many|such a one|no more do)\b", 0, 72),
+    ("is none", "does not count, is not one", r"\b(?:is|are) none\b", 8, 15),
+    ("alone after a noun", "only", r"\balone\b", 1, 21),
+    ("beside", "with, compared with, as well as", r"\bbeside\b", 1, 12),
+    ("behind", "after", r"\bbehind\b(?! UTC)", 2, 8),
+    ("refused", "rejected, returns an error", r"\brefus\w+", 2, 28),
+    ("reading for a local time", "local time, local date-time", r"\breadings?\b", 9, 124),
+    ("TZ text", "TZ string", r"\bTZ texts?\b", 3, 48),
     ("wrong body", "planted bug", r"\bwrong bod\w+", 1, 0),
 ]
 

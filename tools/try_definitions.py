@@ -23,7 +23,7 @@ Edits are tried together if none of them changes a definition that a pin of anot
 and through lemmas of crates/pins. An edit doesn't count where a page can't be read any more, or where a proof misses a name.
 
 With no names all are tried, N at a time (2). It takes half an hour of a processor and more, and is run by hand. --write only
-prints the table of docs/PINS.md from the files. Ends with status 1 unless each edit is rejected.
+writes into docs/DEFINITIONS.md which of them each pin rejects. Ends with status 1 unless each edit is rejected.
 """
 
 import argparse
@@ -42,8 +42,10 @@ from kit import kit
 from sources import TOP, imports_of, libraries_below, text_of, uses
 
 WRONG = TOP / "crates/pins/wrong"
-PINS = TOP / "docs/PINS.md"
-TITLE = "## Wrong definitions\n"
+DEFINITIONS = TOP / "docs/DEFINITIONS.md"
+# A line below a definition: pins, what they say, and the wrong definitions that they reject.
+PINNED = re.compile(r"(?m)^  - ((?:`\w+::\w+`(?:, )?)+): (.*?)(?: Rejects (?:.*))?$")
+BY_LAW = re.compile(r"(?m)(are rejected by a law, which is checked in a copy of its crate: ).*$")
 WORD = re.compile(r"[^\s(){}\[\],;:.λ→×≡∙|\"`?]+")
 FUNCTION = re.compile(r'( *)(?:pub(?:\([a-z]+\))? )?(?:(?:final|const|unsafe|extern "C") )*fn (\w+)')
 BLOCK = re.compile(r"(?:pub )?(?:unsafe )?(impl|trait)\b")
@@ -101,7 +103,7 @@ def edits():
 
 
 def faults():
-    """What is wrong with the files, and with the table that docs/PINS.md has of them."""
+    """What is wrong with the files, and with what docs/DEFINITIONS.md says of them and of the pins."""
     for edit in edits():
         path = TOP / edit.file
         if not path.is_file() or not edit.pairs or edit.applied(text_of(path)) is None:
@@ -111,28 +113,36 @@ def faults():
             source = TOP / f"crates/pins/src/{module}.rt"
             if not source.is_file() or f"pub fn {function}()" not in text_of(source):
                 yield f"crates/pins/wrong/{edit.name}.edit: there is no pin {pin}"
-    if table() not in text_of(PINS):
-        yield "docs/PINS.md: its table isn't that of crates/pins/wrong: run tools/try_definitions.py --write"
+    listed = [pin for found in PINNED.finditer(text_of(DEFINITIONS)) for pin in re.findall(r"[\w:]+", found[1])]
+    for pin in sorted(pins() ^ set(listed)) + [pin for pin in set(listed) if listed.count(pin) > 1]:
+        yield f"docs/DEFINITIONS.md: it doesn't list the pin {pin} once, or there is none"
+    if with_rejected(text_of(DEFINITIONS)) != text_of(DEFINITIONS):
+        yield "docs/DEFINITIONS.md: its wrong definitions aren't those of crates/pins/wrong: run tools/try_definitions.py --write"
 
 
-# The table
+# The lines of docs/DEFINITIONS.md
 
 
-def table():
-    """The table of the wrong definitions."""
-    rows = ["| wrong definition | page | must be rejected by | file |", "|---|---|---|---|"]
-    for edit in edits():
-        crate, _, page = edit.page.partition("/specs/")
-        by = ", ".join(f"`{pin}`" for pin in edit.pins) or f"the law `{edit.law[1]}`"
-        rows.append(f"| {edit.says} | `{crate}`: `{page.removesuffix('.antt')}` | {by} | `{edit.name}` |")
-    return "\n".join(rows) + "\n"
+def pins():
+    """The pins of the code, each as MODULE::FUNCTION; those of zoned_ffi are in its module pins."""
+    paths = [*sorted((TOP / "crates/pins/src").glob("*.rt")), TOP / "crates/zoned_ffi/src/pins.rt"]
+    return {f"{path.stem}::{pin}" for path in paths for pin in re.findall(r"(?m)^pub fn (\w+)\(", text_of(path))}
 
 
-def write_table():
-    head, title, rest = PINS.read_text().partition(TITLE)
-    start = rest.index("| wrong definition |")
-    end = rest.index("\n\n", start) + 1
-    PINS.write_text(head + title + rest[:start] + table() + rest[end:])
+def with_rejected(text):
+    """The text of the page, with the wrong definitions that each pin rejects."""
+
+    def line(found):
+        of = set(re.findall(r"[\w:]+", found[1]))
+        names = [f"`{edit.name}`" + " †" * ("†" in edit.says) for edit in edits() if of & set(edit.pins)]
+        return f"  - {found[1]}: {found[2]}" + f" Rejects {', '.join(names)}." * bool(names)
+
+    laws = ", ".join(f"`{edit.name}` (`{edit.law[1]}`)" for edit in edits() if edit.law)
+    return BY_LAW.sub(lambda found: f"{found[1]}{laws}.", PINNED.sub(line, text))
+
+
+def write_rejected():
+    DEFINITIONS.write_text(with_rejected(DEFINITIONS.read_text()))
 
 
 # Copies of crates, without code and without proofs
@@ -472,7 +482,7 @@ def main():
     given.add_argument("names", nargs="*")
     given = given.parse_args()
     if given.write:
-        write_table()
+        write_rejected()
         return 0
     missing = set(given.names) - {edit.name for edit in edits()}
     if missing:
