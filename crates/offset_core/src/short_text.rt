@@ -86,9 +86,6 @@ impl ShortText {
     pub fn as_str(&self) -> &str
         ensures { result.now ≡ self.now }
     {
-        match std::str::from_utf8(&self.bytes[..self.len]) {
-            Ok(text) => text,
-            Err(_) => unreachable!(),
-        }
+        unsafe { std::str::from_utf8_unchecked(&self.bytes[..self.len]) }
     }
 }
