@@ -3,8 +3,9 @@ ghost use Rattle.std.specs.Prelude.{◌≡◌, ◌<◌, ◌≤ℤ◌, neg_ℤ, p
 ghost use Rattle.gregorian.specs.Year.{floor_div, floor_mod};
 ghost use Rattle.naive_base.specs.Steps.Moves.{IsWithin};
 
-// Days before every second that is asked about, so that all divisions are of unsigned numbers.
-const DAYS_BEFORE: i64 = 2_000_000_000_000;
+// Days before every second that is asked about, so that all divisions are of unsigned numbers. A
+// multiple of 2^32, which a cast to 32 bits leaves out with no work.
+const DAYS_BEFORE: i64 = 2_001_454_759_936;
 
 // The day that a second lies in, and the second of that day.
 #[inline(always)]

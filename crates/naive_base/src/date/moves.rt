@@ -14,8 +14,8 @@ use crate::range::{FIRST_DAY_IN_RANGE, LAST_DAY_IN_RANGE};
 use crate::{Days, Months, NaiveDate};
 use offset_core::TimeDelta;
 
-// Years before every month that is asked about.
-const YEARS_BEFORE: i64 = 500_000_000;
+// Years before every month that is asked about, 2^32.
+const YEARS_BEFORE: i64 = 4_294_967_296;
 
 impl NaiveDate {
     /// The date so many months later: on the same day of the month, or on the month's last where it
