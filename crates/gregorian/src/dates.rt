@@ -6,7 +6,7 @@ ghost use Rattle.gregorian.specs.Date.{IsDate, day_number};
 ghost use Rattle.gregorian.specs.DateOf.{year_of, month_of, day_of_month};
 ghost use Rattle.gregorian.specs.Steps.Cycle.{number_from_march};
 
-use super::years::{days_of_years, split_years, year_from_base, years_since_base};
+use super::years::{days_of_years, place_of, year_from_base, years_since_base};
 use super::{days_before_month, days_in_month};
 
 // The days from 1 March of the base year to 1970-01-01.
@@ -65,22 +65,31 @@ fn find_date(day: i64) -> YearMonthDay
     ensures date { IsDate result.year result.month result.day }
     ensures number { day_number result.year result.month result.day ≡ day }
 {
-    let (years, passed) = split_years(days_since_march(day));
-    let scaled = 5 * passed as u32 + 461;
-    let month = scaled / 153;
-    let day = scaled % 153 / 5 + 1;
+    let place = place_of(days_since_march(day));
+    let (month, day_of_month) = march_month(place.passed);
+    let years = 100 * place.century + place.year as u64;
     if month > 12 {
         return YearMonthDay {
             year: year_from_base(years + 1),
             month: month - 12,
-            day,
+            day: day_of_month,
         };
     }
     YearMonthDay {
         year: year_from_base(years),
         month,
-        day,
+        day: day_of_month,
     }
+}
+
+// The month from 3 to 14 and the day of the month that come so many days after 1 March.
+fn march_month(passed: u32) -> (u32, u32)
+    requires { passed < 366 }
+    ensures month { result.0 ≡ (5 * passed + 461) / 153 }
+    ensures day { result.1 ≡ (5 * passed + 461) % 153 / 5 + 1 }
+{
+    let scaled = 2141 * passed + 197_913;
+    (scaled / 65_536, scaled % 65_536 / 2141 + 1)
 }
 
 /// The date of a day number. Requires: a day of the years of an `i32`.

@@ -3,7 +3,7 @@ ghost use Rattle.std.specs.Prelude.{◌≡◌, ◌+◌, ◌%◌, ◌<◌, ℤ, p
 ghost use Rattle.gregorian.specs.Year.{IsDay};
 ghost use Rattle.gregorian.specs.Weeks.{IsThursdayOf};
 
-use super::weekday_of;
+use super::weekdays::{DAYS_FROM_SUNDAY, days_since_sunday, split_weeks};
 
 /// The Thursday of the week, from Monday to Sunday, that the day lies in. Requires: from three days
 /// before it to three days after it, days of the years of an `i32`.
@@ -13,8 +13,8 @@ pub fn thursday_of_week(day: i64) -> i64
     ensures value { IsThursdayOf day result }
     ensures bound { IsDay result }
 {
-    let from_monday = (weekday_of(day) + 6) % 7;
-    day - from_monday as i64 + 3
+    let (weeks, _) = split_weeks(days_since_sunday(day) - 1);
+    weeks as i64 * 7 + 4 - DAYS_FROM_SUNDAY
 }
 
 /// Each day lies in one week: there is one Thursday from three days before it to three days after

@@ -17,6 +17,12 @@ const BASE_YEAR: i64 = 2_147_484_000;
 // The days from the 1 January after 1 March of the base year to 1970-01-01.
 const DAYS_FROM_JANUARY: i64 = 784_353_144_032;
 
+const TWO_TO_32: u64 = 4_294_967_296;
+
+// 2^32 divided by the quarter days of a year, 1461, and rounded up. A multiple of it has the year
+// above 32 bits, and the year's share of them below.
+const YEAR_SHARE: u64 = 2_939_745;
+
 pub(crate) fn years_since_base(year: i32) -> u64
     ensures value { year +ℤ pos 2_147_484_000 ≡ pos result }
     ensures bound { IsInRange 352 4_294_967_647 result }
@@ -58,13 +64,20 @@ pub(crate) fn place_of(days: u64) -> Place
     ensures bound { result.passed < 366 }
 {
     let scaled = 4 * days + 3;
-    let century = scaled / 146_097;
-    let in_century = (scaled % 146_097) as u32 / 4 * 4 + 3;
+    let product = YEAR_SHARE * in_century(scaled) as u64;
     Place {
-        century,
-        year: in_century / 1461,
-        passed: in_century % 1461 / 4,
+        century: scaled / 146_097,
+        year: (product / TWO_TO_32) as u32,
+        passed: (product % TWO_TO_32) as u32 / YEAR_SHARE as u32 / 4,
     }
+}
+
+// Four times the days that whole centuries leave, and 3.
+fn in_century(scaled: u64) -> u32
+    ensures value { result ≡ scaled % 146_097 / 4 * 4 + 3 }
+    ensures bound { result < 146_100 }
+{
+    (scaled % 146_097) as u32 / 4 * 4 + 3
 }
 
 // How many whole years of such cycles fit into so many days, and how many days are left over.
@@ -90,7 +103,7 @@ pub fn is_leap_year(year: i32) -> bool
     ensures { result ≡ is_leap year }
 {
     let years = years_since_base(year);
-    (years % 4 == 0) & ((years % 100 != 0) | (years % 400 == 0))
+    (years % 4 == 0) & ((years % 100 != 0) | (years % 16 == 0))
 }
 
 /// How many days the year has, 365 or 366.

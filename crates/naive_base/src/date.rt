@@ -13,6 +13,7 @@ mod found;
 mod moves;
 mod operators;
 
+use crate::day_second::day_and_second;
 use crate::range::{FIRST_DAY_IN_RANGE, FIRST_YEAR, LAST_DAY_IN_RANGE, LAST_YEAR};
 use crate::{NaiveDateTime, NaiveTime};
 pub use days::{NaiveDateDaysIterator, NaiveDateWeeksIterator};
@@ -218,7 +219,7 @@ impl NaiveDate {
         ensures { day_of result ≡ floor_div second 86_400 }
     {
         NaiveDate {
-            day: second.div_euclid(86_400) as i32,
+            day: day_and_second(second).0 as i32,
         }
     }
 

@@ -4,6 +4,7 @@
 mod date;
 mod datelike;
 mod datetime;
+mod day_second;
 mod iso_week;
 pub mod laws;
 mod month;

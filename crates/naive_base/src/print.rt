@@ -28,7 +28,7 @@ impl fmt::Debug for NaiveDate {
     ghost debug_output = { λ date. Some (printed_date date) };
 
     fn fmt<W: fmt::Write>(&self, f: &mut fmt::Formatter<W>) -> fmt::Result {
-        write!(f, "{self}")
+        fmt::Display::fmt(self, f)
     }
 }
 
@@ -48,7 +48,7 @@ impl fmt::Debug for NaiveTime {
     ghost debug_output = { λ time. Some (printed_time time) };
 
     fn fmt<W: fmt::Write>(&self, f: &mut fmt::Formatter<W>) -> fmt::Result {
-        write!(f, "{self}")
+        fmt::Display::fmt(self, f)
     }
 }
 

@@ -3,9 +3,12 @@ ghost use Rattle.std.specs.Prelude.{◌≡◌, ◌+◌, ◌*◌, ◌<◌};
 ghost use Rattle.gregorian.specs.Year.{floor_mod};
 ghost use Rattle.naive_base.specs.Range.{IsTime};
 ghost use Rattle.naive_base.specs.Clock.{IsClock, clock_second};
+ghost use Rattle.naive_base.specs.Steps.Moves.{IsWithin};
 
 mod fields;
 mod moves;
+
+use crate::day_second::day_and_second;
 
 /// A second of the day and nanoseconds, which from 10^9 on are those of a leap second after that
 /// second.
@@ -97,12 +100,13 @@ impl NaiveTime {
 
     // The time of day at a second since the epoch.
     pub(crate) fn of_second(second: i64, frac: u32) -> NaiveTime
-        requires { frac < 2_000_000_000 }
+        requires second { IsWithin 100_000_000_000_000_000 second }
+        requires fraction { frac < 2_000_000_000 }
         ensures second { second_of result ≡ floor_mod second 86_400 }
         ensures fraction { fraction_of result ≡ frac }
     {
         NaiveTime {
-            secs: second.rem_euclid(86_400) as u32,
+            secs: day_and_second(second).1,
             frac,
         }
     }

@@ -107,7 +107,7 @@ impl fmt::Debug for FixedOffset {
     ghost debug_output = { λ offset. Some (printed_offset offset) };
 
     fn fmt<W: fmt::Write>(&self, f: &mut fmt::Formatter<W>) -> fmt::Result {
-        write!(f, "{self}")
+        fmt::Display::fmt(self, f)
     }
 }
 

@@ -10,3 +10,4 @@ pub mod Stays
 pub mod Walls
 mod Choices
 mod Alike
+pub mod Printed

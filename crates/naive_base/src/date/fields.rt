@@ -76,7 +76,7 @@ impl Datelike for NaiveDate {
     ghost IsOnDay = { λ _. IsDateOn };
 
     fn year(&self) -> i32 {
-        gregorian::year_of(self.number())
+        self.year_month_day().year
     }
 
     fn month(&self) -> u32 {

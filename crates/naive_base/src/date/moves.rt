@@ -14,6 +14,9 @@ use crate::range::{FIRST_DAY_IN_RANGE, LAST_DAY_IN_RANGE};
 use crate::{Days, Months, NaiveDate};
 use offset_core::TimeDelta;
 
+// Years before every month that is asked about, 2^32.
+const YEARS_BEFORE: i64 = 4_294_967_296;
+
 impl NaiveDate {
     /// The date so many months later: on the same day of the month, or on the month's last where it
     /// has fewer days. `None` where the year is not one from -262143 to 262142, unless it is the
@@ -112,8 +115,7 @@ impl NaiveDate {
         ensures year { result.0 ≡ year_of_number (month_after (day_of self) by) }
         ensures month { result.1 ≡ month_of_number (month_after (day_of self) by) }
     {
-        let number = self.number_after(by);
-        (year_of_number(number), month_of_number(number))
+        year_and_month(self.number_after(by))
     }
 
     // The number of the month so many months later.
@@ -151,15 +153,15 @@ fn number_of_month(year: i32, month: u32) -> i64
     year as i64 * 12 + (month as i64 - 1)
 }
 
-fn year_of_number(number: i64) -> i32
+// The year and the month that so many months from January of the year 0 come to.
+fn year_and_month(number: i64) -> (i32, u32)
     requires { IsWithin 5_000_000_000 number }
-    ensures { result ≡ year_of_number number }
+    ensures year { result.0 ≡ year_of_number number }
+    ensures month { result.1 ≡ month_of_number number }
 {
-    number.div_euclid(12) as i32
-}
-
-fn month_of_number(number: i64) -> u32
-    ensures { result ≡ month_of_number number }
-{
-    number.rem_euclid(12) as u32 + 1
+    let since = (number + YEARS_BEFORE * 12) as u64;
+    (
+        ((since / 12) as i64 - YEARS_BEFORE) as i32,
+        (since % 12) as u32 + 1,
+    )
 }

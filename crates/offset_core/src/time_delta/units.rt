@@ -81,7 +81,10 @@ impl TimeDelta {
     pub fn subsec_nanos(&self) -> i32
         ensures { result ≡ int_rem (nanos_of self.now) nanos_per_second }
     {
-        (self.nanos % NANOS_PER_SECOND) as i32
+        match i64::try_from(self.nanos) {
+            Ok(nanos) => (nanos % NANOS_PER_SECOND as i64) as i32,
+            Err(_) => (self.nanos % NANOS_PER_SECOND) as i32,
+        }
     }
 
     /// Returns the whole microseconds that the whole seconds leave, with the sign of the length.
