@@ -25,6 +25,8 @@ usage: tools/check_documents.py [--write]
 - The code blocks in Rattle are code of the crates (tools/try_documents.py).
 - README.md and docs/TESTING.md have the counts of tests, planted bugs and wrong definitions (tools/counts.py). --write puts them
   there, and lowers the counts of tools/habits.py.
+- No more calls in src/ are made for an answer that nothing reads (`let _name = call(..);`), and no more lines are longer than 120
+  columns in src/, or 160 in .antt, than tools/counts.py allows. --write lowers the counts of lines to those of the day.
 - README.md names the version of the kit that `rt version` prints (if there is rt), and has New York's figures of docs/SPEED.md;
   docs/FROM_CHRONO.md has how many functions idioms_utc and the crates like it have.
 
@@ -38,7 +40,7 @@ import sys
 from functools import lru_cache
 from itertools import chain
 
-from counts import count_faults, write_counts
+from counts import count_faults, line_faults, lower_long_lines, write_counts
 from habits import faults as habits, lower
 from sources import (
     NAME, TOP, cited, crates, files, imports_of, module_of, public_clauses, shown, text_of, uses, without_comments, words_of,
@@ -449,7 +451,7 @@ def not_passed_on():
 
 CHECKS = [
     links, merge_lines, habits, unknown_words, stale_words, index_faults, edits, unused_lemmas, unlisted_pages, map_faults,
-    not_passed_on, required_of_c, number_faults, facts_of_documents, count_faults,
+    not_passed_on, required_of_c, number_faults, facts_of_documents, count_faults, line_faults,
     rattle_blocks, wrong_definitions,
 ]
 
@@ -461,6 +463,7 @@ def main():
         MAP.write_text(with_uses(text_of(MAP)))
         write_rejected()
         write_counts()
+        lower_long_lines()
         lower()
         text_of.cache_clear()
     elif sys.argv[1:]:

@@ -1,9 +1,20 @@
-"""How many tests, planted bugs and wrong definitions there are, and the rows of the documents that say so."""
+"""How many tests, planted bugs and wrong definitions there are, and the rows of the documents that say so; how many lines are too long,
+and which calls are made for nothing."""
 
 import re
 
 from sources import TOP, files, shown, text_of
 
+# Lines with more columns than that, and how many of them are allowed: the counts of the day, which `--write` lowers.
+LONG_LINES = {
+    ("src", ".rt", 120): 83,
+    ("specs", ".antt", 160): 56,
+    ("proofs", ".antt", 160): 1615,
+}
+# A call whose answer gets a name that nothing reads. With `?` it may end the function, and `next` moves an iterator on.
+DROPPED_ANSWER = re.compile(r"(?m)^ *let _\w+(?:: [^=;]+)? = (?![^;]*\.next\(\);)[^;]*\);$")
+# How many of them are allowed still: none is to be added.
+DROPPED_ANSWERS = 3
 PAGES = [TOP / "README.md", TOP / "docs/TESTING.md"]
 
 
@@ -48,3 +59,31 @@ def write_counts():
         for words, count in counts().items():
             text = row(words).sub(rf"\g<1>{count:,}\g<3>", text)
         path.write_text(text)
+
+
+def long_lines():
+    """How many lines are longer than the columns of each kind of file."""
+    return {
+        (folder, ending, columns): sum(len(line) > columns for path in files(folder, ending) for line in text_of(path).splitlines())
+        for folder, ending, columns in LONG_LINES
+    }
+
+
+def line_faults():
+    for (folder, ending, columns), count in long_lines().items():
+        if count > LONG_LINES[folder, ending, columns]:
+            allowed = LONG_LINES[folder, ending, columns]
+            yield f"tools/counts.py: {count} lines of {folder}/*{ending} are longer than {columns} columns, and {allowed} are allowed"
+    dropped = [(path, found) for path in files("src", ".rt") for found in DROPPED_ANSWER.finditer(text_of(path))]
+    for path, found in dropped if len(dropped) > DROPPED_ANSWERS else []:
+        yield f"{shown(path, found.end())}: nothing reads the answer of this call: {found[0].strip()}"
+
+
+def lower_long_lines():
+    """Lowers each count of LONG_LINES to that of the day."""
+    path = TOP / "tools/counts.py"
+    text = path.read_text()
+    for (folder, ending, columns), count in long_lines().items():
+        row = re.compile(rf'(?m)^(    \("{folder}", "{re.escape(ending)}", {columns}\): )(\d+),$')
+        text = row.sub(lambda old: f"{old[1]}{min(int(old[2]), count)},", text)
+    path.write_text(text)

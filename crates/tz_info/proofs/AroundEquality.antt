@@ -8,6 +8,7 @@ use Rattle.tz_info.specs.contracts.zone.around.TypesAroundPartialEq.TheImpl.{eq-
 use Rattle.tz_info.specs.contracts.zone.differences.DifferencePartialEq.TheImpl.{eq-value as difference_eq}
 use Rattle.tz_info.specs.contracts.zone.shown_seconds.ShownSecondsPartialEq.TheImpl.{eq-value as seconds_eq}
 use Rattle.tz_info.specs.contracts.zone.shown_seconds.TypedSecondPartialEq.TheImpl.{eq-value as second_eq}
+use Rattle.tz_info.proofs.Equalities.{by_parts, pair_eq, pair_exact}
 use Rattle.tz_info.specs.declared.zone.around.TypesAround.{TypesAround}
 use Rattle.tz_info.specs.declared.zone.around.TypesAround.TheVariants.{Single, Ambiguous, Gap}
 use Rattle.tz_info.specs.declared.zone.differences.Difference.{Difference}
@@ -33,36 +34,12 @@ around_exact a b = (λ h. around_from a b h, λ e. rw e (around_self b))
 
 -- ---- when clocks show certain local times
 pub typed_second_exact : IsExact second_eq.it
-typed_second_exact a b = (
-  λ h. λ i. record { at = (second_exact a.at b.at).0 (and_left (int_eq a.at b.at) _ h) i; local_time_type = (type_exact a.local_time_type b.local_time_type).0 (and_right (int_eq a.at b.at) _ h) i },
-  λ e.
-      and_both (int_eq a.at b.at) _ ((second_exact a.at b.at).1 (ap (λ (x : TypedSecond). x.at) e)) ((type_exact a.local_time_type b.local_time_type).1 (ap (λ (x : TypedSecond). x.local_time_type) e)),
-)
+typed_second_exact = by_parts (pair_eq int_eq type_eq.it) (λ (s : TypedSecond). (s.at, s.local_time_type)) (λ p. record { at = p.0; local_time_type = p.1 }) (λ s. refl) (pair_exact int_eq type_eq.it second_exact type_exact)
 
 pub shown_seconds_exact : IsExact seconds_eq.it
-shown_seconds_exact a b = (
-  λ h. λ i. record { first = (typed_second_exact a.first b.first).0 (and_left (second_eq.it a.first b.first) _ h) i; last = (typed_second_exact a.last b.last).0 (and_right (second_eq.it a.first b.first) _ h) i },
-  λ e.
-      and_both (second_eq.it a.first b.first) _ ((typed_second_exact a.first b.first).1 (ap (λ (x : ShownSeconds). x.first) e)) ((typed_second_exact a.last b.last).1 (ap (λ (x : ShownSeconds). x.last) e)),
-)
+shown_seconds_exact = by_parts (pair_eq second_eq.it second_eq.it) (λ (s : ShownSeconds). (s.first, s.last)) (λ p. record { first = p.0; last = p.1 }) (λ s. refl) (pair_exact second_eq.it second_eq.it typed_second_exact typed_second_exact)
 
 -- ---- differences
-same_difference : (d e : Difference) → d.from ≡ e.from → d.until ≡ e.until → d.old ≡ e.old → d.new ≡ e.new → d ≡ e
-same_difference d e p q r s = λ i. record { from = p i; until = q i; old = r i; new = s i }
-
 pub difference_exact : IsExact difference_eq.it
-difference_exact a b = (
-  λ h.
-      let r = and_right (int_eq a.from b.from) _ h in
-      let t = and_right (int_eq a.until b.until) _ r in
-      same_difference a b
-      ((second_exact a.from b.from).0 (and_left (int_eq a.from b.from) _ h))
-      ((second_exact a.until b.until).0 (and_left (int_eq a.until b.until) _ r))
-      ((type_exact a.old b.old).0 (and_left (type_eq.it a.old b.old) _ t))
-      ((type_exact a.new b.new).0 (and_right (type_eq.it a.old b.old) _ t)),
-  λ e.
-      and_both (int_eq a.from b.from) _ ((second_exact a.from b.from).1 (ap (λ (x : Difference). x.from) e))
-      (and_both (int_eq a.until b.until) _ ((second_exact a.until b.until).1 (ap (λ (x : Difference). x.until) e))
-      (and_both (type_eq.it a.old b.old) _ ((type_exact a.old b.old).1 (ap (λ (x : Difference). x.old) e))
-      ((type_exact a.new b.new).1 (ap (λ (x : Difference). x.new) e)))),
-)
+difference_exact = by_parts (pair_eq int_eq (pair_eq int_eq (pair_eq type_eq.it type_eq.it))) (λ (d : Difference). (d.from, (d.until, (d.old, d.new)))) (λ p. record { from = p.0; until = p.1.0; old = p.1.1.0; new = p.1.1.1 }) (λ d. refl)
+    (pair_exact int_eq (pair_eq int_eq (pair_eq type_eq.it type_eq.it)) second_exact (pair_exact int_eq (pair_eq type_eq.it type_eq.it) second_exact (pair_exact type_eq.it type_eq.it type_exact type_exact)))

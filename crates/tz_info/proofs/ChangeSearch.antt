@@ -1,13 +1,14 @@
 -- The first and the last change among seconds, and in a stretch.
-use Rattle.std.proofs.Common.{◌≡◌, ◌≢◌, ℕ, ◌+◌, arith, refl, sym, ◌∙◌, List, get_or, ℤ, pos, ◌-ℤ◌, ◌≤ℤ◌, ◌<ℤ◌, ◌⊎◌, inl, inr, ⊎_elim, Bool, true, false, Option, Some, None, MatchOption, w64}
+use Rattle.std.proofs.Common.{◌≡◌, ◌≢◌, ℕ, zero, suc, ◌+◌, arith, refl, sym, subst, ◌∙◌, List, get_or, ℤ, pos, negsuc, ◌+ℤ◌, ◌-ℤ◌, ◌≤ℤ◌, ◌<ℤ◌, ◌⊎◌, inl, inr, ⊎_elim, Bool, true, false, Option, Some, None, MatchOption, w64}
 use Rattle.std.proofs.lemmas.Int.{ints, by_lt_z}
 use Rattle.std.proofs.lemmas.Bool.{cases_lt}
 use mir.Val.{SFits}
 use Rattle.tz_base.specs.LocalTypes.{LocalType}
+use Rattle.tz_base.specs.contracts.local_time_type.LocalTimeTypePartialEq.TheImpl.{eq-value as type_eq}
+use Rattle.tz_base.proofs.ForCallers.{type_exact}
 use Rattle.tz_timeline.proofs.ForCallers.{lt_true, lt_false}
 use Rattle.tz_info.specs.Changes.{IsChange, HasNoChange, IsFirst, IsLast, IsLastChange}
-use Rattle.tz_info.specs.Leaps.{least_time}
-use Rattle.tz_info.specs.Steps.Changes.{IsInStretch, IsNearest, IsOneOf, IsIdle, Precedes, nearer_one}
+use Rattle.tz_info.specs.Steps.Changes.{IsAhead, IsInStretch, IsNearest, IsOneOf, IsIdle, IsStretchAhead, Precedes, nearer_one}
 use Rattle.tz_base.specs.declared.change.Change.{Change}
 
 abbrev pub InForce : Type 1
@@ -70,15 +71,24 @@ nearest_more w f seconds n after last found other told h =
     (λ d is k. (is, one_still seconds n after last d.at k))
     (nearest_either w f (IsOneOf seconds n after last) _ found other h (asked w f after last (get_or seconds n (pos 0)) other told))
 
--- forwards from a second on, the nearest change is the first one after it
-pub first_behind : (f : InForce) (after : ℤ) (found : Option Change) → IsNearest true f (IsInStretch after (pos 9_223_372_036_854_775_807)) found → IsFirst f (λ u. after <ℤ u) found
-first_behind f after None h = λ d is later. let m = is.fits in h d is (later, omega (arith, ints))
-first_behind f after (Some c) h = record { is = h.is; inside = h.inside.0; first = λ d is later. let m = is.fits in h.nearest d is (later, omega (arith, ints)) }
+-- the nearest change of the stretch ahead of a second is the nearest one ahead of it
+pub nearest_ahead : (w : Bool) (f : InForce) (s after last : ℤ) (found : Option Change) → IsStretchAhead w s after last
+    → IsNearest w f (IsInStretch after last) found → IsNearest w f (IsAhead w s) found
+nearest_ahead true f s after last found e = nearest_moved true f f (IsInStretch after last) (IsAhead true s) found
+    (λ d is k. let m = is.fits in let a = e.0 in let b = e.1 in (is, (omega (arith, ints), omega (arith, ints))))
+    (λ d is k. let a = e.0 in let l = k.0 in (is, omega (arith, ints)))
+nearest_ahead false f s after last found e = nearest_moved false f f (IsInStretch after last) (IsAhead false s) found
+    (λ d is k. let m = is.fits_before in let a = e.0 in let b = e.1 in (is, (omega (arith, ints), omega (arith, ints))))
+    (λ d is k. let b = e.1 in let l = k.1 in (is, omega (arith, ints)))
 
--- and backwards the last one up to it
-pub last_before : (f : InForce) (last : ℤ) (found : Option Change) → IsNearest false f (IsInStretch least_time last) found → IsLast f (λ u. u ≤ℤ last) found
-last_before f last None h = λ d is up_to. let m = is.fits_before in h d is (omega (arith, ints), up_to)
-last_before f last (Some c) h = record { is = h.is; inside = h.inside.1; last = λ d is up_to. let m = is.fits_before in h.nearest d is (omega (arith, ints), up_to) }
+-- the nearest one forwards is the first one, and the nearest one backwards the last
+pub first_nearest : (f : InForce) (p : ℤ → Type 0) (found : Option Change) → IsNearest true f p found → IsFirst f p found
+first_nearest f p None h = h
+first_nearest f p (Some c) h = record { is = h.is; inside = h.inside; first = h.nearest }
+
+pub last_nearest : (f : InForce) (p : ℤ → Type 0) (found : Option Change) → IsNearest false f p found → IsLast f p found
+last_nearest f p None h = h
+last_nearest f p (Some c) h = record { is = h.is; inside = h.inside; last = h.nearest }
 
 -- ---- the change at one second
 -- at each second one type is in force
@@ -123,3 +133,45 @@ last_moved f g p q (Some c) to from h =
 pub last_after : (f : InForce) (begin last : ℤ) (c : Change) (r : Option Change) → IsLastChange f (λ u. u ≤ℤ last) c → MatchOption r (c.at ≤ℤ begin) (λ d. (begin <ℤ c.at) × (d ≡ c)) → IsLast f (λ u. (begin <ℤ u) × (u ≤ℤ last)) r
 last_after f begin last c None h early = λ d is inside. let l = h.last d is inside.1 in let m = inside.0 in omega (arith, ints)
 last_after f begin last c (Some d) h late = rw late.1 (record { is = h.is; inside = (late.0, h.inside); last = λ e is inside. h.last e is inside.1 })
+
+-- ---- where no change comes the type stays
+-- some type is in force at the second
+abbrev pub Typed : InForce → ℤ → Type 0
+Typed f u = (t : LocalType) × f u t
+
+same_or_not : (s t : LocalType) → (s ≡ t) ⊎ (s ≢ t)
+same_or_not s t = tested (type_eq.it s t) refl where
+  tested : (b : Bool) → type_eq.it s t ≡ b → (s ≡ t) ⊎ (s ≢ t)
+  tested true e = inl ((type_exact s t).0 e)
+  tested false e = inr (λ same. let h = (type_exact s t).1 same in cc)
+
+-- from one second to the next
+step_up : (f : InForce) (v w : ℤ) (s t : LocalType) → v ≡ w -ℤ pos 1 → SFits w64 v → SFits w64 w → HasNoChange f (λ x. x ≡ w) → f v s → f w t → s ≡ t
+step_up f v w s t e fits fits_next none h k = elim (same_or_not s t) [
+  | inl same ↦ same
+  | inr differ ↦
+      let c : Change = record { at = w; before = s; after = t } in
+      absurd (none c (record { fits = fits_next; fits_before = rw e at fits; before = rw e at h; after = k; differ = differ }) refl)
+]
+
+-- so many seconds on
+steps_up : (f : InForce) (u v : ℤ) (t : LocalType) (n : ℕ) → v ≡ u +ℤ pos n → SFits w64 u → SFits w64 v → HasNoChange f (λ w. (u <ℤ w) × (w ≤ℤ v))
+    → ((w : ℤ) → u ≤ℤ w → w ≤ℤ v → Typed f w) → f u t → f v t
+steps_up f u v t zero e fits fits_end none typed h = let same : u ≡ v = omega (arith, ints) in subst (λ w. f w t) same h
+steps_up f u v t (suc n) e fits fits_end none typed h =
+    let fits_n : SFits w64 (v -ℤ pos 1) = omega (arith, ints) in
+    let before = steps_up f u (v -ℤ pos 1) t n (omega (arith, ints)) fits fits_n (λ d is k. let a = k.0 in let b = k.1 in none d is (a, omega (arith, ints))) (λ w low high. typed w low (omega (arith, ints))) h in
+    let next = typed v (omega (arith, ints)) (omega (arith, ints)) in
+    let same = step_up f (v -ℤ pos 1) v t next.0 refl fits_n fits_end (λ d is k. none d is (omega (arith, ints), omega (arith, ints))) before next.1 in
+    subst (f v) (sym same) next.1
+
+natural : (d : ℤ) → pos 0 ≤ℤ d → (n : ℕ) × (d ≡ pos n)
+natural (pos n) h = (n, refl)
+natural (negsuc n) h = absurd (omega (arith, ints))
+
+distance : (u v : ℤ) → u ≤ℤ v → (n : ℕ) × (v ≡ u +ℤ pos n)
+distance u v h = let n = natural (v -ℤ u) (omega (arith, ints)) in let e = n.1 in (n.0, omega (arith, ints))
+
+pub stays : (f : InForce) (u v : ℤ) (t : LocalType) → SFits w64 u → SFits w64 v → u ≤ℤ v → HasNoChange f (λ w. (u <ℤ w) × (w ≤ℤ v))
+    → ((w : ℤ) → u ≤ℤ w → w ≤ℤ v → Typed f w) → f u t → f v t
+stays f u v t fits fits_end h none typed k = let n = distance u v h in steps_up f u v t n.0 n.1 fits fits_end none typed k

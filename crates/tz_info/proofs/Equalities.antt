@@ -1,5 +1,5 @@
 -- Values are equal by `==` exactly where they are equal.
-use Rattle.std.proofs.Common.{rules, ◌≡◌, ◌↔◌, IsTrue, refl, ap, ◌∙◌, Bool, ◌&&◌, List, [], ◌∷◌, Option, Some, None}
+use Rattle.std.proofs.Common.{rules, ◌≡◌, ◌↔◌, IsTrue, refl, sym, ap, ◌∙◌, Bool, ◌&&◌, List, [], ◌∷◌, Option, Some, None}
 use Rattle.std.specs.Cmp.Lexicographic.{pointwise}
 use Rattle.std.specs.Option.{option_eq}
 use Rattle.tz_base.specs.LocalTypes.{LocalType}
@@ -21,7 +21,7 @@ use Rattle.tz_info.specs.declared.zone.transition.Transition.{Transition}
 self : {X : Type 0} (E : X → X → Bool) → IsExact E → (a : X) → IsTrue (E a a)
 self E exact a = (exact a a).1 refl
 
-pub list_from : {X : Type 0} (E : X → X → Bool) → IsExact E → (xs ys : List X) → IsTrue (pointwise E xs ys) → xs ≡ ys
+list_from : {X : Type 0} (E : X → X → Bool) → IsExact E → (xs ys : List X) → IsTrue (pointwise E xs ys) → xs ≡ ys
 list_from E exact [] [] h = refl
 list_from E exact [] (y ∷ ys) h = cc
 list_from E exact (x ∷ xs) [] h = cc
@@ -30,46 +30,47 @@ list_from E exact (x ∷ xs) (y ∷ ys) h =
     let b = list_from E exact xs ys (and_right (E x y) (pointwise E xs ys) h) in
     ap (λ z. z ∷ xs) a ∙ ap (λ zs. y ∷ zs) b
 
-pub list_self : {X : Type 0} (E : X → X → Bool) → IsExact E → (xs : List X) → IsTrue (pointwise E xs xs)
+list_self : {X : Type 0} (E : X → X → Bool) → IsExact E → (xs : List X) → IsTrue (pointwise E xs xs)
 list_self E exact [] = refl
 list_self E exact (x ∷ xs) = and_both (E x x) (pointwise E xs xs) (self E exact x) (list_self E exact xs)
 
-pub option_from : {X : Type 0} (E : X → X → Bool) → IsExact E → (x y : Option X) → IsTrue (option_eq E x y) → x ≡ y
+option_from : {X : Type 0} (E : X → X → Bool) → IsExact E → (x y : Option X) → IsTrue (option_eq E x y) → x ≡ y
 option_from E exact None None h = refl
 option_from E exact None (Some y) h = cc
 option_from E exact (Some x) None h = cc
 option_from E exact (Some x) (Some y) h = ap Some ((exact x y).0 h)
 
-pub option_self : {X : Type 0} (E : X → X → Bool) → IsExact E → (x : Option X) → IsTrue (option_eq E x x)
+option_self : {X : Type 0} (E : X → X → Bool) → IsExact E → (x : Option X) → IsTrue (option_eq E x x)
 option_self E exact None = refl
 option_self E exact (Some x) = self E exact x
+
+-- ---- records, as pairs of their fields
+abbrev pub pair_eq : {X Y : Type 0} → (X → X → Bool) → (Y → Y → Bool) → (X × Y) → (X × Y) → Bool
+pair_eq E F p q = E p.0 q.0 && F p.1 q.1
+
+pub pair_exact : {X Y : Type 0} (E : X → X → Bool) (F : Y → Y → Bool) → IsExact E → IsExact F → IsExact (pair_eq E F)
+pair_exact {X = X} {Y = Y} E F e f p q = (
+  λ h. λ i. ((e p.0 q.0).0 (and_left (E p.0 q.0) (F p.1 q.1) h) i, (f p.1 q.1).0 (and_right (E p.0 q.0) (F p.1 q.1) h) i),
+  λ k. and_both (E p.0 q.0) (F p.1 q.1) ((e p.0 q.0).1 (ap (λ (r : X × Y). r.0) k)) ((f p.1 q.1).1 (ap (λ (r : X × Y). r.1) k)),
+)
+
+pub by_parts : {X Y : Type 0} (E : Y → Y → Bool) (to : X → Y) (from : Y → X) → ((x : X) → from (to x) ≡ x) → IsExact E → (a b : X)
+    → IsTrue (E (to a) (to b)) ↔ (a ≡ b)
+by_parts E to from back exact a b = (λ h. sym (back a) ∙ ap from ((exact (to a) (to b)).0 h) ∙ back b, λ e. (exact (to a) (to b)).1 (ap to e))
 
 -- ---- rules
 day_time_exact : IsExact day_time_eq.it
 day_time_exact a b = search rules
 
-abbrev the_alternate : LocalType → LocalType → DayTime → DayTime → AlternateRule
-the_alternate std dst start end = record { std = std; dst = dst; start = start; end = end }
+abbrev alternate_parts : AlternateRule → LocalType × (LocalType × (DayTime × DayTime))
+alternate_parts a = (a.std, (a.dst, (a.start, a.end)))
 
-same_alternate : (s t u v : LocalType) (d e f g : DayTime) → s ≡ t → u ≡ v → d ≡ e → f ≡ g → the_alternate s u d f ≡ the_alternate t v e g
-same_alternate s t u v d e f g a b c h = cc
+abbrev of_alternate : LocalType × (LocalType × (DayTime × DayTime)) → AlternateRule
+of_alternate p = record { std = p.0; dst = p.1.0; start = p.1.1.0; end = p.1.1.1 }
 
 pub alternate_exact : (a b : AlternateRule) → IsTrue (type_eq.it a.std b.std && (type_eq.it a.dst b.dst && (day_time_eq.it a.start b.start && day_time_eq.it a.end b.end))) ↔ (a ≡ b)
-alternate_exact a b = (
-  λ h.
-      let r = and_right (type_eq.it a.std b.std) _ h in
-      let t = and_right (type_eq.it a.dst b.dst) _ r in
-      same_alternate a.std b.std a.dst b.dst a.start b.start a.end b.end
-      ((type_exact a.std b.std).0 (and_left (type_eq.it a.std b.std) _ h))
-      ((type_exact a.dst b.dst).0 (and_left (type_eq.it a.dst b.dst) _ r))
-      ((day_time_exact a.start b.start).0 (and_left (day_time_eq.it a.start b.start) _ t))
-      ((day_time_exact a.end b.end).0 (and_right (day_time_eq.it a.start b.start) _ t)),
-  λ e.
-      and_both (type_eq.it a.std b.std) _ ((type_exact a.std b.std).1 (ap (λ (x : AlternateRule). x.std) e))
-      (and_both (type_eq.it a.dst b.dst) _ ((type_exact a.dst b.dst).1 (ap (λ (x : AlternateRule). x.dst) e))
-      (and_both (day_time_eq.it a.start b.start) _ ((day_time_exact a.start b.start).1 (ap (λ (x : AlternateRule). x.start) e))
-      ((day_time_exact a.end b.end).1 (ap (λ (x : AlternateRule). x.end) e)))),
-)
+alternate_exact = by_parts (pair_eq type_eq.it (pair_eq type_eq.it (pair_eq day_time_eq.it day_time_eq.it))) alternate_parts of_alternate (λ a. refl)
+    (pair_exact type_eq.it (pair_eq type_eq.it (pair_eq day_time_eq.it day_time_eq.it)) type_exact (pair_exact type_eq.it (pair_eq day_time_eq.it day_time_eq.it) type_exact (pair_exact day_time_eq.it day_time_eq.it day_time_exact day_time_exact)))
 
 fixed_same : (s t : LocalType) → Fixed s ≡ Fixed t → s ≡ t
 fixed_same s t e = cc
@@ -90,27 +91,20 @@ transition_exact a b = search rules
 leap_exact : IsExact leap_eq.it
 leap_exact a b = search rules
 
-abbrev the_zone : List Transition → List LocalType → List LeapSecond → Option TransitionRule → Zone
-the_zone transitions types leaps rule = record { transitions = transitions; types = types; leaps = leaps; rule = rule }
+list_exact : {X : Type 0} (E : X → X → Bool) → IsExact E → IsExact (pointwise E)
+list_exact E exact xs ys = (list_from E exact xs ys, λ e. rw e (list_self E exact ys))
 
-same_zone : (p q : List Transition) (s t : List LocalType) (k l : List LeapSecond) (x y : Option TransitionRule) → p ≡ q → s ≡ t → k ≡ l → x ≡ y → the_zone p s k x ≡ the_zone q t l y
-same_zone p q s t k l x y a b c d = cc
+option_exact : {X : Type 0} (E : X → X → Bool) → IsExact E → IsExact (option_eq E)
+option_exact E exact x y = (option_from E exact x y, λ e. rw e (option_self E exact y))
 
-zone_from : (a b : Zone) → IsTrue (pointwise transition_eq.it a.transitions b.transitions && (pointwise type_eq.it a.types b.types && (pointwise leap_eq.it a.leaps b.leaps && option_eq rule_eq.it a.rule b.rule))) → a ≡ b
-zone_from a b h =
-    let r = and_right (pointwise transition_eq.it a.transitions b.transitions) _ h in
-    let t = and_right (pointwise type_eq.it a.types b.types) _ r in
-    same_zone a.transitions b.transitions a.types b.types a.leaps b.leaps a.rule b.rule
-    (list_from transition_eq.it transition_exact a.transitions b.transitions (and_left (pointwise transition_eq.it a.transitions b.transitions) _ h))
-    (list_from type_eq.it type_exact a.types b.types (and_left (pointwise type_eq.it a.types b.types) _ r))
-    (list_from leap_eq.it leap_exact a.leaps b.leaps (and_left (pointwise leap_eq.it a.leaps b.leaps) _ t))
-    (option_from rule_eq.it rule_exact a.rule b.rule (and_right (pointwise leap_eq.it a.leaps b.leaps) _ t))
+abbrev zone_parts : Zone → List Transition × (List LocalType × (List LeapSecond × Option TransitionRule))
+zone_parts z = (z.transitions, (z.types, (z.leaps, z.rule)))
 
-zone_self : (a : Zone) → IsTrue (zone_eq transition_eq.it type_eq.it leap_eq.it rule_eq.it a a)
-zone_self a =
-    and_both (pointwise transition_eq.it a.transitions a.transitions) _ (list_self transition_eq.it transition_exact a.transitions)
-    (and_both (pointwise type_eq.it a.types a.types) _ (list_self type_eq.it type_exact a.types)
-    (and_both (pointwise leap_eq.it a.leaps a.leaps) _ (list_self leap_eq.it leap_exact a.leaps) (option_self rule_eq.it rule_exact a.rule)))
+abbrev of_zone : List Transition × (List LocalType × (List LeapSecond × Option TransitionRule)) → Zone
+of_zone p = record { transitions = p.0; types = p.1.0; leaps = p.1.1.0; rule = p.1.1.1 }
 
 pub zone_exact : (a b : Zone) → IsTrue (zone_eq transition_eq.it type_eq.it leap_eq.it rule_eq.it a b) ↔ (a ≡ b)
-zone_exact a b = (λ h. zone_from a b h, λ e. rw e (zone_self b))
+zone_exact = by_parts (pair_eq (pointwise transition_eq.it) (pair_eq (pointwise type_eq.it) (pair_eq (pointwise leap_eq.it) (option_eq rule_eq.it)))) zone_parts of_zone (λ z. refl)
+    (pair_exact (pointwise transition_eq.it) (pair_eq (pointwise type_eq.it) (pair_eq (pointwise leap_eq.it) (option_eq rule_eq.it))) (list_exact transition_eq.it transition_exact)
+    (pair_exact (pointwise type_eq.it) (pair_eq (pointwise leap_eq.it) (option_eq rule_eq.it)) (list_exact type_eq.it type_exact)
+    (pair_exact (pointwise leap_eq.it) (option_eq rule_eq.it) (list_exact leap_eq.it leap_exact) (option_exact rule_eq.it rule_exact))))

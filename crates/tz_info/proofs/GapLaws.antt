@@ -1,29 +1,33 @@
 -- Gaps: where the first second lies at which clocks show more than a local time that they never show.
-use Rattle.std.proofs.Common.{◌≡◌, ℕ, suc, ◌<◌, arith, refl, sym, ◌∙◌, subst, length, ℤ, pos, ◌+ℤ◌, ◌-ℤ◌, ◌≤ℤ◌, ◌<ℤ◌, inl, inr, ◌⊎◌, ◌↔◌, Option, Some, None, slice_get}
+use Rattle.std.proofs.Common.{◌≡◌, ℕ, suc, ◌<◌, arith, refl, sym, ◌∙◌, subst, length, ℤ, pos, ◌+ℤ◌, ◌-ℤ◌, ◌≤ℤ◌, ◌<ℤ◌, inl, inr, ◌⊎◌, ◌↔◌, true, Option, Some, None, slice_get, w64}
 use Rattle.std.proofs.lemmas.Int.{ints, by_lt_z}
+use mir.Val.{SFits}
 use Rattle.naive_base.specs.Year.{floor_div}
 use Rattle.naive_base.specs.DateOf.{year_of}
 use Rattle.naive_base.proofs.ForCallers.{lies_in}
 use Rattle.offset_core.specs.WallAnswer.{IsNeverShown}
 use Rattle.tz_base.specs.LocalTypes.{LocalType}
+use Rattle.tz_base.specs.declared.change.Change.{Change}
+use Rattle.tz_info.specs.Changes.{HasNoChange}
 use Rattle.tz_info.specs.Gaps.{HasGap}
 use Rattle.tz_info.specs.Leaps.{IsNear}
 use Rattle.tz_info.specs.Moments.{AlternateAt}
-use Rattle.tz_info.specs.Rules.{Alternate as AlternateRule}
+use Rattle.tz_info.specs.Rules.{Alternate as AlternateRule, IsAlternateRule}
 use Rattle.tz_info.specs.RuleTypes.{RuleAt}
 use Rattle.tz_info.specs.Segments.{segment_of, table_count}
 use Rattle.tz_info.specs.Steps.Segments.{index_of}
-use Rattle.tz_info.specs.Steps.Gaps.{AreLess, IsReach, IsPassed, IsBehindTable}
-use Rattle.tz_info.specs.Steps.NextMoments.{IsSteadyUntil}
+use Rattle.tz_info.specs.Steps.Changes.{IsAhead, IsNearestChange}
+use Rattle.tz_info.specs.Steps.Gaps.{AreLess, IsReach, IsPassed, IsBehindTable, IsTurn}
 use Rattle.tz_info.specs.WallClocks.{Shows}
 use Rattle.tz_info.specs.WallPieces.{AreLessAmong, IsLastBefore, IsTypeBefore, Jumps, IsStart}
 use Rattle.tz_info.specs.Zones.{Zone, IsValid, IsTypeRefused, by_leap_time, by_rule, IsRefusedBy, IsRuleOrNone, RuleOrElse, HasType, TypeAt}
 use Rattle.tz_info.specs.declared.rule.transition_rule.TransitionRule.{TransitionRule}
 use Rattle.tz_info.specs.declared.rule.transition_rule.TransitionRule.TheVariants.{Fixed, Alternate}
 use Rattle.tz_info.specs.declared.zone.shown.Jump.{Jump}
+use Rattle.tz_info.proofs.ChangeSearch.{stays}
 use Rattle.tz_info.proofs.ExtremeLaws.{at_most_greatest, at_least_least}
 use Rattle.tz_info.proofs.LeapOrder.{leap_times_answer}
-use Rattle.tz_info.proofs.RuleLaws.{rule_once, rule_year}
+use Rattle.tz_info.proofs.RuleLaws.{alternate_decided, rule_once, rule_year}
 use Rattle.tz_info.proofs.SegmentLaws.{segments_rise, segment_most, segment_at, type_before, type_from, type_in_from}
 use Rattle.tz_info.proofs.TableSearch.{Between}
 use Rattle.tz_info.proofs.WallSegments.{leap_time_of, begun, not_begun, type_here, listed_once, rule_begun}
@@ -185,13 +189,19 @@ steady_less z rule l last v valid limits is never p near from steady t k =
     let shown : (w +ℤ t.offset) <ℤ l = not_more z l w t never near_w (type_by_rule z rule w t valid is near_w (behind_on z l last p valid w low) there) (omega (arith, ints)) in
     absurd (omega (arith, ints)))
 
--- by a rule of one type they would for ever
-pub fixed_ends : (z : Zone) (f : LocalType) (l low high last : ℤ) → IsValid z → IsRuleOrNone z.rule → IsNever z l → z.rule ≡ Some (Fixed f) → IsReach z l low high → IsPassed z l last → ⊥
-fixed_ends z f l low high last valid limits never is reach p = not_less z l low high (high +ℤ pos 1) valid limits reach
+-- by a rule that keeps its type they would for ever
+steady_ends : (z : Zone) (rule : TransitionRule) (l low high last : ℤ) → IsValid z → IsRuleOrNone z.rule → IsNever z l → z.rule ≡ Some rule
+    → IsReach z l low high → IsPassed z l last
+    → ((v w : ℤ) → IsNear v → last ≤ℤ w → w ≤ℤ v → (t : LocalType) → RuleAt rule last t → RuleAt rule w t) → ⊥
+steady_ends z rule l low high last valid limits never is reach p steady = not_less z l low high (high +ℤ pos 1) valid limits reach
     (λ u near h. by_lt_z last u
-    (λ later. steady_less z (Fixed f) l last u valid limits is never p near (omega (arith, ints)) (λ w from to t k. k))
+    (λ later. steady_less z rule l last u valid limits is never p near (omega (arith, ints)) (λ w from to t k. steady u w near from to t k))
     (λ before. p.less u near before))
     (omega (arith, ints))
+
+pub fixed_ends : (z : Zone) (f : LocalType) (l low high last : ℤ) → IsValid z → IsRuleOrNone z.rule → IsNever z l → z.rule ≡ Some (Fixed f)
+    → IsReach z l low high → IsPassed z l last → ⊥
+fixed_ends z f l low high last valid limits never is reach p = steady_ends z (Fixed f) l low high last valid limits never is reach p (λ v w near from to t k. k)
 
 -- ---- where the rule begins
 pub table_passed : (z : Zone) (l low high from m : ℤ) → IsValid z → IsRuleOrNone z.rule → IsNever z l → IsReach z l low high → IsStart z.transitions z.leaps (length z.transitions) from → ((u : ℤ) → (m ≤ℤ u) ↔ ((low ≤ℤ u) × (from ≤ℤ u)))
@@ -238,46 +248,58 @@ passed_at_rule z rule l m s valid of_zone never near behind less k h = record {
       not_more z l u t never far at (subst (λ (x : LocalType). (u +ℤ x.offset) ≤ℤ l) same (omega (arith, ints))));
 }
 
--- ---- from moment to moment of a rule of two types
--- the moment is near, clocks show less before it, and just before it the type is the one from the moment before
-pub record IsTurn (z : Zone) (a : AlternateRule) (l high last next : ℤ) : Type 0 where
-  pub later : last <ℤ next
-  pub near_last : IsNear last
-  pub near : IsNear next
-  pub most : next ≤ℤ (high +ℤ pos 1)
-  pub near_before : IsNear (next -ℤ pos 1)
-  pub behind : segment_of z next ≡ length z.transitions
-  pub less : AreLess z l (next -ℤ pos 1)
-  pub before : (t : LocalType) → AlternateAt a last t → TypeAt z (next -ℤ pos 1) t
+-- ---- from change to change of a rule of two types
+near_alternate : (a : AlternateRule) (u : ℤ) → IsAlternateRule a → IsNear u → (t : LocalType) × AlternateAt a u t
+near_alternate a u rule near = elim (alternate_decided a u rule) [
+  | inl found ↦ found
+  | inr refused ↦ absurd (near_rule (Some (Alternate a)) u near refused)
+]
 
-pub turn_next : (z : Zone) (a : AlternateRule) (l low high last next : ℤ) → IsValid z → IsRuleOrNone z.rule → z.rule ≡ Some (Alternate a) → IsNever z l → IsReach z l low high → IsPassed z l last → IsSteadyUntil a last next → IsTurn z a l high last next
-turn_next z a l low high last next valid limits rule never reach p steady =
-    let later = steady.later in
+-- up to a second before which no change comes the rule keeps its type
+rule_stays : (a : AlternateRule) (last v w : ℤ) (t : LocalType) → IsAlternateRule a → IsNear last → IsNear v
+    → HasNoChange (AlternateAt a) (λ u. (last <ℤ u) × (u ≤ℤ v)) → last ≤ℤ w → w ≤ℤ v → AlternateAt a last t → AlternateAt a w t
+rule_stays a last v w t rule near near_end none low high k =
+    let fits : SFits w64 last = omega (arith, ints, near) in
+    let fits_end : SFits w64 w = omega (arith, ints, near, near_end) in
+    stays (AlternateAt a) last w t fits fits_end low (λ d is i. let until = i.1 in none d is (i.0, omega (arith, ints)))
+    (λ u since until. near_alternate a u rule (omega (arith, ints, near), omega (arith, ints, near_end))) k
+
+-- if no change came, clocks would show less for ever
+pub rule_ends : (z : Zone) (a : AlternateRule) (l low high last : ℤ) → IsValid z → IsRuleOrNone z.rule → IsNever z l → z.rule ≡ Some (Alternate a)
+    → IsReach z l low high → IsPassed z l last → HasNoChange (AlternateAt a) (IsAhead true last) → ⊥
+rule_ends z a l low high last valid limits never is reach p none = steady_ends z (Alternate a) l low high last valid limits never is reach p
+    (λ v w near from to t k. rule_stays a last v w t (rw is at limits) p.near near (λ d change i. none d change i.0) from to k)
+
+pub turn_next : (z : Zone) (a : AlternateRule) (l low high last : ℤ) (c : Change) → IsValid z → IsRuleOrNone z.rule → z.rule ≡ Some (Alternate a)
+    → IsNever z l → IsReach z l low high → IsPassed z l last → IsNearestChange true (AlternateAt a) (IsAhead true last) c → IsTurn z a l c
+turn_next z a l low high last c valid limits rule never reach p first =
+    let later = first.inside in
     let near_last = p.near in
     let near_high = reach.near_high in
-    let until : (s : ℤ) → s <ℤ next → AreLess z l s = λ s h u near le t k. by_lt_z last u
-    (λ m. steady_less z (Alternate a) l last u valid limits rule never p near (omega (arith, ints)) (λ w from to. steady.same w from (omega (arith, ints))) t k)
+    let until : (s : ℤ) → s <ℤ c.at → AreLess z l s = λ s h u near le t k. by_lt_z last u
+    (λ m. steady_less z (Alternate a) l last u valid limits rule never p near (omega (arith, ints))
+    (λ w from to t k. rule_stays a last u w t (rw rule at limits) near_last near (λ d is i. let f = first.nearest d is i.0 in let b = i.1 in omega (arith, ints)) from to k) t k)
     (λ m. p.less u near m t k) in
-    let most : next ≤ℤ (high +ℤ pos 1) = by_lt_z (high +ℤ pos 1) next
+    let most : c.at ≤ℤ (high +ℤ pos 1) = by_lt_z (high +ℤ pos 1) c.at
     (λ h. absurd (not_less z l low high (high +ℤ pos 1) valid limits reach (until (high +ℤ pos 1) h) (omega (arith, ints))))
     (λ h. h) in
-    let near_before : IsNear (next -ℤ pos 1) = (omega (arith, ints, near_last), omega (arith, ints, near_high)) in
     let segment = behind_on z l last p valid in
     record {
-      later = later;
-      near_last = near_last;
+      is = first.is;
       near = (omega (arith, ints, near_last), omega (arith, ints, near_high));
-      most = most;
-      near_before = near_before;
-      behind = segment next (omega (arith, ints));
-      less = until (next -ℤ pos 1) (omega (arith, ints));
-      before = λ t k. type_by_rule z (Alternate a) (next -ℤ pos 1) t valid rule near_before (segment (next -ℤ pos 1) (omega (arith, ints))) (steady.same (next -ℤ pos 1) (omega (arith, ints)) (omega (arith, ints)) t k);
+      near_before = (omega (arith, ints, near_last), omega (arith, ints, near_high));
+      behind = segment c.at (omega (arith, ints));
+      behind_before = segment (c.at -ℤ pos 1) (omega (arith, ints));
+      less = until (c.at -ℤ pos 1) (omega (arith, ints));
     }
 
--- a moment at which they still show less
-pub passed_more : (z : Zone) (a : AlternateRule) (l high last next : ℤ) (s : LocalType) → IsValid z → z.rule ≡ Some (Alternate a) → IsNever z l → IsTurn z a l high last next → AlternateAt a next s → (next +ℤ s.offset) ≤ℤ l → IsPassed z l next
-passed_more z a l high last next s valid rule never turn here h = passed_at_rule z (Alternate a) l next s valid rule never turn.near turn.behind turn.less here h
+-- a change at which they still show less
+pub passed_more : (z : Zone) (a : AlternateRule) (l : ℤ) (c : Change) → IsValid z → z.rule ≡ Some (Alternate a) → IsNever z l → IsTurn z a l c
+    → (c.at +ℤ c.after.offset) ≤ℤ l → IsPassed z l c.at
+passed_more z a l c valid rule never turn h = passed_at_rule z (Alternate a) l c.at c.after valid rule never turn.near turn.behind turn.less turn.is.after h
 
-pub gap_of_turn : (z : Zone) (a : AlternateRule) (l low high last next : ℤ) (s t : LocalType) → IsValid z → z.rule ≡ Some (Alternate a) → IsNever z l → IsReach z l low high → IsTurn z a l high last next → AlternateAt a next s → l <ℤ (next +ℤ s.offset) → AlternateAt a last t → HasGap (TypeAt z) l t s next
-gap_of_turn z a l low high last next s t valid rule never reach turn here more before =
-    gap_found z l low high next s t never reach turn.near turn.less (type_by_rule z (Alternate a) next s valid rule turn.near turn.behind here) more (turn.before t before)
+pub gap_of_turn : (z : Zone) (a : AlternateRule) (l low high : ℤ) (c : Change) → IsValid z → z.rule ≡ Some (Alternate a) → IsNever z l
+    → IsReach z l low high → IsTurn z a l c → l <ℤ (c.at +ℤ c.after.offset) → HasGap (TypeAt z) l c.before c.after c.at
+gap_of_turn z a l low high c valid rule never reach turn more =
+    gap_found z l low high c.at c.after c.before never reach turn.near turn.less (type_by_rule z (Alternate a) c.at c.after valid rule turn.near turn.behind turn.is.after) more
+    (type_by_rule z (Alternate a) (c.at -ℤ pos 1) c.before valid rule turn.near_before turn.behind_before turn.is.before)

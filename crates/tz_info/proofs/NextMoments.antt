@@ -1,11 +1,14 @@
--- A rule has one type from a second on, until the next moment of three years or the year's end.
-use Rattle.std.proofs.Common.{◌≡◌, arith, ℤ, pos, ◌+ℤ◌, ◌-ℤ◌, ◌*ℤ◌, ◌≤ℤ◌, ◌<ℤ◌, ◌⊎◌, ⊎_elim, inl, inr, subst, sym, Bool}
-use Rattle.std.proofs.lemmas.Int.{ints}
+-- A rule has one type from a second on, until the next moment of three years or the year's end; and the nearest of two moments.
+use Rattle.std.proofs.Common.{◌≡◌, arith, ℤ, pos, ◌+ℤ◌, ◌-ℤ◌, ◌*ℤ◌, ◌≤ℤ◌, ◌<ℤ◌, ◌⊎◌, ⊎_elim, inl, inr, subst, sym, Bool, true, false}
+use Rattle.std.proofs.lemmas.Int.{ints, by_lt_z}
 use Rattle.naive_base.specs.Year.{floor_div, year_start}
 use Rattle.naive_base.proofs.ForCallers.{floors, one_year}
-use Rattle.tz_info.specs.Moments.{IsYearOf, IsInSomeYear, IsDstAt, IsRuleYear, start_in, end_in}
+use Rattle.tz_timeline.proofs.ForCallers.{le_true, le_false, lt_true, lt_false}
+use Rattle.tz_base.specs.LocalTypes.{LocalType}
+use Rattle.tz_info.specs.Moments.{AlternateAt, IsYearOf, IsInSomeYear, IsDstAt, IsRuleYear, start_in, end_in}
 use Rattle.tz_info.specs.Rules.{Alternate, IsAlternateRule}
-use Rattle.tz_info.specs.Steps.NextMoments.{IsLastUpTo, IsNextAfter, IsSteadyUntil}
+use Rattle.tz_info.specs.Steps.Changes.{IsAhead, Precedes}
+use Rattle.tz_info.specs.Steps.NextMoments.{IsNearestMoment, IsOutside, nearer_moment}
 use Rattle.tz_info.proofs.Neighbours.{IsNear, starts_near, ends_near, second_low, place, not_earlier, not_later}
 
 -- in the year and in its neighbours no moment comes after u and before `next`
@@ -17,22 +20,6 @@ pub outside : (moments : ℤ → ℤ) (year u next : ℤ) → (moments (year -�
 outside moments year u next before here after y low high =
     let at : (z : ℤ) → z ≡ y → (moments z ≤ℤ u) ⊎ (next ≤ℤ moments z) → (moments y ≤ℤ u) ⊎ (next ≤ℤ moments y) = λ z e h. subst (λ (w : ℤ). (moments w ≤ℤ u) ⊎ (next ≤ℤ moments w)) e h in
     ⊎_elim (λ e. at (year -ℤ pos 1) (sym e) before) (⊎_elim (λ e. at year (sym e) here) (λ e. at (year +ℤ pos 1) (sym e) after)) (place year y low high)
-
-sooner : (m u a b : ℤ) → b ≤ℤ a → (m ≤ℤ u) ⊎ (a ≤ℤ m) → (m ≤ℤ u) ⊎ (b ≤ℤ m)
-sooner m u a b h = ⊎_elim (λ k. inl k) (λ k. inr (omega (arith, ints)))
-
-pub next_of_two : (first second u last one next : ℤ) → IsNextAfter first first u last one → IsNextAfter second second u one next → IsNextAfter first second u last next
-next_of_two first second u last one next a b =
-    let m = a.not_after in let n = b.not_after in
-    record { later = b.later; not_after = omega (arith, ints); of_first = sooner first u one next n a.of_first; of_second = b.of_first }
-
-still_up_to : (m u a b : ℤ) → a ≤ℤ b → (u <ℤ m) ⊎ (m ≤ℤ a) → (u <ℤ m) ⊎ (m ≤ℤ b)
-still_up_to m u a b h = ⊎_elim (λ k. inl k) (λ k. inr (omega (arith, ints)))
-
-pub last_of_two : (first second u least one last : ℤ) → IsLastUpTo first first u least one → IsLastUpTo second second u one last → IsLastUpTo first second u least last
-last_of_two first second u least one last a b =
-    let m = a.not_before in let n = b.not_before in
-    record { up_to = b.up_to; not_before = omega (arith, ints); of_first = still_up_to first u one last n a.of_first; of_second = b.of_first }
 
 same_year : (u v next year : ℤ) → IsYearOf u year → u ≤ℤ v → v <ℤ next → next ≤ℤ (pos 86_400 *ℤ year_start (year +ℤ pos 1)) → IsYearOf v year
 same_year u v next year of_u from before end = let low = second_low u year of_u in (omega (arith, floors), omega (arith, floors))
@@ -58,6 +45,11 @@ dst_on starts ends year u v next dst near_start near_end of_u of_v from before o
       (λ t. on ends starts year u v next near_end near_start of_u from before out_start (k.0 t), λ s. k.1 (back ends starts year u v next near_end near_start of_v from before out_end s));
 }
 
+-- from u on and before `next` the rule has one type
+pub record IsSteadyUntil (a : Alternate) (u next : ℤ) : Type 0 where
+  pub later : u <ℤ next
+  pub same : (v : ℤ) → u ≤ℤ v → v <ℤ next → (t : LocalType) → AlternateAt a u t → AlternateAt a v t
+
 pub steady_until : (a : Alternate) (year u next : ℤ) → IsAlternateRule a → IsYearOf u year → u <ℤ next → next ≤ℤ (pos 86_400 *ℤ year_start (year +ℤ pos 1)) → AreOutside (start_in a) year u next → AreOutside (end_in a) year u next → IsSteadyUntil a u next
 steady_until a year u next rule of_u later end out_start out_end = record {
   later = later;
@@ -75,12 +67,31 @@ steady_until a year u next rule of_u later end out_start out_end = record {
       };
 }
 
--- the moments of three years, passed by one after the other
-pub steady_after : (a : Alternate) (year u one two next : ℤ) → IsAlternateRule a → IsYearOf u year → IsNextAfter (start_in a (year -ℤ pos 1)) (end_in a (year -ℤ pos 1)) u (pos 86_400 *ℤ year_start (year +ℤ pos 1)) one
-    → IsNextAfter (start_in a year) (end_in a year) u one two → IsNextAfter (start_in a (year +ℤ pos 1)) (end_in a (year +ℤ pos 1)) u two next → IsSteadyUntil a u next
-steady_after a year u one two next rule of_u before here after =
-    let x = before.not_after in let y = here.not_after in let z = after.not_after in
-    let m : next ≤ℤ one = omega (arith, ints) in
-    steady_until a year u next rule of_u after.later (omega (arith, ints))
-    (outside (start_in a) year u next (sooner _ u one next m before.of_first) (sooner _ u two next z here.of_first) after.of_first)
-    (outside (end_in a) year u next (sooner _ u one next m before.of_second) (sooner _ u two next z here.of_second) after.of_second)
+-- ---- the nearest of two moments and a limit
+nearer : (w : Bool) (s limit m : ℤ) → IsAhead w s limit → IsNearestMoment w m m s limit (nearer_moment w s limit m)
+nearer true s limit m h = by_lt_z s m
+    (λ a. by_lt_z m limit
+    (λ b. rw (lt_true s m a, lt_true m limit b) (record { ahead = a; within = omega (arith, ints); of_first = inr (omega (arith, ints)); of_second = inr (omega (arith, ints)) }))
+    (λ b. rw (lt_true s m a, lt_false m limit b) (record { ahead = h; within = omega (arith, ints); of_first = inr b; of_second = inr b })))
+    (λ a. rw (lt_false s m a) (record { ahead = h; within = omega (arith, ints); of_first = inl a; of_second = inl a }))
+nearer false s limit m h = by_lt_z limit m
+    (λ a. by_lt_z s m
+    (λ b. rw (lt_true limit m a, le_false m s b) (record { ahead = h; within = omega (arith, ints); of_first = inl b; of_second = inl b }))
+    (λ b. rw (lt_true limit m a, le_true m s b) (record { ahead = b; within = omega (arith, ints); of_first = inr (omega (arith, ints)); of_second = inr (omega (arith, ints)) })))
+    (λ a. rw (lt_false limit m a) (record { ahead = h; within = omega (arith, ints); of_first = inr a; of_second = inr a }))
+
+still_outside : (w : Bool) (m s one next : ℤ) → Precedes w next one → IsOutside w s one m → IsOutside w s next m
+still_outside true m s one next h = ⊎_elim (λ k. inl k) (λ k. inr (omega (arith, ints)))
+still_outside false m s one next h = ⊎_elim (λ k. inl k) (λ k. inr (omega (arith, ints)))
+
+precedes_on : (w : Bool) (x y z : ℤ) → Precedes w x y → Precedes w y z → Precedes w x z
+precedes_on true x y z h k = omega (arith, ints)
+precedes_on false x y z h k = omega (arith, ints)
+
+pub nearest_moment : (w : Bool) (first second s limit : ℤ) → IsAhead w s limit
+    → IsNearestMoment w first second s limit (nearer_moment w s (nearer_moment w s limit first) second)
+nearest_moment w first second s limit h =
+    let one : ℤ = nearer_moment w s limit first in
+    let a = nearer w s limit first h in
+    let b = nearer w s one second a.ahead in
+    record { ahead = b.ahead; within = precedes_on w (nearer_moment w s one second) one limit b.within a.within; of_first = still_outside w first s one (nearer_moment w s one second) b.within a.of_first; of_second = b.of_first }

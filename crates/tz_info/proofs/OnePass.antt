@@ -19,7 +19,7 @@ use Rattle.tz_info.specs.WallPieces.{answer_before, answer_at, AreInOrder, IsSta
 use Rattle.tz_info.specs.Zones.{Zone, IsValid, HasType}
 use Rattle.tz_info.specs.declared.rule.transition_rule.TransitionRule.{TransitionRule}
 use Rattle.tz_info.specs.declared.zone.leap_second.LeapSecond.{LeapSecond}
-use Rattle.tz_info.specs.declared.zone.one_pass.Segment.{Segment}
+use Rattle.tz_info.specs.declared.zone.segments.Segment.{Segment}
 use Rattle.tz_info.specs.declared.zone.pieces.Piece.{Piece}
 use Rattle.tz_info.specs.declared.zone.shown.Jump.{Jump}
 use Rattle.tz_info.specs.declared.zone.shown.Shown.TheVariants.{Less, Skipped, Once}

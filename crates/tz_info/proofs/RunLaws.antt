@@ -1,63 +1,28 @@
 -- Runs: where no change comes the type stays.
-use Rattle.std.proofs.Common.{◌≡◌, ◌≢◌, ◌⊎◌, ℕ, zero, suc, Bool, true, false, arith, refl, sym, ◌∙◌, subst, ℤ, pos, negsuc, ◌+ℤ◌, ◌-ℤ◌, ◌≤ℤ◌, ◌<ℤ◌, inl, inr, w64}
+use Rattle.std.proofs.Common.{arith, sym, ◌∙◌, subst, ℤ, pos, ◌-ℤ◌, ◌≤ℤ◌, ◌<ℤ◌}
 use Rattle.std.proofs.lemmas.Int.{ints}
-use mir.Val.{SFits}
 use Rattle.tz_base.specs.LocalTypes.{LocalType}
-use Rattle.tz_base.specs.contracts.local_time_type.LocalTimeTypePartialEq.TheImpl.{eq-value as type_eq}
 use Rattle.tz_base.specs.declared.change.Change.{Change}
-use Rattle.tz_base.proofs.ForCallers.{type_exact}
 use Rattle.tz_info.specs.Changes.{IsChange, HasNoChange, IsFirstChange}
 use Rattle.tz_info.specs.Leaps.{IsNear}
 use Rattle.tz_info.specs.Steps.Runs.{IsRunUntil, IsRunSince}
 use Rattle.tz_info.specs.Zones.{Zone, IsValid, IsRuleOrNone, TypeAt}
-use Rattle.tz_info.proofs.ChangeSearch.{InForce}
 use Rattle.tz_info.proofs.GapLaws.{near_type}
+use Rattle.tz_info.proofs.SpanLaws.{no_change}
 use Rattle.tz_info.proofs.ZoneLaws.{type_once}
 
-pub same_or_not : (s t : LocalType) → (s ≡ t) ⊎ (s ≢ t)
-same_or_not s t = tested (type_eq.it s t) refl where
-  tested : (b : Bool) → type_eq.it s t ≡ b → (s ≡ t) ⊎ (s ≢ t)
-  tested true e = inl ((type_exact s t).0 e)
-  tested false e = inr (λ same. let h = (type_exact s t).1 same in cc)
-
--- from one second to the next
-step_up : (f : InForce) (v w : ℤ) (s t : LocalType) → v ≡ w -ℤ pos 1 → IsNear v → IsNear w → HasNoChange f (λ x. x ≡ w) → f v s → f w t → s ≡ t
-step_up f v w s t e near near_next none h k = elim (same_or_not s t) [
-  | inl same ↦ same
-  | inr differ ↦
-      let fits : SFits w64 v = omega (arith, ints, near) in
-      let fits_next : SFits w64 w = omega (arith, ints, near_next) in
-      let c : Change = record { at = w; before = s; after = t } in
-      absurd (none c (record { fits = fits_next; fits_before = rw e at fits; before = rw e at h; after = k; differ = differ }) refl)
-]
-
--- so many seconds on
-steps_up : (z : Zone) (u v : ℤ) (t : LocalType) (n : ℕ) → IsValid z → IsRuleOrNone z.rule → v ≡ u +ℤ pos n → IsNear u → IsNear v → HasNoChange (TypeAt z) (λ w. (u <ℤ w) × (w ≤ℤ v))
-    → TypeAt z u t → TypeAt z v t
-steps_up z u v t zero valid limits e near near_end none h = let same : u ≡ v = omega (arith, ints) in subst (λ w. TypeAt z w t) same h
-steps_up z u v t (suc n) valid limits e near near_end none h =
-    let near_n : IsNear (v -ℤ pos 1) = (omega (arith, ints, near, near_end), omega (arith, ints, near, near_end)) in
-    let before = steps_up z u (v -ℤ pos 1) t n valid limits (omega (arith, ints)) near near_n (λ d is k. let a = k.0 in let b = k.1 in none d is (a, omega (arith, ints))) h in
+stays : (z : Zone) (u v : ℤ) (t : LocalType) → IsValid z → IsRuleOrNone z.rule → IsNear u → IsNear v → u ≤ℤ v
+    → HasNoChange (TypeAt z) (λ w. (u <ℤ w) × (w ≤ℤ v)) → TypeAt z u t → TypeAt z v t
+stays z u v t valid limits near near_end h none k =
     let next = near_type z v valid limits near_end in
-    let same = step_up (TypeAt z) (v -ℤ pos 1) v t next.0 refl near_n near_end (λ d is k. none d is (omega (arith, ints), omega (arith, ints))) before next.1 in
+    let same = no_change z u v t next.0 valid limits (omega (arith, ints, near)) (omega (arith, ints, near_end)) h none k next.1 in
     subst (TypeAt z v) (sym same) next.1
-
-natural : (d : ℤ) → pos 0 ≤ℤ d → (n : ℕ) × (d ≡ pos n)
-natural (pos n) h = (n, refl)
-natural (negsuc n) h = absurd (omega (arith, ints))
-
-distance : (u v : ℤ) → u ≤ℤ v → (n : ℕ) × (v ≡ u +ℤ pos n)
-distance u v h = let n = natural (v -ℤ u) (omega (arith, ints)) in let e = n.1 in (n.0, omega (arith, ints))
-
-pub stays : (z : Zone) (u v : ℤ) (t : LocalType) → IsValid z → IsRuleOrNone z.rule → IsNear u → IsNear v → u ≤ℤ v → HasNoChange (TypeAt z) (λ w. (u <ℤ w) × (w ≤ℤ v)) → TypeAt z u t → TypeAt z v t
-stays z u v t valid limits near near_end h none k = let n = distance u v h in steps_up z u v t n.0 valid limits n.1 near near_end none k
 
 -- and back
 stays_back : (z : Zone) (u v : ℤ) (t : LocalType) → IsValid z → IsRuleOrNone z.rule → IsNear u → IsNear v → u ≤ℤ v → HasNoChange (TypeAt z) (λ w. (u <ℤ w) × (w ≤ℤ v)) → TypeAt z v t → TypeAt z u t
 stays_back z u v t valid limits near near_end h none k =
-    let s = near_type z u valid limits near in
-    let same = type_once z v s.0 t (stays z u v s.0 valid limits near near_end h none s.1) k in
-    subst (TypeAt z u) same s.1
+    let first = near_type z u valid limits near in
+    subst (TypeAt z u) (no_change z u v first.0 t valid limits (omega (arith, ints, near)) (omega (arith, ints, near_end)) h none first.1 k) first.1
 
 -- no change comes after `at` and before `end`
 same_until : (z : Zone) (at end : ℤ) → IsValid z → IsRuleOrNone z.rule → IsNear at → IsNear end → ((d : Change) → IsChange (TypeAt z) d → at <ℤ d.at → end ≤ℤ d.at)

@@ -1,16 +1,17 @@
 -- Changes of a rule where the moments of one season decide: only these come with one.
-use Rattle.std.proofs.Common.{◌≡◌, arith, refl, sym, ap, ◌∙◌, ℤ, pos, ◌-ℤ◌, ◌≤ℤ◌, ◌<ℤ◌, ◌⊎◌, ⊎_elim, int_le, int_lt, Option}
+use Rattle.std.proofs.Common.{◌≡◌, arith, refl, sym, ap, ◌∙◌, Bool, true, false, ℤ, pos, neg_ℤ, ◌+ℤ◌, ◌-ℤ◌, ◌≤ℤ◌, ◌<ℤ◌, ◌⊎◌, ⊎_elim, inl, inr, int_le, int_lt, Option}
 use Rattle.std.proofs.lemmas.Int.{ints, by_lt_z}
-use Rattle.tz_info.specs.Changes.{IsChange, HasNoChange, IsFirstChange, IsLastChange, IsFirst, IsLast}
-use Rattle.tz_info.specs.Moments.{AlternateAt, type_when}
+use Rattle.tz_info.specs.Changes.{IsChange, HasNoChange}
+use Rattle.tz_info.specs.Moments.{AlternateAt, IsRuleTime, type_when}
 use Rattle.tz_info.specs.Rules.{Alternate}
-use Rattle.tz_info.specs.Steps.Changes.{IsIdleUntil}
-use Rattle.tz_info.specs.Steps.NextMoments.{IsNextAfter, IsLastUpTo}
-use Rattle.tz_info.specs.Steps.Seasons.{IsSeason, IsDecidedIn}
+use Rattle.tz_info.specs.Steps.Changes.{IsAhead, IsIdleTo, IsNearest, IsNearestChange, IsUpTo, Precedes, far_side, near_side}
+use Rattle.tz_info.specs.Steps.NextMoments.{IsNearestMoment, nearer_moment}
+use Rattle.tz_info.specs.Steps.Seasons.{IsAmid, IsDecidedIn, IsLimit, IsSeason}
 use Rattle.tz_info.specs.Steps.Turns.{is_dst_by_one}
 use Rattle.tz_base.specs.declared.change.Change.{Change}
 use Rattle.tz_info.specs.declared.rule.alternate.Season.{Season}
-use Rattle.tz_info.proofs.ChangeSearch.{InForce, first_moved, last_moved}
+use Rattle.tz_info.proofs.ChangeSearch.{InForce, nearest_moved}
+use Rattle.tz_info.proofs.NextMoments.{nearest_moment}
 use Rattle.tz_info.proofs.RuleChanges.{rule_second, rule_type_once}
 
 -- ---- seconds at which neither moment comes
@@ -32,72 +33,104 @@ none_aside a s d season before here start end is =
     let h = season.decided d.at (rule_second a d.at d.after is.after) here in
     is.differ (rule_type_once a (d.at -ℤ pos 1) d.before _ is.before b ∙ ap (type_when a) (dst_alike s.turns.start s.turns.end d.at start end) ∙ sym (rule_type_once a d.at d.after _ is.after h))
 
--- ---- the next one of them
+-- ---- the nearest one of them in a direction
 after_side : (m after next u : ℤ) → after <ℤ u → u <ℤ next → (m ≤ℤ after) ⊎ (next ≤ℤ m) → m ≡ u → ⊥
 after_side m after next u h k side e = ⊎_elim (λ l. omega (arith, ints)) (λ l. omega (arith, ints)) side
 
-pub next_idle : (a : Alternate) (s : Season) (after end next : ℤ) → IsSeason a s → IsDecidedIn s after → end ≤ℤ s.until → IsNextAfter s.turns.start s.turns.end after end next → IsIdleUntil (AlternateAt a) after (next -ℤ pos 1)
-next_idle a s after end next season decides most h = record {
-  later = let l = h.later in omega (arith, ints);
-  none = λ d is inside.
-      let low = decides.0 in let n = h.not_after in let l = inside.0 in let m = inside.1 in
-      none_aside a s d season (omega (arith, ints), omega (arith, ints)) (omega (arith, ints), omega (arith, ints))
-      (after_side s.turns.start after next d.at l (omega (arith, ints)) h.of_first) (after_side s.turns.end after next d.at l (omega (arith, ints)) h.of_second) is;
-}
-
--- ---- the last one of them
 up_to_side : (m last u until : ℤ) → last <ℤ u → u ≤ℤ until → (until <ℤ m) ⊎ (m ≤ℤ last) → m ≡ u → ⊥
 up_to_side m last u until h k side e = ⊎_elim (λ l. omega (arith, ints)) (λ l. omega (arith, ints)) side
 
-pub last_idle : (a : Alternate) (s : Season) (until begin last : ℤ) → IsSeason a s → IsDecidedIn s until → s.from ≤ℤ begin → IsLastUpTo s.turns.start s.turns.end until begin last → IsIdleUntil (AlternateAt a) last until
-last_idle a s until begin last season decides least h = record {
-  later = h.up_to;
-  none = λ d is inside.
-      let high = decides.1 in let n = h.not_before in let l = inside.0 in let m = inside.1 in
-      none_aside a s d season (omega (arith, ints), omega (arith, ints)) (omega (arith, ints), omega (arith, ints))
-      (up_to_side s.turns.start last d.at until l m h.of_first) (up_to_side s.turns.end last d.at until l m h.of_second) is;
-}
+limit_ahead : (w : Bool) (s : Season) (second limit : ℤ) → IsRuleTime second → IsDecidedIn s second → IsLimit w s limit → IsAhead w second limit
+limit_ahead true s second limit time decides is =
+    let high = time.1 in let until = decides.1 in
+    let l = (is (second +ℤ pos 1)).1 (omega (arith, ints), omega (arith, ints)) in omega (arith, ints)
+limit_ahead false s second limit time decides is = (is second).1 (decides.0, time.0)
 
--- ---- the second behind such a stretch, and the one before it
-pub first_at : (f : InForce) (after second : ℤ) (c : Change) → IsIdleUntil f after (second -ℤ pos 1) → IsChange f c → c.at ≡ second → IsFirstChange f (λ u. after <ℤ u) c
-first_at f after second c idle is at = record {
+-- no change comes before the moment, and it is one of the season's seconds unless it is the limit
+pub record IsMomentAhead (w : Bool) (a : Alternate) (s : Season) (second limit moment : ℤ) : Type 0 where
+  pub idle : IsIdleTo w (AlternateAt a) second (near_side w moment)
+  pub least : neg_ℤ (pos 67_768_100_504_812_800) ≤ℤ moment
+  pub amid : (moment ≡ limit → ⊥) → IsAmid s moment
+
+moment_is : (w : Bool) (a : Alternate) (s : Season) (second limit moment : ℤ) → IsSeason a s → IsRuleTime second → IsDecidedIn s second
+    → IsLimit w s limit → IsNearestMoment w s.turns.start s.turns.end second limit moment → IsMomentAhead w a s second limit moment
+moment_is true a s second limit moment season time decides is h =
+    let (until, last) = (is limit).0 (omega (arith, ints)) in
+    let low = time.0 in let from = decides.0 in let later = h.ahead in let most = h.within in
+    record {
+      idle = record {
+        reached = omega (arith, ints);
+        none = λ d is_d inside.
+            let l = inside.0 in let m = inside.1 in
+            none_aside a s d season (omega (arith, ints), omega (arith, ints)) (omega (arith, ints), omega (arith, ints))
+            (after_side s.turns.start second moment d.at l (omega (arith, ints)) h.of_first) (after_side s.turns.end second moment d.at l (omega (arith, ints)) h.of_second) is_d;
+      };
+      least = omega (arith, ints);
+      amid = λ other.
+          let sooner : moment <ℤ limit = by_lt_z moment limit (λ k. k) (λ k. absurd (other (omega (arith, ints)))) in
+          (((omega (arith, ints), omega (arith, ints)), (omega (arith, ints), omega (arith, ints))), (omega (arith, ints), omega (arith, ints)), (omega (arith, ints), omega (arith, ints)));
+    }
+moment_is false a s second limit moment season time decides is h =
+    let (from, first) = (is limit).0 (omega (arith, ints)) in
+    let high = time.1 in let until = decides.1 in let up_to = h.ahead in let fewest = h.within in
+    record {
+      idle = record {
+        reached = up_to;
+        none = λ d is_d inside.
+            let l = inside.0 in let m = inside.1 in
+            none_aside a s d season (omega (arith, ints), omega (arith, ints)) (omega (arith, ints), omega (arith, ints))
+            (up_to_side s.turns.start moment d.at second l m h.of_first) (up_to_side s.turns.end moment d.at second l m h.of_second) is_d;
+      };
+      least = omega (arith, ints);
+      amid = λ other.
+          let later : limit <ℤ moment = by_lt_z limit moment (λ k. k) (λ k. absurd (other (omega (arith, ints)))) in
+          (((omega (arith, ints), omega (arith, ints)), (omega (arith, ints), omega (arith, ints))), (omega (arith, ints), omega (arith, ints)), (omega (arith, ints), omega (arith, ints)));
+    }
+
+pub moment_ahead : (w : Bool) (a : Alternate) (s : Season) (second limit moment : ℤ) → IsSeason a s → IsRuleTime second → IsDecidedIn s second
+    → IsLimit w s limit
+    → moment ≡ nearer_moment w second (nearer_moment w second limit s.turns.start) s.turns.end → IsMomentAhead w a s second limit moment
+moment_ahead w a s second limit moment season time decides is e =
+    moment_is w a s second limit moment season time decides is (rw e (nearest_moment w s.turns.start s.turns.end second limit (limit_ahead w s second limit time decides is)))
+
+-- ---- a change at the moment behind such a stretch, or none
+pub found_at : (w : Bool) (f : InForce) (second moment : ℤ) (c : Change) → IsIdleTo w f second (near_side w moment) → IsChange f c → c.at ≡ moment
+    → IsNearestChange w f (IsAhead w second) c
+found_at true f second moment c idle is at = record {
   is = is;
-  inside = let l = idle.later in omega (arith, ints);
-  first = λ d is_d later. by_lt_z d.at second (λ m. absurd (idle.none d is_d (later, omega (arith, ints)))) (λ m. omega (arith, ints));
+  inside = let l = idle.reached in omega (arith, ints);
+  nearest = λ d is_d later. by_lt_z d.at moment (λ m. absurd (idle.none d is_d (later, omega (arith, ints)))) (λ m. omega (arith, ints));
 }
-
-pub idle_on : (f : InForce) (after second : ℤ) → IsIdleUntil f after (second -ℤ pos 1) → HasNoChange f (λ u. u ≡ second) → IsIdleUntil f after second
-idle_on f after second idle none = record {
-  later = let l = idle.later in omega (arith, ints);
-  none = λ d is inside. let m = inside.1 in by_lt_z d.at second (λ l. idle.none d is (inside.0, omega (arith, ints))) (λ l. none d is (omega (arith, ints)));
-}
-
-pub last_at : (f : InForce) (last second : ℤ) (c : Change) → IsIdleUntil f second last → IsChange f c → c.at ≡ second → IsLastChange f (λ u. u ≤ℤ last) c
-last_at f last second c idle is at = record {
+found_at false f second moment c idle is at = record {
   is = is;
-  inside = let l = idle.later in omega (arith, ints);
-  last = λ d is_d up_to. by_lt_z second d.at (λ m. absurd (idle.none d is_d (m, up_to))) (λ m. omega (arith, ints));
+  inside = let l = idle.reached in omega (arith, ints);
+  nearest = λ d is_d up_to. by_lt_z moment d.at (λ m. absurd (idle.none d is_d (m, up_to))) (λ m. omega (arith, ints));
 }
 
-pub idle_back : (f : InForce) (second last : ℤ) → IsIdleUntil f second last → HasNoChange f (λ u. u ≡ second) → IsIdleUntil f (second -ℤ pos 1) last
-idle_back f second last idle none = record {
-  later = let l = idle.later in omega (arith, ints);
-  none = λ d is inside. let m = inside.0 in by_lt_z second d.at (λ l. idle.none d is (l, inside.1)) (λ l. none d is (omega (arith, ints)));
+pub idle_over : (w : Bool) (f : InForce) (second moment : ℤ) → IsIdleTo w f second (near_side w moment) → HasNoChange f (λ u. u ≡ moment)
+    → IsIdleTo w f second (far_side w moment)
+idle_over true f second moment idle none = record {
+  reached = let l = idle.reached in omega (arith, ints);
+  none = λ d is inside. let m = inside.1 in by_lt_z d.at moment (λ l. idle.none d is (inside.0, omega (arith, ints))) (λ l. none d is (omega (arith, ints)));
+}
+idle_over false f second moment idle none = record {
+  reached = let l = idle.reached in omega (arith, ints);
+  none = λ d is inside. let m = inside.0 in by_lt_z moment d.at (λ l. idle.none d is (l, inside.1)) (λ l. none d is (omega (arith, ints)));
 }
 
--- ---- where none comes up to a second, the first one after it is the first one
-pub first_on : (f : InForce) (after second : ℤ) (found : Option Change) → IsIdleUntil f after second → IsFirst f (λ u. second <ℤ u) found → IsFirst f (λ u. after <ℤ u) found
-first_on f after second found idle h =
-    let l = idle.later in
-    first_moved f f (λ u. second <ℤ u) (λ u. after <ℤ u) found
-    (λ d is k. (is, by_lt_z second d.at (λ m. m) (λ m. absurd (idle.none d is (k, m)))))
-    (λ d is k. (is, omega (arith, ints)))
-    h
+-- ---- where none comes up to a second, the nearest one from there on is the nearest one
+ahead_or : (w : Bool) (s other u : ℤ) → IsAhead w s u → IsUpTo w s other u ⊎ IsAhead w other u
+ahead_or true s other u h = by_lt_z other u (λ m. inr m) (λ m. inl (h, m))
+ahead_or false s other u h = by_lt_z other u (λ m. inl (m, h)) (λ m. inr m)
 
-pub last_back : (f : InForce) (second last : ℤ) (found : Option Change) → IsIdleUntil f second last → IsLast f (λ u. u ≤ℤ second) found → IsLast f (λ u. u ≤ℤ last) found
-last_back f second last found idle h =
-    let l = idle.later in
-    last_moved f f (λ u. u ≤ℤ second) (λ u. u ≤ℤ last) found
-    (λ d is k. (is, by_lt_z second d.at (λ m. absurd (idle.none d is (m, k))) (λ m. m)))
-    (λ d is k. (is, omega (arith, ints)))
+ahead_still : (w : Bool) (s other u : ℤ) → Precedes w s other → IsAhead w other u → IsAhead w s u
+ahead_still true s other u h k = omega (arith, ints)
+ahead_still false s other u h k = omega (arith, ints)
+
+pub nearest_on : (w : Bool) (f : InForce) (s other : ℤ) (found : Option Change) → IsIdleTo w f s other → IsNearest w f (IsAhead w other) found
+    → IsNearest w f (IsAhead w s) found
+nearest_on w f s other found idle h =
+    nearest_moved w f f (IsAhead w other) (IsAhead w s) found
+    (λ d is k. (is, ⊎_elim (λ m. absurd (idle.none d is m)) (λ m. m) (ahead_or w s other d.at k)))
+    (λ d is k. (is, ahead_still w s other d.at idle.reached k))
     h

@@ -1,29 +1,26 @@
--- Spans: where no change comes the type stays, and at each second between two that have a type there is one.
-use Rattle.std.proofs.Common.{◌≡◌, ◌≢◌, ◌⊎◌, ℕ, zero, suc, ◌<◌, Bool, true, false, arith, refl, sym, subst, ap, ◌∙◌, ◌-◌, List, [], ◌∷◌, length, slice_get, ℤ, pos, negsuc, neg_ℤ, ◌+ℤ◌, ◌-ℤ◌, ◌≤ℤ◌, ◌<ℤ◌, inl, inr, Option, Some, None, w64}
+-- Spans: at each second between two that have a type there is one, and from the last change to the next one it is the same.
+use Rattle.std.proofs.Common.{◌≡◌, ◌⊎◌, ℕ, zero, suc, ◌<◌, arith, refl, sym, subst, ap, ◌∙◌, ◌-◌, List, [], ◌∷◌, length, slice_get, ℤ, pos, neg_ℤ, ◌-ℤ◌, ◌≤ℤ◌, ◌<ℤ◌, inl, inr, Option, Some, None, IfSome, option_map, w64}
 use Rattle.std.proofs.lemmas.Int.{ints, by_lt_z}
 use Rattle.std.proofs.lemmas.Bool.{cases_lt}
 use mir.Val.{SFits}
 use Rattle.tz_base.specs.LocalTypes.{LocalType}
-use Rattle.tz_base.specs.contracts.local_time_type.LocalTimeTypePartialEq.TheImpl.{eq-value as type_eq}
 use Rattle.tz_base.specs.declared.change.Change.{Change}
-use Rattle.tz_base.proofs.ForCallers.{type_exact}
 use Rattle.naive_base.specs.Year.{floor_div}
 use Rattle.naive_base.specs.DateOf.{year_of}
 use Rattle.naive_base.proofs.ForCallers.{lies_in}
-use Rattle.tz_info.specs.Changes.{IsChange, HasNoChange, IsFirstChange, IsLastChange}
+use Rattle.tz_info.specs.Changes.{IsChange, HasNoChange, IsFirst, IsLast, IsLastChange}
 use Rattle.tz_info.specs.Leaps.{AreLeapSeconds, IsLeapTime, IsUnixTime, correction_before, passed_count}
 use Rattle.tz_info.specs.Moments.{IsAlternateRefused, IsRuleTime}
 use Rattle.tz_info.specs.Rules.{Alternate as AlternateRule}
 use Rattle.tz_info.specs.Segments.{segment_of}
 use Rattle.tz_info.specs.Spans.{IsSince, IsUntil, IsInSpan, IsSpan, IsSpanAt}
-use Rattle.tz_info.specs.Steps.Spans.{IsFrom, IsTo}
 use Rattle.tz_info.specs.Zones.{Zone, IsValid, IsRuleOrNone, IsTypeRefused, by_leap_time, by_rule, IsRefusedBy, TypeAt, Agrees, IsFromLast, last_transition}
 use Rattle.tz_info.specs.declared.rule.transition_rule.TransitionRule.{TransitionRule}
 use Rattle.tz_info.specs.declared.rule.transition_rule.TransitionRule.TheVariants.{Fixed, Alternate}
 use Rattle.tz_info.specs.declared.zone.leap_second.LeapSecond.{LeapSecond}
 use Rattle.tz_base.specs.declared.span.Span.{Span}
 use Rattle.tz_info.specs.declared.zone.transition.Transition.{Transition}
-use Rattle.tz_info.proofs.ChangeSearch.{InForce}
+use Rattle.tz_info.proofs.ChangeSearch.{InForce, Typed, stays}
 use Rattle.tz_info.proofs.LastType.{last_is}
 use Rattle.tz_info.proofs.LeapEntries.{follow, before_found}
 use Rattle.tz_info.proofs.LeapOrder.{none_counted}
@@ -32,47 +29,6 @@ use Rattle.tz_info.proofs.RuleLaws.{rule_year}
 use Rattle.tz_info.proofs.SegmentLaws.{segments_rise, segment_most, come_at_time, come_by_time}
 use Rattle.tz_info.proofs.ZoneChanges.{refused_on, time_of, to_rule}
 use Rattle.tz_info.proofs.ZoneLaws.{type_once, type_decided}
-
--- ---- where no change comes the type stays
--- some type is in force at the second
-abbrev pub Typed : InForce → ℤ → Type 0
-Typed f u = (t : LocalType) × f u t
-
-same_or_not : (s t : LocalType) → (s ≡ t) ⊎ (s ≢ t)
-same_or_not s t = tested (type_eq.it s t) refl where
-  tested : (b : Bool) → type_eq.it s t ≡ b → (s ≡ t) ⊎ (s ≢ t)
-  tested true e = inl ((type_exact s t).0 e)
-  tested false e = inr (λ same. let h = (type_exact s t).1 same in cc)
-
--- from one second to the next
-step_up : (f : InForce) (v w : ℤ) (s t : LocalType) → v ≡ w -ℤ pos 1 → SFits w64 v → SFits w64 w → HasNoChange f (λ x. x ≡ w) → f v s → f w t → s ≡ t
-step_up f v w s t e fits fits_next none h k = elim (same_or_not s t) [
-  | inl same ↦ same
-  | inr differ ↦
-      let c : Change = record { at = w; before = s; after = t } in
-      absurd (none c (record { fits = fits_next; fits_before = rw e at fits; before = rw e at h; after = k; differ = differ }) refl)
-]
-
--- so many seconds on
-steps_up : (f : InForce) (u v : ℤ) (t : LocalType) (n : ℕ) → v ≡ u +ℤ pos n → SFits w64 u → SFits w64 v → HasNoChange f (λ w. (u <ℤ w) × (w ≤ℤ v))
-    → ((w : ℤ) → u ≤ℤ w → w ≤ℤ v → Typed f w) → f u t → f v t
-steps_up f u v t zero e fits fits_end none typed h = let same : u ≡ v = omega (arith, ints) in subst (λ w. f w t) same h
-steps_up f u v t (suc n) e fits fits_end none typed h =
-    let fits_n : SFits w64 (v -ℤ pos 1) = omega (arith, ints) in
-    let before = steps_up f u (v -ℤ pos 1) t n (omega (arith, ints)) fits fits_n (λ d is k. let a = k.0 in let b = k.1 in none d is (a, omega (arith, ints))) (λ w low high. typed w low (omega (arith, ints))) h in
-    let next = typed v (omega (arith, ints)) (omega (arith, ints)) in
-    let same = step_up f (v -ℤ pos 1) v t next.0 refl fits_n fits_end (λ d is k. none d is (omega (arith, ints), omega (arith, ints))) before next.1 in
-    subst (f v) (sym same) next.1
-
-natural : (d : ℤ) → pos 0 ≤ℤ d → (n : ℕ) × (d ≡ pos n)
-natural (pos n) h = (n, refl)
-natural (negsuc n) h = absurd (omega (arith, ints))
-
-distance : (u v : ℤ) → u ≤ℤ v → (n : ℕ) × (v ≡ u +ℤ pos n)
-distance u v h = let n = natural (v -ℤ u) (omega (arith, ints)) in let e = n.1 in (n.0, omega (arith, ints))
-
-pub stays : (f : InForce) (u v : ℤ) (t : LocalType) → SFits w64 u → SFits w64 v → u ≤ℤ v → HasNoChange f (λ w. (u <ℤ w) × (w ≤ℤ v)) → ((w : ℤ) → u ≤ℤ w → w ≤ℤ v → Typed f w) → f u t → f v t
-stays f u v t fits fits_end h none typed k = let n = distance u v h in steps_up f u v t n.0 n.1 fits fits_end none typed k
 
 -- ---- between two seconds that have a type each has one
 -- before 1970 no entry has come
@@ -164,58 +120,66 @@ typed_between z a b v s t valid limits low high h k = elim (type_decided z v val
   between (by_leap_time some r) = refused_on z.leaps v b k.leap_time valid.leaps high r (time_of z b t some k)
   between (by_rule x of_second last r) = rule_between z.rule z a b v x s t refl valid of_second last low high h k r
 
--- ---- up to u, and from u on
+-- ---- from the last change up to u to the first one after it
 -- where no change comes between two seconds that have types, these are the same
-no_change : (z : Zone) (u v : ℤ) (s t : LocalType) → IsValid z → IsRuleOrNone z.rule → SFits w64 u → SFits w64 v → u ≤ℤ v → HasNoChange (TypeAt z) (λ w. (u <ℤ w) × (w ≤ℤ v)) → TypeAt z u s → TypeAt z v t → s ≡ t
+pub no_change : (z : Zone) (u v : ℤ) (s t : LocalType) → IsValid z → IsRuleOrNone z.rule → SFits w64 u → SFits w64 v → u ≤ℤ v
+    → HasNoChange (TypeAt z) (λ w. (u <ℤ w) × (w ≤ℤ v)) → TypeAt z u s → TypeAt z v t → s ≡ t
 no_change z u v s t valid limits fits fits_end h none k l =
     type_once z v s t (stays (TypeAt z) u v s fits fits_end h none (λ w since until. typed_between z u v w s t valid limits since until k l) k) l
 
-pub from_change : (z : Zone) (u : ℤ) (t : LocalType) (c : Change) → IsValid z → IsRuleOrNone z.rule → SFits w64 u → IsLastChange (TypeAt z) (λ v. v ≤ℤ u) c → TypeAt z u t → IsFrom (TypeAt z) u t (Some c.at)
-from_change z u t c valid limits fits last h =
-    let idle : (w : ℤ) → c.at ≤ℤ w → HasNoChange (TypeAt z) (λ v. (w <ℤ v) × (v ≤ℤ u)) = λ w low d is i. let l = last.last d is i.1 in let a = i.0 in omega (arith, ints) in
-    let same : c.after ≡ t = no_change z c.at u c.after t valid limits last.is.fits fits last.inside (idle c.at (omega (arith, ints))) last.is.after h in
-    record {
-      since = last.inside;
-      each = λ v s f low high k. no_change z v u s t valid limits f fits high (idle v low) k h;
-      begins = (c.before, rw same at last.is);
-    }
+abbrev pub seconds_of : Option Change → Option ℤ
+seconds_of found = option_map (λ c. c.at) found
 
-pub from_none : (z : Zone) (u : ℤ) (t : LocalType) → IsValid z → IsRuleOrNone z.rule → SFits w64 u → HasNoChange (TypeAt z) (λ v. v ≤ℤ u) → TypeAt z u t → IsFrom (TypeAt z) u t None
-from_none z u t valid limits fits none h = record {
-  since = tt;
-  each = λ v s f low high k. no_change z v u s t valid limits f fits high (λ d is i. none d is i.1) k h;
-  begins = tt;
-}
+since_last : (f : InForce) (u : ℤ) (last : Option Change) → IsLast f (λ v. v ≤ℤ u) last → IsSince (seconds_of last) u
+since_last f u None h = tt
+since_last f u (Some c) h = h.inside
 
-pub to_change : (z : Zone) (u : ℤ) (t : LocalType) (c : Change) → IsValid z → IsRuleOrNone z.rule → SFits w64 u → IsFirstChange (TypeAt z) (λ v. u <ℤ v) c → TypeAt z u t → IsTo (TypeAt z) u t (Some c.at)
-to_change z u t c valid limits fits first h =
-    let idle : (w : ℤ) → w <ℤ c.at → HasNoChange (TypeAt z) (λ v. (u <ℤ v) × (v ≤ℤ w)) = λ w high d is i. let l = first.first d is i.0 in let b = i.1 in omega (arith, ints) in
-    let later = first.inside in
-    let same : t ≡ c.before = no_change z u (c.at -ℤ pos 1) t c.before valid limits fits first.is.fits_before (omega (arith, ints)) (idle (c.at -ℤ pos 1) (omega (arith, ints))) h first.is.before in
-    record {
-      ahead = first.inside;
-      each = λ v s f high low k. sym (no_change z u v t s valid limits fits f low (idle v high) h k);
-      ends = (c.after, rw (← same) at first.is);
-    }
+until_next : (f : InForce) (u : ℤ) (next : Option Change) → IsFirst f (λ v. u <ℤ v) next → IsUntil (seconds_of next) u
+until_next f u None h = tt
+until_next f u (Some c) h = h.inside
 
-pub to_none : (z : Zone) (u : ℤ) (t : LocalType) → IsValid z → IsRuleOrNone z.rule → SFits w64 u → HasNoChange (TypeAt z) (λ v. u <ℤ v) → TypeAt z u t → IsTo (TypeAt z) u t None
-to_none z u t valid limits fits none h = record {
-  ahead = tt;
-  each = λ v s f high low k. sym (no_change z u v t s valid limits fits f low (λ d is i. none d is i.0) h k);
-  ends = tt;
-}
+idle_since : (f : InForce) (u v : ℤ) (last : Option Change) → IsLast f (λ w. w ≤ℤ u) last → IsSince (seconds_of last) v
+    → HasNoChange f (λ w. (v <ℤ w) × (w ≤ℤ u))
+idle_since f u v None h since d is i = h d is i.1
+idle_since f u v (Some c) h since d is i = let l = h.last d is i.1 in let a = i.0 in omega (arith, ints)
 
--- ---- both ends
-pub span_made : (z : Zone) (u : ℤ) (s : Span) → SFits w64 u → IsFrom (TypeAt z) u s.local_time_type s.from → IsTo (TypeAt z) u s.local_time_type s.until → TypeAt z u s.local_time_type → IsSpanAt (TypeAt z) u s
-span_made z u s fits from to h = record {
+idle_until : (f : InForce) (u v : ℤ) (next : Option Change) → IsFirst f (λ w. u <ℤ w) next → IsUntil (seconds_of next) v
+    → HasNoChange f (λ w. (u <ℤ w) × (w ≤ℤ v))
+idle_until f u v None h until d is i = h d is i.0
+idle_until f u v (Some c) h until d is i = let l = h.first d is i.0 in let b = i.1 in omega (arith, ints)
+
+pub last_type : (z : Zone) (u : ℤ) (t : LocalType) (c : Change) → IsValid z → IsRuleOrNone z.rule → SFits w64 u → TypeAt z u t
+    → IsLastChange (TypeAt z) (λ v. v ≤ℤ u) c → c.after ≡ t
+last_type z u t c valid limits fits h last =
+    no_change z c.at u c.after t valid limits last.is.fits fits last.inside (λ d is i. let l = last.last d is i.1 in let a = i.0 in omega (arith, ints)) last.is.after h
+
+begins_with : (z : Zone) (u : ℤ) (t : LocalType) (last : Option Change) → IsValid z → IsRuleOrNone z.rule → SFits w64 u → TypeAt z u t
+    → IsLast (TypeAt z) (λ v. v ≤ℤ u) last
+    → IfSome (seconds_of last) (λ from. (s : LocalType) × IsChange (TypeAt z) (record { at = from; before = s; after = t }))
+begins_with z u t None valid limits fits h last = tt
+begins_with z u t (Some c) valid limits fits h last = let same = last_type z u t c valid limits fits h last in (c.before, rw same at last.is)
+
+ends_with : (z : Zone) (u : ℤ) (t : LocalType) (next : Option Change) → IsValid z → IsRuleOrNone z.rule → SFits w64 u → TypeAt z u t
+    → IsFirst (TypeAt z) (λ v. u <ℤ v) next
+    → IfSome (seconds_of next) (λ until. (s : LocalType) × IsChange (TypeAt z) (record { at = until; before = t; after = s }))
+ends_with z u t None valid limits fits h next = tt
+ends_with z u t (Some c) valid limits fits h next =
+    let later = next.inside in
+    let same : t ≡ c.before = no_change z u (c.at -ℤ pos 1) t c.before valid limits fits next.is.fits_before (omega (arith, ints)) (λ d is i. let l = next.first d is i.0 in let b = i.1 in omega (arith, ints)) h next.is.before in
+    (c.after, rw (← same) at next.is)
+
+pub span_between : (z : Zone) (u : ℤ) (t : LocalType) (last next : Option Change) → IsValid z → IsRuleOrNone z.rule → SFits w64 u → TypeAt z u t
+    → IsLast (TypeAt z) (λ v. v ≤ℤ u) last → IsFirst (TypeAt z) (λ v. u <ℤ v) next
+    → IsSpanAt (TypeAt z) u (record { local_time_type = t; from = seconds_of last; until = seconds_of next })
+span_between z u t last next valid limits fits h before after = record {
   in_force_then = h;
-  inside = record { fits = fits; since = from.since; until = to.ahead };
+  inside = record { fits = fits; since = since_last (TypeAt z) u last before; until = until_next (TypeAt z) u next after };
   span = record {
-    each = λ v t i k. by_lt_z v u
-        (λ low. from.each v t i.fits i.since (omega (arith, ints)) k)
-        (λ high. to.each v t i.fits i.until high k);
-    begins = from.begins;
-    ends = to.ends;
+    each = λ v s i k. by_lt_z v u
+        (λ low. no_change z v u s t valid limits i.fits fits (omega (arith, ints)) (idle_since (TypeAt z) u v last before i.since) k h)
+        (λ high. sym (no_change z u v t s valid limits fits i.fits high (idle_until (TypeAt z) u v next after i.until) h k));
+    begins = begins_with z u t last valid limits fits h before;
+    ends = ends_with z u t next valid limits fits h after;
   };
 }
 

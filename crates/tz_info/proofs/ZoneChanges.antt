@@ -12,7 +12,7 @@ use Rattle.tz_info.specs.Leaps.{AreLeapSeconds, IsLeapTime, IsLeapTimeRefused, t
 use Rattle.tz_info.specs.Moments.{AlternateAt, IsRuleTime}
 use Rattle.tz_info.specs.Rules.{Alternate as AlternateRule}
 use Rattle.tz_info.specs.Segments.{segment_of}
-use Rattle.tz_info.specs.Steps.Changes.{ComesAt, HasNoneAt, IsBegin, IsByRule, IsInTable, AreAhead, AreComeAt, IsLaterOf}
+use Rattle.tz_info.specs.Steps.Changes.{ComesAt, HasNoneAt, AreComeOrAll, IsBegin, IsByRule, IsInTable, AreAhead, AreComeAt, IsLaterOf}
 use Rattle.tz_info.specs.Transitions.{passed}
 use Rattle.tz_info.specs.Steps.Starts.{HaveCome}
 use Rattle.tz_info.specs.Zones.{Zone, IsValid, TypeAt, RuleOrType}
@@ -94,7 +94,7 @@ behind_first z after place valid count = record {
   behind = λ d is later. let n = count.is in let r = segments_rise z after (d.at -ℤ pos 1) valid.transitions.rising valid.leaps (omega (arith, ints)) in omega arith;
 }
 
-pub refused_after : (z : Zone) (after : ℤ) → IsValid z → IsLeapTimeRefused z.leaps after → HasNoChange (TypeAt z) (IsInTable z (λ u. after <ℤ u))
+refused_after : (z : Zone) (after : ℤ) → IsValid z → IsLeapTimeRefused z.leaps after → HasNoChange (TypeAt z) (IsInTable z (λ u. after <ℤ u))
 refused_after z after valid r d is inside =
     let t = inside.table in let l = inside.inside in
     refused_on z.leaps after (d.at -ℤ pos 1) is.before.leap_time valid.leaps (omega (arith, ints)) r (time_of z (d.at -ℤ pos 1) d.before (omega arith) is.before)
@@ -127,6 +127,21 @@ table_found z after first place c valid some count at h is comes =
       inside = record { inside = by_lt_z after c.at (λ k. k) (λ m. let b = begun.1 m in absurd (omega arith)); table = not_come z place c some is comes };
       first = λ d is_d inside. (place_order z place c.at d valid some comes is_d).0 (h.behind d is_d inside.inside);
     }
+
+pub behind_come : (z : Zone) (after : ℤ) (place : ℕ) → IsValid z → AreComeOrAll z after place → AreBehind z after place
+behind_come z after place valid (inl come) = behind_first z after place valid come
+behind_come z after place valid (inr (refused, all)) = record {
+  behind = λ d is later. elim (cases_lt (segment_of z (d.at -ℤ pos 1)) (length z.transitions)) [
+    | inl t ↦ absurd (refused_after z after valid refused d is (record { inside = later; table = t }))
+    | inr m ↦ omega arith
+  ];
+}
+
+pub found_behind : (z : Zone) (after : ℤ) (first place : ℕ) (c : Change) → IsValid z → place < length z.transitions → AreComeOrAll z after first
+    → first ≤ place → AreBehind z after place → IsChange (TypeAt z) c → ComesAt z place c.at
+    → IsFirstChange (TypeAt z) (IsInTable z (λ u. after <ℤ u)) c
+found_behind z after first place c valid some (inl come) from h is comes = table_found z after first place c valid some come from h is comes
+found_behind z after first place c valid some (inr (refused, all)) from h is comes = absurd (omega arith)
 
 -- the second at which a transition comes is none of 64 bits
 pub none_outside : (z : Zone) (place : ℕ) (start : ℤ) → IsValid z → place < length z.transitions → ComesAt z place start → (SFits w64 start → ⊥) → HasNoneAt z place
@@ -306,7 +321,7 @@ ahead_first z last count valid h =
     }
 
 -- where the second's leap time is refused, all transitions with a second come before it
-pub ahead_all : (z : Zone) (last : ℤ) → IsValid z → IsLeapTimeRefused z.leaps last → AreAhead z last (length z.transitions)
+ahead_all : (z : Zone) (last : ℤ) → IsValid z → IsLeapTimeRefused z.leaps last → AreAhead z last (length z.transitions)
 ahead_all z last valid refused = record {
   within = omega arith;
   ahead = λ d is up_to table. table;
@@ -314,6 +329,10 @@ ahead_all z last valid refused = record {
       (λ late. absurd (refused_on z.leaps last start y valid.leaps (omega (arith, ints)) refused k))
       (λ h. h);
 }
+
+pub ahead_come : (z : Zone) (last : ℤ) (count : ℕ) → IsValid z → AreComeOrAll z last count → AreAhead z last count
+ahead_come z last count valid (inl come) = ahead_first z last count valid come
+ahead_come z last count valid (inr (refused, all)) = rw all (ahead_all z last valid refused)
 
 pub ahead_less : (z : Zone) (last : ℤ) (place : ℕ) → AreAhead z last (place + 1) → HasNoneAt z place → AreAhead z last place
 ahead_less z last place h none =

@@ -1,9 +1,9 @@
 -- The way to the next and to the previous change.
-use Rattle.std.specs.Prelude.{ℕ, ◌<◌, ◌≤◌, ◌+◌, length, neg_ℤ, List, [], ◌∷◌, slice_index_or, MatchOption, ℤ, pos, ◌+ℤ◌, ◌-ℤ◌, ◌*ℤ◌, ◌≤ℤ◌, ◌<ℤ◌, ◌↔◌, ◌≡◌, Option, Some, None, Bool, true, false, if◌then◌else◌, int_lt}
+use Rattle.std.specs.Prelude.{ℕ, ◌<◌, ◌≤◌, ◌+◌, length, neg_ℤ, List, [], ◌∷◌, slice_index_or, MatchOption, ℤ, pos, ◌+ℤ◌, ◌-ℤ◌, ◌*ℤ◌, ◌≤ℤ◌, ◌<ℤ◌, ◌↔◌, ◌≡◌, ◌⊎◌, Option, Some, None, Bool, true, false, if◌then◌else◌, int_lt}
 use Rattle.naive_base.specs.Year.{year_start}
 use Rattle.tz_base.specs.LocalTypes.{LocalType}
 use Rattle.tz_info.specs.Changes.{IsChange, HasNoChange}
-use Rattle.tz_info.specs.Leaps.{IsLeapTime}
+use Rattle.tz_info.specs.Leaps.{IsLeapTime, IsLeapTimeRefused}
 use Rattle.tz_info.specs.Moments.{AlternateAt, IsRuleTime, IsYearOf, start_in, end_in}
 use Rattle.tz_info.specs.Rules.{Alternate}
 use Rattle.tz_info.specs.Segments.{segment_of}
@@ -40,11 +40,6 @@ pub record IsOneOf (seconds : List ℤ) (n : ℕ) (after last u : ℤ) : Type 0 
 abbrev pub IsIdle : (ℤ → LocalType → Type 0) → ℤ → ℤ → ℤ → Type 0
 IsIdle in_force after last second = (d : Change) → IsChange in_force d → d.at ≡ second → IsInStretch after last d.at → ⊥
 
--- no change comes after that second, up to `last`
-pub record IsIdleUntil (in_force : ℤ → LocalType → Type 0) (after last : ℤ) : Type 0 where
-  pub later : after ≤ℤ last
-  pub none : HasNoChange in_force (IsInStretch after last)
-
 -- the later one of two seconds
 abbrev pub IsLaterOf : ℤ → ℤ → ℤ → Type 0
 IsLaterOf one other later = (u : ℤ) → (later ≤ℤ u) ↔ ((one ≤ℤ u) × (other ≤ℤ u))
@@ -75,6 +70,35 @@ nearer_one forward (Some one) None = Some one
 nearer_one true (Some one) (Some other) = if int_lt other.at one.at then Some other else Some one
 nearer_one false (Some one) (Some other) = if int_lt one.at other.at then Some other else Some one
 
+-- in that direction u is ahead of the second s: later, or at s or earlier
+abbrev pub IsAhead : Bool → ℤ → ℤ → Type 0
+IsAhead true s u = s <ℤ u
+IsAhead false s u = u ≤ℤ s
+
+-- u is ahead of s, and not beyond the second `end`
+abbrev pub IsUpTo : Bool → ℤ → ℤ → ℤ → Type 0
+IsUpTo true s end u = (s <ℤ u) × (u ≤ℤ end)
+IsUpTo false s end u = (end <ℤ u) × (u ≤ℤ s)
+
+-- in that direction no change comes from the second s up to `end`
+pub record IsIdleTo (forward : Bool) (in_force : ℤ → LocalType → Type 0) (s end : ℤ) : Type 0 where
+  pub reached : Precedes forward s end
+  pub none : HasNoChange in_force (IsUpTo forward s end)
+
+-- of the second at which a change may come and the one before it, the one that comes first in that direction, and the other one
+abbrev pub near_side : Bool → ℤ → ℤ
+near_side true moment = moment -ℤ pos 1
+near_side false moment = moment
+
+abbrev pub far_side : Bool → ℤ → ℤ
+far_side true moment = moment
+far_side false moment = moment -ℤ pos 1
+
+-- the stretch of all seconds ahead of s
+abbrev pub IsStretchAhead : Bool → ℤ → ℤ → ℤ → Type 0
+IsStretchAhead true s after last = (after ≡ s) × (last ≡ pos 9_223_372_036_854_775_807)
+IsStretchAhead false s after last = (after ≡ neg_ℤ (pos 9_223_372_036_854_775_808)) × (last ≡ s)
+
 -- where the stretch begins in that direction
 abbrev pub near_end : Bool → ℤ → ℤ → ℤ
 near_end true after last = after
@@ -104,6 +128,10 @@ pub record AreComeAt (z : Zone) (u : ℤ) (n : ℕ) : Type 0 where
   pub leap_time : ℤ
   pub of_second : IsLeapTime z.leaps u leap_time
   pub is : n ≡ segment_of z u
+
+-- n transitions have come at the second u, or its leap time is refused, and there are n
+abbrev pub AreComeOrAll : Zone → ℤ → ℕ → Type 0
+AreComeOrAll z u n = AreComeAt z u n ⊎ (IsLeapTimeRefused z.leaps u × (n ≡ length z.transitions))
 
 -- u is a second that `within` takes, and at the second before u some transition has not come
 pub record IsInTable (z : Zone) (within : ℤ → Type 0) (u : ℤ) : Type 0 where

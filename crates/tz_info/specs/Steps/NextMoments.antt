@@ -1,24 +1,20 @@
 -- From one moment of a rule to the next, and to the one before.
-use Rattle.std.specs.Prelude.{ℤ, ◌≤ℤ◌, ◌<ℤ◌, ◌⊎◌}
-use Rattle.tz_base.specs.LocalTypes.{LocalType}
-use Rattle.tz_info.specs.Moments.{AlternateAt}
-use Rattle.tz_info.specs.Rules.{Alternate}
+use Rattle.std.specs.Prelude.{Bool, true, false, ◌&&◌, if◌then◌else◌, int_le, int_lt, ℤ, ◌≤ℤ◌, ◌<ℤ◌, ◌⊎◌}
+use Rattle.tz_info.specs.Steps.Changes.{IsAhead, Precedes}
 
--- `next` comes after u, and not after those of the two moments that come after u, and not after `last`
-pub record IsNextAfter (first second u last next : ℤ) : Type 0 where
-  pub later : u <ℤ next
-  pub not_after : next ≤ℤ last
-  pub of_first : (first ≤ℤ u) ⊎ (next ≤ℤ first)
-  pub of_second : (second ≤ℤ u) ⊎ (next ≤ℤ second)
+-- the moment, if it is ahead of the second s in that direction and before the limit, or else the limit
+abbrev pub nearer_moment : Bool → ℤ → ℤ → ℤ → ℤ
+nearer_moment true s limit moment = if int_lt s moment && int_lt moment limit then moment else limit
+nearer_moment false s limit moment = if int_lt limit moment && int_le moment s then moment else limit
 
--- `last` comes at u or before it, and not before those of the two moments that do not come after u, and not before `least`
-pub record IsLastUpTo (first second u least last : ℤ) : Type 0 where
-  pub up_to : last ≤ℤ u
-  pub not_before : least ≤ℤ last
-  pub of_first : (u <ℤ first) ⊎ (first ≤ℤ last)
-  pub of_second : (u <ℤ second) ⊎ (second ≤ℤ last)
+-- the moment is not ahead of s, or `next` is not beyond it
+abbrev pub IsOutside : Bool → ℤ → ℤ → ℤ → Type 0
+IsOutside true s next moment = (moment ≤ℤ s) ⊎ (next ≤ℤ moment)
+IsOutside false s next moment = (s <ℤ moment) ⊎ (moment ≤ℤ next)
 
--- from u on and before `next` the rule has one type
-pub record IsSteadyUntil (a : Alternate) (u next : ℤ) : Type 0 where
-  pub later : u <ℤ next
-  pub same : (v : ℤ) → u ≤ℤ v → v <ℤ next → (t : LocalType) → AlternateAt a u t → AlternateAt a v t
+-- `next` is ahead of s, and not beyond the limit, nor beyond those of the two moments that are ahead of s
+pub record IsNearestMoment (forward : Bool) (first second s limit next : ℤ) : Type 0 where
+  pub ahead : IsAhead forward s next
+  pub within : Precedes forward next limit
+  pub of_first : IsOutside forward s next first
+  pub of_second : IsOutside forward s next second

@@ -9,7 +9,7 @@ use Rattle.tz_info.specs.Steps.Segments.{index_of}
 use Rattle.tz_info.specs.Steps.Starts.{IsCut}
 use Rattle.tz_info.specs.WallPieces.{AreInOrder, IsShownAmong, IsStart, answer_at}
 use Rattle.tz_info.specs.Zones.{Zone, HasType}
-use Rattle.tz_info.specs.declared.zone.one_pass.Segment.{Segment}
+use Rattle.tz_info.specs.declared.zone.segments.Segment.{Segment}
 use Rattle.tz_info.specs.declared.zone.pieces.Piece.{Piece}
 use Rattle.tz_info.specs.declared.zone.segments.Lists.{Lists}
 use Rattle.tz_info.specs.declared.zone.shown.Shown.{Shown}

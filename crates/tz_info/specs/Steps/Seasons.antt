@@ -1,7 +1,8 @@
 -- Seasons: the moments of one year, for several seconds near it.
-use Rattle.std.specs.Prelude.{ℤ, pos, ◌-ℤ◌, ◌≤ℤ◌, ◌<ℤ◌}
+use Rattle.std.specs.Prelude.{Bool, true, false, ℤ, pos, neg_ℤ, ◌-ℤ◌, ◌≤ℤ◌, ◌<ℤ◌}
 use Rattle.tz_info.specs.Moments.{AlternateAt, IsRuleTime, type_when}
 use Rattle.tz_info.specs.Rules.{Alternate}
+use Rattle.tz_info.specs.Steps.Changes.{IsEarlierOf, IsLaterOf}
 use Rattle.tz_info.specs.Steps.Turns.{is_dst_by_one}
 use Rattle.tz_info.specs.declared.rule.alternate.Season.{Season}
 
@@ -16,3 +17,8 @@ IsAmid s u = (IsRuleTime u × IsRuleTime (u -ℤ pos 1)) × IsDecidedIn s u × I
 -- at each second of the season its two moments alone decide
 pub record IsSeason (a : Alternate) (s : Season) : Type 0 where
   pub decided : (u : ℤ) → IsRuleTime u → IsDecidedIn s u → AlternateAt a u (type_when a (is_dst_by_one s.turns.start s.turns.end u))
+
+-- in that direction no second beyond the limit is one of the season's and of the rule's years
+abbrev pub IsLimit : Bool → Season → ℤ → Type 0
+IsLimit true s limit = IsEarlierOf s.until (pos 67_767_976_170_460_800) limit
+IsLimit false s limit = IsLaterOf s.from (neg_ℤ (pos 67_768_100_504_812_800)) limit

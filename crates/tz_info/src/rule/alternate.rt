@@ -32,7 +32,7 @@ const DAYS_BEFORE_1970: i64 = 784_353_015_102;
 /// Standard time and daylight saving time, and when in each year the one gives way to the other.
 #[derive(Clone, Copy)]
 pub struct AlternateTime {
-    std_type: LocalTimeType,
+    pub(super) std_type: LocalTimeType,
     dst_type: LocalTimeType,
     dst_start: DayTime,
     dst_end: DayTime,

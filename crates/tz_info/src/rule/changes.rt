@@ -3,13 +3,13 @@
 //! They do so at moments of the rule, and at a turn of the year where the one moment comes first in
 //! the old year, and the other one in the new. Every 400 years they do so alike.
 
-ghost use Rattle.std.specs.Prelude.{◌≡◌, ◌≤◌, pos, ◌+ℤ◌, length, ◌<ℤ◌, ◌-ℤ◌, ◌≤ℤ◌, IsTrue, ◌↔◌, FitsSigned, MatchOption, MatchResult};
+ghost use Rattle.std.specs.Prelude.{◌≡◌, ◌≤◌, pos, ◌+ℤ◌, length, ◌<ℤ◌, ◌-ℤ◌, ◌≤ℤ◌, IsTrue, ◌↔◌, FitsSigned, MatchOption, MatchResult, neg_ℤ, ⊤};
 ghost use Rattle.std.specs.Int.{w64};
-ghost use Rattle.tz_info.specs.Changes.{IsChange, HasNoChange, IsFirst, IsFirstChange, IsLast, IsLastChange};
+ghost use Rattle.tz_info.specs.Changes.{IsChange, HasNoChange};
 ghost use Rattle.tz_info.specs.Moments.{AlternateAt, IsRuleYear, IsRuleTime, IsYearOf, type_when};
 ghost use Rattle.tz_info.specs.Rules.{IsAlternateRule};
-ghost use Rattle.tz_info.specs.Steps.Changes.{IsIdle, IsIdleUntil, IsInStretch, IsEarlierOf, IsLaterOf, IsNearRuleTime, IsNearest, IsOfYear, IsOneOf, moments_near, near_end, new_year, year_at};
-ghost use Rattle.tz_info.specs.Steps.Seasons.{IsAmid, IsDecidedIn, IsSeason};
+ghost use Rattle.tz_info.specs.Steps.Changes.{IsAhead, IsIdle, IsIdleTo, IsInStretch, IsEarlierOf, IsLaterOf, IsNearRuleTime, IsNearest, IsNearestChange, IsOfYear, IsOneOf, IsStretchAhead, far_side, moments_near, near_end, near_side, new_year, year_at};
+ghost use Rattle.tz_info.specs.Steps.Seasons.{IsAmid, IsDecidedIn, IsLimit, IsSeason};
 
 use crate::change::{change_between, nearer};
 use crate::rule::alternate::{
@@ -46,66 +46,80 @@ impl Stretch {
 }
 
 impl AlternateTime {
-    // The first change after that second: mostly the second's year tells it, or else the next one.
-    pub(crate) fn next_change(&self, after: i64) -> Option<Change>
-        ensures { IsFirst (AlternateAt self.now) (λ u. after <ℤ u) result }
+    // The nearest change ahead of the second in that direction, by the moments of the second's year
+    // if these decide at it, or else by those of other years.
+    pub(crate) fn nearest_change(&self, second: i64, forward: bool) -> Option<Change>
+        ensures { IsNearest forward (AlternateAt self.now) (IsAhead forward second) result }
     {
-        match self.next_change_near(after) {
-            Ok(change) => Some(change),
-            Err(second) => self.next_change_behind(second),
+        match self.season_at(second) {
+            Some(season) => self.change_from(season, second, forward),
+            None => self.change_beyond(second, forward),
         }
     }
 
-    // The same where the second's year does not tell it.
-    pub(super) fn next_change_behind(&self, after: i64) -> Option<Change>
-        ensures { IsFirst (AlternateAt self.now) (λ u. after <ℤ u) result }
-    {
-        match self.next_change_near(after) {
-            Ok(change) => Some(change),
-            Err(second) => self.change_by_years(
-                Stretch {
-                    after: second,
-                    last: i64::MAX,
-                },
-                true,
-            ),
-        }
-    }
-
-    // The first change after that second, where the moments of the second's year tell it, or else a
-    // second up to which none comes.
+    // The moments of the second's year, if these decide at it.
     #[inline(always)]
-    fn next_change_near(&self, after: i64) -> Result<Change, i64>
-        ensures { MatchResult result (IsFirstChange (AlternateAt self.now) (λ u. after <ℤ u))
-            (IsIdleUntil (AlternateAt self.now) after) }
+    pub(super) fn season_at(&self, second: i64) -> Option<Season>
+        ensures { MatchOption result ⊤
+            (λ s. IsSeason self.now s × IsRuleTime second × IsDecidedIn s second) }
     {
-        if !is_rule_time(after) {
-            return Err(after);
+        if !is_rule_time(second) {
+            return None;
         }
-        let season = self.season(after);
-        if !season.decides(after) {
-            return Err(after);
+        let season = self.season(second);
+        if season.decides(second) {
+            Some(season)
+        } else {
+            None
         }
-        self.next_change_amid(season, after)
     }
 
-    // The same by the season's moments, where these decide at the second.
+    // The nearest change, by the season's moments if there is one among them.
     #[inline(always)]
-    pub(super) fn next_change_amid(&self, season: Season, after: i64) -> Result<Change, i64>
+    pub(super) fn change_from(&self, season: Season, second: i64, forward: bool) -> Option<Change>
         requires season { IsSeason self.now season }
-        requires time { IsRuleTime after }
-        requires decides { IsDecidedIn season after }
-        ensures { MatchResult result (IsFirstChange (AlternateAt self.now) (λ u. after <ℤ u))
-            (IsIdleUntil (AlternateAt self.now) after) }
+        requires time { IsRuleTime second }
+        requires decides { IsDecidedIn season second }
+        ensures { IsNearest forward (AlternateAt self.now) (IsAhead forward second) result }
     {
-        let end = earlier_of(season.until, LAST_RULE_TIME + 1);
-        let moment = season.turns.next_after(after, end);
-        if moment >= end {
-            return Err(moment - 1);
+        match self.change_in_season(season, second, forward) {
+            Ok(change) => Some(change),
+            Err(other) => self.change_beyond(other, forward),
+        }
+    }
+
+    // The nearest change, mostly by the moments of the second's year, or else year by year.
+    fn change_beyond(&self, second: i64, forward: bool) -> Option<Change>
+        ensures { IsNearest forward (AlternateAt self.now) (IsAhead forward second) result }
+    {
+        let Some(season) = self.season_at(second) else {
+            return self.change_by_years(second, forward);
+        };
+        match self.change_in_season(season, second, forward) {
+            Ok(change) => Some(change),
+            Err(other) => self.change_by_years(other, forward),
+        }
+    }
+
+    // The nearest change, if it is at a moment of the season's, or else a second up to which none
+    // comes.
+    #[inline(always)]
+    fn change_in_season(&self, season: Season, second: i64, forward: bool) -> Result<Change, i64>
+        requires season { IsSeason self.now season }
+        requires time { IsRuleTime second }
+        requires decides { IsDecidedIn season second }
+        ensures { MatchResult result
+            (IsNearestChange forward (AlternateAt self.now) (IsAhead forward second))
+            (IsIdleTo forward (AlternateAt self.now) second) }
+    {
+        let limit = season.limit(forward);
+        let moment = season.turns.nearest(second, limit, forward);
+        if moment == limit {
+            return Err(near_side(moment, forward));
         }
         match self.change_amid(season, moment) {
             Some(change) => Ok(change),
-            None => Err(moment),
+            None => Err(far_side(moment, forward)),
         }
     }
 
@@ -131,77 +145,21 @@ impl AlternateTime {
         if is_dst { self.dst() } else { self.std() }
     }
 
-    // The last change up to that second: mostly the second's year tells it, or else the one before.
-    pub(crate) fn previous_change(&self, last: i64) -> Option<Change>
-        ensures { IsLast (AlternateAt self.now) (λ u. u ≤ℤ last) result }
+    // The nearest change, year by year.
+    #[inline(never)]
+    fn change_by_years(&self, second: i64, forward: bool) -> Option<Change>
+        ensures { IsNearest forward (AlternateAt self.now) (IsAhead forward second) result }
     {
-        match self.previous_change_near(last) {
-            Ok(change) => Some(change),
-            Err(second) => self.previous_change_before(second),
-        }
-    }
-
-    // The same where the second's year does not tell it.
-    pub(super) fn previous_change_before(&self, last: i64) -> Option<Change>
-        ensures { IsLast (AlternateAt self.now) (λ u. u ≤ℤ last) result }
-    {
-        match self.previous_change_near(last) {
-            Ok(change) => Some(change),
-            Err(second) => self.change_by_years(
-                Stretch {
-                    after: i64::MIN,
-                    last: second,
-                },
-                false,
-            ),
-        }
-    }
-
-    // The last change up to that second, where the moments of the second's year tell it, or else a
-    // second after which none comes up to that one.
-    #[inline(always)]
-    fn previous_change_near(&self, last: i64) -> Result<Change, i64>
-        ensures { MatchResult result (IsLastChange (AlternateAt self.now) (λ u. u ≤ℤ last))
-            (λ s. IsIdleUntil (AlternateAt self.now) s last) }
-    {
-        if !is_rule_time(last) {
-            return Err(last);
-        }
-        let season = self.season(last);
-        if !season.decides(last) {
-            return Err(last);
-        }
-        self.previous_change_amid(season, last)
-    }
-
-    // The same by the season's moments, where these decide at the second.
-    #[inline(always)]
-    pub(super) fn previous_change_amid(&self, season: Season, last: i64) -> Result<Change, i64>
-        requires season { IsSeason self.now season }
-        requires time { IsRuleTime last }
-        requires decides { IsDecidedIn season last }
-        ensures { MatchResult result (IsLastChange (AlternateAt self.now) (λ u. u ≤ℤ last))
-            (λ s. IsIdleUntil (AlternateAt self.now) s last) }
-    {
-        let begin = later_of(season.from, FIRST_RULE_TIME);
-        let moment = season.turns.last_up_to(last, begin);
-        if moment <= begin {
-            return Err(moment);
-        }
-        match self.change_amid(season, moment) {
-            Some(change) => Ok(change),
-            None => Err(moment - 1),
-        }
+        self.change_in_years(stretch_ahead(second, forward), forward)
     }
 
     // The first change of the stretch, or the last one, year by year. Every 400 years the rule does
     // the same, so that 401 years tell.
-    #[inline(never)]
-    fn change_by_years(&self, stretch: Stretch, forward: bool) -> Option<Change>
+    fn change_in_years(&self, stretch: Stretch, forward: bool) -> Option<Change>
         ensures { IsNearest forward (AlternateAt self.now) (IsInStretch stretch.after stretch.last)
             result }
     {
-        let _rule = self.std();
+        let _ = &self.std_type;
         let second = rule_time_near(stretch.near_end(forward));
         let first = rule_year_of(second);
         for step in 0..401u32 {
@@ -293,6 +251,52 @@ impl AlternateTime {
         };
         change_between(second, *before, *after)
     }
+}
+
+impl Season {
+    // In that direction the end of the season's seconds in the rule's years.
+    fn limit(self, forward: bool) -> i64
+        ensures { IsLimit forward self result }
+    {
+        if forward {
+            earlier_of(self.until, LAST_RULE_TIME + 1)
+        } else {
+            later_of(self.from, FIRST_RULE_TIME)
+        }
+    }
+}
+
+// All seconds ahead of that one.
+fn stretch_ahead(second: i64, forward: bool) -> Stretch
+    ensures { IsStretchAhead forward second result.after result.last }
+{
+    if forward {
+        Stretch {
+            after: second,
+            last: i64::MAX,
+        }
+    } else {
+        Stretch {
+            after: i64::MIN,
+            last: second,
+        }
+    }
+}
+
+// Of the moment's second and the one before it, the one that comes first in that direction.
+fn near_side(moment: i64, forward: bool) -> i64
+    requires { neg_ℤ (pos 67_768_100_504_812_800) ≤ℤ moment }
+    ensures { result ≡ near_side forward moment }
+{
+    if forward { moment - 1 } else { moment }
+}
+
+// The other one.
+fn far_side(moment: i64, forward: bool) -> i64
+    requires { neg_ℤ (pos 67_768_100_504_812_800) ≤ℤ moment }
+    ensures { result ≡ far_side forward moment }
+{
+    if forward { moment } else { moment - 1 }
 }
 
 // The first second of the year.

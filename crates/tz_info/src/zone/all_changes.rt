@@ -5,7 +5,7 @@ ghost use Rattle.std.specs.Iterator.{YieldsFirst, YieldsLast, item_count};
 ghost use Rattle.tz_info.specs.Changes.{AreChanges, IsFirst, IsFromUntil, IsLast};
 ghost use Rattle.tz_info.specs.ChangesLeft.{changes_left};
 ghost use Rattle.tz_info.specs.Leaps.{least_time};
-ghost use Rattle.tz_info.specs.Zones.{TypeAt};
+ghost use Rattle.tz_info.specs.Zones.{IsRuleOrNone, IsValid, TypeAt};
 
 use crate::change::{if_before, if_from};
 use crate::zone::time_zone::TimeZone;
@@ -49,8 +49,11 @@ impl TimeZone {
 
     // The first change of the stretch.
     fn first_change_in(&self, from: i64, until: i64) -> Option<Change>
-        ensures { IsFirst (TypeAt self.now) (IsFromUntil from until) result }
+        ensures found { IsFirst (TypeAt self.now) (IsFromUntil from until) result }
+        ensures valid { IsValid self.now }
+        ensures rule { IsRuleOrNone self.now.rule }
     {
+        let _ = &self.table;
         match self.next_change(second_before(from)) {
             Some(change) => if_before(change, until),
             None => None,
@@ -59,8 +62,11 @@ impl TimeZone {
 
     // The last change of the stretch.
     fn last_change_in(&self, from: i64, until: i64) -> Option<Change>
-        ensures { IsLast (TypeAt self.now) (IsFromUntil from until) result }
+        ensures found { IsLast (TypeAt self.now) (IsFromUntil from until) result }
+        ensures valid { IsValid self.now }
+        ensures rule { IsRuleOrNone self.now.rule }
     {
+        let _ = &self.table;
         match until.checked_sub(1) {
             Some(last) => match self.previous_change(last) {
                 Some(change) => if_from(change, from),
@@ -90,7 +96,6 @@ impl<'a> Iterator for Changes<'a> {
     ghost remaining = { item_count changes_left };
 
     fn next(&mut self) -> Option<Change> {
-        let _types = self.zone.local_time_types();
         match self.zone.first_change_in(self.from, self.until) {
             Some(change) => {
                 self.from = change.at + 1;
@@ -105,7 +110,6 @@ impl<'a> DoubleEndedIterator for Changes<'a> {
     ghost next_back_gives = { YieldsLast changes_left };
 
     fn next_back(&mut self) -> Option<Change> {
-        let _types = self.zone.local_time_types();
         match self.zone.last_change_in(self.from, self.until) {
             Some(change) => {
                 self.until = change.at;

@@ -7,9 +7,9 @@
 ghost use Rattle.std.specs.Prelude.{◌≡◌, ◌≢◌, ◌<◌, length, ℤ, pos, neg_ℤ, ◌<ℤ◌, ◌-ℤ◌, ◌≤ℤ◌, ◌↔◌, FitsSigned, MatchOption, Some};
 ghost use Rattle.std.specs.Int.{w64};
 ghost use Rattle.tz_info.specs.Changes.{IsChange, HasNoChange, IsFirst, IsLast};
-ghost use Rattle.tz_info.specs.Leaps.{AreLeapSeconds, IsLeapTime, IsLeapTimeRefused};
+ghost use Rattle.tz_info.specs.Leaps.{AreLeapSeconds, IsLeapTime};
 ghost use Rattle.tz_info.specs.Rules.{Alternate as AlternateRule};
-ghost use Rattle.tz_info.specs.Steps.Changes.{AreAhead, AreComeAt, ComesAt, HasNoneAt, IsBegin, IsByRule, IsInTable};
+ghost use Rattle.tz_info.specs.Steps.Changes.{AreComeOrAll, ComesAt, HasNoneAt, IsBegin, IsByRule, IsInTable};
 ghost use Rattle.tz_info.specs.Zones.{HasType, TypeAt};
 ghost use Rattle.tz_info.specs.declared.rule.transition_rule.TransitionRule.TheVariants.{Alternate};
 
@@ -26,7 +26,8 @@ impl TimeZone {
     /// of 64 bits.
     ///
     /// A transition that changes nothing is no change, and what a rule does after the last
-    /// transition is. It takes no memory.
+    /// transition is. It takes no memory. Transitions that change nothing are passed one by one, so
+    /// the time of a call grows with their number before the change.
     ///
     /// ```text
     /// let zone = TimeZone::from_posix_tz(alloc, "EST5EDT,M3.2.0,M11.1.0")?;
@@ -50,9 +51,7 @@ impl TimeZone {
     {
         let _ = &self.table;
         let count = self.transition_count();
-        let Some(first) = self.come_at(after) else {
-            return None;
-        };
+        let first = self.come_at(after);
         for place in first..count {
             match self.change_with(place) {
                 Some(change) => return Some(change),
@@ -75,11 +74,12 @@ impl TimeZone {
             return None;
         }
         let from = later_of(after, begin as i64);
-        turns.next_change(from)
+        turns.nearest_change(from, true)
     }
 
     /// The last change of the clocks at that second or before it, or `None` if none comes at such a
-    /// second of 64 bits.
+    /// second of 64 bits. Transitions that change nothing are passed one by one, as in
+    /// [`TimeZone::next_change`].
     ///
     /// ```text
     /// let zone = TimeZone::from_posix_tz(alloc, "EST5EDT,M3.2.0,M11.1.0")?;
@@ -101,45 +101,7 @@ impl TimeZone {
         ensures { IsLast (TypeAt self.now) (IsInTable self.now (λ u. u ≤ℤ last)) result }
     {
         let _ = &self.table;
-        match self.come_at(last) {
-            Some(count) => self.last_with(count, last),
-            None => self.last_of_all(last),
-        }
-    }
-
-    // How many transitions have come at the second, if its leap time is one of 64 bits.
-    pub(super) fn come_at(&self, second: i64) -> Option<usize>
-        ensures { MatchOption result (IsLeapTimeRefused self.now.leaps second)
-            (AreComeAt self.now second) }
-    {
-        let _most = self.transition_count();
-        match self.unix_time_to_unix_leap_time(second) {
-            Ok(leap_time) => {
-                let mut probes = Probes::new();
-                Some(self.passed_count(leap_time, &mut probes))
-            }
-            Err(_) => None,
-        }
-    }
-
-    // The same where the second's leap time leaves 64 bits: each transition that comes at a second
-    // comes before it.
-    fn last_of_all(&self, last: i64) -> Option<Change>
-        requires { IsLeapTimeRefused self.now.leaps last }
-        ensures { IsLast (TypeAt self.now) (IsInTable self.now (λ u. u ≤ℤ last)) result }
-    {
-        let _ = &self.table;
-        let all = self.transition_count();
-        self.last_with(all, last)
-    }
-
-    // The last change up to that second that comes with one of the first transitions, of which
-    // there are so many.
-    fn last_with(&self, count: usize, last: i64) -> Option<Change>
-        requires { AreAhead self.now last count }
-        ensures { IsLast (TypeAt self.now) (IsInTable self.now (λ u. u ≤ℤ last)) result }
-    {
-        let _ = &self.table;
+        let count = self.come_at(last);
         for back in 0..count {
             match self.change_with(count - 1 - back) {
                 Some(change) => return Some(change),
@@ -147,6 +109,17 @@ impl TimeZone {
             }
         }
         None
+    }
+
+    // How many transitions have come at the second. If its leap time leaves 64 bits, these are all
+    // that come at some second.
+    pub(super) fn come_at(&self, second: i64) -> usize
+        ensures { AreComeOrAll self.now second result }
+    {
+        match self.unix_time_to_unix_leap_time(second) {
+            Ok(leap_time) => self.passed_count(leap_time, &mut Probes::new()),
+            Err(_) => self.transition_count(),
+        }
     }
 
     // The last change up to that second that comes after all transitions.
@@ -161,7 +134,7 @@ impl TimeZone {
         if begin >= last as i128 {
             return None;
         }
-        match turns.previous_change(last) {
+        match turns.nearest_change(last, false) {
             None => None,
             Some(change) => if_after(change, begin),
         }

@@ -1,6 +1,6 @@
 //! Gaps: what is in force around a local time that no clock shows.
 
-ghost use Rattle.std.specs.Prelude.{◌≡◌, length, ◌+ℤ◌, MatchOption, Some};
+ghost use Rattle.std.specs.Prelude.{◌≡◌, length, ◌+ℤ◌, ◌<ℤ◌, MatchOption, Some};
 ghost use Rattle.naive_base.specs.NaiveDateTime.{reading};
 ghost use Rattle.naive_base.specs.Range.{IsWide};
 ghost use Rattle.offset_core.specs.WallAnswer.{IsNeverShown};
@@ -12,7 +12,7 @@ ghost use Rattle.tz_info.specs.Looks.{RoseAround};
 ghost use Rattle.tz_info.specs.Questions.{IsAskedFor};
 ghost use Rattle.tz_info.specs.RuleTypes.{RuleAt};
 ghost use Rattle.tz_info.specs.Segments.{table_count};
-ghost use Rattle.tz_info.specs.Steps.Gaps.{IsReach, IsPassed, IsBehindTable};
+ghost use Rattle.tz_info.specs.Steps.Gaps.{HasReach, IsReach, IsPassed, IsBehindTable, IsTurn};
 ghost use Rattle.tz_info.specs.WallClocks.{Shows};
 ghost use Rattle.tz_info.specs.WallPieces.{AreLessAmong, IsTypeBefore, Jumps, IsShownAmong};
 ghost use Rattle.tz_info.specs.Zones.{TypeAt};
@@ -105,8 +105,9 @@ impl TimeZone {
         ensures gap { HasGap (TypeAt self.now) local result.before result.after result.at }
         ensures cost { RoseWithin probes.old probes.new 1 0 }
     {
+        let reach = self.reach(local);
         match shown {
-            Shown::Less(before) => self.gap_of_rule(local, before),
+            Shown::Less(before) => self.gap_of_rule(local, reach, before),
             Shown::Skipped(jump) => self.gap_of_jump(local, jump, probes),
             Shown::Once(_) => unreachable!(),
             Shown::Several(_, _) => unreachable!(),
@@ -117,12 +118,12 @@ impl TimeZone {
     fn gap_of_jump(&self, local: i64, jump: Jump, probes: &mut Probes) -> Change
         requires local { IsWide local }
         requires never { IsNeverShown (Shows (TypeAt self.now) local) }
+        requires reach { HasReach self.now local }
         requires jump { Jumps self.now 0 (table_count self.now) local jump }
         requires room { HasRoomFor 1 probes.old.reads }
         ensures gap { HasGap (TypeAt self.now) local result.before result.after result.at }
         ensures cost { RoseWithin probes.old probes.new 1 0 }
     {
-        let _reach = self.reach(local);
         let transition = self.transition(jump.place - 1, probes);
         Change {
             before: *self.listed(jump.before),
@@ -143,32 +144,32 @@ impl TimeZone {
 
     // The gap from the last transition on, before which clocks show less, at the end by the type
     // of that index.
-    fn gap_of_rule(&self, local: i64, before: usize) -> Change
+    fn gap_of_rule(&self, local: i64, reach: Reach, before: usize) -> Change
         requires local { IsWide local }
         requires never { IsNeverShown (Shows (TypeAt self.now) local) }
+        requires reach { IsReach self.now local reach.low reach.high }
         requires less { AreLessAmong self.now 0 (table_count self.now) local }
         requires before { IsTypeBefore self.now (table_count self.now) before }
         ensures { HasGap (TypeAt self.now) local result.before result.after result.at }
     {
-        let _reach = self.reach(local);
         match &self.last_rule {
             None => unreachable!(),
-            Some(rule) => self.gap_by_rule(rule, local, before),
+            Some(rule) => self.gap_by_rule(rule, local, reach, before),
         }
     }
 
     // Clocks come to show more where the rule begins, or where it turns from its lesser offset to
     // the greater.
-    fn gap_by_rule(&self, rule: &TransitionRule, local: i64, before: usize) -> Change
+    fn gap_by_rule(&self, rule: &TransitionRule, local: i64, reach: Reach, before: usize) -> Change
         requires local { IsWide local }
         requires rule { self.now.rule ≡ Some rule.now }
         requires never { IsNeverShown (Shows (TypeAt self.now) local) }
+        requires reach { IsReach self.now local reach.low reach.high }
         requires less { AreLessAmong self.now 0 (length self.now.transitions) local }
         requires before { IsTypeBefore self.now (length self.now.transitions) before }
         ensures { HasGap (TypeAt self.now) local result.before result.after result.at }
     {
         let _ = &self.table;
-        let reach = self.reach(local);
         let first = self.rule_first(local, reach);
         let here = type_near(rule, first);
         if local < shown_at(here, first) {
@@ -180,7 +181,7 @@ impl TimeZone {
         }
         match rule {
             TransitionRule::Fixed(_) => unreachable!(),
-            TransitionRule::Alternate(turns) => self.gap_by_turns(turns, local, reach, first),
+            TransitionRule::Alternate(turns) => self.gap_by_turns(turns, local, first),
         }
     }
 
@@ -194,26 +195,36 @@ impl TimeZone {
         later(reach.low, self.index.rule_from())
     }
 
-    // Goes from moment to moment of the rule, until clocks show more.
-    fn gap_by_turns(&self, turns: &AlternateTime, local: i64, reach: Reach, first: i64) -> Change
+    // Goes from change to change of the rule, until clocks show more.
+    fn gap_by_turns(&self, turns: &AlternateTime, local: i64, first: i64) -> Change
         requires local { IsWide local }
         requires rule { self.now.rule ≡ Some (Alternate turns.now) }
         requires never { IsNeverShown (Shows (TypeAt self.now) local) }
-        requires reach { IsReach self.now local reach.low reach.high }
+        requires reach { HasReach self.now local }
         requires passed { IsPassed self.now local first }
         ensures { HasGap (TypeAt self.now) local result.before result.after result.at }
     {
         let _ = &self.table;
-        let mut last = first;
-        let mut next = turns.next_moment(last);
-        while shown_at(turns.type_at(next), next) <= local {
-            last = next;
-            next = turns.next_moment(last);
+        let mut turn = self.turn_after(turns, local, first);
+        while shown_at(&turn.after, turn.at) <= local {
+            turn = self.turn_after(turns, local, turn.at);
         }
-        Change {
-            before: *turns.type_at(last),
-            after: *turns.type_at(next),
-            at: next,
+        turn
+    }
+
+    // The rule's next change, up to which clocks show less: they could not do so for ever.
+    fn turn_after(&self, turns: &AlternateTime, local: i64, last: i64) -> Change
+        requires rule { self.now.rule ≡ Some (Alternate turns.now) }
+        requires never { IsNeverShown (Shows (TypeAt self.now) local) }
+        requires reach { HasReach self.now local }
+        requires passed { IsPassed self.now local last }
+        ensures turn { IsTurn self.now turns.now local result }
+        ensures later { last <ℤ result.at }
+    {
+        let _ = &self.table;
+        match turns.nearest_change(last, true) {
+            Some(change) => change,
+            None => unreachable!(),
         }
     }
 }

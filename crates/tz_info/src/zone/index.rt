@@ -1,6 +1,6 @@
 //! A zone's index of the wall-clock axis.
 
-ghost use Rattle.std.specs.Prelude.{◌≡◌, ◌<◌, length, MatchResult};
+ghost use Rattle.std.specs.Prelude.{◌≡◌, ◌<◌, ◌^◌, length, MatchResult};
 ghost use Rattle.tz_base.specs.declared.error.Error.TheVariants.{OutOfMemory};
 ghost use Rattle.tz_timeline.specs.Counts.{RoseByPieces, HasRoomFor};
 ghost use Rattle.tz_timeline.specs.Digits.{digits};
@@ -13,7 +13,7 @@ use crate::rule::TransitionRule;
 use crate::zone::leap_second::LeapSecond;
 use crate::zone::one_pass::pieces_in_one_pass;
 use crate::zone::pieces::Piece;
-use crate::zone::segments::{Lists, Pieces, index_of_segment, listed, pieces_of, table_count};
+use crate::zone::segments::{Lists, Pieces, pieces_of, segment_at, table_count};
 use crate::zone::shown::Shown;
 use crate::zone::starts::start_of;
 use crate::zone::transition::Transition;
@@ -109,11 +109,10 @@ impl Index {
         requires valid { IsValid (zone_in lists) }
         ensures { IsIndex (zone_in lists.entry) result }
     {
-        let index = index_of_segment(lists, 0);
-        let _local_type = listed(lists.types, index);
+        let segment = segment_at(lists, 0);
         let before = match lists.rule {
-            Some(_) => Shown::Less(index),
-            None => Shown::Once(index),
+            Some(_) => Shown::Less(segment.index),
+            None => Shown::Once(segment.index),
         };
         Index {
             before,
@@ -140,12 +139,15 @@ impl Index {
     // The answer of the last piece that starts at or before the local time.
     #[inline(always)]
     pub(super) fn answer(&self, local: i64, probes: &mut Probes) -> Shown
-        requires { HasRoomFor (digits (length self.now.pieces)) probes.old.piece_reads }
+        requires { HasRoomFor (2 ^ 64) probes.old.piece_reads }
         ensures answer { result ≡ answer_at self.now.before self.now.pieces local }
         ensures cost { RoseByPieces probes.old probes.new (digits (length self.now.pieces)) 0 }
         ensures looked { 0 < length self.now.pieces
             → probes.old.piece_reads < probes.new.piece_reads }
     {
+        if self.len() == 0 {
+            return self.before;
+        }
         match self.pieces.passed(local, probes).latest {
             Some(piece) => piece.answer,
             None => self.before,

@@ -1,6 +1,6 @@
 //! The type in force at an instant, and the looks that lookups share.
 
-ghost use Rattle.std.specs.Prelude.{◌≡◌, ◌+◌, ◌<◌, ◌≤◌, length, take, slice_index_or, IfOk, MatchResult, Some, None};
+ghost use Rattle.std.specs.Prelude.{◌≡◌, ◌+◌, ◌<◌, ◌≤◌, ◌^◌, length, take, slice_index_or, IfOk, MatchResult, Some, None};
 ghost use Rattle.tz_base.specs.declared.error.Error.TheVariants.{FindLocalTimeType};
 ghost use Rattle.tz_base.specs.declared.error.Expected.TheVariants.{YearThatRuleAnswersIn};
 ghost use Rattle.tz_timeline.specs.Counts.{HasRoom, RoseWithin, HasRoomFor};
@@ -170,12 +170,15 @@ impl TimeZone {
 
     // How many transitions come at or before the leap time.
     pub(super) fn passed_count(&self, leap_time: i64, probes: &mut Probes) -> usize
-        requires { HasRoomFor (digits (length self.now.transitions)) probes.old.reads }
+        requires { HasRoomFor (2 ^ 64) probes.old.reads }
         ensures within { result ≤ length self.now.transitions }
         ensures passed { passed self.now.transitions leap_time ≡ take result self.now.transitions }
         ensures cost { RoseWithin probes.old probes.new (digits (length self.now.transitions)) 0 }
         ensures looked { 0 < length self.now.transitions → probes.old.reads < probes.new.reads }
     {
+        if self.table.len() == 0 {
+            return 0;
+        }
         self.table.passed(leap_time, probes).count
     }
 

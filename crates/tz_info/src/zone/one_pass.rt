@@ -14,7 +14,7 @@ ghost use Rattle.tz_info.specs.Zones.{IsValid};
 
 use crate::zone::leap_second::LeapSecond;
 use crate::zone::pieces::Piece;
-use crate::zone::segments::{Lists, Pieces, index_of_segment, listed, table_count};
+use crate::zone::segments::{Lists, Pieces, Segment, segment_at, table_count};
 use crate::zone::shown::{Jump, Shown};
 use crate::zone::starts::{cut_at, start_of};
 use crate::zone::transition::Transition;
@@ -23,13 +23,6 @@ use tz_base::Error;
 
 // How far from 1970 a transition may lie whose time takes an offset within 64 bits.
 const FAR: i64 = 1 << 62;
-
-// The type in force in a segment, by its index and its offset.
-#[derive(Clone, Copy)]
-struct Segment {
-    index: usize,
-    offset: i64,
-}
 
 // The pieces of the table, two for each transition. None where a transition does not cut the
 // axis behind the one before it, as where the two lie closer together than their offsets differ.
@@ -93,19 +86,20 @@ fn pieces_by(alloc: Global, lists: Lists, leapless: bool) -> Result<Option<Piece
         before = behind;
     }
     if count == lists.transitions.len() {
-        let index = index_of_segment(lists, count - 1);
-        let last_type = listed(lists.types, index);
-        let end = cut_at(start_of(lists.transitions, lists.leaps, count), last_type);
+        let end = cut_at(
+            start_of(lists.transitions, lists.leaps, count),
+            before.offset,
+        );
         if is_crossed(count, latest, end) {
             return Ok(None);
         }
         pieces.push_reserved(Piece {
             start: end,
-            answer: Shown::Less(index),
+            answer: Shown::Less(before.index),
         });
     }
     Ok(Some(Pieces {
-        before: Shown::Once(index_of_segment(lists, 0)),
+        before: Shown::Once(segment_at(lists, 0).index),
         pieces,
     }))
 }
@@ -117,18 +111,6 @@ fn is_crossed(place: usize, latest: i64, cut: i64) -> bool
     ensures behind { IsFalse result → 1 < place → latest <ℤ cut }
 {
     place > 1 && cut <= latest
-}
-
-// The segment after so many transitions.
-#[inline(always)]
-fn segment_at(lists: Lists, place: usize) -> Segment
-    requires valid { IsValid (zone_in lists) }
-    requires place { place ≤ length lists.transitions.now }
-    ensures { IsSegment (zone_in lists.entry) place result }
-{
-    let index = index_of_segment(lists, place);
-    let offset = listed(lists.types, index).offset() as i64;
-    Segment { index, offset }
 }
 
 // The pieces at the transition between the segment at that place and the one before: in a gap
@@ -217,6 +199,6 @@ fn cut_by(second: i64, offset: i64, leapless: bool) -> i64
     if leapless {
         second + offset
     } else {
-        second.saturating_add(offset)
+        cut_at(second, offset)
     }
 }

@@ -1,11 +1,10 @@
 //! The segments between transitions, and the pieces of the wall-clock axis that they make.
 
-ghost use Rattle.std.specs.Prelude.{◌≡◌, ◌+◌, ◌<◌, ◌≤◌, length, slice_get, Some, MatchResult};
-ghost use Rattle.tz_base.specs.LocalTypes.{IsUtOffset};
+ghost use Rattle.std.specs.Prelude.{◌≡◌, ◌+◌, ◌<◌, ◌≤◌, length, MatchResult};
 ghost use Rattle.tz_base.specs.declared.error.Error.TheVariants.{OutOfMemory};
 ghost use Rattle.tz_info.specs.Segments.{table_count};
 ghost use Rattle.tz_info.specs.Steps.Segments.{index_of};
-ghost use Rattle.tz_info.specs.Steps.Pieces.{zone_in, ArePieces};
+ghost use Rattle.tz_info.specs.Steps.Pieces.{zone_in, ArePieces, IsSegment};
 ghost use Rattle.tz_info.specs.WallPieces.{IsTypeBefore};
 ghost use Rattle.tz_info.specs.Zones.{IsValid};
 
@@ -37,8 +36,27 @@ pub(super) fn table_count(lists: Lists) -> usize
     }
 }
 
+// The type in force in a segment, by its index and its offset.
+#[derive(Clone, Copy)]
+pub(super) struct Segment {
+    pub(super) index: usize,
+    pub(super) offset: i64,
+}
+
+// The segment after so many transitions.
+#[inline(always)]
+pub(super) fn segment_at(lists: Lists, place: usize) -> Segment
+    requires valid { IsValid (zone_in lists) }
+    requires place { place ≤ length lists.transitions.now }
+    ensures { IsSegment (zone_in lists.entry) place result }
+{
+    let index = index_of_segment(lists, place);
+    let offset = lists.types[index].offset() as i64;
+    Segment { index, offset }
+}
+
 // The index of the type in force after so many transitions.
-pub(super) fn index_of_segment(lists: Lists, place: usize) -> usize
+fn index_of_segment(lists: Lists, place: usize) -> usize
     requires valid { IsValid (zone_in lists) }
     requires place { place ≤ length lists.transitions.now }
     ensures index { result ≡ index_of lists.entry.transitions.now place }
@@ -64,20 +82,7 @@ pub(super) fn index_before(lists: Lists, place: usize) -> usize
     while latest > 0 && start_of(lists.transitions, lists.leaps, latest) >= start {
         latest -= 1;
     }
-    let index = index_of_segment(lists, latest);
-    let _local_type = listed(lists.types, index);
-    index
-}
-
-// The type of that index.
-pub(super) fn listed(types: &[LocalTimeType], index: usize) -> &LocalTimeType
-    requires { index < length types.now }
-    ensures listed { slice_get types.now index ≡ Some result.now }
-    ensures offset { IsUtOffset result.now.offset }
-{
-    let local_type = &types[index];
-    let _offset = local_type.offset();
-    local_type
+    index_of_segment(lists, latest)
 }
 
 // The pieces of some neighbouring segments, and what stands before the first.
@@ -112,9 +117,8 @@ fn first_pieces(alloc: Global, lists: Lists) -> Result<Pieces, Error>
         (λ s. ArePieces (zone_in lists.entry) 0 1 s.before s.pieces.items)
         (λ e. e ≡ OutOfMemory) }
 {
-    let index = index_of_segment(lists, 0);
-    let local_type = listed(lists.types, index);
-    let before = Shown::Once(index);
+    let segment = segment_at(lists, 0);
+    let before = Shown::Once(segment.index);
     if lists.transitions.is_empty() {
         return Ok(Pieces {
             before,
@@ -122,8 +126,8 @@ fn first_pieces(alloc: Global, lists: Lists) -> Result<Pieces, Error>
         });
     }
     let end = Piece {
-        start: cut_at(start_of(lists.transitions, lists.leaps, 1), local_type),
-        answer: Shown::Less(index),
+        start: cut_at(start_of(lists.transitions, lists.leaps, 1), segment.offset),
+        answer: Shown::Less(segment.index),
     };
     let pieces = vec![in alloc; end]?;
     Ok(Pieces { before, pieces })
@@ -142,12 +146,11 @@ fn last_pieces(alloc: Global, lists: Lists) -> Result<Pieces, Error>
 {
     let place = lists.transitions.len();
     let before = index_before(lists, place);
-    let index = index_of_segment(lists, place);
-    let local_type = listed(lists.types, index);
+    let segment = segment_at(lists, place);
     let second = start_of(lists.transitions, lists.leaps, place);
     let start = Piece {
-        start: cut_at(second, local_type),
-        answer: Shown::Once(index),
+        start: cut_at(second, segment.offset),
+        answer: Shown::Once(segment.index),
     };
     let pieces = vec![in alloc; start]?;
     Ok(Pieces {
@@ -166,8 +169,7 @@ fn inner_pieces(alloc: Global, lists: Lists, place: usize) -> Result<Pieces, Err
         (λ s. ArePieces (zone_in lists.entry) place (place + 1) s.before s.pieces.items)
         (λ e. e ≡ OutOfMemory) }
 {
-    let index = index_of_segment(lists, place);
-    let local_type = listed(lists.types, index);
+    let segment = segment_at(lists, place);
     let first = start_of(lists.transitions, lists.leaps, place);
     let next = start_of(lists.transitions, lists.leaps, place + 1);
     if first >= next {
@@ -177,12 +179,12 @@ fn inner_pieces(alloc: Global, lists: Lists, place: usize) -> Result<Pieces, Err
         });
     }
     let start = Piece {
-        start: cut_at(first, local_type),
-        answer: Shown::Once(index),
+        start: cut_at(first, segment.offset),
+        answer: Shown::Once(segment.index),
     };
     let end = Piece {
-        start: cut_at(next, local_type),
-        answer: Shown::Less(index),
+        start: cut_at(next, segment.offset),
+        answer: Shown::Less(segment.index),
     };
     let before = index_before(lists, place);
     let pieces = vec![in alloc; start, end]?;

@@ -4,12 +4,11 @@
 //! second change the type, or the rule's moments near it do.
 
 ghost use Rattle.std.specs.Prelude.{◌≡◌, ◌≢◌, ◌<◌, ◌≤◌, length, option_map, MatchOption, MatchResult, Some, ⊤};
-ghost use Rattle.tz_base.specs.LocalTypes.{LocalType};
 ghost use Rattle.tz_info.specs.Rules.{Alternate as AlternateRule};
 ghost use Rattle.tz_info.specs.Spans.{IsSpanAt};
 ghost use Rattle.tz_info.specs.Steps.Changes.{AreComeAt};
 ghost use Rattle.tz_info.specs.Steps.Segments.{index_of};
-ghost use Rattle.tz_info.specs.Steps.Spans.{ChangesWith, IsFrom, IsTo};
+ghost use Rattle.tz_info.specs.Steps.Spans.{ChangesWith};
 ghost use Rattle.tz_info.specs.Zones.{HasType, TypeAt, IsTypeError};
 ghost use Rattle.tz_info.specs.declared.rule.transition_rule.TransitionRule.TheVariants.{Alternate};
 
@@ -56,36 +55,11 @@ impl TimeZone {
         requires { TypeAt self.now unix_time local_time_type }
         ensures { IsSpanAt (TypeAt self.now) unix_time result }
     {
-        let from = self.in_force_from(unix_time);
-        let until = self.in_force_until(unix_time);
+        let _ = &self.table;
         Span {
             local_time_type,
-            from,
-            until,
-        }
-    }
-
-    // The second of the last change at that second or before it.
-    fn in_force_from(&self, unix_time: i64) -> Option<i64>
-        ensures { (t : LocalType) → TypeAt self.now unix_time t
-            → IsFrom (TypeAt self.now) unix_time t result }
-    {
-        let _ = &self.table;
-        match self.previous_change(unix_time) {
-            Some(change) => Some(change.at),
-            None => None,
-        }
-    }
-
-    // The second of the first change after that second.
-    fn in_force_until(&self, unix_time: i64) -> Option<i64>
-        ensures { (t : LocalType) → TypeAt self.now unix_time t
-            → IsTo (TypeAt self.now) unix_time t result }
-    {
-        let _ = &self.table;
-        match self.next_change(unix_time) {
-            Some(change) => Some(change.at),
-            None => None,
+            from: second_of(self.previous_change(unix_time)),
+            until: second_of(self.next_change(unix_time)),
         }
     }
 
@@ -112,7 +86,6 @@ impl TimeZone {
         requires { length self.now.leaps ≡ 0 }
         ensures { AreComeAt self.now second result }
     {
-        let _most = self.transition_count();
         let mut probes = Probes::new();
         self.passed_count(second, &mut probes)
     }

@@ -2,7 +2,6 @@
 
 ghost use Rattle.std.specs.Prelude.{◌≡◌, ℤ, pos, ◌+ℤ◌, ◌≤ℤ◌, ◌↔◌, ◌<◌, ◌≤◌, length, take};
 ghost use Rattle.std.specs.Int.{saturate_signed, w64};
-ghost use Rattle.tz_base.specs.LocalTypes.{IsUtOffset};
 ghost use Rattle.tz_info.specs.Leaps.{AreLeapSeconds, corrections};
 ghost use Rattle.tz_info.specs.Lists.{last_else};
 ghost use Rattle.tz_info.specs.Steps.Starts.{HaveCome, IsReachedFrom};
@@ -12,7 +11,6 @@ ghost use Rattle.tz_info.specs.WallPieces.{IsStart};
 use crate::zone::leap_second::LeapSecond;
 use crate::zone::leap_time::correction_after;
 use crate::zone::transition::Transition;
-use tz_base::LocalTimeType;
 
 // The first second at which the leap time has come.
 pub(super) fn first_second(leaps: &[LeapSecond], leap_time: i64) -> i64
@@ -63,10 +61,10 @@ pub(super) fn start_of(transitions: &[Transition], leaps: &[LeapSecond], count: 
     first_second(leaps, transitions[count - 1].unix_leap_time)
 }
 
-// What a clock of that type shows at the second.
-pub(super) fn cut_at(second: i64, local_type: &LocalTimeType) -> i64
-    ensures offset { IsUtOffset local_type.now.offset }
-    ensures sum { result ≡ saturate_signed w64 (second +ℤ local_type.now.offset) }
+// What a clock at that offset shows at the second.
+#[inline(always)]
+pub(super) fn cut_at(second: i64, offset: i64) -> i64
+    ensures { result ≡ saturate_signed w64 (second +ℤ offset) }
 {
-    second.saturating_add(local_type.offset() as i64)
+    second.saturating_add(offset)
 }

@@ -222,6 +222,16 @@ impl TimeZone {
         Ok(TimeZone::with_rule(types, None))
     }
 
+    /// A law: each zone is a valid one, and the numbers of its rule are in their limits. The call
+    /// does nothing.
+    #[inline(always)]
+    pub fn valid_law(&self)
+        ensures valid { IsValid self.now }
+        ensures rule { IsRuleOrNone self.now.rule }
+    {
+        let _ = &self.table;
+    }
+
     /// How many transitions the zone has.
     pub fn transition_count(&self) -> usize
         ensures { result ≡ length self.now.transitions }

@@ -134,7 +134,6 @@ impl TimeZone {
             → probes.old.piece_reads < probes.new.piece_reads }
         ensures valid { IsValid self.now }
     {
-        let _transitions = self.transition_count();
         let shown = self.index.answer(local, probes);
         (shown, types_of(&self.local_types, shown))
     }

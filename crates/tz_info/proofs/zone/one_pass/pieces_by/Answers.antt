@@ -1,8 +1,12 @@
-use Rattle.std.proofs.Common.{suc, ◌-◌, ◌≡◌, ◌++◌, ◌∷◌, [], ◌∙◌, ap, inl, List, arith, add-one, to_z-of_z, w64, rules}
+use Rattle.std.proofs.Common.{ℕ, ℤ, ◌+ℤ◌, suc, ◌-◌, ◌≡◌, ◌++◌, ◌∷◌, [], ◌∙◌, ap, inl, List, arith, add-one, to_z-of_z, w64, rules}
+use Rattle.std.specs.Int.{saturate_signed}
 use mir.Val.{SFits}
 use Rattle.tz_info.specs.Segments.{table_count}
-use Rattle.tz_info.specs.Steps.Pieces.{zone_in, IsCutFrom}
+use Rattle.tz_info.specs.Steps.Pieces.{zone_in, IsCutFrom, IsSegment}
+use Rattle.tz_info.specs.WallPieces.{IsStart}
+use Rattle.tz_info.specs.Zones.{Zone}
 use Rattle.tz_info.specs.declared.zone.pieces.Piece.{Piece}
+use Rattle.tz_info.specs.declared.zone.segments.Segment.{Segment}
 use Rattle.tz_info.proofs.OnePass.{open_first, open_more, table_most, within_table, cuts_of, crossed_by}
 use Rattle.tz_info.proofs.WallSegments.{cut_from}
 use Rattle.tz_info.proofs.zone.one_pass.pieces_by.Goals as goal
@@ -38,16 +42,22 @@ returns-then-is_crossed c =
     crossed_by (zone_in c.args.lists) c.loop-place.place _ _ _ c.pieces_at.result.0.start (within_table (zone_in c.args.lists) c.loop-place.place (omega arith)) crossed.0 c.loop-place.invariant.pieces
     (cuts_of (zone_in c.args.lists) c.loop-place.place c.pieces_at.result.0 c.pieces_at.result.1 c.pieces_at.ensures).0 crossed.1
 
+-- the last segment is the one before the loop's end, and a cut by its offset ends it
+end_cut : (z : Zone) (place : ℕ) (before : Segment) (second cut : ℤ) → (seg : IsSegment z (place - 1) before)
+    → IsStart z.transitions z.leaps place second → cut ≡ saturate_signed w64 (second +ℤ before.offset) → IsCutFrom z place seg.type.offset cut
+end_cut z place before second cut seg start shown = record { second = second; is_start = start; shown = rw seg.offset at shown }
+
 pub returns-then-is_crossed-2 : goal.returns-then-is_crossed-2
 returns-then-is_crossed-2 c =
     let fs : SFits w64 c.start_of.result = search rules in
     let fe : SFits w64 c.cut_at-end.result = search rules in
+    let fo : SFits w64 c.loop-place.before.offset = search rules in
     let until = c.loop-place.auto.place-end (omega arith) in
     let here : c.table_count-count.result ≡ c.loop-place.place = let far = c.loop-place-test.false in omega arith in
-    let has = rw (c.index_of_segment-index.ensures.index, here) at c.listed-last_type.ensures.listed in
+    let seg = c.loop-place.invariant.before in
     let crossed = rw here at (simp to_z-of_z at (c.is_crossed-then-count-lists.ensures.crossed c.if-is_crossed-2.true)) in
-    let cut = cut_from (zone_in c.args.lists) c.loop-place.place c.listed-last_type.result.now.offset c.cut_at-end.result c.listed-last_type.ensures.offset (record { second = c.start_of.result; is_start = rw here at c.start_of.ensures; shown = simp to_z-of_z at c.cut_at-end.ensures.sum }) in
-    crossed_by (zone_in c.args.lists) c.loop-place.place _ _ _ c.cut_at-end.result (omega arith) crossed.0 c.loop-place.invariant.pieces (record { type = c.listed-last_type.result.now; listed = inl has; is_cut = cut }) crossed.1
+    let cut = cut_from (zone_in c.args.lists) c.loop-place.place seg.type.offset c.cut_at-end.result seg.is_offset (end_cut (zone_in c.args.lists) c.loop-place.place c.loop-place.before c.start_of.result c.cut_at-end.result seg (rw here at c.start_of.ensures) (simp to_z-of_z at c.cut_at-end.ensures)) in
+    crossed_by (zone_in c.args.lists) c.loop-place.place _ _ _ c.cut_at-end.result (omega arith) crossed.0 c.loop-place.invariant.pieces (record { type = seg.type; listed = inl (rw seg.index at seg.listed); is_cut = cut }) crossed.1
 
 pub returns : goal.returns
 returns c =
@@ -56,16 +66,17 @@ returns c =
     let some = c.requires.some in
     let until = c.loop-place.auto.place-end (omega arith) in
     let all : c.loop-place.place ≡ table_count (zone_in c.args.lists) = let far = c.loop-place-test.false in omega arith in
+    let seg = c.loop-place.invariant.before in
+    let fo : SFits w64 c.loop-place.before.offset = search rules in
     elim c.if-count-lists.branch [
       | then-count-lists+else-is_crossed-2 w ↦
           let fs : SFits w64 w.start_of.result = search rules in
           let fe : SFits w64 w.cut_at-end.result = search rules in
           let here : c.table_count-count.result ≡ c.loop-place.place = omega arith in
-          let has = rw (w.index_of_segment-index.ensures.index, here) at w.listed-last_type.ensures.listed in
           let strict = rw here at (simp to_z-of_z at (w.is_crossed-then-count-lists.ensures.behind w.if-is_crossed-2.false)) in
-          let cut : IsCutFrom (zone_in c.args.lists) c.loop-place.place w.listed-last_type.result.now.offset w.cut_at-end.result = record { second = w.start_of.result; is_start = rw here at w.start_of.ensures; shown = simp to_z-of_z at w.cut_at-end.ensures.sum } in
-          rw (w.pieces-is, simp to_z-of_z at w.push_reserved-then-count-lists.ensures.items, w.index_of_segment-index.ensures.index, here, all, c.index_of_segment.ensures.index) (rw all at (c.loop-place.invariant.pieces.closed (omega arith) w.listed-last_type.result.now w.cut_at-end.result has w.listed-last_type.ensures.offset cut strict))
-      | else-count-lists w ↦ rw (w.pieces-is, c.index_of_segment.ensures.index) (rw all at (c.loop-place.invariant.pieces.whole (let rule = w.if-count-lists.false in omega arith)))
+          let cut = end_cut (zone_in c.args.lists) c.loop-place.place c.loop-place.before w.start_of.result w.cut_at-end.result seg (rw here at w.start_of.ensures) (simp to_z-of_z at w.cut_at-end.ensures) in
+          rw (w.pieces-is, simp to_z-of_z at w.push_reserved-then-count-lists.ensures.items, seg.index, all, c.segment_at.ensures.index) (rw all at (c.loop-place.invariant.pieces.closed (omega arith) seg.type w.cut_at-end.result (rw seg.index at seg.listed) seg.is_offset cut strict))
+      | else-count-lists w ↦ rw (w.pieces-is, c.segment_at.ensures.index) (rw all at (c.loop-place.invariant.pieces.whole (let rule = w.if-count-lists.false in omega arith)))
     ]
 
 pub push_reserved-requires : goal.push_reserved-requires

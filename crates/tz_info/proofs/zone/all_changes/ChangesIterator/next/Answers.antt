@@ -8,11 +8,11 @@ pub returns-in-Some-clause-steps : goal.returns-in-Some-clause-steps
 returns-in-Some-clause-steps c =
     let ff : SFits w64 c.args.self.now.from = search rules in
     let fu : SFits w64 c.args.self.now.until = search rules in
-    let first = simp to_z-of_z at c.in-Some.ensures in
+    let first = simp to_z-of_z at c.in-Some.ensures.found in
     let fits = first.is.fits in
     let end = first.inside.1 in
     let fn : SFits w64 (c.in-Some.change.at +ℤ pos 1) = omega (arith, ints) in
-    simp to_z-of_z (steps_first c.args.self.now (record { zone = c.args.self.now.zone; from = c.in-Some.change.at +ℤ pos 1; until = c.args.self.now.until }) c.in-Some.change c.local_time_types-types.ensures.valid c.local_time_types-types.ensures.rule first refl)
+    simp to_z-of_z (steps_first c.args.self.now (record { zone = c.args.self.now.zone; from = c.in-Some.change.at +ℤ pos 1; until = c.args.self.now.until }) c.in-Some.change c.first_change_in.ensures.valid c.first_change_in.ensures.rule first refl)
 
 pub returns-in-Some-clause-goes : goal.returns-in-Some-clause-goes
 returns-in-Some-clause-goes c =
@@ -23,5 +23,5 @@ pub returns-in-None-clause-steps : goal.returns-in-None-clause-steps
 returns-in-None-clause-steps c =
     let ff : SFits w64 c.args.self.now.from = search rules in
     let fu : SFits w64 c.args.self.now.until = search rules in
-    let none = steps_none c.args.self.now c.local_time_types-types.ensures.valid c.local_time_types-types.ensures.rule (simp to_z-of_z at c.in-None.ensures) in
+    let none = steps_none c.args.self.now c.first_change_in.ensures.valid c.first_change_in.ensures.rule (simp to_z-of_z at c.in-None.ensures.found) in
     (none, none)

@@ -1,4 +1,7 @@
-use Rattle.std.proofs.Common.{to_z-of_z}
+use Rattle.std.proofs.Common.{◌≡◌, [], arith, ap, length, to_z-of_z}
+use Rattle.tz_timeline.proofs.ForCallers.{digits-le}
+use Rattle.tz_info.specs.WallPieces.{WallIndex}
+use Rattle.tz_info.proofs.PassedTransitions.{no_items}
 use Rattle.tz_info.proofs.WallPieces.{latest_answers, none_answers}
 use Rattle.tz_info.proofs.zone.index.Index.answer.Goals as goal
 
@@ -15,3 +18,14 @@ returns-in-None-clause-answer c =
     let latest = rw c.in-None.is at c.passed.ensures.latest in
     let passed = simp to_z-of_z at c.passed.ensures.passed in
     rw (← c.self.view_is) (none_answers c.self.inside.before c.self.inside.pieces c.args.local c.passed.result.count passed latest)
+
+pub passed-requires : goal.passed-requires
+passed-requires c =
+    let n = c.len.ensures in let e = ap (λ (i : WallIndex). length i.pieces) c.self.view_is in
+    omega (arith, digits-le (length c.self.inside.pieces))
+
+pub returns-then-len-eq0-clause-answer : goal.returns-then-len-eq0-clause-answer
+returns-then-len-eq0-clause-answer c =
+    let n = c.len.ensures in let t = c.if-len-eq0.true in
+    let none : c.args.self.now.pieces ≡ [] = no_items c.args.self.now.pieces (omega arith) in
+    rw none (ap (λ (i : WallIndex). i.before) c.self.view_is)

@@ -1,15 +1,11 @@
-use Rattle.std.proofs.Common.{arith, ap, length, to_z-of_z}
+use Rattle.std.proofs.Common.{arith, ap, to_z-of_z}
 use Rattle.tz_timeline.specs.Counts.{Counts}
-use Rattle.tz_timeline.proofs.ForCallers.{digits-le}
 use Rattle.tz_info.proofs.LeaplessChanges.{own_leap_time}
 use Rattle.tz_info.proofs.ZoneChanges.{counted_segment}
 use Rattle.tz_info.proofs.zone.time_zone.TimeZone.come_without_leaps.Goals as goal
 
 pub passed_count-requires : goal.passed_count-requires
-passed_count-requires c =
-    let n = c.transition_count-most.ensures in
-    let none = ap (λ (p : Counts). p.reads) c.new-probes.ensures in
-    omega (arith, digits-le (length c.args.self.now.transitions))
+passed_count-requires c = let none = ap (λ (p : Counts). p.reads) c.new-probes.ensures in omega arith
 
 pub returns : goal.returns
 returns c =

@@ -1,9 +1,9 @@
-use Rattle.std.proofs.Common.{pos, ◌+ℤ◌, ◌-ℤ◌, unsigned_abs}
-use Rattle.tz_info.proofs.GapLaws.{IsTurn}
+use Rattle.std.proofs.Common.{pos, ◌-ℤ◌, unsigned_abs}
+use Rattle.tz_info.specs.Steps.Gaps.{IsTurn}
 use Rattle.tz_info.proofs.zone.time_zone.TimeZone.gap_by_turns.Given as goal
 
-abbrev pub invariant-loop-last : goal.invariant-loop-last
-invariant-loop-last l = IsTurn l.self l.turns l.local l.fn.reach.high l.last l.next
+abbrev pub invariant-loop-turn : goal.invariant-loop-turn
+invariant-loop-turn l = IsTurn l.self l.turns l.local l.turn
 
-abbrev pub decreases-loop-last : goal.decreases-loop-last
-decreases-loop-last l = unsigned_abs ((l.fn.reach.high +ℤ pos 1) -ℤ l.last)
+abbrev pub decreases-loop-turn : goal.decreases-loop-turn
+decreases-loop-turn l = unsigned_abs (pos 10_000_000_000_000 -ℤ l.turn.at)

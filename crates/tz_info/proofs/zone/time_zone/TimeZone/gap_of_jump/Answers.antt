@@ -1,6 +1,5 @@
 use Rattle.std.proofs.Common.{◌≡◌, ◌+◌, ◌-◌, arith, ap, sym, ◌∙◌, subst, to_z-of_z, w64, rules}
 use mir.Val.{SFits}
-use Rattle.tz_info.specs.Steps.Gaps.{IsReach}
 use Rattle.tz_info.specs.Steps.Segments.{index_of}
 use Rattle.tz_info.specs.Steps.Starts.{IsReachedFrom}
 use Rattle.tz_info.specs.WallPieces.{IsStart}
@@ -16,9 +15,6 @@ pub returns-clause-gap : goal.returns-clause-gap
 returns-clause-gap c =
     let z = c.args.self.now in
     let fl = c.ranges.local in
-    let fw : SFits w64 c.reach-reach.result.low = search rules in
-    let fh : SFits w64 c.reach-reach.result.high = search rules in
-    let reach : IsReach z c.args.local c.reach-reach.result.low c.reach-reach.result.high = simp to_z-of_z at c.reach-reach.ensures in
     let t = c.transition-transition.result in
     let s = c.first_second.result in
     let ft : SFits w64 t.unix_leap_time = search rules in
@@ -34,4 +30,4 @@ returns-clause-gap c =
     let start : IsStart z.transitions z.leaps place s = start_found z.transitions z.leaps place t s valid.transitions.rising some within (subst (λ (x : Transition). IsReachedFrom z.leaps x.unix_leap_time s) item (subst (λ es. IsReachedFrom es t.unix_leap_time s) leaps reached)) in
     let index : index_of z.transitions place ≡ t.type_index = rw back at (index_next z.transitions (place - 1) t (omega arith)) ∙ sym (ap (λ (x : Transition). x.type_index) item) in
     let has : HasType z (index_of z.transitions place) c.listed-2.result.now = rw index c.listed-2.ensures in
-    simp to_z-of_z (jump_found z c.args.local c.reach-reach.result.low c.reach-reach.result.high s c.args.jump c.listed-2.result.now c.listed.result.now valid (rw (← c.self.view_is) c.self.invariant.limits) c.requires.never reach c.requires.jump start has c.listed.ensures)
+    simp to_z-of_z (jump_found z c.args.local c.requires.reach.0 c.requires.reach.1 s c.args.jump c.listed-2.result.now c.listed.result.now valid (rw (← c.self.view_is) c.self.invariant.limits) c.requires.never c.requires.reach.2 c.requires.jump start has c.listed.ensures)

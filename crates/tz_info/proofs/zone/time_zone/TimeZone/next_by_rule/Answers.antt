@@ -2,6 +2,8 @@ use Rattle.std.proofs.Common.{arith, w64, to_z-of_z, rules, ◌<ℤ◌}
 use mir.Val.{SFits}
 use mir.Syntax.{w128}
 use Rattle.std.proofs.lemmas.Int.{ints}
+use Rattle.tz_info.specs.Moments.{AlternateAt}
+use Rattle.tz_info.proofs.ChangeSearch.{first_nearest}
 use Rattle.tz_info.proofs.ZoneChanges.{none_begun, rule_found, steady}
 use Rattle.tz_info.proofs.zone.time_zone.TimeZone.next_by_rule.Goals as goal
 
@@ -21,5 +23,5 @@ returns c =
     let least = c.rule_begin-begin.ensures.bound in
     let fb : SFits w64 c.rule_begin-begin.result = omega (arith, ints) in
     let fl : SFits w64 c.later_of-from.result = search rules in
-    rule_found c.args.self.now c.in-Some.turns.now c.args.after c.rule_begin-begin.result c.later_of-from.result c.next_change.result (rw (← c.self.view_is) c.self.invariant.valid) c.in-Some.ensures c.rule_begin-begin.ensures.begin
-    (simp to_z-of_z at c.later_of-from.ensures) (simp to_z-of_z at c.next_change.ensures)
+    rule_found c.args.self.now c.in-Some.turns.now c.args.after c.rule_begin-begin.result c.later_of-from.result c.nearest_change.result (rw (← c.self.view_is) c.self.invariant.valid) c.in-Some.ensures c.rule_begin-begin.ensures.begin
+    (simp to_z-of_z at c.later_of-from.ensures) (first_nearest (AlternateAt c.in-Some.turns.now) (λ u. c.later_of-from.result <ℤ u) c.nearest_change.result (simp to_z-of_z at c.nearest_change.ensures))

@@ -1,9 +1,9 @@
-use Rattle.std.proofs.Common.{arith, to_z-of_z, rules, ◌≤ℤ◌, None}
+use Rattle.std.proofs.Common.{arith, to_z-of_z, rules, ◌≤ℤ◌, None, Some}
 use mir.Val.{SFits}
 use mir.Syntax.{w128}
 use Rattle.std.proofs.lemmas.Int.{ints}
 use Rattle.tz_info.specs.Moments.{AlternateAt}
-use Rattle.tz_info.proofs.ChangeSearch.{last_after}
+use Rattle.tz_info.proofs.ChangeSearch.{last_after, last_nearest}
 use Rattle.tz_info.proofs.ZoneChanges.{none_begun, rule_until, steady}
 use Rattle.tz_info.proofs.zone.time_zone.TimeZone.previous_by_rule.Goals as goal
 
@@ -24,9 +24,9 @@ returns-in-None c =
     let none = simp to_z-of_z at c.in-None.ensures in
     rule_until c.args.self.now c.in-Some.turns.now c.args.last c.rule_begin-begin.result None (rw (← c.self.view_is) c.self.invariant.valid) c.in-Some.ensures c.rule_begin-begin.ensures.begin (λ d is inside. none d is inside.1)
 
-pub returns-in-Some-previous_change : goal.returns-in-Some-previous_change
-returns-in-Some-previous_change c =
+pub returns-in-Some-nearest_change : goal.returns-in-Some-nearest_change
+returns-in-Some-nearest_change c =
     let fa = c.ranges.last in
     let fw : SFits w128 c.rule_begin-begin.result = search rules in
     rule_until c.args.self.now c.in-Some.turns.now c.args.last c.rule_begin-begin.result c.if_after.result (rw (← c.self.view_is) c.self.invariant.valid) c.in-Some.ensures c.rule_begin-begin.ensures.begin
-    (last_after (AlternateAt c.in-Some.turns.now) c.rule_begin-begin.result c.args.last c.in-Some-previous_change.change c.if_after.result (simp to_z-of_z at c.in-Some-previous_change.ensures) (simp to_z-of_z at c.if_after.ensures))
+    (last_after (AlternateAt c.in-Some.turns.now) c.rule_begin-begin.result c.args.last c.in-Some-nearest_change.change c.if_after.result (last_nearest (AlternateAt c.in-Some.turns.now) (λ u. u ≤ℤ c.args.last) (Some c.in-Some-nearest_change.change) (simp to_z-of_z at c.in-Some-nearest_change.ensures)) (simp to_z-of_z at c.if_after.ensures))

@@ -1,16 +1,8 @@
 use Rattle.std.proofs.Common.{arith, length, ◌+◌, ◌*◌, to_z-of_z, ap}
-use Rattle.tz_timeline.proofs.ForCallers.{digits-le, digits-more}
+use Rattle.tz_timeline.proofs.ForCallers.{digits-more}
 use Rattle.tz_info.specs.Zones.{Zone}
 use Rattle.tz_info.proofs.WallSegments.{typed_answer, indexes_below}
 use Rattle.tz_info.proofs.zone.time_zone.TimeZone.table_answer.Goals as goal
-
-pub answer-shown-requires : goal.answer-shown-requires
-answer-shown-requires c =
-    let n = ap (λ (z : Zone). length z.transitions) c.self.view_is in
-    let most = c.self.invariant.index.most in
-    let count = c.transition_count-transitions.ensures in
-    let room = c.requires.room.piece_reads in
-    omega (arith, digits-le (length c.self.inside.index.pieces))
 
 pub types_of-requires : goal.types_of-requires
 types_of-requires c =

@@ -38,7 +38,7 @@ tried c =
     tried_before c.args.self.now c.args.local c.loop-place.place c.loop-place.current.unix_leap_time c.transition-next.result.unix_leap_time c.transition-next.result c.loop-place.answer c.try_until-answer.result c.window-window.ensures.valid (omega arith) i.begin time answered (simp to_z-of_z at i.found)
 
 pub passed_count-first-requires : goal.passed_count-first-requires
-passed_count-first-requires c = let n = c.transition_count-count.ensures in let r = c.requires.room.reads in omega (arith, digits-le (length c.args.self.now.transitions))
+passed_count-first-requires c = let r = c.requires.room.reads in omega arith
 
 pub latest-current-requires-clause-room : goal.latest-current-requires-clause-room
 latest-current-requires-clause-room c = let k = c.passed_count-first.ensures.cost in let n = c.transition_count-count.ensures in omega (arith, digits-le (length c.args.self.now.transitions))

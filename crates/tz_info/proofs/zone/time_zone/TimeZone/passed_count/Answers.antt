@@ -1,0 +1,6 @@
+use Rattle.std.proofs.Common.{arith, length}
+use Rattle.tz_timeline.proofs.ForCallers.{digits-le}
+use Rattle.tz_info.proofs.zone.time_zone.TimeZone.passed_count.Goals as goal
+
+pub passed-requires : goal.passed-requires
+passed-requires c = let n = c.len.ensures.count in omega (arith, digits-le (length c.self.inside.table))
