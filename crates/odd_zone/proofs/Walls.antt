@@ -9,12 +9,12 @@ use Rattle.zoned_time.specs.Zone.{Shows}
 use Rattle.odd_zone.specs.Odd.{odd_offset}
 
 -- a second is twice its half, and one more where it is odd
-two_halves : (u : ℤ) → (pos 2 *ℤ floor_div u 2 +ℤ odd_offset u ≡ u) × (floor_mod u 2 < 2)
+pub two_halves : (u : ℤ) → (pos 2 *ℤ floor_div u 2 +ℤ odd_offset u ≡ u) × (floor_mod u 2 < 2)
 two_halves (pos a) = omega (arith, ints)
 two_halves (negsuc a) = omega (arith, ints)
 
 -- behind an even second lies an odd one
-odd_before : (l : ℤ) → floor_mod l 2 ≡ 0 → floor_mod (l -ℤ pos 1) 2 ≡ 1
+pub odd_before : (l : ℤ) → floor_mod l 2 ≡ 0 → floor_mod (l -ℤ pos 1) 2 ≡ 1
 odd_before l even =
     let here = two_halves l in let before = two_halves (l -ℤ pos 1) in
     omega (arith, ints)

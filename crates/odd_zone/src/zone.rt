@@ -5,9 +5,9 @@ ghost use Rattle.odd_zone.specs.OddOffset.{ahead_of, meaning_of, law_of};
 ghost use Rattle.std.proofs.Common.{rules};
 
 use crate::OddOffset;
-use naive_base::NaiveDateTime;
+use naive_base::{NaiveDate, NaiveDateTime, NaiveTime};
 use offset_core::LocalResult;
-use zoned_time::TimeZone;
+use zoned_time::{ShownDay, TimeZone, ZoneDays};
 
 /// The zone whose clocks are a second ahead of UTC at odd Unix seconds, and show UTC at even ones.
 ///
@@ -51,6 +51,25 @@ impl TimeZone for Odd {
         match offset_at(local.secs_since_epoch()) {
             OddOffset::Even => None,
             OddOffset::Odd => Some(OddOffset::Even),
+        }
+    }
+}
+
+impl ZoneDays for Odd {
+    fn seconds_of_day(&self, date: NaiveDate) -> Option<ShownDay<i64>> {
+        // Midnight is an even second, which the clocks show first a second early.
+        let first = self.first_second_at_or_after(&date.and_time(NaiveTime::MIN));
+        Some(ShownDay {
+            first,
+            last: first + 86_399,
+        })
+    }
+
+    fn first_second_at_or_after(&self, local: &NaiveDateTime) -> i64 {
+        let second = local.secs_since_epoch();
+        match offset_at(second) {
+            OddOffset::Even => second - 1,
+            OddOffset::Odd => second,
         }
     }
 }

@@ -1,5 +1,5 @@
 -- The starts of days divide time: each instant lies in one day.
-use Rattle.std.proofs.Common.{◌≡◌, ◌<◌, ◌⊎◌, ℕ, zero, suc, ℤ, pos, neg_ℤ, negsuc, ◌+ℤ◌, ◌-ℤ◌, ◌*ℤ◌, ◌≤ℤ◌, ◌<ℤ◌, inl, inr, arith, refl, subst}
+use Rattle.std.proofs.Common.{◌≡◌, ◌⊎◌, ℕ, zero, suc, ℤ, pos, neg_ℤ, negsuc, ◌+ℤ◌, ◌-ℤ◌, ◌*ℤ◌, ◌≤ℤ◌, ◌<ℤ◌, inl, inr, arith, refl, subst}
 use Rattle.std.proofs.lemmas.Int.{ints, by_lt_z}
 use Rattle.offset_core.specs.Offset.{IsWithinDay}
 use Rattle.naive_base.specs.Range.{IsInRange}
@@ -20,7 +20,7 @@ through x y z h k e = by_lt_z x.s y.s (λ less. h (inl less)) (λ more. by_lt_z 
       (λ not. k (inr (omega (arith, ints), omega (arith, ints))))
 ]))
 
-same_reading : (x y : Reading) → x.s ≡ y.s → x.f ≡ y.f → x ≡ y
+pub same_reading : (x y : Reading) → x.s ≡ y.s → x.f ≡ y.f → x ≡ y
 same_reading x y p q = λ i. record { s = p i; f = q i }
 
 equal : (x y : Reading) → ¬ (IsEarlier x y) → ¬ (IsEarlier y x) → x ≡ y
@@ -110,23 +110,31 @@ distance u v h = let n = natural (v -ℤ u) (omega (arith, ints)) in let e = n.1
 abbrev pub StayWithinDay : (ℤ → ℤ) → Type 0
 StayWithinDay off = (u : ℤ) → IsZoneSecond u → IsWithinDay (off u)
 
--- clocks reach each second of a day that is in range or a buffer day, and the midnight after these days
-pub reaches : (off : ℤ → ℤ) (l : ℤ) → StayWithinDay off → neg_ℤ (pos 8_334_601_315_200) ≤ℤ l → l ≤ℤ pos 8_210_266_963_200 → (u : ℤ) × IsFirstToReach off l u
-reaches off l within low high =
-    let near = within (l +ℤ pos 86_399) (omega (arith, ints), omega (arith, ints)) in
-    let n = distance (neg_ℤ (pos 8_334_601_401_600)) (l +ℤ pos 86_400) (omega (arith, ints)) in
-    elim (find off l (neg_ℤ (pos 8_334_601_401_600)) (l +ℤ pos 86_400) n.0 n.1) [
+-- clocks that show l or more at the second v did so first at some second
+pub first_until : (off : ℤ → ℤ) (l v : ℤ) → HasReached off l v → (u : ℤ) × IsFirstToReach off l u × (u ≤ℤ v)
+first_until off l v h =
+    let inside = h.in_zone in
+    let n = distance (neg_ℤ (pos 8_334_601_401_600)) (v +ℤ pos 1) (omega (arith, ints, inside)) in
+    elim (find off l (neg_ℤ (pos 8_334_601_401_600)) (v +ℤ pos 1) n.0 n.1) [
       | inl found ↦ let below = found.2 in (
         found.0,
         record {
-          reached = record { in_zone = (found.1, omega (arith, ints)); reached = found.3 };
-          first = λ v h. by_lt_z v found.0 (λ less. let c = found.4 v h.in_zone.0 less in let d = h.reached in absurd (omega (arith, ints))) (λ m. m);
+          reached = record { in_zone = (found.1, omega (arith, ints, inside)); reached = found.3 };
+          first = λ w k. by_lt_z w found.0 (λ less. let c = found.4 w k.in_zone.0 less in let d = k.reached in absurd (omega (arith, ints))) (λ m. m);
         },
+        omega (arith, ints),
       )
-      | inr none ↦ let c = none (l +ℤ pos 86_399) (omega (arith, ints)) (omega (arith, ints)) in absurd (omega (arith, ints, near))
+      | inr none ↦ let c = none v inside.0 (omega (arith, ints)) in let d = h.reached in absurd (omega (arith, ints))
     ]
 
-in_day : (off : ℤ → ℤ) (r : Reading) (day start next : ℤ) → IsFirstToReach off (midnight day).s start → IsFirstToReach off (midnight (day +ℤ pos 1)).s next → start ≤ℤ r.s → r.s <ℤ next → IsInDay off day r
+-- clocks reach each second of a day that is in range or a buffer day, and the midnight after these days
+pub reaches : (off : ℤ → ℤ) (l : ℤ) → StayWithinDay off → neg_ℤ (pos 8_334_601_315_200) ≤ℤ l → l ≤ℤ pos 8_210_266_963_200 → (u : ℤ) × IsFirstToReach off l u
+reaches off l within low high =
+    let inside : IsZoneSecond (l +ℤ pos 86_399) = (omega (arith, ints), omega (arith, ints)) in
+    let near = within (l +ℤ pos 86_399) inside in
+    let found = first_until off l (l +ℤ pos 86_399) (record { in_zone = inside; reached = omega (arith, ints, near) }) in (found.0, found.1)
+
+pub in_day : (off : ℤ → ℤ) (r : Reading) (day start next : ℤ) → IsFirstToReach off (midnight day).s start → IsFirstToReach off (midnight (day +ℤ pos 1)).s next → start ≤ℤ r.s → r.s <ℤ next → IsInDay off day r
 in_day off r day start next h k low high = record {
   start = of_secs start 0;
   next = of_secs next 0;

@@ -1,9 +1,9 @@
 -- Days of zones: from seconds to instants.
-use Rattle.std.proofs.Common.{◌≡◌, ◌<◌, ℤ, pos, ◌+ℤ◌, ◌*ℤ◌, ◌≤ℤ◌, ◌<ℤ◌, inl, inr, arith, refl, sym, subst, ap, ◌∙◌, Option, Some, None, option_map}
+use Rattle.std.proofs.Common.{◌≡◌, ℤ, pos, ◌+ℤ◌, ◌*ℤ◌, ◌≤ℤ◌, ◌<ℤ◌, inl, inr, arith, refl, sym, subst, ap, ◌∙◌, Option, Some, None, option_map}
 use Rattle.std.specs.Prelude.{◌-ℤ◌, MatchOption, SomeIff}
 use Rattle.std.proofs.lemmas.Int.{ints, by_lt_z}
 use Rattle.naive_base.specs.Range.{IsInRange}
-use Rattle.naive_base.specs.Reading.{Reading, IsEarlier}
+use Rattle.naive_base.specs.Reading.{Reading}
 use Rattle.naive_base.specs.Stamp.{of_secs}
 use Rattle.naive_base.specs.Year.{floor_div}
 use Rattle.naive_base.proofs.ForCallers.{floors}

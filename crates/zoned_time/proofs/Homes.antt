@@ -21,15 +21,18 @@ same_through p q = record {
   in_force = λ u zone o. (λ h. (q.in_force u zone o).0 ((p.in_force u zone o).0 h), λ h. (p.in_force u zone o).1 ((q.in_force u zone o).1 h));
 }
 
--- the offset at an instant
+-- the offset at a second, and at an instant
+pub offset_home_at : {O : Type 0} {m : Meaning O} (law home : Law m) (u : ℤ) (o : O)
+    → SameLaw law home → IsZoneSecond u → IsOffsetAt law u o → IsOffsetAt home u o
+offset_home_at law home u o same inside at = record {
+  there = at.there ∙ same.offsets u inside;
+  in_force = (same.in_force u inside o).0 at.in_force;
+  same_home = same_through at.same_home same;
+}
+
 pub offset_home : {O : Type 0} {m : Meaning O} (law home : Law m) (u : ℤ) (o : O)
     → SameLaw law home → IsInRange u → IsOffsetAt law u o → IsOffsetAt home u o
-offset_home law home u o same range at =
-    let inside : IsZoneSecond u = (omega (arith, ints, range), omega (arith, ints, range)) in record {
-      there = at.there ∙ same.offsets u inside;
-      in_force = (same.in_force u inside o).0 at.in_force;
-      same_home = same_through at.same_home same;
-    }
+offset_home law home u o same range at = offset_home_at law home u o same (omega (arith, ints, range), omega (arith, ints, range)) at
 
 pub at_home : {O : Type 0} {m : Meaning O} (law home : Law m) (r : Reading) (d : Zoned O)
     → SameLaw law home → IsInRange r.s → IsAt law r d → IsAt home r d

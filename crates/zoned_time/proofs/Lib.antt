@@ -1,6 +1,7 @@
 pub mod Answered
 pub mod Days
 pub mod DayStarts
+pub mod DayEnds
 pub mod ForCallers
 pub mod Homes
 pub mod Instants

@@ -1,5 +1,5 @@
 -- Days of a zone: the first and the last second at which its clocks show a date, and the first instant at or after a local time.
-use Rattle.std.specs.Prelude.{ℤ, pos, ◌+ℤ◌, ◌*ℤ◌, ◌≤ℤ◌, ◌<ℤ◌, Option, MatchOption}
+use Rattle.std.specs.Prelude.{ℤ, pos, ◌+ℤ◌, ◌*ℤ◌, ◌≤ℤ◌, ◌<ℤ◌}
 use Rattle.naive_base.specs.Range.{IsInRange}
 use Rattle.naive_base.specs.Reading.{Reading, reading_at, ahead, IsEarlier}
 use Rattle.naive_base.specs.Stamp.{of_secs}

@@ -2,6 +2,7 @@ pub mod Alike
 pub mod Choice
 pub mod DateTime
 pub mod Days
+pub mod DayEnds
 pub mod Fields
 pub mod Order
 pub mod Relocal

@@ -7,6 +7,7 @@ mod arithmetic;
 mod calendar;
 mod constants;
 mod convert;
+mod days;
 mod fields;
 mod operators;
 mod order;

@@ -1,16 +1,20 @@
 //! The days of zones.
-ghost use Rattle.std.specs.Prelude.{◌+ℤ◌, ◌≤ℤ◌, MatchOption};
+ghost use Rattle.std.specs.Prelude.{◌≡◌, ◌<◌, ℤ, pos, ◌+ℤ◌, ◌-ℤ◌, ◌≤ℤ◌, MatchOption};
+ghost use Rattle.offset_core.specs.TimeDelta.{nanos_of};
 ghost use Rattle.naive_base.specs.NaiveDate.{day_of};
 ghost use Rattle.naive_base.specs.NaiveDateTime.{reading};
-ghost use Rattle.naive_base.specs.Range.{IsInRange};
+ghost use Rattle.naive_base.specs.Range.{IsInRange, IsWideDay};
 ghost use Rattle.naive_base.specs.Stamp.{of_secs};
+ghost use Rattle.naive_base.specs.Weekday.{weekday_number};
 ghost use Rattle.naive_base.specs.Year.{floor_div};
 ghost use Rattle.zoned_time.specs.DateTime.{zoned};
 ghost use Rattle.zoned_time.specs.Days.{AreEndsOfDay, IsNeverOnDay, IsNoDay, AreInstantsOfDay, IsFirstToReach, IsFirstOutOfRange, IsZonedAtOrAfter, midnight};
+ghost use Rattle.zoned_time.specs.DayEnds.{AreStartsOfDays, IsLengthOfDay, HasNoEnd, IsZonedEnd, IsFirstOfWeek, first_of_month, first_of_year};
 ghost use Rattle.zoned_time.specs.Zoned.{IsAt};
 
 use crate::{DateTime, TimeZone};
-use naive_base::{NaiveDate, NaiveDateTime, NaiveTime};
+use naive_base::{Datelike, Days, NaiveDate, NaiveDateTime, NaiveTime, Weekday};
+use offset_core::{FixedOffset, TimeDelta};
 
 /// The first and the last second at which clocks show a date: of a zone's instants, or of Unix time.
 #[derive(Clone, Copy, Debug)]
@@ -57,8 +61,8 @@ pub trait ZoneDays: TimeZone {
             (λ d. AreInstantsOfDay (Self.law self.now) (day_of date) (zoned d.first) (zoned d.last)) }
     {
         let seconds = self.seconds_of_day(date)?;
-        let first = instant_at(self, seconds.first)?;
-        let last = instant_at(self, seconds.last)?;
+        let first = instant_at(self, seconds.first, 0)?;
+        let last = instant_at(self, seconds.last, 0)?;
         Some(ShownDay { first, last })
     }
 
@@ -92,7 +96,7 @@ pub trait ZoneDays: TimeZone {
             (λ d. IsZonedAtOrAfter law (reading local.now) (zoned d)) }
     {
         let second = self.first_second_at_or_after(local);
-        let whole = instant_at(self, second)?;
+        let whole = instant_at(self, second, 0)?;
         if whole.naive_local().secs_since_epoch() == local.secs_since_epoch() {
             DateTime::<Self>::from_local_opt(local, *whole.offset())
         } else {
@@ -116,12 +120,133 @@ pub trait ZoneDays: TimeZone {
     {
         self.first_at_or_after(&date.and_time(NaiveTime::MIN))
     }
+
+    /// Returns the last instant of the day of that date: the nanosecond before the next day starts.
+    /// `None` if the day is empty, since clocks were set forward over it, or if that instant is out of
+    /// the range of [`DateTime`].
+    ///
+    /// An interval that includes the whole day is simpler with its exclusive end, the
+    /// [`ZoneDays::start_of_day`] of the next date.
+    ///
+    /// ```
+    /// let end = toronto.end_of_day(NaiveDate::from_ymd(1919, 3, 30))?; // 1919-03-30 23:29:59.999999999 -05:00
+    /// ```
+    final fn end_of_day(&self, date: NaiveDate) -> Option<DateTime<Self>>
+        ensures { let law = Self.law self.now in
+            MatchOption result (HasNoEnd law.off (day_of date))
+            (λ d. IsZonedEnd law (day_of date) (zoned d)) }
+    {
+        let (start, next) = starts_of_days(self, date)?;
+        if start == next {
+            return None;
+        }
+        instant_at(self, next - 1, 999_999_999)
+    }
+
+    /// Returns the time from the start of the day of that date to that of the next day: 24 hours
+    /// unless clocks are set in between, and none at all for a date that clocks never show. `None` for
+    /// a date on the buffer day after the range, which has no next date.
+    ///
+    /// ```
+    /// let length = new_york.length_of_day(NaiveDate::from_ymd(2021, 3, 14))?; // 23 hours
+    /// ```
+    final fn length_of_day(&self, date: NaiveDate) -> Option<TimeDelta>
+        ensures { MatchOption result (¬ (IsWideDay (day_of date +ℤ pos 1)))
+            (λ length. IsLengthOfDay (Self.law self.now).off (day_of date) (nanos_of length)) }
+    {
+        let (start, next) = starts_of_days(self, date)?;
+        Some(TimeDelta::seconds(next - start))
+    }
+
+    /// Returns the start of the week of that date, if weeks begin on that weekday: the first instant
+    /// at which clocks show midnight of its first date or a later local time. `None` if it is out of
+    /// the range of [`DateTime`].
+    ///
+    /// ```
+    /// let date = NaiveDate::from_ymd(2021, 3, 17);
+    /// let start = new_york.start_of_week(date, Weekday::Mon)?; // 2021-03-15 00:00:00 -04:00
+    /// ```
+    final fn start_of_week(&self, date: NaiveDate, start: Weekday) -> Option<DateTime<Self>>
+        ensures { let law = Self.law self.now in
+            (first : ℤ) × IsFirstOfWeek (weekday_number start) (day_of date) first
+            × MatchOption result (IsFirstOutOfRange law.off (midnight first))
+            (λ d. IsZonedAtOrAfter law (midnight first) (zoned d)) }
+    {
+        start_of_earlier_day(self, date, date.weekday().days_since(start))
+    }
+
+    /// Returns the start of the month of that date: the first instant at which clocks show midnight
+    /// of its first date or a later local time. `None` if it is out of the range of [`DateTime`].
+    ///
+    /// ```
+    /// let date = NaiveDate::from_ymd(2021, 3, 17);
+    /// let start = new_york.start_of_month(date)?; // 2021-03-01 00:00:00 -05:00
+    /// ```
+    final fn start_of_month(&self, date: NaiveDate) -> Option<DateTime<Self>>
+        ensures { let law = Self.law self.now in
+            let first = first_of_month (day_of date) in
+            MatchOption result (IsFirstOutOfRange law.off (midnight first))
+            (λ d. IsZonedAtOrAfter law (midnight first) (zoned d)) }
+    {
+        start_of_earlier_day(self, date, date.day0())
+    }
+
+    /// Returns the start of the year of that date: the first instant at which clocks show midnight of
+    /// its first date or a later local time. `None` if it is out of the range of [`DateTime`].
+    ///
+    /// ```
+    /// let date = NaiveDate::from_ymd(2021, 3, 17);
+    /// let start = new_york.start_of_year(date)?; // 2021-01-01 00:00:00 -05:00
+    /// ```
+    final fn start_of_year(&self, date: NaiveDate) -> Option<DateTime<Self>>
+        ensures { let law = Self.law self.now in
+            let first = first_of_year (day_of date) in
+            MatchOption result (IsFirstOutOfRange law.off (midnight first))
+            (λ d. IsZonedAtOrAfter law (midnight first) (zoned d)) }
+    {
+        start_of_earlier_day(self, date, date.ordinal0())
+    }
 }
 
-// The instant of a second, if it is in range.
-fn instant_at<Tz: TimeZone>(zone: &Tz, second: i64) -> Option<DateTime<Tz>>
-    ensures { MatchOption result (IsInRange second → ⊥)
-        (λ d. IsInRange second × IsAt (Tz.law zone.now) (of_secs second 0) (zoned d)) }
+// The first second of the day of a date, and of the next day; `None` for the last date of all.
+fn starts_of_days<Tz: ZoneDays>(zone: &Tz, date: NaiveDate) -> Option<(i64, i64)>
+    ensures { MatchOption result (¬ (IsWideDay (day_of date +ℤ pos 1)))
+        (λ s. AreStartsOfDays (Tz.law zone.now).off (day_of date) s.0 s.1) }
 {
-    zone.timestamp_opt(second, 0).single()
+    let start = zone.first_second_at_or_after(&date.and_time(NaiveTime::MIN));
+    let next = zone.first_second_at_or_after(&midnight_after(date)?);
+    Some((start, next))
+}
+
+// The midnight after a date, which may be on the buffer day after the range.
+fn midnight_after(date: NaiveDate) -> Option<NaiveDateTime>
+    ensures { MatchOption result (¬ (IsWideDay (day_of date +ℤ pos 1)))
+        (λ local. reading local ≡ midnight (day_of date +ℤ pos 1)) }
+{
+    let start = date.and_time(NaiveTime::MIN);
+    if !start.is_in_range() {
+        return Some(date.succ_opt()?.and_time(NaiveTime::MIN));
+    }
+    let half_a_day = FixedOffset::east(43_200);
+    let noon = start.overflowing_add_offset(half_a_day);
+    Some(noon.overflowing_add_offset(half_a_day))
+}
+
+// The start of the day so many days before that of a date.
+fn start_of_earlier_day<Tz: ZoneDays>(zone: &Tz, date: NaiveDate, days: u32) -> Option<DateTime<Tz>>
+    ensures { let law = Tz.law zone.now in
+        let first = day_of date -ℤ pos days in
+        MatchOption result (IsFirstOutOfRange law.off (midnight first))
+        (λ d. IsZonedAtOrAfter law (midnight first) (zoned d)) }
+{
+    zone.start_of_day(date.checked_sub_days(Days::new(days as u64))?)
+}
+
+// The instant of a second and its nanoseconds, if it is in range.
+fn instant_at<Tz: TimeZone>(zone: &Tz, second: i64, nanos: u32) -> Option<DateTime<Tz>>
+    requires { nanos < 1_000_000_000 }
+    ensures { MatchOption result (IsInRange second → ⊥)
+        (λ d. IsInRange second × IsAt (Tz.law zone.now) (of_secs second nanos) (zoned d)) }
+{
+    zone.timestamp_opt(second, nanos).single()
 }

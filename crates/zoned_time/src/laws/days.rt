@@ -1,11 +1,13 @@
 //! Theorems of days and of the first instants at or after local times: each function is empty, its
 //! contract is proved; never called.
-ghost use Rattle.std.specs.Prelude.{◌≡◌, ◌↔◌, ℤ, pos, ◌+ℤ◌, ◌≤ℤ◌};
+ghost use Rattle.std.specs.Prelude.{◌≡◌, ◌↔◌, ℤ, pos, ◌+ℤ◌, ◌-ℤ◌, ◌≤ℤ◌};
+ghost use Rattle.offset_core.specs.WallAnswer.{IsNeverShown, IsShownOnce, IsShownBetween};
 ghost use Rattle.naive_base.specs.Range.{IsInRange};
-ghost use Rattle.naive_base.specs.Reading.{Reading, IsEarlier};
+ghost use Rattle.naive_base.specs.Reading.{Reading, behind, IsEarlier};
 ghost use Rattle.naive_base.specs.Year.{floor_div};
 ghost use Rattle.zoned_time.specs.Days.{IsOnDay, AreEndsOfDay, IsNeverOnDay, IsFirstAtOrAfter, IsInDay, midnight};
-ghost use Rattle.zoned_time.specs.Zone.{IsZoneSecond};
+ghost use Rattle.zoned_time.specs.DayEnds.{IsGapEnd, NonePassed};
+ghost use Rattle.zoned_time.specs.Zone.{IsZoneSecond, Shows};
 ghost use Rattle.zoned_time.specs.declared.zone_days.ShownDay.{ShownDay as AnyDay};
 
 use crate::{ShownDay, TimeZone};
@@ -16,6 +18,22 @@ pub fn first_instants()
         → IsFirstAtOrAfter off l b → a ≡ b }
     ensures rises { (off : ℤ → ℤ) (l m a b : Reading) → ¬ (IsEarlier m l)
         → IsFirstAtOrAfter off l a → IsFirstAtOrAfter off m b → ¬ (IsEarlier b a) }
+{}
+
+/// The first instant at or after a local time, as a policy for gaps and folds. A local time that is
+/// shown once gives its instant, one in a fold the first of its instants, and one in a gap the
+/// instant at which the gap ends. If clocks had been set forward over a local time before they first
+/// showed it, the instant is an earlier one, when they were.
+pub fn gaps_and_folds()
+    ensures once { (off : ℤ → ℤ) (l a : Reading) (k : ℤ) → IsShownOnce (Shows off l.s) k
+        → NonePassed off l.s (l.s -ℤ k) → IsFirstAtOrAfter off l a → a ≡ behind l k }
+    ensures fold { (off : ℤ → ℤ) (l a : Reading) (k last : ℤ)
+        → IsShownBetween (Shows off l.s) k last → NonePassed off l.s (l.s -ℤ k)
+        → IsFirstAtOrAfter off l a → a ≡ behind l k }
+    ensures gap { (off : ℤ → ℤ) (l a : Reading) → IsNeverShown (Shows off l.s)
+        → IsFirstAtOrAfter off l a → IsGapEnd off l.s a }
+    ensures not_later { (off : ℤ → ℤ) (l a : Reading) (u k : ℤ) → Shows off l.s u k
+        → IsFirstAtOrAfter off l a → ¬ (IsEarlier (behind l k) a) }
 {}
 
 /// The starts of days divide time: each instant in range lies in exactly one day.

@@ -1,4 +1,4 @@
-use Rattle.std.proofs.Common.{◌≡◌, ◌∙◌, ap, arith, rules, to_z-of_z, pos, ◌+ℤ◌, ◌*ℤ◌, w64, SFits}
+use Rattle.std.proofs.Common.{◌∙◌, ap, arith, rules, to_z-of_z, pos, ◌+ℤ◌, w64, SFits}
 use Rattle.std.proofs.lemmas.Int.{ints}
 use Rattle.naive_base.specs.NaiveDate.{day_of}
 use Rattle.zoned_time.specs.Zone.{IsZoneSecond}

@@ -1,4 +1,4 @@
-use Rattle.std.proofs.Common.{◌≡◌, ◌∙◌, sym, ap, subst, arith, rules, to_z-of_z, w64, SFits}
+use Rattle.std.proofs.Common.{◌∙◌, sym, ap, subst, arith, rules, to_z-of_z, w64, SFits}
 use Rattle.std.proofs.lemmas.Int.{ints}
 use Rattle.naive_base.specs.NaiveDateTime.{reading}
 use Rattle.naive_base.specs.Reading.{Reading}

@@ -1,0 +1,197 @@
+-- Days from their starts: the last instant, and first days before the range.
+use Rattle.std.proofs.Common.{◌≡◌, ◌∙◌, ℕ, ℤ, pos, neg_ℤ, ◌+ℤ◌, ◌-ℤ◌, ◌*ℤ◌, ◌≤ℤ◌, ◌<ℤ◌, inl, inr, arith, refl, sym, subst, ap, Option, Some, None}
+use Rattle.std.specs.Prelude.{MatchOption, SomeIff}
+use Rattle.std.proofs.lemmas.Int.{ints, by_lt_z}
+use Rattle.offset_core.specs.WallAnswer.{IsNeverShown, IsShownOnce, IsShownBetween}
+use Rattle.naive_base.specs.declared.date.NaiveDate.{NaiveDate}
+use Rattle.naive_base.specs.Fields.{IsDaysLater, MayShowDay}
+use Rattle.naive_base.specs.NaiveDate.{day_of, IsDateOn}
+use Rattle.naive_base.specs.Range.{IsInRange, IsWideDay, first_day, last_day}
+use Rattle.naive_base.specs.Reading.{Reading, ahead, behind, IsEarlier}
+use Rattle.naive_base.specs.Stamp.{of_secs}
+use Rattle.zoned_time.specs.Days.{IsFirstToReach, ShowsAtOrAfter, IsFirstAtOrAfter, IsFirstOutOfRange, IsZonedAtOrAfter, IsInDay, midnight}
+use Rattle.zoned_time.specs.DayEnds.{AreStartsOfDays, IsEndOfDay, HasNoEnd, IsZonedEnd, IsGapEnd, NonePassed}
+use Rattle.zoned_time.specs.Zone.{Meaning, Law, IsZoneSecond, SameOffsets, SameLaw, Shows}
+use Rattle.zoned_time.specs.Zoned.{Zoned, IsAt}
+use Rattle.zoned_time.proofs.Days.{to_reached, first_exact, out_of_range, first_whole}
+use Rattle.zoned_time.proofs.DayStarts.{StayWithinDay, one_first, first_until, same_reading, in_day}
+use Rattle.zoned_time.proofs.Homes.{offset_home_at}
+
+-- an instant of a day, by the seconds at which it and the next day start
+starts_are : (off : ℤ → ℤ) (day start next : ℤ) (r : Reading) → AreStartsOfDays off day start next → IsInDay off day r → (start ≤ℤ r.s) × (r.s <ℤ next)
+starts_are off day start next r h k =
+    let at_start : k.start ≡ of_secs start 0 = one_first off (midnight day) k.start (of_secs start 0) k.starts (first_whole off (midnight day) start refl h.starts) in
+    let at_next : k.next ≡ of_secs next 0 = one_first off (midnight (day +ℤ pos 1)) k.next (of_secs next 0) k.ends (first_whole off (midnight (day +ℤ pos 1)) next refl h.ends) in
+    let not_before : ¬ (IsEarlier r (of_secs start 0)) = subst (λ (x : Reading). ¬ (IsEarlier r x)) at_start k.not_before in
+    let before : IsEarlier r (of_secs next 0) = subst (λ (x : Reading). IsEarlier r x) at_next k.before in (
+      by_lt_z r.s start (λ less. absurd (not_before (inl less))) (λ more. more),
+      elim before [
+        | inl less ↦ less
+        | inr (_, fewer) ↦ absurd (omega arith)
+      ],
+    )
+
+pub end_of_day : (off : ℤ → ℤ) (day start next : ℤ) → AreStartsOfDays off day start next → start <ℤ next → IsEndOfDay off day (of_secs (next -ℤ pos 1) 999_999_999)
+end_of_day off day start next h some = record {
+  in_day = in_day off (of_secs (next -ℤ pos 1) 999_999_999) day start next h.starts h.ends (omega (arith, ints)) (omega (arith, ints));
+  no_leap = omega arith;
+  last = λ q k whole e. let within = starts_are off day start next q h k in elim e [
+    | inl less ↦ omega (arith, ints, within)
+    | inr (_, fewer) ↦ omega arith
+  ];
+}
+
+-- a day of one second or more has this end, and no other
+pub one_end : (off : ℤ → ℤ) (day start next : ℤ) (r : Reading) → AreStartsOfDays off day start next → IsEndOfDay off day r → (start <ℤ next) × (r.s ≡ next -ℤ pos 1)
+one_end off day start next r h k =
+    let within = starts_are off day start next r h k.in_day in
+    let some : start <ℤ next = omega (arith, ints, within) in
+    let own = end_of_day off day start next h some in
+    (some, by_lt_z r.s (next -ℤ pos 1) (λ less. absurd (k.last (of_secs (next -ℤ pos 1) 999_999_999) own.in_day own.no_leap (inl less))) (λ more. omega (arith, ints, within)))
+
+pub empty_day : (off : ℤ → ℤ) (day start next : ℤ) → AreStartsOfDays off day start next → start ≡ next → HasNoEnd off day
+empty_day off day start next h same r k inside = let some = (one_end off day start next r h k).0 in omega (arith, ints)
+
+pub end_out_of_range : (off : ℤ → ℤ) (day start next : ℤ) → AreStartsOfDays off day start next → (IsInRange (next -ℤ pos 1) → ⊥) → HasNoEnd off day
+end_out_of_range off day start next h out r k inside = out (subst IsInRange (one_end off day start next r h k).1 inside)
+
+-- the last instant of the buffer day after the range is out of range, since clocks are less than a day ahead
+pub end_of_last_day : (off : ℤ → ℤ) (day : ℤ) → StayWithinDay off → last_day <ℤ day → HasNoEnd off day
+end_of_last_day off day within late r k inside =
+    let next = k.in_day.next in
+    let near = within next.s k.in_day.ends.shown.in_zone in
+    let reached = (to_reached off (midnight (day +ℤ pos 1)) next k.in_day.ends.shown).reached in
+    k.last (of_secs (pos 8_210_266_876_800) 0) (record {
+      start = k.in_day.start;
+      next = next;
+      starts = k.in_day.starts;
+      ends = k.in_day.ends;
+      not_before = λ e. elim e [
+        | inl less ↦ k.in_day.not_before (inl (omega (arith, ints, inside)))
+        | inr (same, _) ↦ k.in_day.not_before (inl (omega (arith, ints, inside)))
+      ];
+      before = inl (omega (arith, ints, near, reached));
+    }) (omega arith) (inl (omega (arith, ints, inside)))
+
+-- a midnight before the range comes before the range in each zone
+pub too_early : (off : ℤ → ℤ) (day : ℤ) → StayWithinDay off → day <ℤ first_day → IsFirstOutOfRange off (midnight day)
+too_early off day within early =
+    let inside : IsZoneSecond (neg_ℤ (pos 8_334_601_228_801)) = (omega (arith, ints), omega (arith, ints)) in
+    let near = within (neg_ℤ (pos 8_334_601_228_801)) inside in
+    let found = first_until off (midnight day).s (neg_ℤ (pos 8_334_601_228_801)) (record { in_zone = inside; reached = omega (arith, ints, near) }) in
+    let last = found.2 in
+    out_of_range off (midnight day) found.0 found.1 (λ range. omega (arith, ints, range))
+
+-- half a day after half a day after a midnight
+pub next_midnight : (day : ℤ) (start noon r : Reading) (k : ℤ) → k ≡ pos 43_200 → start ≡ midnight day → noon ≡ ahead start k → r ≡ ahead noon k → r ≡ midnight (day +ℤ pos 1)
+next_midnight day start noon r k half e f g =
+    let a : start.s ≡ day *ℤ pos 86_400 +ℤ pos 0 = ap (λ (x : Reading). x.s) e in
+    let b : noon.s ≡ start.s +ℤ k = ap (λ (x : Reading). x.s) f in
+    let c : r.s ≡ noon.s +ℤ k = ap (λ (x : Reading). x.s) g in
+    same_reading r (midnight (day +ℤ pos 1)) (omega (arith, ints)) (ap (λ (x : Reading). x.f) g ∙ ap (λ (x : Reading). x.f) f ∙ ap (λ (x : Reading). x.f) e)
+
+-- ---- from seconds to instants
+pub in_order : (off : ℤ → ℤ) (day start next : ℤ) → AreStartsOfDays off day start next → start ≤ℤ next
+in_order off day start next h = let reached = h.ends.reached.reached in h.starts.first next (record { in_zone = h.ends.reached.in_zone; reached = omega (arith, ints) })
+
+pub told_end : {O T : Type 0} {m : Meaning O} (law : Law m) (day start next : ℤ) (told : T → Zoned O) (found : Option T) → AreStartsOfDays law.off day start next → (start ≡ next → ⊥)
+    → MatchOption found (IsInRange (next -ℤ pos 1) → ⊥) (λ d. IsInRange (next -ℤ pos 1) × IsAt law (of_secs (next -ℤ pos 1) 999_999_999) (told d))
+    → MatchOption found (HasNoEnd law.off day) (λ d. IsZonedEnd law day (told d))
+told_end law day start next told None h some out = end_out_of_range law.off day start next h out
+told_end law day start next told (Some d) h some at =
+    let order = in_order law.off day start next h in
+    let less : start <ℤ next = by_lt_z start next (λ l. l) (λ not. absurd (some (omega (arith, ints)))) in
+    record { end = subst (IsEndOfDay law.off day) (sym at.1.utc) (end_of_day law.off day start next h less); offset = at.1.offset }
+
+-- ---- the day so many days before that of a date
+pub no_earlier_day : (off : ℤ → ℤ) (old : ℤ) (n : ℕ) → StayWithinDay off → IsWideDay old → IsDaysLater day_of IsDateOn old (neg_ℤ (pos n)) None → IsFirstOutOfRange off (midnight (old -ℤ pos n))
+no_earlier_day off old n within wide h =
+    let none = subst (λ (w : Option ℤ). SomeIff w (MayShowDay old (old +ℤ neg_ℤ (pos n))) (old +ℤ neg_ℤ (pos n))) (sym h.given) h.there in
+    too_early off (old -ℤ pos n) within (by_lt_z (old -ℤ pos n) first_day (λ l. l) (λ low.
+    by_lt_z (old -ℤ pos n) (last_day +ℤ pos 1)
+    (λ less. absurd (none (inl (omega (arith, ints), omega (arith, ints)))))
+    (λ more. absurd (none (inr (omega (arith, ints, wide)))))))
+
+pub earlier_day : (old : ℤ) (n : ℕ) (date : NaiveDate) → IsDaysLater day_of IsDateOn old (neg_ℤ (pos n)) (Some date) → day_of date ≡ old -ℤ pos n
+earlier_day old n date h =
+    let same = (subst (λ (w : Option ℤ). SomeIff w (MayShowDay old (old +ℤ neg_ℤ (pos n))) (old +ℤ neg_ℤ (pos n))) h.shown h.there).1 in omega (arith, ints)
+
+-- ---- a zone of the same offsets
+shows_home : (off home : ℤ → ℤ) (l r : Reading) → SameOffsets off home → ShowsAtOrAfter off l r → ShowsAtOrAfter home l r
+shows_home off home l r same h = record { in_zone = h.in_zone; not_before = subst (λ (k : ℤ). ¬ (IsEarlier (ahead r k) l)) (same r.s h.in_zone) h.not_before }
+
+first_home : (off home : ℤ → ℤ) (l r : Reading) → SameOffsets off home → IsFirstAtOrAfter off l r → IsFirstAtOrAfter home l r
+first_home off home l r same h = record {
+  shown = shows_home off home l r same h.shown;
+  first = λ q k. h.first q (shows_home home off l q (λ v zone. sym (same v zone)) k);
+}
+
+pub start_home : {O T : Type 0} {m : Meaning O} (law home : Law m) (l : Reading) (told : T → Zoned O) (found : Option T) → SameLaw law home
+    → MatchOption found (IsFirstOutOfRange law.off l) (λ d. IsZonedAtOrAfter law l (told d)) → MatchOption found (IsFirstOutOfRange home.off l) (λ d. IsZonedAtOrAfter home l (told d))
+start_home law home l told None same h = (h.0, first_home law.off home.off l h.0 same.offsets h.1, h.2)
+start_home law home l told (Some d) same h = record {
+  first = first_home law.off home.off l (told d).utc same.offsets h.first;
+  offset = offset_home_at law home (told d).utc.s (told d).offset same h.first.shown.in_zone h.offset;
+}
+
+-- ---- gaps and folds
+first_second : (off : ℤ → ℤ) (l u : ℤ) → IsZoneSecond u → (u +ℤ off u) ≡ l → NonePassed off l u → ((v : ℤ) → Shows off l v (off v) → u ≤ℤ v) → IsFirstToReach off l u
+first_second off l u inside shown none least = record {
+  reached = record { in_zone = inside; reached = omega (arith, ints) };
+  first = λ v h. by_lt_z v u
+      (λ less. let most = none v h.in_zone less in let reached = h.reached in least v (record { in_zone = h.in_zone; offset = refl; shown = omega (arith, ints) }))
+      (λ more. more);
+}
+
+first_shown : (off : ℤ → ℤ) (l a : Reading) (u k : ℤ) → Shows off l.s u k → NonePassed off l.s (l.s -ℤ k) → ((v : ℤ) → Shows off l.s v (off v) → u ≤ℤ v) → IsFirstAtOrAfter off l a → a ≡ behind l k
+first_shown off l a u k h none least first =
+    let shown = h.shown in
+    let back : u ≡ l.s -ℤ k = omega (arith, ints) in
+    let there : (u +ℤ off u) ≡ l.s = ap (λ (x : ℤ). u +ℤ x) (sym h.offset) ∙ h.shown in
+    let reaches = first_second off l.s u h.in_zone there (subst (NonePassed off l.s) (sym back) none) least in
+    one_first off l a (behind l k) first (subst (λ (v : ℤ). IsFirstAtOrAfter off l (record { s = v; f = l.f })) back (first_exact off l u reaches there))
+
+pub first_of_one : (off : ℤ → ℤ) (l a : Reading) (k : ℤ) → IsShownOnce (Shows off l.s) k → NonePassed off l.s (l.s -ℤ k) → IsFirstAtOrAfter off l a → a ≡ behind l k
+first_of_one off l a k h none first = first_shown off l a h.second k h.shown none (λ v s. let same = h.only v (off v) s in omega (arith, ints)) first
+
+pub first_of_fold : (off : ℤ → ℤ) (l a : Reading) (k last : ℤ) → IsShownBetween (Shows off l.s) k last → NonePassed off l.s (l.s -ℤ k) → IsFirstAtOrAfter off l a → a ≡ behind l k
+first_of_fold off l a k last h none first = first_shown off l a h.first k h.at_first none (λ v s. h.not_before v (off v) s) first
+
+pub not_later : (off : ℤ → ℤ) (l a : Reading) (u k : ℤ) → Shows off l.s u k → IsFirstAtOrAfter off l a → ¬ (IsEarlier (behind l k) a)
+not_later off l a u k h first =
+    let shown = h.shown in
+    let back : l.s -ℤ k ≡ u = omega (arith, ints) in
+    let there : (u +ℤ off u) ≡ l.s = ap (λ (x : ℤ). u +ℤ x) (sym h.offset) ∙ h.shown in
+    subst (λ (v : ℤ). ¬ (IsEarlier (record { s = v; f = l.f }) a)) (sym back) (first.first (record { s = u; f = l.f }) (record {
+      in_zone = h.in_zone;
+      not_before = λ e. elim e [
+        | inl less ↦ omega (arith, ints)
+        | inr (_, less) ↦ omega arith
+      ];
+    }))
+
+pub gap_end : (off : ℤ → ℤ) (l a : Reading) → IsNeverShown (Shows off l.s) → IsFirstAtOrAfter off l a → IsGapEnd off l.s a
+gap_end off l a never h =
+    let reached = to_reached off l a h.shown in
+    let past : l.s <ℤ (a.s +ℤ off a.s) = by_lt_z l.s (a.s +ℤ off a.s) (λ less. less) (λ not. let there = reached.reached in absurd (never a.s (off a.s) (record { in_zone = h.shown.in_zone; offset = refl; shown = omega (arith, ints) }))) in
+    record {
+      whole = by_lt_z (pos 0) (pos a.f)
+          (λ some. absurd (h.first (of_secs a.s 0) (record {
+            in_zone = h.shown.in_zone;
+            not_before = λ e. elim e [
+              | inl less ↦ omega (arith, ints)
+              | inr (same, _) ↦ omega (arith, ints)
+            ];
+          }) (inr (refl, omega (arith, ints)))))
+          (λ none. omega (arith, ints));
+      before = λ u inside less. by_lt_z (u +ℤ off u) l.s (λ c. c) (λ more. by_lt_z l.s (u +ℤ off u)
+          (λ later. absurd (h.first (of_secs u 0) (record {
+            in_zone = inside;
+            not_before = λ e. elim e [
+              | inl c ↦ omega (arith, ints)
+              | inr (same, _) ↦ omega (arith, ints)
+            ];
+          }) (inl less)))
+          (λ not. absurd (never u (off u) (record { in_zone = inside; offset = refl; shown = omega (arith, ints) }))));
+      after = past;
+    }
