@@ -1,11 +1,14 @@
 //! Kept zones.
-ghost use Rattle.std.specs.Prelude.{◌≡◌, IfOk, MatchResult};
+ghost use Rattle.std.specs.Prelude.{◌≡◌, slice_get, option_map, IfOk, MatchResult};
+ghost use Rattle.std.specs.Ordering.{on};
 ghost use Rattle.zoned_kept.specs.KeepError.{IsRefused};
 ghost use Rattle.zoned_kept.specs.KeptZone.{zone_of, off_of};
 ghost use Rattle.zoned_ref.specs.Offsets.{IsNarrow, AreOffsetsOf};
 
 use crate::KeepError;
 use std::alloc::Global;
+use std::fmt;
+use std::hash::{Hash, Hasher};
 use zoned_ref::TimeZoneRef;
 
 /// A parsed time zone that stays until the program ends, as a zone of
@@ -15,6 +18,10 @@ use zoned_ref::TimeZoneRef;
 /// It is copied freely, and has no lifetime: a struct holds it beside its instants, and no instant
 /// of it ends before another. **The memory that it takes is never given back**: keep the zones that
 /// live as long as the program, each once, and borrow others by [`TimeZoneRef`].
+///
+/// Two are equal if and only if their lists are: transitions, local time types, leap seconds and rule.
+/// So equal zones show the same local times, whichever was kept first. Zones that show the same times
+/// by different lists, as a file and its footer's TZ string from some year on, are not equal.
 ///
 /// ```
 /// let parsed = tz_info::TimeZone::from_tz_data(alloc, bytes)?; // New York's file
@@ -72,5 +79,59 @@ impl KeptZone {
         ensures offsets { AreOffsetsOf result.now (off_of self.now) }
     {
         self.borrowed.zone()
+    }
+
+    // The offset of the first type that the zone lists; there is one.
+    fn first_offset(&self) -> Option<i32>
+        ensures { result ≡ option_map (λ t. t.offset) (slice_get (zone_of self.now).types 0) }
+    {
+        let first = self.zone().local_time_types().first()?;
+        Some(first.offset())
+    }
+}
+
+// It compares lists, and two that were kept at one place have the same.
+impl PartialEq for KeptZone {
+    ghost use Rattle.std.specs.Cmp.{on_per};
+    ghost use Rattle.tz_info.specs.contracts.zone.time_zone.TimeZonePartialEq.TheImpl.Laws.{laws-law};
+    ghost use Rattle.zoned_kept.specs.KeptZone.{zone_of};
+
+    ghost eq = { on zone_of ⟦<tz_info::TimeZone as PartialEq>⟧.eq };
+
+    ghost laws = { on_per zone_of laws-law };
+
+    fn eq(&self, other: &KeptZone) -> bool {
+        self.zone() == other.zone()
+    }
+}
+
+impl Eq for KeptZone {
+    ghost use Rattle.std.specs.Cmp.{on_equiv};
+    ghost use Rattle.tz_info.specs.contracts.zone.time_zone.TimeZoneEq.TheImpl.Laws.{laws-law};
+    ghost use Rattle.zoned_kept.specs.KeptZone.{zone_of};
+
+    ghost laws = { on_equiv zone_of laws-law };
+}
+
+// By the count of transitions and the first type's offset, mostly that of local mean time: few zones
+// share both.
+impl Hash for KeptZone {
+    ghost use Rattle.std.proofs.Common.{ap};
+    ghost use Rattle.tz_info.proofs.ForCallers.{zone_exact};
+    ghost use Rattle.zoned_kept.specs.KeptZone.{zone_of, writes_of};
+
+    ghost hash_input = { λ k. writes_of (zone_of k) };
+
+    ghost respects_eq = { λ a b same. ap writes_of ((zone_exact (zone_of a) (zone_of b)).0 same) };
+
+    fn hash<H: Hasher>(&self, state: &mut H) {
+        self.zone().transition_count().hash(state);
+        self.first_offset().hash(state);
+    }
+}
+
+impl fmt::Debug for KeptZone {
+    fn fmt<W: fmt::Write>(&self, f: &mut fmt::Formatter<W>) -> fmt::Result {
+        f.debug_tuple("KeptZone").field(self.zone()).finish()
     }
 }

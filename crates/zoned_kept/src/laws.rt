@@ -2,6 +2,7 @@
 ghost use Rattle.std.specs.Prelude.{◌≡◌, ◌↔◌, IsTrue};
 ghost use Rattle.std.specs.Hash as fed;
 ghost use Rattle.zoned_kept.specs.KeptOffset.{ahead_of, type_of};
+ghost use Rattle.zoned_kept.specs.KeptZone.{zone_of, writes_of};
 ghost use Rattle.zoned_kept.specs.declared.kept_offset.KeptOffset.{KeptOffset as AnyOffset};
 ghost use Rattle.zoned_kept.specs.declared.kept_zone.KeptZone.{KeptZone as AnyZone};
 
@@ -21,11 +22,19 @@ pub fn kept_offsets()
     tz_base::laws::local_time_types();
 }
 
-/// A clone is the zone, and making it never fails.
+/// Zones are equal if and only if their transitions, types, leap seconds and rules are. A hash looks
+/// at the count of transitions and the offset of the first type. A clone is the zone, and making it
+/// never fails.
 pub fn kept_zones()
+    ensures equal { (a b : AnyZone) → IsTrue (⟦<KeptZone as PartialEq>⟧.eq a b)
+        ↔ (zone_of a ≡ zone_of b) }
+    ensures hashed { (a : AnyZone) → ⟦<KeptZone as Hash>⟧.hash_input a
+        ≡ writes_of (zone_of a) }
     ensures cloned { (a b : AnyZone) → ⟦<KeptZone as Clone>⟧.is_clone a b ↔ (b ≡ a) }
     ensures infallible { (a : AnyZone) → ⟦<KeptZone as Clone>⟧.is_infallible a }
-{}
+{
+    tz_info::laws::equality::zones();
+}
 
 /// A clone of a change of the clocks is that change, and making it never fails.
 pub fn kept_changes(a: &KeptChange, b: &KeptChange)

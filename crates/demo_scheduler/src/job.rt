@@ -1,0 +1,37 @@
+//! Jobs.
+
+use crate::{Schedule, SchedulerError};
+use std::alloc::Global;
+use zoned_kept::KeptZone;
+use zoned_time::DateTime;
+
+/// A job that runs by the clocks of its zone.
+#[derive(Clone, Copy, Debug, PartialEq, Eq, Hash)]
+pub struct Job {
+    pub name: &'static str,
+    pub zone: KeptZone,
+    pub schedule: Schedule,
+}
+
+impl Job {
+    /// A job by the clocks of a TZif file.
+    pub fn by_file(
+        alloc: Global,
+        name: &'static str,
+        file: &[u8],
+        schedule: Schedule,
+    ) -> Result<Job, SchedulerError> {
+        let parsed = tz_info::TimeZone::from_tz_data(alloc, file)?;
+        let zone = KeptZone::keep(alloc, parsed)?;
+        Ok(Job {
+            name,
+            zone,
+            schedule,
+        })
+    }
+
+    /// Returns when it runs next after an instant.
+    pub fn next_fire(&self, after: &DateTime<KeptZone>) -> Option<DateTime<KeptZone>> {
+        self.schedule.next_fire(&self.zone, after)
+    }
+}

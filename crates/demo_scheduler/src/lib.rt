@@ -1,0 +1,18 @@
+//! A scheduler: jobs that run at a time of day by the clocks of their own zones, and a queue of them.
+//!
+//! On each of its days a job runs once, at the first instant at which clocks show its time or a later
+//! one: at the end of the gap if they skip it, and on the first pass of a fold. [`Schedule::next_fire`]
+//! returns the first of these instants after another one, and its contract says that none is skipped.
+#![tactic(auto)]
+
+mod error;
+mod job;
+mod queue;
+mod run_days;
+mod schedule;
+
+pub use error::SchedulerError;
+pub use job::Job;
+pub use queue::{Fire, Queue};
+pub use run_days::RunDays;
+pub use schedule::Schedule;
