@@ -219,7 +219,8 @@ def kinds(rows):
             shown = [f"{1e9 * each / rows:.1f} ns" for each in times]
             wrong = [f"{differing(each, answers[-1]).size:,}" for each in answers[:-1]]
             lines.append(row(question, name, *shown, *wrong))
-    yield f"### The years 1900 to 2099, with the zones of three libraries\n"
+    yield "### Answers of pandas that differ\n"
+    yield "The years 1900 to 2099. pandas has the zones of three libraries.\n"
     names = ["pytz", "ZoneInfo", "dateutil"]
     yield from table(["question", "zone", *names, "Sahvumbi", *(f"{each} differs" for each in names)], 7, lines)
 

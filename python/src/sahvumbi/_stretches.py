@@ -85,8 +85,8 @@ class Stretches(Opened):
         """Returns the day that each instant lies in: its date, start and end, as a `Days`.
 
         Each instant lies in one day, from the start of it on and before `until`, the start of the
-        next. After a clock was set back over midnight it shows the date before once more, and is in
-        the later day still. Of a Series or an Index the answer is a DataFrame with its labels.
+        next. After a clock was set back over midnight it shows the date before again, and is in the
+        later day still. Of a Series or an Index the answer is a DataFrame with its labels.
         Raises `OutOfRangeError` as `start_of_day` does.
 
         >>> from sahvumbi import Zone
