@@ -144,8 +144,12 @@ def calls():
     """Calls on one row."""
     zone, name = Zone(ZONES[0]), ZONES[0]
     instants, local = (pd.DatetimeIndex(["2021-07-01"], tz=tz) for tz in ("UTC", None))
-    shown = {"a DatetimeIndex": pd.Index, "a Series": pd.Series, "an array": lambda each: each.to_numpy("M8[ns]"),
-             "a Timestamp": lambda each: each[0]}
+    shown = {
+        "a DatetimeIndex": pd.Index,
+        "a Series": pd.Series,
+        "an array": lambda each: each.to_numpy("M8[ns]"),
+        "a Timestamp": lambda each: each[0],
+    }
     theirs = [
         lambda: instants.tz_convert(name).tz_localize(None),
         lambda: local.tz_localize(name, ambiguous="NaT", nonexistent="NaT").tz_convert("UTC"),
@@ -188,10 +192,10 @@ def memory(rows):
         ("start_of_day", lambda: zone.start_of_day(local), 8, None),
         ("floor to hours", lambda: zone.floor(instants, "h"), 8, None),
     ]
-    lines = [
-        row(f"`{name}`", f"{peak(ours, size, rows):.1f}", "" if theirs is None else f"{peak(theirs, size, rows):.1f}")
-        for name, ours, size, theirs in asks
-    ]
+    lines = []
+    for name, ours, size, theirs in asks:
+        of_pandas = "" if theirs is None else f"{peak(theirs, size, rows):.1f}"
+        lines.append(row(f"`{name}`", f"{peak(ours, size, rows):.1f}", of_pandas))
     yield "### Bytes for each row, above question and answer\n"
     yield from table(["call on a Series", "here", "pandas"], 2, lines)
 
@@ -214,7 +218,8 @@ def kinds(rows):
             column = instants_of(seconds) if local else local_times_of(zone, seconds)
             theirs = pandas_local if local else pandas_instants
             ours = zone.to_local if local else lambda each: zone.localize(each, "nat", "nat")
-            asks = [lambda kind=kind: theirs(column, kind) for kind in (name, ZoneInfo(name), f"dateutil/{name}")]
+            zones = name, ZoneInfo(name), f"dateutil/{name}"
+            asks = [lambda kind=kind: theirs(column, kind) for kind in zones]
             answers, times = timed([*asks, lambda: ours(column)], 2)
             shown = [f"{1e9 * each / rows:.1f} ns" for each in times]
             wrong = [f"{differing(each, answers[-1]).size:,}" for each in answers[:-1]]
@@ -222,17 +227,20 @@ def kinds(rows):
     yield "### Answers of pandas that differ\n"
     yield "The years 1900 to 2099. pandas has the zones of three libraries.\n"
     names = ["pytz", "ZoneInfo", "dateutil"]
-    yield from table(["question", "zone", *names, "Sahvumbi", *(f"{each} differs" for each in names)], 7, lines)
+    differ = [f"{each} differs" for each in names]
+    yield from table(["question", "zone", *names, "Sahvumbi", *differ], 7, lines)
 
 
 def machine(rows):
     model = re.search(r"model name\s*: (.*)", Path("/proc/cpuinfo").read_text())[1]
     found = subprocess.run(["dpkg-query", "-W", *PACKAGES], capture_output=True, text=True).stdout
     load = Path("/proc/loadavg").read_text().split()[0]
-    versions = [f"Python {platform.python_version()}", *(f"{each.__name__} {each.__version__}" for each in (np, pd))]
+    versions = [f"Python {platform.python_version()}"]
+    versions += [f"{each.__name__} {each.__version__}" for each in (np, pd)]
+    versions += found.replace("\t", " ").splitlines()
     return (
         f"{datetime.now():%Y-%m-%d}, {model}, a load of {load} at the start. {rows:,} rows. "
-        f"{', '.join(versions)}, {', '.join(found.split(chr(10))[:-1])}.\n".replace("\t", " ")
+        f"{', '.join(versions)}.\n"
     )
 
 

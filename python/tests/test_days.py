@@ -22,7 +22,8 @@ QUARTERS = st.integers(-EDGE, EDGE).map(lambda quarters: QUARTER * quarters)
 
 @st.composite
 def zones(draw):
-    offsets = [QUARTER * each for each in draw(st.lists(st.integers(-GREATEST, GREATEST), min_size=1, max_size=5))]
+    quarters = draw(st.lists(st.integers(-GREATEST, GREATEST), min_size=1, max_size=5))
+    offsets = [QUARTER * each for each in quarters]
     seconds = sorted(draw(st.sets(QUARTERS, max_size=8)))
     return Lists([(second, draw(st.integers(0, len(offsets) - 1))) for second in seconds], offsets)
 
@@ -46,7 +47,7 @@ def test_start_and_end_of_day(lists, dates, time):
     ]
     assert [None if np.isnat(each) else int(each.view(np.int64)) for each in ends] == expected
     if None in expected:
-        with pytest.raises(sahvumbi.GapError, match="no clock of the zone shows a time of that day") as raised:
+        with pytest.raises(sahvumbi.GapError, match="shows a time of that day") as raised:
             zone.end_of_day([DAY * each for each in dates])
         assert raised.value.row == expected.index(None)
     else:
@@ -171,6 +172,14 @@ def test_forms():
         assert NEW_YORK.start_of_day(empty).size == NEW_YORK.end_of_day(empty).size == 0
 
 
+def test_months_and_years():
+    """The day of a month or of a year is its first one."""
+    months = np.array(["2021-03", "2021-11", "NaT"], "M8[M]")
+    days = np.array(["2021-03-01", "2021-11-01", "NaT"], "M8[D]")
+    np.testing.assert_array_equal(NEW_YORK.start_of_day(months), NEW_YORK.start_of_day(days))
+    assert NEW_YORK.start_of_day(np.datetime64("2021")) == np.datetime64("2021-01-01T05:00:00")
+
+
 def test_columns_of_many_rows():
     """Days of a column in several blocks: few, many, and of a wide range."""
     random = np.random.default_rng(0)
@@ -210,7 +219,8 @@ def test_errors():
         NEW_YORK.end_of_day(nanoseconds[1:])
     assert raised.value.row == 0
     assert str(NEW_YORK.floor(nanoseconds[1:], "h")[0]) == "2262-04-11T23:00:00.000000000"
-    for step in ("", "7h", "2D", "0h", "h1", "25min", "1.5h", timedelta(hours=7), timedelta(milliseconds=500)):
+    lengths = timedelta(hours=7), timedelta(milliseconds=500), timedelta(0), timedelta(days=2)
+    for step in ("", "7h", "2D", "0h", "h1", "25min", "1.5h", *lengths):
         with pytest.raises(ValueError, match="step is a day"):
             NEW_YORK.floor([0], step)
     with pytest.raises(TypeError, match="step is 'D'"):
@@ -227,7 +237,6 @@ def test_hostile_offsets():
     zone = Zone.from_bytes(lists.file())
     asked = np.array([-1, 0, 9 * DAY, 10 * DAY, years - 1, years + 3 * DAY])
     days = zone.day(asked)
-    latest = years - 1
-    expected = [latest // DAY, latest // DAY, latest // DAY, latest // DAY, (years - 1 + 40 * DAY) // DAY, years // DAY + 43]
-    assert (days.date // DAY).tolist() == expected
+    shown = [years - 1] * 4 + [years - 1 + 40 * DAY, years + 43 * DAY]
+    assert (days.date // DAY).tolist() == [each // DAY for each in shown]
     assert zone.floor(asked, "h")[:3].tolist() == [-3_600, 0, 9 * DAY]
