@@ -34,6 +34,10 @@ _Static_assert(sizeof(zoned_change) == 40 && _Alignof(zoned_change) == 8, "the s
 _Static_assert(offsetof(zoned_change, at) == 0, "the place of at");
 _Static_assert(offsetof(zoned_change, before) == 8, "the place of the type before");
 _Static_assert(offsetof(zoned_change, after) == 24, "the place of the type after");
+_Static_assert(sizeof(zoned_span) == 32 && _Alignof(zoned_span) == 8, "the size of a span");
+_Static_assert(offsetof(zoned_span, from) == 0 && offsetof(zoned_span, until) == 8, "the places of a span's ends");
+_Static_assert(offsetof(zoned_span, local_type) == 16, "the place of a span's type");
+_Static_assert(ZONED_UNKNOWN_UNIT == 36 && ZONED_NO_LOCAL_TIME == 37, "the numbers of a column");
 _Static_assert(ZONED_NOT_OPEN == 33 && ZONED_UNKNOWN_CHOICE == 34 && ZONED_NO_CHANGE == 35, "the numbers of a call by handle");
 _Static_assert(ZONED_OTHER_TYPE_INDEX == 41 && ZONED_OTHER_TRANSITION_TIMES == 42, "faults of lists");
 _Static_assert(ZONED_OTHER_LEAP_SECONDS == 43 && ZONED_OTHER_RULE == 44, "faults of lists");
@@ -216,9 +220,39 @@ int main(void) {
     IS(next.at, 67767976165557600);
     IS(zoned_zone_next_change(&zone, next.at, &next), ZONED_NO_CHANGE);
     IS(next.at, 67767976165557600);
+    /* The spans around 2021-03-14 07:00:00 UTC; the last one of the rule; a second without a type. */
+    zoned_span span;
+    IS(zoned_zone_span(&zone, 1615705199, &span), ZONED_OK);
+    IS(span.from, 1604210400);
+    IS(span.until, 1615705200);
+    IS(span.local_type.offset, -18000);
+    IS(memcmp(span.local_type.abbreviation, "EST\0\0\0\0", 8), 0);
+    IS(zoned_zone_span(&zone, 1615705200, &span), ZONED_OK);
+    IS(span.from, 1615705200);
+    IS(span.until, 1636264800);
+    IS(span.local_type.is_dst, 1);
+    IS(zoned_zone_span(&zone, 67767976165557600, &span), ZONED_OK);
+    IS(span.from, 67767976165557600);
+    IS(span.until, INT64_MAX);
+    IS(zoned_zone_span(&zone, INT64_MAX, &span), ZONED_NO_LOCAL_TIME);
+    IS(span.from, 67767976165557600);
+    /* In the gap and in the fold, at noon, and out of range. */
+    const int64_t reached[3] = {1615705200, 1636263000, 1636304400};
+    const int32_t offsets_there[3] = {-14400, -14400, -18000};
+    for (int i = 0; i < 3; i++) {
+        IS(zoned_zone_first_at_or_after(&zone, LOCALS[i], taken), ZONED_OK);
+        IS(taken[0].number, ZONED_OK);
+        IS(taken[0].instant, reached[i]);
+        IS(taken[0].offset, offsets_there[i]);
+    }
+    IS(zoned_zone_first_at_or_after(&zone, LOCALS[3], taken), ZONED_OK);
+    IS(taken[0].number, ZONED_INSTANT_OUT_OF_RANGE);
+    IS(taken[0].instant, 0);
     zoned_close(&zone);
     zoned_close(&zone);
     IS(zone.zone != NULL, 0);
+    IS(zoned_zone_span(&zone, 0, &span), ZONED_NOT_OPEN);
+    IS(zoned_zone_first_at_or_after(&zone, 0, taken), ZONED_NOT_OPEN);
     count = 77;
     IS(zoned_zone_changes(&zone, 0, INT64_MAX, changes, 3, &count), ZONED_NOT_OPEN);
     IS(count, 77);

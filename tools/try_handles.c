@@ -256,6 +256,57 @@ static void try_changes(struct tried *of) {
     EXPECT(zoned_zone_type(&of->zone, between, &there) == ZONED_OK && is_same_type(&there, &type));
 }
 
+/* The span of a second: it begins at the previous change, ends at the next one, and has the type that is in force. */
+static void try_span(struct tried *of) {
+    int64_t at = second();
+    zoned_span span;
+    zoned_change change;
+    zoned_local_type type = {0};
+    memset(&span, 0x55, sizeof span);
+    uint32_t number = zoned_zone_span(&of->zone, at, &span);
+    if (of->of.at) EXPECT(zoned_zone_type(&of->zone, at, &type) == ZONED_OK);
+    EXPECT(number == (!of->of.at ? ZONED_NOT_OPEN : type.offset == ZONED_NO_OFFSET ? ZONED_NO_LOCAL_TIME : ZONED_OK));
+    if (number) {
+        EXPECT(is_untouched(&span, sizeof span));
+        return;
+    }
+    EXPECT(is_same_type(&span.local_type, &type));
+    EXPECT(span.from == (zoned_zone_previous_change(&of->zone, at, &change) ? INT64_MIN : change.at));
+    EXPECT(span.until == (zoned_zone_next_change(&of->zone, at, &change) ? INT64_MAX : change.at));
+}
+
+/* The first second from `from` on at which a clock shows the local time or a later one, by the changes before `until`. */
+static int64_t first_by_changes(struct tried *of, int64_t local, int64_t from, int64_t until, int32_t *offset) {
+    zoned_change change;
+    zoned_local_type type;
+    for (int64_t begin = from, end;; begin = end) {
+        EXPECT(begin < until && zoned_zone_type(&of->zone, begin, &type) == ZONED_OK && type.offset != ZONED_NO_OFFSET);
+        end = zoned_zone_next_change(&of->zone, begin, &change) ? until : change.at;
+        int64_t reached = local - type.offset > begin ? local - type.offset : begin;
+        *offset = type.offset;
+        if (reached < end) return reached;
+    }
+}
+
+static void try_first(struct tried *of) {
+    int64_t local = second();
+    zoned_resolved reached;
+    memset(&reached, 0x55, sizeof reached);
+    uint32_t number = zoned_zone_first_at_or_after(&of->zone, local, &reached);
+    EXPECT(number == due(of, 0, 0));
+    if (number) {
+        EXPECT(is_untouched(&reached, sizeof reached));
+        return;
+    }
+    int32_t offset = 0;
+    int64_t at = 0;
+    int is_known = local >= -8334601228800 && local <= 8210266876799;
+    if (is_known) at = first_by_changes(of, local, local - 100000, local + 100000, &offset);
+    if (at < -8334601228800 || at > 8210266876799) is_known = 0;
+    EXPECT(reached.number == (is_known ? ZONED_OK : ZONED_INSTANT_OUT_OF_RANGE));
+    EXPECT(reached.instant == (is_known ? at : 0) && reached.offset == (is_known ? offset : 0));
+}
+
 /* The second, or that of the next change, or one beside it. */
 static int64_t end_of_stretch(struct tried *of, int64_t at) {
     zoned_change next;
@@ -473,7 +524,8 @@ static void try_calls(uint64_t count) {
             break;
         case 9:
             try_changes(one);
-            calls += 2;
+            try_span(one);
+            calls += 3;
             break;
         case 10:
             try_list(one);
@@ -485,7 +537,8 @@ static void try_calls(uint64_t count) {
             break;
         default:
             try_locals(one);
-            calls += 5;
+            try_first(one);
+            calls += 6;
             break;
         }
     }
@@ -514,15 +567,19 @@ static uint64_t ask_one(const struct zoned_zone *zone, int64_t at, uint64_t sum)
     zoned_local_type type;
     zoned_change next = {0}, previous = {0};
     zoned_wall_clock clock;
-    zoned_resolved resolved;
+    zoned_resolved resolved, reached;
+    zoned_span span;
     uint32_t numbers[] = {zoned_zone_offset(zone, at, &offset),
                           zoned_zone_type(zone, at, &type),
+                          zoned_zone_span(zone, at, &span),
+                          zoned_zone_first_at_or_after(zone, at, &reached),
                           zoned_zone_next_change(zone, at, &next),
                           zoned_zone_previous_change(zone, at, &previous),
                           zoned_zone_wall_clock(zone, at, &clock),
                           zoned_zone_instant(zone, ZONED_GAP_SHIFT_FORWARD, ZONED_FOLD_LATEST, at, &resolved)};
     sum = mix(mix(mix(sum, numbers, sizeof numbers), &offset, sizeof offset), &type, sizeof type);
     sum = mix(mix(sum, &next, sizeof next), &previous, sizeof previous);
+    sum = mix(mix(sum, &span, sizeof span), &reached, sizeof reached);
     return mix(mix_clock(sum, &clock), &resolved, sizeof resolved);
 }
 
@@ -548,7 +605,7 @@ static uint64_t ask_many(const struct zoned_zone *zone, const int64_t *at, uint6
     return mix(mix(sum, &count, sizeof count), changes, sizeof changes);
 }
 
-/* A sum of the answers of all thirteen questions by handle. */
+/* A sum of the answers of all questions by handle. */
 static uint64_t ask(const struct zoned_zone *zone) {
     uint64_t sum = 14695981039346656037u, seed = 1;
     for (uint64_t i = 0; i < rounds; i++) {

@@ -1,29 +1,30 @@
 #!/usr/bin/env python3
-"""Columns of time by pandas, by zoneinfo in a loop and by this package: time and answers.
+"""Columns of time by this package and by pandas: time, memory and answers.
 
-usage: python/bench/side_by_side.py [ROWS]
+usage: python/bench/side_by_side.py [--rows N] [--write]
 
-ROWS (1,000,000) instants are drawn evenly from the years 1970 to 2036, and as many from 1900 to
-2099, with fixed seeds, in no order. Each is asked what the zone's clocks show then; that local
-time, moved by up to an hour and a half at random so that some fall into gaps, is asked for its
-instant. pandas and this package get the same Series of datetime64[ns]; gaps and folds are NaT in
-both. zoneinfo gets the first 100,000 rows, one after another, as `datetime`, and answers a gap by
-the offset before it and a fold by its first instant (fold=0); it is compared with gap='shift',
-fold='earliest'. Each is asked 15 times, by turns, and the least time counts, so that what other
-processes take shows little.
+Prints the tables of docs/PYTHON.md, or with --write puts them there. It takes two minutes.
 
-pandas takes the zones of a name from pytz. A last table has it with those of zoneinfo and of
-dateutil too, on 300,000 rows from 1900 to 2099: in no order, sorted, and of one day; each is asked
-5 times, by turns.
+2,000,000 instants of the years 1970 to 2036, drawn evenly with a fixed seed, are asked for their
+local time: in no order, sorted, all of one day (2021-07-01), and all equal. The local times, moved
+by up to an hour and a half at random so that some are skipped or shown twice, are asked for their
+instants: gaps and folds become NaT. pandas and this package get the same Series of datetime64[ns],
+by turns. The processor time of the process counts, the least of 5 turns (2 to instants), so other
+work on the machine shows little.
 
-The zones are those of the tz database in /usr/share/zoneinfo. Prints the tables of docs/PYTHON.md.
+A call on one row is the mean of 1,000 calls, the least of 9 turns. Memory is what tracemalloc finds
+at the peak of a call, less the answer, for each row. Answers are compared with pandas', whose zones
+of a name are those of pytz, and with `zoneinfo`'s, one row after another. The last table has pandas
+with the zones of zoneinfo and of dateutil too.
 """
 
+import argparse
 import platform
-import sys
+import re
+import subprocess
 import time
-from datetime import datetime, timedelta
-from functools import partial
+import tracemalloc
+from datetime import datetime, timezone
 from pathlib import Path
 from zoneinfo import ZoneInfo
 
@@ -32,7 +33,8 @@ import pandas as pd
 
 from sahvumbi import Zone
 
-DATABASE = Path("/usr/share/zoneinfo")
+PAGE = Path(__file__).resolve().parents[2] / "docs/PYTHON.md"
+BEGIN, END = "<!-- what python/bench/side_by_side.py prints -->\n", "<!-- end -->\n"
 ZONES = [
     "America/New_York",
     "Australia/Lord_Howe",
@@ -41,190 +43,222 @@ ZONES = [
     "Asia/Kolkata",
     "Pacific/Apia",
 ]
-YEARS = {"1970 to 2036": ("1970", "2037"), "1900 to 2099": ("1900", "2100")}
-LOOPED, RUNS = 100_000, 15
-KINDS = "pytz", "ZoneInfo", "dateutil"
-KINDS_ROWS, KINDS_RUNS = 300_000, 5
-EPOCH = datetime(1970, 1, 1)
+DAY = int(np.datetime64("2021-07-01", "s").astype(int))
+PACKAGES = "python3-tz", "python3-dateutil", "tzdata"
 
 
-def timed(asks, column, runs=RUNS):
-    """What each of them answers, and how long a row takes it in ns; they take turns."""
+def timed(asks, turns, clock=time.process_time, calls=1):
+    """What each of them answers, and the least seconds of a call; they take turns."""
     answers, least = [None for _ in asks], [float("inf") for _ in asks]
-    for turn in range(runs * len(asks)):
-        place = turn % len(asks)
-        begun = time.perf_counter()
-        answers[place] = asks[place](column)
-        least[place] = min(least[place], time.perf_counter() - begun)
-    return answers, [1e9 * each / len(column) for each in least]
+    for _ in range(turns):
+        for place, ask in enumerate(asks):
+            answers[place] = None
+            begun = clock()
+            for _ in range(calls):
+                answers[place] = ask()
+            least[place] = min(least[place], (clock() - begun) / calls)
+    return answers, least
 
 
-def looped_through(ask, readings):
-    [answers], [took] = timed([ask], readings)
-    return pd.Series(pd.to_datetime(answers)), took
+def years(first, end, rows, seed):
+    """Seconds between the beginnings of two years."""
+    ends = (int(np.datetime64(str(year), "s").astype(int)) for year in (first, end))
+    return np.random.default_rng(seed).integers(*ends, rows)
+
+
+def instants_of(seconds):
+    return pd.Series((seconds * 10**9).view("M8[ns]")).dt.tz_localize("UTC")
+
+
+def local_times_of(zone, seconds, seed=3):
+    """The local times of instants, moved so that some are skipped or shown twice."""
+    moved = np.random.default_rng(seed).integers(-5_400, 5_400, seconds.size)
+    return pd.Series(((zone.to_local(seconds) + moved) * 10**9).view("M8[ns]"))
+
+
+def orders(rows):
+    seconds = years(1970, 2037, rows, 1)
+    yield "in no order", seconds
+    yield "sorted", np.sort(seconds)
+    yield "one day", DAY + np.random.default_rng(2).integers(0, 86_400, rows)
+    yield "equal", np.full(rows, DAY + 43_200)
+
+
+# pandas
+
+
+def pandas_local(instants, zone):
+    return instants.dt.tz_convert(zone).dt.tz_localize(None)
+
+
+def pandas_instants(local, zone):
+    return local.dt.tz_localize(zone, ambiguous="NaT", nonexistent="NaT").dt.tz_convert("UTC")
 
 
 def differing(ours, theirs):
     """The rows in which two columns differ; NaT is like NaT."""
-    ours, theirs = (
-        each.dt.tz_localize(None) if each.dt.tz is not None else each for each in (ours, theirs)
-    )
-    return np.flatnonzero(((ours != theirs) & ~(ours.isna() & theirs.isna())).to_numpy())
+    ours, theirs = (each.to_numpy("M8[ns]").view(np.int64) for each in (ours, theirs))
+    return np.flatnonzero(ours != theirs)
 
 
-def told(value):
-    return "NaT" if pd.isna(value) else str(pd.Timestamp(value).tz_localize(None))
+# Tables
 
 
-class Side:
-    """A zone, asked in three ways."""
-
-    def __init__(self, name):
-        self.name = name
-        self.ours = Zone.from_file(DATABASE / name)
-        with (DATABASE / name).open("rb") as file:
-            self.looped = ZoneInfo.from_file(file, key=name)
-
-    def of_pandas(self, kind):
-        """The zone as pandas takes it."""
-        zones = self.name, self.looped, f"dateutil/{self.name}"
-        return dict(zip(KINDS, zones))[kind]
-
-    def pandas_local(self, instants, kind="pytz"):
-        return instants.dt.tz_convert(self.of_pandas(kind)).dt.tz_localize(None)
-
-    def pandas_instants(self, local, kind="pytz"):
-        zone = self.of_pandas(kind)
-        return local.dt.tz_localize(zone, ambiguous="NaT", nonexistent="NaT").dt.tz_convert("UTC")
-
-    def our_instants(self, local):
-        return self.ours.localize(local, gap="nat", fold="nat")
-
-    def chosen_instants(self, local):
-        return self.ours.localize(local, gap="shift", fold="earliest")
-
-    def looped_local(self, readings):
-        zone = self.looped
-        return [
-            zone.fromutc(reading.replace(tzinfo=zone)).replace(tzinfo=None) for reading in readings
-        ]
-
-    def looped_instants(self, readings):
-        zone = self.looped
-        return [reading - reading.replace(tzinfo=zone).utcoffset() for reading in readings]
+def row(*cells):
+    return f"| {' | '.join(str(cell) for cell in cells)} |"
 
 
-def side_by_side(name, years, rows):
-    side = Side(name)
-    random = np.random.default_rng(1)
-    first, end = (np.datetime64(year, "s").astype(np.int64) for year in YEARS[years])
-    seconds = random.integers(first, end, rows)
-    instants = pd.Series((seconds * 10**9).view("M8[ns]")).dt.tz_localize("UTC")
-    (ours, theirs), (our_time, their_time) = timed(
-        [side.ours.to_local, side.pandas_local], instants
-    )
-    readings = [EPOCH + timedelta(seconds=second) for second in seconds[:LOOPED].tolist()]
-    looped, looped_time = looped_through(side.looped_local, readings)
-    yield "to local times", instants, ours, theirs, ours[
-        :LOOPED
-    ], looped, their_time, looped_time, our_time
-
-    local = ours + pd.to_timedelta(random.integers(-5_400, 5_400, rows), "s")
-    (ours, theirs), (our_time, their_time) = timed([side.our_instants, side.pandas_instants], local)
-    chosen = side.chosen_instants(local[:LOOPED])
-    readings = local[:LOOPED].dt.to_pydatetime().tolist()
-    looped, looped_time = looped_through(side.looped_instants, readings)
-    yield "to instants", local, ours, theirs, chosen, looped, their_time, looped_time, our_time
+def table(head, numbers, rows):
+    return [row(*head), "|---" * (len(head) - numbers) + "|--:" * numbers + "|", *rows, ""]
 
 
-def by_zoneinfo(side, question, value):
-    """What zoneinfo says of a row; NaT where no clock, or more than one, shows the local time."""
-    value = pd.Timestamp(value).tz_localize(None).to_pydatetime()
-    if question == "to local times":
-        return told(side.looped_local([value])[0])
-    instants = {value - value.replace(tzinfo=side.looped, fold=fold).utcoffset() for fold in (0, 1)}
-    shown = [instant for instant in instants if side.looped_local([instant])[0] == value]
-    return told(shown[0]) if len(shown) == 1 else "NaT"
-
-
-def print_row(*cells):
-    print("|", " | ".join(str(cell) for cell in cells), "|", flush=True)
-
-
-def print_times(rows):
-    """The tables of times. Gives the rows of the table of differences."""
-    head = ["question", "zone", "pandas", "zoneinfo", "Sahvumbi", "pandas : Sahvumbi"]
-    for years in YEARS:
-        print(f"### The years {years}\n")
-        print_row(*head, "pandas differs", "zoneinfo differs")
-        print("|---|---|--:|--:|--:|--:|--:|--:|")
+def ratios(rows):
+    """pandas' time through ours, and ours for a row, in each order."""
+    names = [name for name, _ in orders(1)]
+    for question in ("to local times", "to instants"):
+        lines = []
         for name in ZONES:
-            for question, asked, ours, theirs, chosen, looped, *times in side_by_side(
-                name, years, rows
-            ):
-                places = differing(ours, theirs)
-                loop_differs = f"{differing(chosen, looped).size:,} of {LOOPED:,}"
-                shown = [f"{each:.1f} ns" for each in times]
-                ratio = f"{times[0] / times[2]:.1f}"
-                print_row(question, name, *shown, ratio, f"{places.size:,}", loop_differs)
-                if places.size:
-                    when = asked.iloc[places].dt.year
-                    values = [told(each.iloc[places[0]]) for each in (asked, theirs, ours)]
-                    expected = by_zoneinfo(Side(name), question, asked.iloc[places[0]])
-                    span = f"{when.min()} to {when.max()}"
-                    yield name, years, question, f"{places.size:,}", span, *values, expected
-        print()
+            zone, cells = Zone(name), []
+            for order, seconds in orders(rows):
+                if question == "to local times":
+                    column = instants_of(seconds)
+                    asks = [lambda: zone.to_local(column), lambda: pandas_local(column, name)]
+                else:
+                    column = local_times_of(zone, seconds)
+                    if order == "sorted":
+                        column = column.sort_values(ignore_index=True)
+                    asks = [
+                        lambda: zone.localize(column, gap="nat", fold="nat"),
+                        lambda: pandas_instants(column, name),
+                    ]
+                answers, times = timed(asks, 5 if question == "to local times" else 2)
+                assert differing(*answers).size == 0, (name, order, question)
+                ours, theirs = (1e9 * each / rows for each in times)
+                cells.append(f"{theirs / ours:.1f} ({ours:.1f} ns of {theirs:.0f})")
+            lines.append(row(name, *cells))
+        yield f"### {question[0].upper()}{question[1:]}: pandas' time through ours\n"
+        yield from table(["zone", *names], 4, lines)
 
 
-def print_differences(differences):
-    head = ["zone", "years", "question", "rows", "in the years", "one of them"]
-    print("### Answers of pandas that differ\n")
-    print_row(*head, "pandas", "Sahvumbi", "zoneinfo")
-    print("|---|---|---|--:|---|---|---|---|---|")
-    for difference in differences:
-        print_row(*difference)
+def calls():
+    """Calls on one row."""
+    zone, name = Zone(ZONES[0]), ZONES[0]
+    instants, local = (pd.DatetimeIndex(["2021-07-01"], tz=tz) for tz in ("UTC", None))
+    shown = {
+        "a DatetimeIndex": pd.Index,
+        "a Series": pd.Series,
+        "an array": lambda each: each.to_numpy("M8[ns]"),
+        "a Timestamp": lambda each: each[0],
+    }
+    theirs = [
+        lambda: instants.tz_convert(name).tz_localize(None),
+        lambda: local.tz_localize(name, ambiguous="NaT", nonexistent="NaT").tz_convert("UTC"),
+    ]
+    asks = [("a DatetimeIndex, by pandas", *theirs)]
+    for form, made in shown.items():
+        a, b = made(instants), made(local)
+        asks.append((form, lambda a=a: zone.to_local(a), lambda b=b: zone.localize(b, "nat", "nat")))
+    _, times = timed([ask for _, *both in asks for ask in both], 9, calls=1_000)
+    lines = [
+        row(form, *(f"{1e6 * each:.1f} us" for each in times[2 * place : 2 * place + 2]))
+        for place, (form, *_) in enumerate(asks)
+    ]
+    yield "### Calls on one row\n"
+    yield from table(["of", "to local times", "to instants"], 2, lines)
 
 
-def columns(random):
-    """Instants in three orders."""
-    first, end = (np.datetime64(year, "s").astype(np.int64) for year in YEARS["1900 to 2099"])
-    seconds = random.integers(first, end, KINDS_ROWS)
-    day = np.datetime64("2021-07-01", "s").astype(np.int64) + random.integers(0, 86_400, KINDS_ROWS)
-    for order, each in (("none", seconds), ("sorted", np.sort(seconds)), ("one day", day)):
-        yield order, pd.Series((each * 10**9).view("M8[ns]")).dt.tz_localize("UTC")
+def peak(ask, answer_bytes, rows):
+    """The bytes that a call holds for each row at its peak, above its answer."""
+    ask()
+    tracemalloc.start()
+    answer = ask()
+    _, most = tracemalloc.get_traced_memory()
+    tracemalloc.stop()
+    del answer
+    return (most - answer_bytes * rows) / rows
 
 
-def print_kinds():
-    """pandas with the zones of three libraries."""
-    print("\n### pandas with the zones of pytz, zoneinfo and dateutil\n")
-    differ = [f"{kind} differs" for kind in KINDS]
-    print_row("question", "zone", "order", *KINDS, "Sahvumbi", *differ)
-    print("|---|---|---|--:|--:|--:|--:|--:|--:|--:|")
-    random = np.random.default_rng(2)
-    for name in ZONES[:2]:
-        side = Side(name)
-        for order, instants in columns(random):
-            ask = [partial(side.pandas_local, kind=kind) for kind in KINDS]
-            local = print_kind("to local times", side, order, [*ask, side.ours.to_local], instants)
-            local += pd.to_timedelta(random.integers(-5_400, 5_400, KINDS_ROWS), "s")
-            ask = [partial(side.pandas_instants, kind=kind) for kind in KINDS]
-            print_kind("to instants", side, order, [*ask, side.our_instants], local)
+def memory(rows):
+    zone = Zone(ZONES[0])
+    seconds = DAY - 900 * np.arange(rows)[::-1]
+    instants = instants_of(seconds)
+    local = pd.Series((zone.to_local(seconds) * 10**9).view("M8[ns]"))
+    asks = [
+        ("to_local", lambda: zone.to_local(instants), 8, lambda: pandas_local(instants, zone.key)),
+        ("localize", lambda: zone.localize(local, "nat", "nat"), 8, lambda: pandas_instants(local, zone.key)),
+        ("localize with fold='infer'", lambda: zone.localize(local, "nat", "infer"), 8, None),
+        ("explain", lambda: zone.explain(local), 1 + 4 * 8, None),
+        ("types", lambda: zone.types(instants), 8 + 1 + 8, None),
+        ("start_of_day", lambda: zone.start_of_day(local), 8, None),
+        ("floor to hours", lambda: zone.floor(instants, "h"), 8, None),
+    ]
+    lines = []
+    for name, ours, size, theirs in asks:
+        of_pandas = "" if theirs is None else f"{peak(theirs, size, rows):.1f}"
+        lines.append(row(f"`{name}`", f"{peak(ours, size, rows):.1f}", of_pandas))
+    yield "### Bytes for each row, above question and answer\n"
+    yield from table(["call on a Series", "here", "pandas"], 2, lines)
 
 
-def print_kind(question, side, order, asks, column):
-    """A row of the table. Gives the answer of this package."""
-    answers, times = timed(asks, column, KINDS_RUNS)
-    wrong = [f"{differing(answers[-1], each).size:,}" for each in answers[:-1]]
-    print_row(question, side.name, order, *(f"{each:.1f} ns" for each in times), *wrong)
-    return answers[-1]
+def by_zoneinfo(zone, instants):
+    """The local times of instants, one after another."""
+    moments = [datetime.fromtimestamp(each, timezone.utc) for each in instants.tolist()]
+    return np.array([each.astimezone(zone).replace(tzinfo=None) for each in moments], "M8[s]").view(np.int64)
+
+
+def kinds(rows):
+    """pandas with the zones of three libraries, in the years 1900 to 2099."""
+    lines = []
+    seconds = years(1900, 2100, rows, 2)
+    for name in ZONES:
+        zone = Zone(name)
+        assert (zone.to_local(seconds[:20_000]) == by_zoneinfo(ZoneInfo(name), seconds[:20_000])).all()
+        for question in ("to local times", "to instants"):
+            local = question == "to local times"
+            column = instants_of(seconds) if local else local_times_of(zone, seconds)
+            theirs = pandas_local if local else pandas_instants
+            ours = zone.to_local if local else lambda each: zone.localize(each, "nat", "nat")
+            zones = name, ZoneInfo(name), f"dateutil/{name}"
+            asks = [lambda kind=kind: theirs(column, kind) for kind in zones]
+            answers, times = timed([*asks, lambda: ours(column)], 2)
+            shown = [f"{1e9 * each / rows:.1f} ns" for each in times]
+            wrong = [f"{differing(each, answers[-1]).size:,}" for each in answers[:-1]]
+            lines.append(row(question, name, *shown, *wrong))
+    yield "### Answers of pandas that differ\n"
+    yield "The years 1900 to 2099. pandas has the zones of three libraries.\n"
+    names = ["pytz", "ZoneInfo", "dateutil"]
+    differ = [f"{each} differs" for each in names]
+    yield from table(["question", "zone", *names, "Sahvumbi", *differ], 7, lines)
+
+
+def machine(rows):
+    model = re.search(r"model name\s*: (.*)", Path("/proc/cpuinfo").read_text())[1]
+    found = subprocess.run(["dpkg-query", "-W", *PACKAGES], capture_output=True, text=True).stdout
+    load = Path("/proc/loadavg").read_text().split()[0]
+    versions = [f"Python {platform.python_version()}"]
+    versions += [f"{each.__name__} {each.__version__}" for each in (np, pd)]
+    versions += found.replace("\t", " ").splitlines()
+    return (
+        f"{datetime.now():%Y-%m-%d}, {model}, a load of {load} at the start. {rows:,} rows. "
+        f"{', '.join(versions)}.\n"
+    )
 
 
 def main():
-    rows = int(sys.argv[1]) if len(sys.argv) > 1 else 1_000_000
-    versions = [f"{each.__name__} {each.__version__}" for each in (np, pd)]
-    print(f"{rows:,} rows. Python {platform.python_version()}, {', '.join(versions)}.\n")
-    print_differences(list(print_times(rows)))
-    print_kinds()
+    parser = argparse.ArgumentParser(description=__doc__.split("\n")[0])
+    parser.add_argument("--rows", type=int, default=2_000_000)
+    parser.add_argument("--write", action="store_true", help="put the tables into docs/PYTHON.md")
+    given = parser.parse_args()
+    lines = [machine(given.rows)]
+    few = min(given.rows, 200_000)
+    for part in (ratios(given.rows), calls(), memory(given.rows), kinds(few)):
+        for line in part:
+            lines.append(line)
+            print(line, flush=True)
+    if given.write:
+        text = PAGE.read_text()
+        head, rest = text.split(BEGIN)
+        PAGE.write_text(head + BEGIN + "\n" + "\n".join(lines) + END + rest.split(END)[1])
 
 
 main()

@@ -5,8 +5,10 @@ from __future__ import annotations
 import itertools
 import struct
 from bisect import bisect_right
+from datetime import datetime
 
 NEVER, ONCE, SEVERAL_TIMES = 0, 1, 2
+DAY, QUARTER = 86_400, 900
 
 
 def tzif(transitions, types, footer=""):
@@ -66,6 +68,24 @@ class Lists:
         """Each second of the window at which a clock shows the local time."""
         return [second for second in window if second + self.offset(second) == local]
 
+    def first_at_or_after(self, local, window):
+        """The first second of the window at which clocks show the local time or a later one."""
+        return next(second for second in window if second + self.offset(second) >= local)
+
+    def day(self, instant, window):
+        """The latest date that clocks have shown up to a second of the window."""
+        return max((each + self.offset(each)) // DAY for each in window if each <= instant)
+
+    def floor(self, instant, step, window):
+        """The last second of the window, up to the instant, at which a step of the clocks begins:
+        they show a multiple of it then, or another step at the second before."""
+        shown = {each: each + self.offset(each) for each in window if each <= instant}
+        return max(
+            each
+            for each, local in shown.items()
+            if local % step == 0 or shown.get(each - window.step, local) // step != local // step
+        )
+
     def before_gap(self, local, window):
         """The offset at the second before the first of those at which clocks show more."""
         first = next(second for second in window if second + self.offset(second) > local)
@@ -94,3 +114,48 @@ def choices_in_order(candidates):
         for each in itertools.product(*candidates)
         if all(a <= b for a, b in zip(each, each[1:]))
     ]
+
+
+def pieces(zone, begin, end):
+    """The stretches of seconds in which a zone of zoneinfo has one offset, as (first, until,
+    offset): found at each quarter of an hour, and by halves between two of them."""
+    found, first = [], begin
+    for second in range(begin, end, QUARTER):
+        low, high = second, min(second + QUARTER, end - 1)
+        if offset_of(zone, low) == offset_of(zone, high):
+            continue
+        while high - low > 1:
+            middle = (low + high) // 2
+            same = offset_of(zone, middle) == offset_of(zone, low)
+            low, high = (middle, high) if same else (low, middle)
+        found.append((first, high, offset_of(zone, low)))
+        first = high
+    return [*found, (first, end, offset_of(zone, end - 1))]
+
+
+def offset_of(zone, second):
+    return int(datetime.fromtimestamp(second, zone).utcoffset().total_seconds())
+
+
+def first_in(found, local):
+    """The first second of the pieces at which clocks show a local time or a later one."""
+    for first, until, offset in found:
+        if until - 1 + offset >= local:
+            return max(first, local - offset)
+    raise ValueError(local)
+
+
+def floor_in(found, second, step):
+    """The last second of the pieces, up to one of them, at which a step of the clocks begins."""
+    shown = first_second = None
+    for first, until, offset in reversed(found):
+        if second < first:
+            continue
+        if shown is None:
+            shown = (second + offset) // step
+        elif (until - 1 + offset) // step != shown:
+            return first_second
+        if first <= shown * step - offset:
+            return shown * step - offset
+        first_second = first
+    raise ValueError(second)

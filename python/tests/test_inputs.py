@@ -273,6 +273,11 @@ def test_the_accessor():
             assert instants.sahvumbi.offsets(zone)[0] == pd.Timedelta(-4, "h")
             assert instants.sahvumbi.types(zone)["is_dst"].tolist() == [True, False, False]
             assert column.sahvumbi.explain(zone)["shown"].tolist() == [1, -1, 1]
+            assert instants.sahvumbi.spans(zone)["abbreviation"].tolist() == ["EDT", "", "EST"]
+            starts = column.sahvumbi.start_of_day(zone)
+            for days in (instants.sahvumbi.day(zone)["start"], instants.sahvumbi.floor(zone, "D")):
+                assert days.dropna().tolist() == starts.dropna().tolist()
+            assert (column.sahvumbi.end_of_day(zone) > starts).tolist() == [True, False, True]
 
 
 def test_ends_of_a_stretch():

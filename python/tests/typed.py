@@ -8,7 +8,7 @@ import numpy.typing as npt
 from typing_extensions import assert_type
 
 import sahvumbi
-from sahvumbi import Failures, LocalTypes, WallClocks, Zone
+from sahvumbi import Days, Differences, Failures, LocalTypes, WallClocks, Zone
 
 Array = npt.NDArray[Any]
 
@@ -36,6 +36,13 @@ def answers(zone: Zone, rows: Array, when: datetime, series: Frame) -> None:
     assert_type(zone.explain(rows), WallClocks)
     assert_type(zone.explain(rows).shown, npt.NDArray[np.int8])
     assert_type(zone.types(when), LocalTypes)
+    assert_type(zone.start_of_day(rows), Array)
+    assert_type(zone.end_of_day(series), Frame)
+    assert_type(zone.day(rows), Days)
+    assert_type(zone.floor(when, "h"), datetime)
+    assert_type(zone.spans(rows).until, Array)
+    assert_type(zone.differences(zone, 0, 1), Differences)
+    assert_type(sahvumbi.moved(zone, zone, rows).row, npt.NDArray[np.intp])
     assert_type(sahvumbi.zones(), list[str])
 
 

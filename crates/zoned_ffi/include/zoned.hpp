@@ -118,13 +118,10 @@ public:
     }
 
     sys_info get_info(sys_seconds at) const {
-        zoned_local_type type;
-        zoned_change change;
-        check(zoned_zone_type(&zone, count(at), &type));
-        sys_info info{sys_seconds::min(), sys_seconds::max(), seconds(known(type.offset)), type.is_dst != 0, type.abbreviation};
-        if (zoned_zone_previous_change(&zone, count(at), &change) == ZONED_OK) info.begin = sys(change.at);
-        if (zoned_zone_next_change(&zone, count(at), &change) == ZONED_OK) info.end = sys(change.at);
-        return info;
+        zoned_span span;
+        check(zoned_zone_span(&zone, count(at), &span));
+        const auto &type = span.local_type;
+        return {sys(span.from), sys(span.until), seconds(type.offset), type.is_dst != 0, type.abbreviation};
     }
 
     // The local time of an instant.
@@ -140,6 +137,14 @@ public:
         check(zoned_zone_instant(&zone, uint32_t(choice.gap), uint32_t(choice.fold), count(whole), &resolved));
         check(resolved.number);
         return sys_time<std::common_type_t<Duration, seconds>>(sys(resolved.instant) + (local - whole));
+    }
+
+    // The first instant at which clocks show a local time or a later one: in a gap the instant at which it ends.
+    sys_seconds first_at_or_after(local_seconds local) const {
+        zoned_resolved reached;
+        check(zoned_zone_first_at_or_after(&zone, count(local), &reached));
+        check(reached.number);
+        return sys(reached.instant);
     }
 
     local_info get_info(local_seconds local) const {
@@ -209,7 +214,7 @@ private:
     static sys_seconds sys(int64_t at) { return sys_seconds(seconds(at)); }
 
     static int32_t known(int32_t offset) {
-        if (offset == ZONED_NO_OFFSET) throw error(ZONED_INSTANT_OUT_OF_RANGE);
+        if (offset == ZONED_NO_OFFSET) throw error(ZONED_NO_LOCAL_TIME);
         return offset;
     }
 

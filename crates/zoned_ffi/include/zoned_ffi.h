@@ -13,8 +13,9 @@
 
    The number that a call returns
    ------------------------------
-   ZONED_OK (0): every answer is written. Any other number but ZONED_NO_LOCAL_TIME: the call returned an error, and neither an
-   answer nor a handle that it was to open is changed. The first of these that holds (those of a handle, and of a choice, if there is one):
+   ZONED_OK (0): every answer is written. Any other number: the call returned an error, and neither an answer nor a handle that
+   it was to open is changed, except that a column is written up to its first row without an answer. The first of these that
+   holds (those of a handle, and of a choice, if there is one):
 
      ZONED_UNKNOWN_KIND    `kind` is neither ZONED_FILE nor ZONED_TEXT
      ZONED_UNKNOWN_CHOICE  `gap` or `fold` is none of its enum
@@ -24,7 +25,8 @@
                            ZONED_OUT_OF_MEMORY (17) says nothing about the bytes
      ZONED_NO_CHANGE       zoned_zone_next_change and zoned_zone_previous_change only: there is no such change
      ZONED_UNKNOWN_UNIT    zoned_zone_local only, before ZONED_NOT_OPEN: no unit has that count in a second
-     ZONED_NO_LOCAL_TIME   zoned_zone_local only: a row has no local time. The rows before it are written, and its number
+     ZONED_NO_LOCAL_TIME   zoned_zone_span: the zone has no type at the instant. zoned_zone_local: a row has no local time; the
+                           rows before it are written, and its number
 
    Handles
    -------
@@ -289,6 +291,32 @@ uint32_t zoned_zone_types(const struct zoned_zone *zone,
                           const int64_t *instants, size_t instants_len,
                           zoned_local_type *types, size_t types_len) ZONED_MUST_CHECK ZONED_NONNULL((1));
 
+/* A span: the seconds from `from` on and before `until`, from one change of the clocks to the next. One type is in force. */
+typedef struct zoned_span {
+    int64_t from;  /* the second of the change that began it, a Unix second; INT64_MIN if no change comes before */
+    int64_t until; /* the second of the change that ends it; INT64_MAX if no change follows */
+    zoned_local_type local_type;
+} zoned_span;
+
+/* *span is the span that the instant lies in. New York's at 1609459200 (2021-01-01 00:00:00 UTC) is EST, from 1604210400 (1
+   November, 06:00 UTC) until 1615705200 (14 March, 07:00 UTC).
+
+   ZONED_NO_LOCAL_TIME: the zone has no type at the instant, and nothing is written. The least and the greatest second are no
+   change's but for one case: a change may come at INT64_MAX, and zoned_zone_previous_change finds it. Where the zone begins or
+   ends to have a type is no change: a span of the rule EST5EDT,M3.2.0,M11.1.0 that begins in the year 2147483645 ends at
+   INT64_MAX, and the call has no answer from 2147483646 on.
+
+   For instants near one another keep the span, and ask again only outside it:
+
+     zoned_span span = {INT64_MAX, INT64_MIN, {0}};
+     for (size_t i = 0; i < count; i++) {
+         if (instants[i] < span.from || instants[i] >= span.until)
+             if (zoned_zone_span(&zone, instants[i], &span) != ZONED_OK) break;
+         .. span.local_type.abbreviation ..
+     } */
+uint32_t zoned_zone_span(const struct zoned_zone *zone, int64_t instant, zoned_span *span)
+    ZONED_MUST_CHECK ZONED_NONNULL((1, 3));
+
 /* A change of the clocks: at the second `at` another type is in force than at the second before it, one of another offset,
    mark or abbreviation. */
 typedef struct zoned_change {
@@ -370,6 +398,16 @@ uint32_t zoned_zone_instant(const struct zoned_zone *zone, uint32_t gap, uint32_
 uint32_t zoned_zone_resolve(const struct zoned_zone *zone, uint32_t gap, uint32_t fold,
                             const int64_t *locals, size_t locals_len,
                             zoned_resolved *resolved, size_t resolved_len) ZONED_MUST_CHECK ZONED_NONNULL((1));
+
+/* *reached is the first instant at which a clock of the zone shows the local time or a later one, and the offset in force then.
+   If the local time lies in a gap, it is the second at which the gap ends; in a fold, the first of the instants that show it. A
+   later local time never has an earlier answer, so the answers of midnights divide time into days.
+
+   In New York 02:30 on 2021-03-14 (1615689000) lies in a gap: the answer is 1615705200, 03:00 EDT, at the offset -14400.
+
+   reached->number is ZONED_OK, or ZONED_INSTANT_OUT_OF_RANGE: then the others are 0. */
+uint32_t zoned_zone_first_at_or_after(const struct zoned_zone *zone, int64_t local, zoned_resolved *reached)
+    ZONED_MUST_CHECK ZONED_NONNULL((1, 3));
 
 /* Returns the version of the library: ZONED_VERSION_NUMBER of the header that it was built with. */
 uint32_t zoned_version(void);

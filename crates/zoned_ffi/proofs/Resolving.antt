@@ -5,17 +5,27 @@ use Rattle.naive_base.specs.Range.{IsInRange}
 use Rattle.offset_core.specs.declared.choice.Choice.{Choice}
 use Rattle.tz_base.specs.LocalTypes.{IsUtOffset, LocalType}
 use Rattle.tz_info.specs.Gaps.{HasGap, IsBeforeGap}
+use Rattle.tz_info.specs.ShownSeconds.{IsFirstAtOrAfter}
 use Rattle.tz_info.specs.WallClocks.{Shows}
 use Rattle.tz_info.specs.Zones.{Zone, TypeAt}
-use Rattle.zoned_ffi.specs.Resolved.{IsResolvedAt, IsTaken}
-use Rattle.zoned_ffi.specs.Steps.ResolvedInstants.{IsInstant, IsTakenAs}
+use Rattle.zoned_ffi.specs.Instants.{IsOffsetAt}
+use Rattle.zoned_ffi.specs.Resolved.{IsReachedAt, IsResolvedAt, IsTaken}
+use Rattle.zoned_ffi.specs.Steps.ResolvedInstants.{IsStamp, IsTakenAs}
 use Rattle.zoned_ffi.specs.declared.resolved.Resolved.{Resolved}
 use Rattle.zoned_ffi.specs.declared.resolved.Taken.TheVariants.{InForce}
 
-pub resolved_by : (z : Zone) (choice : Choice) (local : ℤ) (t : LocalType) (w : Resolved) → IsInRange local → IsTaken z local choice t → IsInstant z (local -ℤ t.offset) w → IsResolvedAt z choice local w
-resolved_by z choice local t w in_range taken instant = elim instant [
-  | inl found ↦ IsResolvedAt.found t found.1.0 in_range taken found.0 found.1.1 found.1.2
+-- the instant by the offset that is taken, and the offset in force there
+pub resolved_by : (z : Zone) (choice : Choice) (local : ℤ) (t : LocalType) (offset : ℤ) (w : Resolved) → IsInRange local → IsTaken z local choice t
+    → IsOffsetAt z (local -ℤ t.offset) offset → IsStamp (local -ℤ t.offset) offset w → IsResolvedAt z choice local w
+resolved_by z choice local t offset w in_range taken there stamp = elim stamp [
+  | inl found ↦ IsResolvedAt.found t offset in_range taken found.0 there found.1
   | inr outside ↦ IsResolvedAt.taken_outside t in_range taken outside.0 outside.1
+]
+
+pub reached_by : (z : Zone) (local u : ℤ) (t : LocalType) (w : Resolved) → IsInRange local → IsFirstAtOrAfter (TypeAt z) local u t → IsStamp u t.offset w → IsReachedAt z local w
+reached_by z local u t w in_range first stamp = elim stamp [
+  | inl found ↦ IsReachedAt.reached u t in_range first found.0 found.1
+  | inr outside ↦ IsReachedAt.reached_outside u t in_range first outside.0 outside.1
 ]
 
 -- a type that shows the local time is in force at that time less its offset

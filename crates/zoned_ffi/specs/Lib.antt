@@ -4,6 +4,7 @@ pub mod Instants
 pub mod WallClocks
 pub mod WrittenTypes
 pub mod WrittenChanges
+pub mod WrittenSpans
 pub mod Resolved
 pub mod Texts
 pub mod Units

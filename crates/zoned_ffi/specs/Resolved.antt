@@ -10,6 +10,7 @@ use Rattle.offset_core.specs.declared.choice.FoldChoice.{FoldChoice}
 use Rattle.offset_core.specs.declared.choice.FoldChoice.TheVariants as folds
 use Rattle.tz_base.specs.LocalTypes.{LocalType}
 use Rattle.tz_info.specs.Gaps.{IsBeforeGap}
+use Rattle.tz_info.specs.ShownSeconds.{IsFirstAtOrAfter}
 use Rattle.tz_info.specs.WallClocks.{Shows}
 use Rattle.tz_info.specs.Zones.{Zone, TypeAt}
 use Rattle.zoned_ffi.specs.Instants.{IsOffsetAt}
@@ -61,3 +62,10 @@ pub data IsResolvedAt (z : Zone) (choice : Choice) (local : ℤ) (w : Resolved) 
 -- one for each local time, in their order
 abbrev pub AreResolved : Zone → Choice → List ℤ → List Resolved → Type 0
 AreResolved z choice locals resolved = AllZip (IsResolvedAt z choice) locals resolved
+
+-- What is written of the first second at which a clock shows a local time or a later one: that second, and the offset in force then.
+-- The number is 23 where the local time or that second is outside the calendar's range.
+pub data IsReachedAt (z : Zone) (local : ℤ) (w : Resolved) : Type 0 where
+  reached : (u : ℤ) (t : LocalType) → IsInRange local → IsFirstAtOrAfter (TypeAt z) local u t → IsInRange u → w ≡ record { number = 0; offset = t.offset; instant = u } → IsReachedAt z local w
+  unreached : ¬ (IsInRange local) → w ≡ unresolved 23 → IsReachedAt z local w
+  reached_outside : (u : ℤ) (t : LocalType) → IsInRange local → IsFirstAtOrAfter (TypeAt z) local u t → ¬ (IsInRange u) → w ≡ unresolved 23 → IsReachedAt z local w

@@ -1,25 +1,27 @@
-//! Questions to a zone that C keeps.
+//! Questions to a zone that C keeps: about instants, changes of its clocks and wall clocks; `locals` has
+//! those that take an instant for a local time.
 
 ghost use Rattle.std.specs.Prelude.{◌≡◌, ◌≢◌, ◌*◌, ◌⊎◌, ◌≤ℤ◌, ◌<ℤ◌, pos, length};
-ghost use Rattle.offset_core.specs.declared.choice.Choice.{Choice as AnyChoice};
 ghost use Rattle.tz_info.specs.Changes.{HasNoChange};
-ghost use Rattle.tz_info.specs.Zones.{Zone, TypeAt};
+ghost use Rattle.tz_info.specs.Zones.{Zone, TypeAt, IsTypeRefused};
 ghost use Rattle.zoned_ffi.specs.Handles.{IsLent, IsNoneLent, IsUnanswered};
 ghost use Rattle.zoned_ffi.specs.Instants.{AreOffsetsAt, IsOffsetAt};
-ghost use Rattle.zoned_ffi.specs.Resolved.{AreResolved, IsChoice, IsChoiceOf, IsResolvedAt};
 ghost use Rattle.zoned_ffi.specs.Units.{AreLocals, IsFirstWithout, IsUnit, per_second};
 ghost use Rattle.zoned_ffi.specs.WallClocks.{AreTriples, AreWallClocks, IsWallClockAt};
 ghost use Rattle.zoned_ffi.specs.WrittenChanges.{AreWrittenChanges, IsFirstWritten, IsLastWritten};
+ghost use Rattle.zoned_ffi.specs.WrittenSpans.{IsWrittenSpanAt};
 ghost use Rattle.zoned_ffi.specs.declared.unit.Unit.{Unit as AnyUnit};
 ghost use Rattle.zoned_ffi.specs.WrittenTypes.{AreWrittenTypesAt, IsWrittenTypeAt};
+
+mod locals;
 
 use crate::changes::{WrittenChange, answer_next, answer_previous, write_changes};
 use crate::column::answer_locals;
 use crate::instants::{answer_instants, offset_at};
 use crate::lent::Lent;
 use crate::local_type::{WrittenType, answer_types};
-use crate::refusal::{NOT_OPEN, UNKNOWN_CHOICE, UNKNOWN_UNIT};
-use crate::resolved::{Resolved, answer_resolved, choice_of};
+use crate::refusal::{NOT_OPEN, UNKNOWN_UNIT};
+use crate::span::{WrittenSpan, answer_span};
 use crate::unit::Unit;
 use crate::wall_clock::{WallClock, answer_triples, answer_wall_clocks};
 
@@ -85,6 +87,23 @@ pub extern "C" fn zoned_zone_types(zone: &Lent, instants: &[i64], types: &mut [W
     answer_types(share, instants, types)
 }
 
+/// Writes the span of the instant.
+#[unsafe(no_mangle)]
+pub extern "C" fn zoned_zone_span(zone: &Lent, instant: i64, span: &mut WrittenSpan) -> u32
+    // 0: it is written.
+    ensures answered { result ≡ 0
+        → (z : Zone) × IsLent zone.now z × IsWrittenSpanAt z instant span.new }
+    // 33: no zone is open. 37: the zone has no type then. Nothing is written.
+    ensures refused { result ≢ 0 → (((result ≡ 33) × IsNoneLent zone.now)
+        ⊎ ((result ≡ 37) × ((z : Zone) × IsLent zone.now z × IsTypeRefused z instant)))
+        × (span.new ≡ span.old) }
+{
+    let Some(share) = zone.share() else {
+        return NOT_OPEN;
+    };
+    answer_span(share, instant, span)
+}
+
 /// Writes when the zone's clocks show the local time.
 #[unsafe(no_mangle)]
 pub extern "C" fn zoned_zone_wall_clock(zone: &Lent, local: i64, clock: &mut WallClock) -> u32
@@ -134,59 +153,6 @@ pub extern "C" fn zoned_zone_wall(zone: &Lent, locals: &[i64], answers: &mut [i3
         return NOT_OPEN;
     };
     answer_triples(share, locals, answers)
-}
-
-/// Writes the instant that a choice takes for the local time.
-#[unsafe(no_mangle)]
-pub extern "C" fn zoned_zone_instant(
-    zone: &Lent,
-    gap: u32,
-    fold: u32,
-    local: i64,
-    resolved: &mut Resolved,
-) -> u32
-    // 0: what is written is told of the zone, under the choice of those numbers.
-    ensures answered { result ≡ 0 → (choice : AnyChoice) × IsChoiceOf gap fold choice
-        × ((z : Zone) × IsLent zone.now z × IsResolvedAt z choice local resolved.new) }
-    // 34: no choice has these numbers. 33: no zone is open. Nothing is written.
-    ensures refused { result ≢ 0 → (((result ≡ 34) × ¬ (IsChoice gap fold))
-        ⊎ ((result ≡ 33) × IsChoice gap fold × IsNoneLent zone.now)) × (resolved.new ≡ resolved.old) }
-{
-    let Some(choice) = choice_of(gap, fold) else {
-        return UNKNOWN_CHOICE;
-    };
-    let Some(share) = zone.share() else {
-        return NOT_OPEN;
-    };
-    *resolved = Resolved::at(share, choice, local);
-    0
-}
-
-/// Writes the instant that a choice takes for each local time.
-#[unsafe(no_mangle)]
-pub extern "C" fn zoned_zone_resolve(
-    zone: &Lent,
-    gap: u32,
-    fold: u32,
-    locals: &[i64],
-    resolved: &mut [Resolved],
-) -> u32
-    // 0: each answer is told of the zone, under the choice of those numbers.
-    ensures answered { result ≡ 0 → (choice : AnyChoice) × IsChoiceOf gap fold choice
-        × ((z : Zone) × IsLent zone.now z × AreResolved z choice locals.now resolved.new) }
-    // 34: no choice has these numbers. Others as in the calls above. Nothing is written.
-    ensures refused { result ≢ 0 → (((result ≡ 34) × ¬ (IsChoice gap fold))
-        ⊎ (IsChoice gap fold
-        × IsUnanswered zone.now (length locals.now) (length resolved.old) result))
-        × (resolved.new ≡ resolved.old) }
-{
-    let Some(choice) = choice_of(gap, fold) else {
-        return UNKNOWN_CHOICE;
-    };
-    let Some(share) = zone.share() else {
-        return NOT_OPEN;
-    };
-    answer_resolved(share, choice, locals, resolved)
 }
 
 /// Writes the first change of the zone's clocks after that second.

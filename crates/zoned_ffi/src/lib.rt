@@ -26,6 +26,7 @@ mod pins;
 mod refusal;
 mod resolved;
 mod slot;
+mod span;
 mod texts;
 mod unit;
 mod version;

@@ -14,6 +14,7 @@ ghost use Rattle.zoned_ffi.specs.Kinds.{IsKind, number_of};
 ghost use Rattle.zoned_ffi.specs.Resolved.{IsChoice, IsChoiceOf, IsNoneTaken, unresolved};
 ghost use Rattle.zoned_ffi.specs.WallClocks.{written, out_of_range};
 ghost use Rattle.zoned_ffi.specs.WrittenChanges.{written_change, written_into};
+ghost use Rattle.zoned_ffi.specs.WrittenSpans.{written_span};
 ghost use Rattle.zoned_ffi.specs.WrittenTypes.{mark, no_type, written_type, zero_ended, zeros};
 ghost use Rattle.zoned_ffi.specs.declared.lent.Lent.{Lent};
 ghost use Rattle.zoned_ffi.specs.declared.kind.Kind.TheVariants as kinds;
@@ -70,6 +71,20 @@ pub fn changes()
     } }
     ensures room { written_into {A = ℕ} (1 ∷ 2 ∷ []) (7 ∷ 8 ∷ 9 ∷ []) ≡ 1 ∷ 2 ∷ 9 ∷ [] }
     ensures no_room { written_into {A = ℕ} (1 ∷ 2 ∷ []) (7 ∷ []) ≡ 1 ∷ [] }
+{}
+
+/// A span without a change before it begins at INT64_MIN, and one without a change after it ends at
+/// INT64_MAX.
+pub fn spans()
+    ensures open { (t : LocalType)
+        → written_span (record { local_time_type = t; from = None; until = None }) ≡ record {
+          from = neg_ℤ (pos 9_223_372_036_854_775_808);
+          until = pos 9_223_372_036_854_775_807;
+          local_type = written_type t;
+        } }
+    ensures closed { (t : LocalType)
+        → written_span (record { local_time_type = t; from = Some (pos 5); until = Some (pos 9) })
+        ≡ record { from = pos 5; until = pos 9; local_type = written_type t } }
 {}
 
 /// A local time is shown never, once or more than once, by 0, 1 and 2; 3 is out of range. The

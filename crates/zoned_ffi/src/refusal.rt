@@ -20,7 +20,7 @@ pub const NO_CHANGE: u32 = 35;
 /// What it returns if no unit of time has that count in a second.
 pub const UNKNOWN_UNIT: u32 = 36;
 
-/// What it returns if an instant of a column has no local time.
+/// What it returns if an instant has no local time.
 pub const NO_LOCAL_TIME: u32 = 37;
 
 /// What a call returns where memory runs out.

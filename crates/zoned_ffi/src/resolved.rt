@@ -5,10 +5,8 @@ ghost use Rattle.naive_base.specs.NaiveDateTime.{reading};
 ghost use Rattle.naive_base.specs.Range.{IsInRange};
 ghost use Rattle.offset_core.specs.declared.choice.FoldChoice.{FoldChoice as AnyFold};
 ghost use Rattle.offset_core.specs.declared.choice.GapChoice.{GapChoice as AnyGap};
-ghost use Rattle.tz_info.specs.Zones.{Zone};
-ghost use Rattle.zoned_ffi.specs.Instants.{IsOffsetAt};
-ghost use Rattle.zoned_ffi.specs.Resolved.{AreResolved, IsChoice, IsChoiceOf, IsNoneTaken, IsResolvedAt, fold_number, gap_number, unresolved};
-ghost use Rattle.zoned_ffi.specs.Steps.ResolvedInstants.{IsInstant, IsTakenAs};
+ghost use Rattle.zoned_ffi.specs.Resolved.{AreResolved, IsChoice, IsChoiceOf, IsNoneTaken, IsReachedAt, IsResolvedAt, fold_number, gap_number, unresolved};
+ghost use Rattle.zoned_ffi.specs.Steps.ResolvedInstants.{IsStamp, IsTakenAs};
 
 use crate::instants::offset_at;
 use crate::refusal::OTHER_SIZE;
@@ -81,40 +79,34 @@ impl Resolved {
             return Resolved::none(OUT_OF_RANGE);
         };
         match offset_taken(zone, choice, reading) {
-            Ok(Taken::InForce(offset)) => Resolved::of_offset(local, offset),
+            Ok(Taken::InForce(offset)) => Resolved::within(instant_by(local, offset), offset),
             Ok(Taken::BeforeGap(offset)) => {
-                Resolved::of_instant(zone, instant_by(local, offset))
+                let instant = instant_by(local, offset);
+                Resolved::within(instant, offset_at(zone, instant))
             }
             Err(number) => Resolved::none(number),
         }
     }
 
-    // The instant at which a clock at that offset shows the local time, where it is in range; the
-    // offset is in force there.
-    fn of_offset(local: i64, offset: i32) -> Resolved
-        requires { IsInRange local }
-        ensures { (z : Zone) → IsOffsetAt z (local -ℤ offset) offset
-            → IsInstant z (local -ℤ offset) result }
+    /// The first instant at which a clock shows the local time or a later one.
+    pub fn first_at_or_after(zone: &TimeZone, local: i64) -> Resolved
+        ensures { IsReachedAt zone.now local result }
     {
-        let instant = instant_by(local, offset);
+        let Some(reading) = NaiveDateTime::from_timestamp_opt(local, 0) else {
+            return Resolved::none(OUT_OF_RANGE);
+        };
+        let reached = zone.find_first_at_or_after(reading);
+        Resolved::within(reached.at, reached.local_time_type.offset())
+    }
+
+    // The instant and the offset in force then, if the instant is in range.
+    fn within(instant: i64, offset: i32) -> Resolved
+        ensures { IsStamp instant offset result }
+    {
         match NaiveDateTime::from_timestamp_opt(instant, 0) {
             Some(_) => Resolved {
                 number: 0,
                 offset,
-                instant,
-            },
-            None => Resolved::none(OUT_OF_RANGE),
-        }
-    }
-
-    // That instant, where it is in range.
-    fn of_instant(zone: &TimeZone, instant: i64) -> Resolved
-        ensures { IsInstant zone.now instant result }
-    {
-        match NaiveDateTime::from_timestamp_opt(instant, 0) {
-            Some(_) => Resolved {
-                number: 0,
-                offset: offset_at(zone, instant),
                 instant,
             },
             None => Resolved::none(OUT_OF_RANGE),

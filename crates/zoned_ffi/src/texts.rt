@@ -57,7 +57,7 @@ fn text_of(number: u32) -> &'static str
         34 => "no such choice for gaps and folds",
         35 => "no change of the clocks",
         36 => "no such unit of time",
-        37 => "an instant of the column has no local time",
+        37 => "an instant has no local time",
         41 => "a transition of a TZif file names no local time type",
         42 => "the transition times of a TZif file do not rise",
         43 => "the leap seconds of a TZif file cannot follow one another",

@@ -13,10 +13,12 @@ array(['2021-11-07T06:30:00.000'], dtype='datetime64[ms]')
 """
 
 from ._changes import Changes, Time
+from ._days import Days
+from ._differences import Differences, Moved, moved
 from ._forms import Failures
 from ._many import localize_many, to_local_many
 from ._names import zones
-from ._types import LocalTypes, Times, WallClocks
+from ._types import LocalTypes, Spans, Times, WallClocks
 from ._version import __version__
 from .errors import (
     FoldError,
@@ -32,13 +34,17 @@ from .zone import Zone
 
 __all__ = [
     "Changes",
+    "Days",
+    "Differences",
     "Failures",
     "FoldError",
     "GapError",
     "LocalTypes",
+    "Moved",
     "NoOffsetError",
     "OutOfRangeError",
     "RowError",
+    "Spans",
     "Time",
     "Times",
     "WallClocks",
@@ -48,6 +54,7 @@ __all__ = [
     "ZoneRefusedError",
     "__version__",
     "localize_many",
+    "moved",
     "to_local_many",
     "zones",
 ]

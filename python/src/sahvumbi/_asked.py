@@ -2,23 +2,35 @@
 
 from __future__ import annotations
 
-from typing import Any
+from typing import Any, Optional
 
 import numpy as np
 
-from ._columns import Block, Column
-from ._door import NEVER, NO_OFFSET, ONCE, OUT_OF_RANGE, SEVERAL_TIMES, Door
+from ._columns import GREATEST, Block, Column, extremes
+from ._door import (
+    COLUMN_UNITS,
+    LEAST,
+    NEVER,
+    NO_OFFSET,
+    ONCE,
+    OUT_OF_RANGE,
+    SEVERAL_TIMES,
+    Door,
+)
 from ._forms import NAT, Array
-from ._types import LocalTypes, WallClocks
+from ._types import LocalTypes, Spans, WallClocks
 from .errors import NO_OFFSET as HAS_NO_OFFSET
 from .errors import NoOffsetError
+
+# Spans that a block is searched in; if it has more, the zone is asked about each second.
+MANY = 1_024
 
 
 def offsets(door: Door, column: Column) -> Any:
     """Returns the offset in force at each instant."""
     seconds, is_nat = np.empty(len(column), np.int32), np.zeros(len(column), bool)
     for block in column.blocks():
-        seconds[block.rows] = _offsets(door, block)
+        seconds[block.rows] = offsets_of(door, block)
         if block.is_nat is not None:
             is_nat[block.rows] = block.is_nat
     return column.offsets(seconds, is_nat)
@@ -27,31 +39,82 @@ def offsets(door: Door, column: Column) -> Any:
 def local_times(door: Door, column: Column) -> Array:
     """Returns the local time at each instant, as int64."""
     answers = np.empty(len(column), np.int64)
-    is_least_no_number = column.has_nat or not (column.values == NAT).any()
-    if is_least_no_number and door.local_times(column.per_second, column.values, answers):
-        return answers
-    for block in column.blocks():
-        _move(block, 1, _offsets(door, block), answers)
+    row: Optional[int] = 0
+    # The call takes the least int64 for no time, which is a number in a column without NaT.
+    if column.per_second in COLUMN_UNITS and (column.has_nat or not column.has_least()):
+        row = door.local_times(column.per_second, column.values, answers)
+    if row is not None:
+        for block in column.blocks(row):
+            _move(block, 1, offsets_of(door, block), answers)
     return answers
 
 
 def types(door: Door, column: Column) -> Any:
     """Returns the local time type in force at each instant."""
-    seconds, is_dst = np.empty(len(column), np.int32), np.empty(len(column), bool)
-    is_nat = np.zeros(len(column), bool)
-    abbreviations = np.empty(len(column), column.form.text)
+    written = Types(column)
     for block in column.blocks():
         found = door.types(block.seconds)
         _must_have_offsets(block, found["offset"])
-        seconds[block.rows], is_dst[block.rows] = found["offset"], found["is_dst"] != 0
-        _write_texts(found["abbreviation"], abbreviations[block.rows])
+        written.write(block, found)
+    return column.form.table(LocalTypes(*written.columns()))
+
+
+def spans(door: Door, column: Column) -> Any:
+    """Returns the local time type at each instant, and since when and until when it is in force."""
+    written = Types(column)
+    begin, end = np.empty(len(column), np.int64), np.empty(len(column), np.int64)
+    for block in column.blocks():
+        offsets_of(door, block)
+        found = _spans_of(door, block)
+        written.write(block, found["type"])
+        for bound, none, instants in (("from", LEAST, begin), ("until", GREATEST, end)):
+            is_none = found[bound] == none
+            write_seconds(block, np.where(is_none, 0, found[bound]), instants)
+            instants[block.rows][is_none] = NAT if column.has_nat or column.is_time else none
+    # Each array is let go before the next answer is made.
+    begin = column.instants(begin)
+    end = column.instants(end)
+    return column.form.table(Spans(*written.columns(), begin, end))
+
+
+def _spans_of(door: Door, block: Block) -> Array:
+    """The span of each instant of a block, as `SPAN`."""
+    first, last = extremes(block.seconds)
+    found = [door.span(first)]
+    while len(found) < MANY:
+        until = int(found[-1]["until"][0])
+        following = door.span(until) if until <= last else None
+        # No change comes at the greatest second, but for one case.
+        if following is None or following["from"][0] != until:
+            spans = np.concatenate(found)
+            return spans[np.searchsorted(spans["from"][1:], block.seconds, "right")]
+        found.append(following)
+    seconds, rows = np.unique(block.seconds, return_inverse=True)
+    return np.concatenate([door.span(second) for second in seconds.tolist()])[rows]
+
+
+class Types:
+    """Three columns of an answer: offset, DST flag and abbreviation."""
+
+    def __init__(self, column: Column):
+        self.column = column
+        self.offset, self.is_dst = np.empty(len(column), np.int32), np.empty(len(column), bool)
+        self.abbreviation = np.empty(len(column), column.form.text)
+        self.is_nat = np.zeros(len(column), bool)
+
+    def write(self, block: Block, found: Array) -> None:
+        """Writes the rows of a block, of `LOCAL_TYPE`."""
+        rows = block.rows
+        self.offset[rows], self.is_dst[rows] = found["offset"], found["is_dst"] != 0
+        _write_texts(found["abbreviation"], self.abbreviation[rows])
         if block.is_nat is not None:
-            is_nat[block.rows] = block.is_nat
-    is_dst[is_nat], abbreviations[is_nat] = False, ""
-    lengths = column.offsets(seconds, is_nat)
-    return column.form.table(
-        LocalTypes(lengths, column.plain(is_dst), column.plain(abbreviations))
-    )
+            self.is_nat[rows] = block.is_nat
+
+    def columns(self) -> tuple[Any, Any, Any]:
+        self.is_dst[self.is_nat], self.abbreviation[self.is_nat] = False, ""
+        plain = self.column.plain
+        offsets = self.column.offsets(self.offset, self.is_nat)
+        return offsets, plain(self.is_dst), plain(self.abbreviation)
 
 
 def explained(door: Door, column: Column) -> Any:
@@ -73,18 +136,18 @@ def explained(door: Door, column: Column) -> Any:
         if block.is_nat is not None:
             shown[block.rows][block.is_nat] = -1
     is_none = (shown != ONCE) & (shown != SEVERAL_TIMES)
+    # Each array is let go before the next answer is made.
+    first = column.instants(first)
+    last = column.instants(last)
+    first_offset = column.offsets(first_offset, is_none)
+    last_offset = column.offsets(last_offset, is_none)
     return column.form.table(
-        WallClocks(
-            column.plain(shown),
-            column.instants(first),
-            column.instants(last),
-            column.offsets(first_offset, is_none),
-            column.offsets(last_offset, is_none),
-        )
+        WallClocks(column.plain(shown), first, last, first_offset, last_offset)
     )
 
 
-def _offsets(door: Door, block: Block) -> Array:
+def offsets_of(door: Door, block: Block) -> Array:
+    """Returns the offset at each instant of a block. Raises at a row that has none."""
     found = door.offsets(block.seconds)
     _must_have_offsets(block, found)
     return found
@@ -99,6 +162,13 @@ def _must_have_offsets(block: Block, found: Array) -> None:
 def _move(block: Block, sign: int, found: Array, answers: Array) -> None:
     """Writes the rows of a block, each moved by its offset. Raises at a row that doesn't fit."""
     misfits = block.moved(sign, found, answers[block.rows])
+    if misfits.size:
+        raise block.column.misfit(block.start + int(misfits[0]))
+
+
+def write_seconds(block: Block, seconds: Array, answers: Array) -> None:
+    """Writes a second for each row of a block. Raises at a row that doesn't fit."""
+    misfits = block.in_units(seconds, answers[block.rows])
     if misfits.size:
         raise block.column.misfit(block.start + int(misfits[0]))
 

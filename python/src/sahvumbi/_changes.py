@@ -61,10 +61,8 @@ class Changes(NamedTuple):
 
 def of_stretch(door: Door, begin: Time, end: Time) -> Changes:
     """The changes from `begin` on and before `end`."""
-    first, last = _end("from_", begin), _end("to", end)
-    if first.is_time != last.is_time:
-        raise TypeError("from_ and to are both numbers of seconds, or both datetime64 or datetime")
-    found = door.changes(_second("from_", first), _second("to", last))
+    first, last, is_time = ends_of_stretch(begin, end)
+    found = door.changes(first, last)
     at, before, after = found["at"].copy(), found["before"], found["after"]
     changes = Changes(
         at,
@@ -75,13 +73,21 @@ def of_stretch(door: Door, begin: Time, end: Time) -> Changes:
         before["abbreviation"].astype("U7"),
         after["abbreviation"].astype("U7"),
     )
-    if not first.is_time:
+    if not is_time:
         return changes
     return changes._replace(
         at=at.view("M8[s]"),
         offset_before=changes.offset_before.astype("m8[s]"),
         offset_after=changes.offset_after.astype("m8[s]"),
     )
+
+
+def ends_of_stretch(begin: Time, end: Time) -> tuple[int, int, bool]:
+    """The first second of a stretch, the first after it, and whether they came as times."""
+    first, last = _end("from_", begin), _end("to", end)
+    if first.is_time != last.is_time:
+        raise TypeError("from_ and to are both numbers of seconds, or both datetime64 or datetime")
+    return _second("from_", first), _second("to", last), first.is_time
 
 
 def _end(name: str, value: Any) -> Column:

@@ -4,11 +4,13 @@ from __future__ import annotations
 
 import sys
 from typing import Any, NamedTuple, Optional
+from zoneinfo import ZoneInfo
 
 import numpy as np
 
 from ._columns import Column
 from ._forms import NAT, Array, Failures, SeriesForm
+from ._opening import Opened
 from .errors import FOLD, GAP, OUT_OF_RANGE, FoldError, GapError, OutOfRangeError, printable
 
 GAPS = ("raise", "shift", "after", "nat")
@@ -33,25 +35,31 @@ class Fault(NamedTuple):
     words: Optional[str]
 
 
-class Choice:
-    """The choice of a call, for each row of its column.
+class Choice(NamedTuple):
+    """The choice of a call, for each row of its column."""
 
-    `fold` is one of FOLDS, or 'given': then `given` says it for each row. `groups` has a number
-    for each row: rows of one number are in order of time. `failures` are the rows that have no
-    answer, if they are collected, with the numbers of their errors; else the first one is raised.
-    """
-
-    def __init__(self, gap: str, fold: str, given: Optional[Given], groups: Optional[Array]):
-        self.gap, self.fold, self.given, self.groups = gap, fold, given, groups
-        self.failures: Optional[list[tuple[Array, Array]]] = None
+    gap: str
+    fold: str
+    """One of FOLDS, or 'given'."""
+    given: Optional[Given]
+    """What decides folds row by row."""
+    groups: Optional[Array]
+    """A number for each row: rows of one number are in order of time."""
+    failures: Optional[list[tuple[Array, Array]]]
+    """The rows that have no answer and the numbers of their errors, if they are collected."""
+    zone: Any
+    """The zone of the type of the answer, as pandas takes it."""
 
     def part(self, places: Array) -> Choice:
         """Returns the choice of these rows."""
         given = self.given and self.given._replace(values=self.given.values[places])
         groups = None if self.groups is None else self.groups[places]
-        part = Choice(self.gap, self.fold, given, groups)
-        part.failures = self.failures
-        return part
+        return self._replace(given=given, groups=groups)
+
+    def answer(self, column: Column, instants: Array) -> Any:
+        """Returns the answer of a call: instants, and with them the failures that are collected."""
+        answers = column.instants(instants, self.zone)
+        return answers if self.failures is None else (answers, self._collected(column))
 
     def fail(self, column: Column, faults: list[Fault]) -> None:
         """Raises the error of the first row that has no answer, or collects them all."""
@@ -63,15 +71,14 @@ class Choice:
             rows, number, words = min(faults, key=lambda fault: int(fault.rows[0]))
             raise column.error(KINDS[number], int(rows[0]), number, words)
 
-    def collected(self, column: Column) -> Failures:
+    def _collected(self, column: Column) -> Failures:
         """Returns the rows that have no answer, in order."""
         found = self.failures or []
         rows = np.concatenate([np.empty(0, np.int64), *(rows for rows, _ in found)])
         numbers = np.concatenate([np.empty(0, np.uint8), *(numbers for _, numbers in found)])
         order = np.argsort(rows, kind="stable")
         rows = rows[order]
-        values = column.values[rows]
-        values = values.view(f"M8[{column.unit}]") if column.is_time else values
+        values = column.times_of(column.values[rows])
         numbers = numbers[order].astype(np.uint8)
         return Failures(rows, values, numbers, column.form.labels(rows))
 
@@ -84,6 +91,7 @@ def chosen(
     offset: Any = None,
     by: Any = None,
     errors: str = "raise",
+    tz: Any = "UTC",
 ) -> Choice:
     """Returns the choice that a caller's words and columns make."""
     must_be_among("gap", gap, GAPS)
@@ -101,10 +109,18 @@ def chosen(
         words = "gap='nat', fold='nat' and errors='collect' take datetime64"
         raise ValueError(f"{kind} has no NaT: {words}")
     groups = None if by is None else factorized("by", by, column)[0]
-    choice = Choice(gap, word, given, groups)
-    if errors == "collect":
-        choice.failures = []
-    return choice
+    failures: Optional[list[tuple[Array, Array]]] = [] if errors == "collect" else None
+    return Choice(gap, word, given, groups, failures, _zone_of_answer(tz))
+
+
+def _zone_of_answer(tz: Any) -> Any:
+    if tz is None:
+        raise ValueError("tz= is the zone of the instants, and None is none: leave it out for UTC")
+    if isinstance(tz, Opened):
+        if tz.key is None:
+            raise ValueError(f"tz= is a zone with a name, and {tz!r} has none")
+        return ZoneInfo(tz.key)
+    return tz
 
 
 def must_be_among(name: str, word: Any, words: tuple[str, ...]) -> None:

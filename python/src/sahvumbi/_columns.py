@@ -24,8 +24,21 @@ PER_SECOND = {
     "fs": 10**15,
     "as": 10**18,
 }
+# The first and the last second of the calendar, which has the years -262143 to 262142.
+FIRST_SECOND, LAST_SECOND = -8_334_601_228_800, 8_210_266_876_799
 # Rows that one call is asked: what a block needs stays in the processor's cache.
 BLOCK = 1 << 16
+NO_ROWS = np.empty(0, np.intp)
+# So few numbers Python compares before numpy has begun.
+FEW = 32
+
+
+def extremes(values: Array) -> tuple[int, int]:
+    """Returns the least and the greatest number of an array that has one."""
+    if values.size <= FEW:
+        numbers = values.tolist()
+        return min(numbers), max(numbers)
+    return int(values.min()), int(values.max())
 
 
 class Column:
@@ -51,8 +64,23 @@ class Column:
     def __len__(self) -> int:
         return self.values.size
 
-    def blocks(self) -> Iterator[Block]:
-        for start in range(0, self.values.size, BLOCK):
+    def has_least(self) -> bool:
+        """Returns whether a row has the least int64."""
+        return self.values.size > 0 and int(self.values.min()) == NAT
+
+    def ends(self) -> tuple[int, int]:
+        """Returns the least and the greatest second in which a row lies; 0 if no row has a time."""
+        values = self.values
+        if self.has_nat and self.has_least():
+            values = values[values != NAT]
+        if not values.size:
+            return 0, 0
+        least, greatest = extremes(values)
+        return least // self.per_second, greatest // self.per_second
+
+    def blocks(self, row: int = 0) -> Iterator[Block]:
+        """The blocks from a row on."""
+        for start in range(row, self.values.size, BLOCK):
             yield Block(self, start)
 
     def part(self, places: Array) -> Column:
@@ -81,6 +109,10 @@ class Column:
 
     # Answers
 
+    def times_of(self, values: Array) -> Array:
+        """Some values as numbers or as times, in one dimension."""
+        return values.view(f"M8[{self.unit}]") if self.is_time else values
+
     def local_times(self, values: Array) -> Any:
         """The answer of local times, counted as the question is."""
         return self._times(values, None)
@@ -103,8 +135,9 @@ class Column:
                 seconds[is_nat] = np.iinfo(seconds.dtype).min
             return self.form.numbers(seconds)
         lengths = seconds.astype(np.int64)
+        lengths *= PER_SECOND[self.form.length_unit]
         lengths[is_nat] = NAT
-        return self.form.lengths(lengths.view("m8[s]"))
+        return self.form.lengths(lengths.view(f"m8[{self.form.length_unit}]"))
 
     def plain(self, values: Array) -> Any:
         return self.form.plain(values)
@@ -117,23 +150,45 @@ class Block:
         self.column, self.start = column, start
         self.rows = slice(start, start + BLOCK)
         self.values = column.values[self.rows]
-        self.least, self.greatest = int(self.values.min()), int(self.values.max())
+        self.least, self.greatest = extremes(self.values)
         self.is_nat: Optional[Array] = None
         counted = self.values
         if column.has_nat and self.least == NAT:
             self.is_nat = self.values == NAT
             counted = np.where(self.is_nat, 0, self.values)
-            self.least, self.greatest = int(counted.min()), int(counted.max())
+            self.least, self.greatest = extremes(counted)
         self.counted = counted
         self.seconds = counted if column.per_second == 1 else counted // column.per_second
+
+    def outside(self, first: int, last: int) -> Array:
+        """Returns the places of the rows before the second `first` or after `last`."""
+        per_second = self.column.per_second
+        if first <= self.least // per_second and self.greatest // per_second <= last:
+            return NO_ROWS
+        found = (self.seconds < first) | (self.seconds > last)
+        return np.flatnonzero(found if self.is_nat is None else found & ~self.is_nat)
+
+    def in_units(self, seconds: Array, out: Array) -> Array:
+        """Writes a second for each row to `out`, in the unit of the column; NaT stays.
+
+        Returns the places in the block of those that don't fit."""
+        per_second, has_nat = self.column.per_second, self.column.has_nat
+        first, last = -((-NAT - has_nat) // per_second), GREATEST // per_second
+        found = (seconds < first) | (seconds > last)
+        np.multiply(seconds, per_second, out=out)
+        if self.is_nat is not None:
+            found &= ~self.is_nat
+            out[self.is_nat] = NAT
+        return np.flatnonzero(found)
 
     def moved(self, sign: int, offsets: Array, out: Array) -> Array:
         """Writes the rows to `out`, each moved by its offset; NaT stays.
 
         Returns the places in the block of the rows that don't fit, which are not moved."""
         column = self.column
-        misfits = np.empty(0, np.intp)
-        far = max(abs(int(offsets.min())), abs(int(offsets.max()))) * column.per_second
+        misfits = NO_ROWS
+        least, greatest = extremes(offsets)
+        far = max(-least, greatest) * column.per_second
         if far > GREATEST or self.least - far <= NAT or self.greatest + far > GREATEST:
             misfits = self._misfits(sign, offsets)
             offsets = offsets.copy()

@@ -1,18 +1,16 @@
 """The calls for C on numpy arrays. No other module knows them, nor how a zone is handed over.
 
-A zone is its bytes here, and each call reads them again, which takes some microseconds: so a call
-should have some thousands of rows, and threads share nothing. Calls that take a handle open one and
-close it. What the calls promise is in crates/zoned_ffi/include/zoned_ffi.h.
+What the calls promise is in crates/zoned_ffi/include/zoned_ffi.h. Those that ask an open zone write
+nothing to its handle, so threads may ask one zone at once.
 """
 
 from __future__ import annotations
 
 import ctypes
 import platform
-from contextlib import contextmanager
 from ctypes import byref, c_char_p, c_int64, c_size_t, c_uint32, c_void_p
 from pathlib import Path
-from typing import Any, Callable, Iterator, Optional
+from typing import Any, Optional
 
 import numpy as np
 import numpy.typing as npt
@@ -39,9 +37,14 @@ RESOLVED = np.dtype([("number", np.uint32), ("offset", np.int32), ("instant", np
 LOCAL_TYPE = np.dtype([("offset", np.int32), ("is_dst", np.int32), ("abbreviation", "S8")])
 CHANGE = np.dtype([("at", np.int64), ("before", LOCAL_TYPE), ("after", LOCAL_TYPE)])
 
-NO_CHANGE = 35
-#: No unit has that count in a second, and a row has no local time.
-UNKNOWN_UNIT, NO_LOCAL_TIME = 36, 37
+#: The seconds from one change to the next, and the type in force; from the least int64 if no change
+#: comes before, until the greatest if none follows.
+SPAN = np.dtype([("from", np.int64), ("until", np.int64), ("type", LOCAL_TYPE)])
+
+#: What a second may have of a unit, for `local_times`.
+COLUMN_UNITS = 1, 10**3, 10**6, 10**9
+
+NO_CHANGE, NO_LOCAL_TIME = 35, 37
 LEAST = -(2**63)
 # Changes that one call has room for, and seconds that it is asked: a thousand years. Between two
 # calls Python may stop.
@@ -54,10 +57,6 @@ NEEDED = {"popcnt", "sse4_1", "sse4_2", "ssse3"}
 CPU = Path("/proc/cpuinfo")
 
 Array = npt.NDArray[Any]
-
-
-class _Handle(ctypes.Structure):
-    _fields_ = [("zone", c_void_p)]
 
 
 def must_run_here(machine: str, cpu: str) -> None:
@@ -82,155 +81,162 @@ def _cpu() -> str:
         return ""
 
 
-def _calls() -> ctypes.CDLL:
+def _calls() -> tuple[ctypes.CDLL, ctypes.PyDLL]:
+    """Returns the calls on arrays, and the brief ones, which keep Python's lock.
+
+    Many brief ones come one after another, and if they gave the lock away, another thread would
+    take it for thousands of times as long."""
     must_run_here(platform.machine(), _cpu())
     try:
         library = ctypes.CDLL(str(LIBRARY))
     except OSError as error:
         raise ImportError(f"{LIBRARY} can't be loaded, see python/README.md: {error}") from error
-    zone: list[Any] = [c_uint32, c_char_p, c_size_t]
+    brief = ctypes.PyDLL(str(LIBRARY))
+    bytes_: list[Any] = [c_uint32, c_char_p, c_size_t]
     array: list[Any] = [c_void_p, c_size_t]
-    calls: list[tuple[Any, list[Any]]] = [
-        (library.zoned_fault, zone),
-        (library.zoned_at, zone + 2 * array),
-        (library.zoned_wall, zone + 2 * array),
-        (library.zoned_open, [*zone, c_void_p]),
+    for call, arguments in (
+        (library.zoned_fault, bytes_),
+        (library.zoned_open, [*bytes_, c_void_p]),
         (library.zoned_close, [c_void_p]),
+        (library.zoned_zone_at, [c_void_p, *array, *array]),
+        (library.zoned_zone_local, [c_void_p, c_int64, *array, *array, c_void_p]),
         (library.zoned_zone_types, [c_void_p, *array, *array]),
+        (library.zoned_zone_wall, [c_void_p, *array, *array]),
         (library.zoned_zone_resolve, [c_void_p, c_uint32, c_uint32, *array, *array]),
+        (brief.zoned_zone_first_at_or_after, [c_void_p, c_int64, c_void_p]),
+        (brief.zoned_zone_span, [c_void_p, c_int64, c_void_p]),
         (library.zoned_zone_next_change, [c_void_p, c_int64, c_void_p]),
         (library.zoned_zone_changes, [c_void_p, c_int64, c_int64, *array, c_void_p]),
-    ]
-    if hasattr(library, "zoned_zone_local"):
-        column = [c_void_p, c_int64, *array, *array, c_void_p]
-        calls.append((library.zoned_zone_local, column))
-    for call, arguments in calls:
+    ):
         call.argtypes, call.restype = arguments, c_uint32
     library.zoned_close.restype = None
-    return library
+    return library, brief
 
 
-_LIBRARY = _calls()
+_LIBRARY, _BRIEF = _calls()
+
+
+class _Handle(ctypes.Structure):
+    """What the calls keep of an open zone. It is closed with the last reference to it."""
+
+    _fields_ = [("zone", c_void_p)]
+
+    # The calls are kept here, since names of a module may be gone when Python ends.
+    def __del__(self, close: Any = _LIBRARY.zoned_close, byref: Any = byref) -> None:
+        close(byref(self))
 
 
 class Door:
-    """A zone, as the calls take it. Raises `ZoneRefusedError` where the bytes are none."""
+    """An open zone. Raises `ZoneRefusedError` if the bytes are none."""
 
-    __slots__ = ("kind", "data", "what")
+    __slots__ = ("kind", "data", "what", "_zone")
 
     def __init__(self, kind: int, data: bytes, what: str):
         self.kind, self.data, self.what = kind, data, what
-        self._must_be_answered(_LIBRARY.zoned_fault(kind, data, len(data)))
+        self._zone = byref(_Handle())
+        number = _LIBRARY.zoned_open(kind, data, len(data), self._zone)
+        if number:
+            raise ZoneRefusedError(_LIBRARY.zoned_fault(kind, data, len(data)) or number, what)
+
+    # Instants. Seconds are contiguous, aligned int64 of the machine's byte order, in one dimension.
 
     def offsets(self, instants: Array) -> Array:
-        """The offset at each Unix second, in seconds east of UTC; `NO_OFFSET` where there is none.
-
-        The seconds are contiguous, aligned int64 of the machine's byte order, in one dimension.
-        They are read where they are.
-        """
-        return self._asked(_LIBRARY.zoned_at, instants, np.empty(instants.size, np.int32))
-
-    def local_times(self, per_second: int, instants: Array, answers: Array) -> bool:
-        """Writes the local time of each instant, both counted in units of `1 / per_second` seconds.
-
-        The least int64 is no time, and stays. Returns False if a row has no local time, or if the
-        library has no call for columns of that unit."""
-        if not hasattr(_LIBRARY, "zoned_zone_local"):
-            return False
-        asked, answered, row = instants.ctypes.data, answers.ctypes.data, c_size_t()
-        with self._opened() as zone:
-            number: int = _LIBRARY.zoned_zone_local(
-                zone, per_second, asked, instants.size, answered, answers.size, byref(row)
-            )
-        if number not in (UNKNOWN_UNIT, NO_LOCAL_TIME):
-            self._must_be_answered(number)
-        return number == 0
+        """The offset at each Unix second, in seconds east of UTC; `NO_OFFSET` if there is none."""
+        return self._answered(_LIBRARY.zoned_zone_at, (), instants, np.int32)
 
     def types(self, instants: Array) -> Array:
         """The local time type at each Unix second, as `LOCAL_TYPE`."""
-        answers = np.empty(instants.size, LOCAL_TYPE)
-        if instants.size:
-            asked, answered = instants.ctypes.data, answers.ctypes.data
-            with self._opened() as zone:
-                number = _LIBRARY.zoned_zone_types(
-                    zone, asked, instants.size, answered, answers.size
-                )
-            self._must_be_answered(number)
-        return answers
+        return self._answered(_LIBRARY.zoned_zone_types, (), instants, LOCAL_TYPE)
+
+    def local_times(self, per_second: int, instants: Array, answers: Array) -> Optional[int]:
+        """Writes the local time of each instant, both counted in units of `1 / per_second` seconds,
+        up to the first row that has none, and returns that row.
+
+        Units are those of `COLUMN_UNITS`. The least int64 is no time, and stays."""
+        row = c_size_t()
+        number = _LIBRARY.zoned_zone_local(
+            self._zone, per_second, *_array(instants), *_array(answers), byref(row)
+        )
+        if number == NO_LOCAL_TIME:
+            return row.value
+        self._must_be_answered(number)
+        return None
+
+    # Local times, counted in seconds.
 
     def wall_clocks(self, local_times: Array) -> Array:
         """How often each local time is shown, and the offsets at the first and the last time."""
-        return self._asked(
-            _LIBRARY.zoned_wall, local_times, np.empty((local_times.size, 3), np.int32)
-        )
+        return self._answered(_LIBRARY.zoned_zone_wall, (), local_times, np.int32, 3)
 
     def resolved(self, gap: int, fold: int, local_times: Array) -> Array:
         """The instant that the choice takes for each local time, as `RESOLVED`."""
+        return self._answered(_LIBRARY.zoned_zone_resolve, (gap, fold), local_times, RESOLVED)
+
+    def first_at_or_after(self, local_times: Array) -> Array:
+        """The first second at which clocks show each local time or a later one, as `RESOLVED`.
+
+        The zone is asked about one after another, which takes a microsecond."""
         answers = np.empty(local_times.size, RESOLVED)
-        if local_times.size:
-            asked, answered = local_times.ctypes.data, answers.ctypes.data
-            with self._opened() as zone:
-                number = _LIBRARY.zoned_zone_resolve(
-                    zone, gap, fold, asked, local_times.size, answered, answers.size
-                )
-            self._must_be_answered(number)
+        place = answers.ctypes.data
+        for local in local_times.tolist():
+            self._must_be_answered(_BRIEF.zoned_zone_first_at_or_after(self._zone, local, place))
+            place += RESOLVED.itemsize
         return answers
+
+    # Spans and changes
+
+    def span(self, instant: int) -> Array:
+        """The span of a Unix second at which the zone has a type, as an array of one `SPAN`."""
+        span = np.empty(1, SPAN)
+        self._must_be_answered(_BRIEF.zoned_zone_span(self._zone, instant, span.ctypes.data))
+        return span
 
     def changes(self, begin: int, end: int) -> Array:
         """The changes from the second `begin` on and before the second `end`, as `CHANGE`."""
         found: list[Array] = []
-        with self._opened() as zone:
-            while True:
-                first = self._next_change(zone, begin)
-                if first is None or first >= end:
-                    return np.concatenate(found) if found else np.empty(0, CHANGE)
-                begin = min(end, first + STRETCH)
-                found.append(self._changes_between(zone, first, begin))
+        while True:
+            first = self._next_change(begin)
+            if first is None or first >= end:
+                return np.concatenate(found) if found else np.empty(0, CHANGE)
+            begin = min(end, first + STRETCH)
+            found.append(self._changes_between(first, begin))
 
-    def _next_change(self, zone: Any, begin: int) -> Optional[int]:
+    def _next_change(self, begin: int) -> Optional[int]:
         """The second of the first change from `begin` on, or None."""
         change = np.empty(1, CHANGE)
         # No change comes at the least second: one has a second before it.
         after = max(begin - 1, LEAST)
-        number = _LIBRARY.zoned_zone_next_change(zone, after, change.ctypes.data)
+        number = _LIBRARY.zoned_zone_next_change(self._zone, after, change.ctypes.data)
         if number == NO_CHANGE:
             return None
         self._must_be_answered(number)
         return int(change["at"][0])
 
-    def _changes_between(self, zone: Any, begin: int, end: int) -> Array:
+    def _changes_between(self, begin: int, end: int) -> Array:
         room, count = ROOM, c_size_t()
         while True:
             changes = np.empty(room, CHANGE)
             number = _LIBRARY.zoned_zone_changes(
-                zone, begin, end, changes.ctypes.data, room, byref(count)
+                self._zone, begin, end, *_array(changes), byref(count)
             )
             self._must_be_answered(number)
             if count.value <= room:
                 return changes[: count.value]
             room = count.value
 
-    @contextmanager
-    def _opened(self) -> Iterator[Any]:
-        """A handle on the zone: each call has its own, so threads may ask at once."""
-        handle = _Handle()
-        self._must_be_answered(
-            _LIBRARY.zoned_open(self.kind, self.data, len(self.data), byref(handle))
-        )
-        try:
-            yield byref(handle)
-        finally:
-            _LIBRARY.zoned_close(byref(handle))
-
-    def _asked(self, call: Callable[..., int], questions: Array, answers: Array) -> Array:
-        if questions.size:
-            asked, answered = questions.ctypes.data, answers.ctypes.data
-            number = call(
-                self.kind, self.data, len(self.data), asked, questions.size, answered, answers.size
-            )
-            self._must_be_answered(number)
+    def _answered(
+        self, call: Any, words: tuple[int, ...], asked: Array, dtype: Any, *width: int
+    ) -> Array:
+        """What a call answers to each row of an array: one value of that type, or `width`."""
+        answers: Array = np.empty((asked.size, *width), dtype)
+        self._must_be_answered(call(self._zone, *words, *_array(asked), *_array(answers)))
         return answers
 
     def _must_be_answered(self, number: int) -> None:
         if number:
             raise ZoneRefusedError(number, self.what)
+
+
+def _array(array: Array) -> tuple[int, int]:
+    """An array as the calls take it: where it is, and how many values it has."""
+    return array.ctypes.data, array.size

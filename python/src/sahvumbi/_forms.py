@@ -2,6 +2,7 @@
 
 from __future__ import annotations
 
+import sys
 from datetime import datetime, timedelta, timezone
 from typing import Any, NamedTuple, Optional
 
@@ -21,6 +22,8 @@ class ArrayForm:
     has_nat: Optional[bool] = None
     #: The type of a column of texts of up to seven letters.
     text: Any = "U7"
+    #: The unit of lengths of time.
+    length_unit = "s"
 
     def __init__(self, shape: tuple[int, ...]):
         self.shape = shape
@@ -64,6 +67,9 @@ class SeriesForm(ArrayForm):
     def __init__(self, of: Any, has_nat: Optional[bool] = None):
         super().__init__((len(of),))
         self.of, self.has_nat = of, has_nat
+        if sys.modules["pandas"].__version__ < "2":
+            # It has no other unit, and takes several copies to change one.
+            self.length_unit = "ns"
 
     @property
     def index(self) -> Any:
@@ -112,6 +118,8 @@ class IndexForm(SeriesForm):
     def plain(self, values: Any, dtype: Any = None) -> Any:
         import pandas
 
+        if getattr(values, "dtype", None) == "M8[ns]":
+            return pandas.DatetimeIndex(values, name=self.of.name)
         return pandas.Index(values, name=self.of.name)
 
     def table(self, columns: Any) -> Any:
@@ -120,7 +128,10 @@ class IndexForm(SeriesForm):
         return pandas.DataFrame(columns._asdict(), index=self.of, copy=False)
 
     def _instants(self, values: Array, unit: str, zone: Any) -> Any:
-        aware = self.plain(values.view(f"M8[{unit}]")).tz_localize("UTC")
+        import pandas
+
+        times = values.view(f"M8[{unit}]")
+        aware = pandas.DatetimeIndex(times, tz="UTC", name=self.of.name)
         return aware if zone == "UTC" else aware.tz_convert(zone)
 
 
@@ -153,6 +164,8 @@ class DatetimeForm(ArrayForm):
         super().__init__(())
 
     def times(self, values: Array, unit: Optional[str], zone: Any) -> Any:
+        if values[0] == NAT:
+            return None
         moment = EPOCH + timedelta(microseconds=int(values[0]))
         if zone is None:
             return moment

@@ -3,7 +3,7 @@
 from __future__ import annotations
 
 import sys
-from datetime import date, datetime, timedelta
+from datetime import date, datetime, time, timedelta
 from typing import Any, Optional
 
 import numpy as np
@@ -35,6 +35,13 @@ def taken(values: Any, may_be_aware: bool) -> Column:
     if isinstance(values, datetime):
         return _of_datetime(pandas, values, may_be_aware)
     raise TypeError(f"a {_type_name(values)} is no column of time: {_advice(values)}")
+
+
+def taken_days(values: Any) -> Column:
+    """The column of local times that a user hands over, or one date: its midnight."""
+    if isinstance(values, date) and not isinstance(values, datetime):
+        values = datetime.combine(values, time())
+    return taken(values, may_be_aware=False)
 
 
 def _type_name(value: Any) -> str:
@@ -91,25 +98,25 @@ def _of_pandas(pandas: Any, values: Any, may_be_aware: bool) -> Column:
     is_index = isinstance(values, pandas.Index)
     kind = "an Index" if is_index else "a Series"
     form = IndexForm if is_index else SeriesForm
-    if isinstance(values, pandas.MultiIndex):
-        raise TypeError("a MultiIndex is no column of time: get_level_values gives one of them")
     dtype = values.dtype
+    if isinstance(dtype, np.dtype) and dtype != object:
+        return _of_array(values.values, form(values))
     if isinstance(dtype, pandas.DatetimeTZDtype):
         if not may_be_aware:
             drop = "tz_localize(None)" if is_index else "dt.tz_localize(None)"
             raise TypeError(f"local times have no zone, and these are {dtype}: {drop} removes it")
-        return _of_array(values.to_numpy(f"M8[{dtype.unit}]"), form(values))
+        return _of_array(values.values, form(values))
     if pandas.api.types.is_extension_array_dtype(dtype):
         if pandas.api.types.is_integer_dtype(dtype) and hasattr(dtype, "numpy_dtype"):
             return _of_nullable(values, form(values, has_nat=True))
         raise TypeError(
             f"{kind} of {dtype} is no column of time: astype gives datetime64, int64 or Int64"
         )
-    if dtype == object:
-        raise TypeError(
-            f"{kind} of object is no column of time: pandas.to_datetime makes datetime64 of it"
-        )
-    return _of_array(values.to_numpy(), form(values))
+    if isinstance(values, pandas.MultiIndex):
+        raise TypeError("a MultiIndex is no column of time: get_level_values gives one of them")
+    raise TypeError(
+        f"{kind} of object is no column of time: pandas.to_datetime makes datetime64 of it"
+    )
 
 
 def _of_nullable(values: Any, form: ArrayForm) -> Column:
@@ -151,7 +158,9 @@ def _of_type(kind: str) -> str:
 
 def _laid_out(array: Array, dtype: Any) -> Array:
     """As the calls take it, in one dimension; the array itself where it is so."""
-    return np.require(array, dtype, ["C", "A"]).reshape(-1)
+    if array.dtype != dtype or not (array.flags.c_contiguous and array.flags.aligned):
+        array = np.require(array, dtype, ["C", "A"])
+    return array.reshape(-1)
 
 
 def _of_datetime64(array: Array, form: ArrayForm) -> Column:

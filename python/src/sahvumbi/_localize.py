@@ -5,15 +5,13 @@ from __future__ import annotations
 import numpy as np
 
 from ._choice import Choice, Fault
-from ._columns import Block, Column
+from ._columns import FIRST_SECOND, LAST_SECOND, NO_ROWS, Block, Column
 from ._door import NEVER, ONCE, OUT_OF_RANGE, REFUSE, SEVERAL_TIMES, SHIFT_FORWARD, Door
 from ._forms import NAT, Array
 from ._order import Folds, decide
 from .errors import FOLD, GAP, WORDS
 from .errors import OUT_OF_RANGE as IS_OUT_OF_RANGE
 
-# The first and the last second of the years -262143 to 262142.
-FIRST_SECOND, LAST_SECOND = -8_334_601_228_800, 8_210_266_876_799
 # No offset is as great.
 FAR = 2**31
 OUTSIDE = "the local time is outside the years -262143 to 262142"
@@ -44,13 +42,13 @@ class Clocks:
         self.shown, self.first, self.last = door.wall_clocks(block.seconds).T
         # The rows that become NaT, those that lose what is less than a second, and those that the
         # order of rows decides.
-        self.lost = self.cut = self.open = np.empty(0, np.intp)
+        self.lost = self.cut = self.open = NO_ROWS
         self.faults: list[Fault] = []
 
     def take(self) -> None:
         """Decides gaps and folds: makes two offsets one, or gives rows up as lost or failed."""
         gap, fold = self.choice.gap, self.choice.fold
-        rows = np.flatnonzero(self.shown != ONCE)
+        rows = (self.shown != ONCE).nonzero()[0]
         if not rows.size:
             return
         if self.block.is_nat is not None:
@@ -61,37 +59,28 @@ class Clocks:
         self._fail(rows[never & (gap == "raise")], GAP)
         self._fail(rows[several & (fold == "raise")], FOLD)
         skipped = rows[never]
-        if skipped.size and gap == "shift":
-            self._shift(skipped)
-        if skipped.size and gap == "after":
-            self._go_after(skipped)
+        if skipped.size and gap in ("shift", "after"):
+            self._resolve(skipped)
         if fold == "given" and several.any():
             self._take_given(rows[several])
         if fold == "infer":
             self.open = rows[several & (self.first[rows] != self.last[rows])]
         self._lose(rows[(never & (gap == "nat")) | (several & (fold == "nat"))])
 
-    def _shift(self, skipped: Array) -> None:
-        """Takes the offset before the gap for the rows that clocks skipped."""
+    def _resolve(self, skipped: Array) -> None:
+        """Takes the instant of each row that clocks skipped: by the offset before the gap, or at
+        its end, which is the first second that shows a later time."""
         local_times = self.block.seconds[skipped]
-        resolved = self.door.resolved(SHIFT_FORWARD, REFUSE, local_times)
+        if self.choice.gap == "shift":
+            resolved = self.door.resolved(SHIFT_FORWARD, REFUSE, local_times)
+        else:
+            found, rows = np.unique(local_times, return_inverse=True)
+            resolved = self.door.first_at_or_after(found)[rows]
+            self.cut = skipped
         self.first[skipped] = self.last[skipped] = local_times - resolved["instant"]
         outside = skipped[resolved["number"] != 0]
         self.first[outside] = self.last[outside] = 0
         self._fail(outside, IS_OUT_OF_RANGE)
-
-    def _go_after(self, skipped: Array) -> None:
-        """Takes the first instant after the gap: the first second that shows a later time.
-
-        No earlier second than that of the first change of the list shows a later time than one of
-        these, since no offset is as great as `FAR`; and clocks go by seconds between changes."""
-        local_times = self.block.seconds[skipped]
-        begin, end = int(local_times.min()) - FAR, int(local_times.max()) + FAR
-        changes = self.door.changes(begin, end)
-        reached = np.maximum.accumulate(changes["at"] + changes["after"]["offset"])
-        at = changes["at"][np.searchsorted(reached, local_times, side="right")]
-        self.first[skipped] = self.last[skipped] = local_times - at
-        self.cut = skipped
 
     def _take_given(self, rows: Array) -> None:
         """Takes what a column of the caller says of the rows that clocks showed several times."""

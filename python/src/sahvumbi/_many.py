@@ -13,7 +13,7 @@ from ._forms import Array
 from ._inputs import taken
 from ._localize import localized
 from .errors import RowError
-from .zone import Zone, zone_of_answer
+from .zone import Zone
 
 #: Zones by their place, or by their key.
 Zones = Union[Sequence[Zone], Mapping[Any, Zone]]
@@ -45,13 +45,12 @@ def localize_many(
           dtype='datetime64[s]')
     """
     column = taken(local_times, may_be_aware=False)
-    choice = chosen(column, gap, fold, is_dst, offset, by, errors)
+    choice = chosen(column, gap, fold, is_dst, offset, by, errors, tz)
 
     def ask(zone: Zone, places: Array) -> Array:
         return localized(zone._door, column.part(places), choice.part(places))
 
-    answers = column.instants(_answered(zones, codes, column, ask), zone_of_answer(tz))
-    return answers if choice.failures is None else (answers, choice.collected(column))
+    return choice.answer(column, _answered(zones, codes, column, ask))
 
 
 def to_local_many(zones: Zones, codes: Any, instants: Any) -> Any:

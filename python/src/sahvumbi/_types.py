@@ -59,3 +59,18 @@ class LocalTypes(NamedTuple):
     """The DST flag: whether it is daylight saving time. False for NaT."""
     abbreviation: npt.NDArray[np.str_]
     """The abbreviation, such as EST; empty for NaT, and where the zone has none."""
+
+
+class Spans(NamedTuple):
+    """The spans that the instants of a column lie in: in each one local time type is in force, from
+    one clock change to the next. Each field has the column's shape."""
+
+    offset: npt.NDArray[Any]
+    """The offset, the DST flag and the abbreviation, as in `LocalTypes`."""
+    is_dst: npt.NDArray[np.bool_]
+    abbreviation: npt.NDArray[np.str_]
+    from_: npt.NDArray[Any]
+    """The instant of the clock change that began the span, counted as the column is; if no change
+    comes before, NaT, or the least int64."""
+    until: npt.NDArray[Any]
+    """The instant of the change that ends it; if no change follows, NaT, or the greatest int64."""

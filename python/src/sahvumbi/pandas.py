@@ -16,6 +16,7 @@ from zoneinfo import ZoneInfo
 
 from pandas.api.extensions import register_index_accessor, register_series_accessor
 
+from ._days import Step
 from .zone import Zone
 
 #: A zone, or its name.
@@ -48,6 +49,26 @@ class Accessor:
     def types(self, zone: ZoneLike) -> Any:
         """Returns the offset, DST flag and abbreviation at each instant, as `Zone.types` does."""
         return zone_of(zone).types(self._column)
+
+    def spans(self, zone: ZoneLike) -> Any:
+        """Returns the types and the clock changes around each instant, as `Zone.spans` does."""
+        return zone_of(zone).spans(self._column)
+
+    def day(self, zone: ZoneLike) -> Any:
+        """Returns the day that each instant lies in, as `Zone.day` does."""
+        return zone_of(zone).day(self._column)
+
+    def floor(self, zone: ZoneLike, step: Step) -> Any:
+        """Returns the first instant of the step of each instant, as `Zone.floor` does."""
+        return zone_of(zone).floor(self._column, step)
+
+    def start_of_day(self, zone: ZoneLike) -> Any:
+        """Returns the first instant of the day of each date, as `Zone.start_of_day` does."""
+        return zone_of(zone).start_of_day(self._column)
+
+    def end_of_day(self, zone: ZoneLike) -> Any:
+        """Returns the last instant of the day of each date, as `Zone.end_of_day` does."""
+        return zone_of(zone).end_of_day(self._column)
 
     def localize(self, zone: ZoneLike, *words: Any, **choices: Any) -> Any:
         """Returns the instant of each local time, as `Zone.localize` does with the same choices."""

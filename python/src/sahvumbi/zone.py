@@ -4,19 +4,17 @@ from __future__ import annotations
 
 from datetime import datetime
 from typing import Any, Literal, Union, overload
-from zoneinfo import ZoneInfo
 
 from . import _asked as asked
-from ._changes import Changes, Time, of_stretch
 from ._choice import chosen
 from ._forms import Array, Failures
 from ._inputs import taken
 from ._localize import localized
-from ._opening import Opened
+from ._stretches import Stretches
 from ._types import Fold, Gap, Labelled, Labels, LocalTypes, Moment, Rows, Single, Times, WallClocks
 
 
-class Zone(Opened):
+class Zone(Stretches):
     """A time zone, opened by its name, as zoneinfo does it, and asked about whole columns.
 
     A column is an array of int64 that counts seconds since 1970-01-01 00:00:00, or one of
@@ -194,9 +192,8 @@ class Zone(Opened):
                '2021-11-07T06:20:00'], dtype='datetime64[s]')
         """
         column = taken(local_times, may_be_aware=False)
-        choice = chosen(column, gap, fold, is_dst, offset, by, errors)
-        answers = column.instants(localized(self._door, column, choice), zone_of_answer(tz))
-        return answers if choice.failures is None else (answers, choice.collected(column))
+        choice = chosen(column, gap, fold, is_dst, offset, by, errors, tz)
+        return choice.answer(column, localized(self._door, column, choice))
 
     @overload
     def explain(self, local_times: Union[Rows, Single, datetime]) -> WallClocks: ...
@@ -218,42 +215,3 @@ class Zone(Opened):
         array([     0, -18000], dtype=int32)
         """
         return asked.explained(self._door, taken(local_times, may_be_aware=False))
-
-    # Changes
-
-    def changes(self, from_: Time, to: Time) -> Changes:
-        """Returns the changes of the zone's clocks from `from_` on and before `to`.
-
-        Each is a second at which another type of local time is in force than at the second before
-        it: another offset, DST flag or abbreviation. A transition of the file that changes nothing
-        does not count, and what a rule does after the last transition does. There are none if `to`
-        is `from_` or comes before it.
-
-        The ends are both numbers of seconds since 1970-01-01 00:00:00 UTC, or both times: those
-        without a zone are of UTC. Raises ValueError if one is NaT (TypeError if that has no unit),
-        and `OutOfRangeError` if one doesn't fit 64 bits of seconds. A rule has some two changes in
-        a year, and those of all 64 bits are 8.6 billion, so give a stretch that can be listed.
-
-        >>> import numpy as np
-        >>> new_york = Zone("America/New_York")
-        >>> changes = new_york.changes(np.datetime64("2021-01-01"), np.datetime64("2022-01-01"))
-        >>> changes.at
-        array(['2021-03-14T07:00:00', '2021-11-07T06:00:00'],
-              dtype='datetime64[s]')
-        >>> changes.name_after
-        array(['EDT', 'EST'], dtype='<U7')
-        >>> new_york.changes(1_609_459_200, 1_640_995_200).offset_after
-        array([-14400, -18000], dtype=int32)
-        """
-        return of_stretch(self._door, from_, to)
-
-
-def zone_of_answer(tz: Any) -> Any:
-    """The zone of the type of an answer, as pandas takes it."""
-    if tz is None:
-        raise ValueError("tz= is the zone of the instants, and None is none: leave it out for UTC")
-    if isinstance(tz, Zone):
-        if tz.key is None:
-            raise ValueError(f"tz= is a zone with a name, and {tz!r} has none")
-        return ZoneInfo(tz.key)
-    return tz

@@ -10,11 +10,10 @@ use Rattle.zoned_ffi.specs.declared.resolved.Resolved.{Resolved}
 use Rattle.zoned_ffi.specs.declared.resolved.Taken.{Taken}
 use Rattle.zoned_ffi.specs.declared.resolved.Taken.TheVariants.{InForce, BeforeGap}
 
--- the second u and the offset in force there, or that u is out of range
-abbrev pub IsInstant : Zone → ℤ → Resolved → Type 0
-IsInstant z u w =
-    (IsInRange u × ((offset : ℤ) × IsOffsetAt z u offset × (w ≡ record { number = 0; offset = offset; instant = u })))
-    ⊎ (¬ (IsInRange u) × (w ≡ unresolved 23))
+-- the second u and an offset, or that u is out of range
+abbrev pub IsStamp : ℤ → ℤ → Resolved → Type 0
+IsStamp u offset w =
+    (IsInRange u × (w ≡ record { number = 0; offset = offset; instant = u })) ⊎ (¬ (IsInRange u) × (w ≡ unresolved 23))
 
 -- the choice takes a type of that offset; one that shows the local time is in force at the instant
 abbrev pub IsTakenAs : Zone → ℤ → Choice → Taken → Type 0

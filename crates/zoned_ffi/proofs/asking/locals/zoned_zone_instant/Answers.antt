@@ -1,6 +1,6 @@
 use Rattle.std.proofs.Common.{FitsSigned, rules, to_z-of_z, w64}
 use Rattle.zoned_ffi.specs.Handles.{IsLent}
-use Rattle.zoned_ffi.proofs.asking.zoned_zone_instant.Goals as goal
+use Rattle.zoned_ffi.proofs.asking.locals.zoned_zone_instant.Goals as goal
 
 pub returns-clause-answered : goal.returns-clause-answered
 returns-clause-answered c = λ zero.

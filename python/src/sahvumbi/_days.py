@@ -1,0 +1,246 @@
+"""Days of a zone and steps of its clocks: when they begin.
+
+A day begins at the first second at which a clock shows its midnight or a later local time, and the
+next day ends it. So each instant lies in one day, and a day that clocks skipped has none.
+"""
+
+from __future__ import annotations
+
+import re
+from datetime import timedelta
+from typing import Any, NamedTuple, Union
+
+import numpy as np
+import numpy.typing as npt
+
+from ._asked import offsets_of, write_seconds
+from ._columns import FIRST_SECOND, GREATEST, LAST_SECOND, Block, Column
+from ._door import LEAST, Door
+from ._forms import NAT, Array
+from .errors import GAP, OUT_OF_RANGE, GapError, OutOfRangeError, printable
+
+DAY = 86_400
+SECONDS = {"D": DAY, "h": 3_600, "min": 60, "s": 1}
+# No two offsets differ by as much.
+FAR = 2**32
+# No second of a day: it was not asked yet, or the day is outside the calendar.
+UNKNOWN, NONE = NAT, GREATEST
+# Days that are listed for a column of few rows, and a day that no calendar reaches.
+FEW, NO_DAY = 1 << 12, 10**9
+EMPTY = "no clock of the zone shows a time of that day"
+OUTSIDE = "the day is outside the years -262143 to 262142"
+
+#: A length of time: 'D', 'h', '15min', or a timedelta.
+Step = Union[str, timedelta]
+
+
+class Days(NamedTuple):
+    """The days that the instants of a column lie in. Each field has the column's shape."""
+
+    date: npt.NDArray[Any]
+    """The day, as the local time of its midnight."""
+    start: npt.NDArray[Any]
+    """Its first instant."""
+    until: npt.NDArray[Any]
+    """The first instant of the next day."""
+
+
+def starts(door: Door, column: Column) -> Array:
+    """Returns the first instant of the day of each local time."""
+    answers, beginnings = np.empty(len(column), np.int64), Beginnings(door, column)
+    for block in column.blocks():
+        _write(block, beginnings.of(block.seconds // DAY), answers)
+    return answers
+
+
+def ends(door: Door, column: Column) -> Array:
+    """Returns the last instant of the day of each local time, in the unit of the column."""
+    answers, beginnings = np.empty(len(column), np.int64), Beginnings(door, column)
+    for block in column.blocks():
+        numbers = block.seconds // DAY
+        until = beginnings.of(numbers + 1)
+        _write(block, until, answers)
+        mine = answers[block.rows]
+        mine -= 1
+        is_empty = until == beginnings.of(numbers)
+        if not column.has_nat and is_empty.any():
+            raise column.error(GapError, block.start + int(is_empty.argmax()), GAP, EMPTY)
+        mine[is_empty] = NAT
+        if block.is_nat is not None:
+            mine[block.is_nat] = NAT
+    return answers
+
+
+def days(door: Door, column: Column) -> Any:
+    """Returns the day that each instant lies in."""
+    date, start, until = (np.empty(len(column), np.int64) for _ in Days._fields)
+    beginnings = Beginnings(door, column)
+    for block in column.blocks():
+        numbers = beginnings.days_at(block)
+        _write(block, numbers * DAY, date)
+        _write(block, beginnings.of(numbers), start)
+        _write(block, beginnings.of(numbers + 1), until)
+    # Each array is let go before the next answer is made.
+    start = column.instants(start)
+    until = column.instants(until)
+    return column.form.table(Days(column.local_times(date), start, until))
+
+
+def floored(door: Door, column: Column, step: Step) -> Array:
+    """Returns the first instant of the step that each instant lies in."""
+    seconds = seconds_of(step)
+    answers = np.empty(len(column), np.int64)
+    begun = Beginnings(door, column).begun if seconds == DAY else Steps(door, column, seconds).begun
+    for block in column.blocks():
+        _write(block, begun(block), answers)
+    return answers
+
+
+def seconds_of(step: Step) -> int:
+    """Returns the seconds of a step. Raises ValueError if a day has no whole number of it."""
+    if isinstance(step, timedelta):
+        seconds = 0 if step.microseconds else step // timedelta(seconds=1)
+    elif isinstance(step, str):
+        found = re.fullmatch(f"([0-9]{{0,5}})({'|'.join(SECONDS)})", step)
+        seconds = int(found[1] or 1) * SECONDS[found[2]] if found else 0
+    else:
+        raise TypeError(f"step is 'D', 'h', '15min' or a timedelta, and not {type(step).__name__}")
+    if not (0 < seconds <= DAY and DAY % seconds == 0):
+        raise ValueError(
+            "step is a day ('D') or a whole part of one in whole seconds, as 'h' or '15min', "
+            f"and not {printable(repr(step))}"
+        )
+    return seconds
+
+
+class Beginnings:
+    """The first second of each day, which a zone is asked once about each day of a column."""
+
+    def __init__(self, door: Door, column: Column):
+        self.door = door
+        least, greatest = column.ends()
+        # Offsets are less than two days, but for zones that no one keeps.
+        self.first, count = least // DAY - 2, (greatest - least) // DAY + 6
+        self.listed = np.full(count if count <= max(FEW, len(column)) else 0, UNKNOWN)
+
+    def of(self, days: Array) -> Array:
+        """Returns the first second of each day, or `NONE` if that is outside the calendar."""
+        places = days - self.first
+        if int(places.min()) < 0 or int(places.max()) >= self.listed.size:
+            found, rows = np.unique(days, return_inverse=True)
+            found = self._asked(found)
+            return found[rows]
+        seconds: Array = self.listed[places]
+        unknown = places[seconds == UNKNOWN]
+        if unknown.size:
+            unknown = np.unique(unknown)
+            self.listed[unknown] = self._asked(unknown + self.first)
+            seconds = self.listed[places]
+        return seconds
+
+    def _asked(self, days: Array) -> Array:
+        midnights = np.clip(days, -NO_DAY, NO_DAY) * DAY
+        reached = self.door.first_at_or_after(midnights)
+        return np.where(reached["number"] == 0, reached["instant"], NONE)
+
+    def begun(self, block: Block) -> Array:
+        """Returns the first second of the day that each instant lies in."""
+        return self.of(self.days_at(block))
+
+    def days_at(self, block: Block) -> Array:
+        """Returns the day that each instant lies in, counted from 1970-01-01."""
+        local = _local_seconds(self.door, block)
+        days = local // DAY
+        # Clocks that were set back over midnight show the day before for a while.
+        back = np.flatnonzero(self.of(days + 1) <= block.seconds)
+        if back.size:
+            shown = _latest_shown(self.door, block.seconds[back], local[back])
+            days[back] = shown // DAY
+        return days
+
+
+class Steps:
+    """The stretches in which clocks show local times of one step, each a whole part of a day.
+
+    Clocks that are set back to the step before begin it again; a stretch goes on over a change
+    after which they show the same step."""
+
+    def __init__(self, door: Door, column: Column, step: int):
+        self.door, self.step = door, step
+        least, greatest = column.ends()
+        at = self._turns(least - step, greatest + 1)["at"]
+        self.is_near = at.size > 1 and int(np.diff(at).min()) < step
+        self.at = at
+
+    def begun(self, block: Block) -> Array:
+        """Returns the first second of the stretch that each instant lies in."""
+        local = _local_seconds(self.door, block)
+        offsets = local - block.seconds
+        floors = local // self.step * self.step
+        begun: Array = floors - offsets
+        if self.is_near:
+            turns = (np.searchsorted(self.at, each, "right") for each in (block.seconds, begun))
+            late = np.flatnonzero(np.not_equal(*turns))
+        else:
+            late = np.flatnonzero(self.door.offsets(begun) != offsets)
+        if late.size:
+            begun[late] = self._walked(block.seconds[late], floors[late], begun[late], 2 * FAR)
+        return begun
+
+    def _walked(self, seconds: Array, floors: Array, begun: Array, window: int) -> Array:
+        """Goes back from change to change while clocks show the same step before it."""
+        low = max(int(seconds.min()) - window, LEAST)
+        turns = self._turns(low, int(seconds.max()) + 1)
+        at, before = turns["at"], turns["before"]["offset"].astype(np.int64)
+        found, come = begun.copy(), np.searchsorted(at, seconds, "right") - 1
+        rows = np.arange(seconds.size)
+        while True:
+            rows = rows[come[rows] >= 0]
+            rows = rows[found[rows] < at[come[rows]]]
+            if not rows.size:
+                break
+            turn = come[rows]
+            is_same = (at[turn] - 1 + before[turn]) // self.step * self.step == floors[rows]
+            found[rows] = np.where(is_same, floors[rows] - before[turn], at[turn])
+            rows = rows[is_same]
+            come[rows] -= 1
+        if low > LEAST and int(found.min()) < low:
+            return self._walked(seconds, floors, begun, 2 * window)
+        return found
+
+    def _turns(self, low: int, high: int) -> Array:
+        """The changes of offset from a second on and before another."""
+        changes = self.door.changes(max(low, FIRST_SECOND), min(high, LAST_SECOND))
+        is_turn = changes["before"]["offset"] != changes["after"]["offset"]
+        turns: Array = changes[is_turn]
+        return turns
+
+
+def _local_seconds(door: Door, block: Block) -> Array:
+    """The second that clocks show at each instant. Raises at a row outside the calendar."""
+    outside = block.outside(FIRST_SECOND, LAST_SECOND)
+    if outside.size:
+        _raise_outside(block, outside)
+    return block.seconds + offsets_of(door, block)
+
+
+def _latest_shown(door: Door, seconds: Array, local: Array) -> Array:
+    """The latest local time that clocks have shown up to each of these seconds."""
+    changes = door.changes(int(seconds.min()) - FAR, int(seconds.max()) + 1)
+    shown = np.maximum.accumulate(changes["at"] - 1 + changes["before"]["offset"])
+    come = np.searchsorted(changes["at"], seconds, side="right")
+    latest: Array = np.maximum(local, shown[come - 1])
+    return latest
+
+
+def _raise_outside(block: Block, places: Array) -> None:
+    row = block.start + int(places[0])
+    raise block.column.error(OutOfRangeError, row, OUT_OF_RANGE, OUTSIDE)
+
+
+def _write(block: Block, seconds: Array, answers: Array) -> None:
+    """Writes the rows of a block. Raises at the first row that has no second, or doesn't fit."""
+    outside = np.flatnonzero(seconds == NONE)
+    if outside.size:
+        _raise_outside(block, outside)
+    write_seconds(block, seconds, answers)

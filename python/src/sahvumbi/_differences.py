@@ -1,0 +1,176 @@
+"""What another zone changes, such as another version of the tz database."""
+
+from __future__ import annotations
+
+from typing import TYPE_CHECKING, Any, NamedTuple
+
+import numpy as np
+import numpy.typing as npt
+
+from ._changes import Time, ends_of_stretch
+from ._choice import chosen
+from ._door import NO_OFFSET, Door
+from ._forms import Array
+from ._inputs import taken
+from ._localize import localized
+from ._opening import Opened
+from .errors import NO_OFFSET as HAS_NO_OFFSET
+from .errors import NoOffsetError
+
+if TYPE_CHECKING:
+    import pandas
+
+
+class Differences(NamedTuple):
+    """Stretches of time in which two zones differ, in order: each field has a value for each."""
+
+    from_: npt.NDArray[Any]
+    """The first second: int64 if the ends are numbers, else datetime64[s]."""
+    until: npt.NDArray[Any]
+    """The first second after the stretch."""
+    offset_old: npt.NDArray[Any]
+    """The offset of the old zone, as `Zone.offsets` has it: seconds, or timedelta64[s]."""
+    offset_new: npt.NDArray[Any]
+    """That of the new zone."""
+    is_dst_old: npt.NDArray[np.bool_]
+    """Whether it is daylight saving time in the old zone."""
+    is_dst_new: npt.NDArray[np.bool_]
+    """Whether it is in the new zone."""
+    name_old: npt.NDArray[np.str_]
+    """The abbreviation of the old zone, such as EST; empty if the zone names none."""
+    name_new: npt.NDArray[np.str_]
+    """That of the new zone."""
+
+    def __bool__(self) -> bool:
+        """Returns whether there are any."""
+        return self.from_.size > 0
+
+    def to_frame(self) -> pandas.DataFrame:
+        """Returns a DataFrame with a row for each stretch; ends are in UTC if they are times."""
+        import pandas
+
+        frame = pandas.DataFrame(self._asdict())
+        for name in ("from_", "until") if self.from_.dtype.kind == "M" else ():
+            frame[name] = frame[name].dt.tz_localize("UTC")
+        return frame
+
+
+class Moved(NamedTuple):
+    """Local times whose instant changes, in the order of rows: each field has a value for each."""
+
+    row: npt.NDArray[np.intp]
+    """Its place in the column, from 0 on, in C order."""
+    value: npt.NDArray[Any]
+    """The local time."""
+    old: npt.NDArray[Any]
+    """Its instant in the old zone."""
+    new: npt.NDArray[Any]
+    """Its instant in the new zone."""
+    label: Any
+    """The labels in the index of a Series, or the values of an Index; else None."""
+
+    def __bool__(self) -> bool:
+        """Returns whether there are any."""
+        return self.row.size > 0
+
+    def to_frame(self) -> pandas.DataFrame:
+        """Returns a DataFrame with a row for each of them, labelled as in the column."""
+        import pandas
+
+        columns = self._asdict()
+        del columns["label"]
+        frame = pandas.DataFrame(columns, index=self.label)
+        for name in ("old", "new") if self.value.dtype.kind == "M" else ():
+            frame[name] = frame[name].dt.tz_localize("UTC")
+        return frame
+
+
+def door_of(zone: Any) -> Door:
+    """The door of a zone. Raises TypeError if it is none."""
+    if not isinstance(zone, Opened):
+        raise TypeError(f"a {type(zone).__name__} is no Zone")
+    return zone._door
+
+
+def of_zones(old: Door, new: Door, from_: Time, to: Time) -> Differences:
+    """The stretches from `from_` on and before `to` in which the types of two zones differ."""
+    begin, end, is_time = ends_of_stretch(from_, to)
+    first = np.array([begin] if begin < end else [], np.int64)
+    for door in (old, new):
+        _must_have_types(door, {"from_": first, "to": first + (end - 1 - begin)})
+    changes = [door.changes(min(begin + 1, end), end) for door in (old, new)]
+    cuts = np.unique(np.concatenate([first, *(found["at"] for found in changes)]))
+    before, after = (
+        np.concatenate([door.types(first), found["after"]])[
+            np.searchsorted(found["at"], cuts, "right")
+        ]
+        for door, found in zip((old, new), changes)
+    )
+    differ = before != after
+    ends = np.append(cuts[1:], end)
+    stretches = _listed(cuts[differ], ends[differ], before[differ], after[differ])
+    return _in_times(stretches) if is_time else stretches
+
+
+def _must_have_types(door: Door, ends: dict[str, Array]) -> None:
+    for name, second in ends.items():
+        if (door.offsets(second) == NO_OFFSET).any():
+            raise NoOffsetError(None, int(second[0]), HAS_NO_OFFSET, label=name)
+
+
+def _listed(begin: Array, end: Array, old: Array, new: Array) -> Differences:
+    """Stretches and the types of both zones in them, as columns."""
+    return Differences(
+        begin,
+        end,
+        old["offset"].copy(),
+        new["offset"].copy(),
+        old["is_dst"] != 0,
+        new["is_dst"] != 0,
+        old["abbreviation"].astype("U7"),
+        new["abbreviation"].astype("U7"),
+    )
+
+
+def _in_times(found: Differences) -> Differences:
+    """Stretches as times, and offsets as lengths of time."""
+    return found._replace(
+        from_=found.from_.view("M8[s]"),
+        until=found.until.view("M8[s]"),
+        offset_old=found.offset_old.astype("m8[s]"),
+        offset_new=found.offset_new.astype("m8[s]"),
+    )
+
+
+def moved(
+    old: Opened,
+    new: Opened,
+    local_times: Any,
+    gap: Any = "raise",
+    fold: Any = "raise",
+    *,
+    is_dst: Any = None,
+    offset: Any = None,
+    by: Any = None,
+) -> Moved:
+    """Returns the rows whose local time has another instant in `new` than in `old`.
+
+    They are what an update of the tz database changes of local times that are stored, as those of a
+    calendar. Local times and choices are taken, and errors raised, as by `Zone.localize`, in both
+    zones; NaT in one of them is another instant.
+
+    >>> import numpy as np
+    >>> from sahvumbi import Zone
+    >>> old, new = Zone.from_text("EST5"), Zone("America/New_York")
+    >>> found = moved(old, new, np.array(["2021-01-01T12:00", "2021-07-01T12:00"], "M8[s]"))
+    >>> found.row, found.new - found.old
+    (array([1]), array([-3600], dtype='timedelta64[s]'))
+    """
+    column = taken(local_times, may_be_aware=False)
+    choice = chosen(column, gap, fold, is_dst, offset, by)
+    before, after = (localized(door_of(zone), column, choice) for zone in (old, new))
+    rows = np.flatnonzero(before != after)
+    value, before, after = (
+        column.times_of(values[rows]) for values in (column.values, before, after)
+    )
+    return Moved(rows, value, before, after, column.form.labels(rows))

@@ -1,0 +1,242 @@
+"""Days, and steps of clocks: against the definitions, zoneinfo and pandas."""
+
+from datetime import date, datetime, timedelta, timezone
+from zoneinfo import ZoneInfo
+
+import numpy as np
+import pandas as pd
+import pytest
+from definitions import DAY, QUARTER, Lists, first_in, floor_in, pieces
+from hypothesis import given, settings
+from hypothesis import strategies as st
+
+import sahvumbi
+from sahvumbi import Zone
+
+NEW_YORK = Zone("America/New_York")
+# Zones that change by quarters of an hour, so that a look at each of those is enough.
+EDGE, GREATEST = 400, 60
+WINDOW = range(-QUARTER * (EDGE + 700), QUARTER * (EDGE + 700), QUARTER)
+QUARTERS = st.integers(-EDGE, EDGE).map(lambda quarters: QUARTER * quarters)
+
+
+@st.composite
+def zones(draw):
+    quarters = draw(st.lists(st.integers(-GREATEST, GREATEST), min_size=1, max_size=5))
+    offsets = [QUARTER * each for each in quarters]
+    seconds = sorted(draw(st.sets(QUARTERS, max_size=8)))
+    return Lists([(second, draw(st.integers(0, len(offsets) - 1))) for second in seconds], offsets)
+
+
+INSTANTS = st.lists(st.tuples(QUARTERS, st.integers(0, QUARTER - 1)).map(sum), min_size=1, max_size=6)
+
+
+@settings(max_examples=200)
+@given(zones(), st.lists(st.integers(-5, 5), min_size=1, max_size=5), st.integers(0, DAY - 1))
+def test_start_and_end_of_day(lists, dates, time):
+    zone = Zone.from_bytes(lists.file())
+    starts = [lists.first_at_or_after(DAY * each, WINDOW) for each in dates]
+    untils = [lists.first_at_or_after(DAY * (each + 1), WINDOW) for each in dates]
+    assert zone.start_of_day([DAY * each + time for each in dates]).tolist() == starts
+    days = np.array(dates, "M8[D]")
+    assert zone.start_of_day(days).view(np.int64).tolist() == starts
+    milliseconds = (days.astype("M8[ms]") + np.timedelta64(time, "s"))
+    ends = zone.end_of_day(milliseconds)
+    expected = [
+        None if start == until else until * 1_000 - 1 for start, until in zip(starts, untils)
+    ]
+    assert [None if np.isnat(each) else int(each.view(np.int64)) for each in ends] == expected
+    if None in expected:
+        with pytest.raises(sahvumbi.GapError, match="shows a time of that day") as raised:
+            zone.end_of_day([DAY * each for each in dates])
+        assert raised.value.row == expected.index(None)
+    else:
+        seconds = zone.end_of_day([DAY * each for each in dates])
+        assert seconds.tolist() == [until - 1 for until in untils]
+
+
+@settings(max_examples=200)
+@given(zones(), INSTANTS)
+def test_day(lists, instants):
+    days = Zone.from_bytes(lists.file()).day(instants)
+    for instant, day, start, until in zip(instants, *(field.tolist() for field in days)):
+        number = lists.day(instant, WINDOW)
+        assert day == DAY * number
+        assert start == lists.first_at_or_after(DAY * number, WINDOW)
+        assert until == lists.first_at_or_after(DAY * (number + 1), WINDOW)
+        assert start <= instant < until
+
+
+@settings(max_examples=400)
+@given(zones(), INSTANTS, st.sampled_from([("15min", 900), ("h", 3_600), ("3h", 10_800), ("12h", 43_200)]))
+def test_floor(lists, instants, step):
+    word, seconds = step
+    zone = Zone.from_bytes(lists.file())
+    expected = [lists.floor(instant, seconds, WINDOW) for instant in instants]
+    assert zone.floor(instants, word).tolist() == expected
+    assert zone.floor(instants, timedelta(seconds=seconds)).tolist() == expected
+    parts = np.array(instants, "M8[s]").astype("M8[us]") + np.timedelta64(999_999, "us")
+    assert zone.floor(parts, word).astype("M8[s]").view(np.int64).tolist() == expected
+    assert zone.floor(instants, "D").tolist() == zone.day(instants).start.tolist()
+
+
+YEARS = [
+    ("America/Toronto", 1919),  # midnight of 31 March was skipped, from 23:30 on
+    ("America/St_Johns", 2005),  # set back at 00:01, over midnight
+    ("Antarctica/Casey", 2010),  # set back by three hours, over midnight
+    ("Pacific/Apia", 2011),  # 30 December was skipped
+    ("Pacific/Kwajalein", 1993),  # 21 August was skipped
+    ("America/Sao_Paulo", 2009),  # midnight was skipped
+    ("America/Havana", 2009),  # midnight was shown twice
+    ("Australia/Lord_Howe", 2021),
+    ("Africa/Casablanca", 2021),
+    ("America/New_York", 2021),
+]
+
+
+def year_of(name, year):
+    """The zone, its pieces in a year and a day more at both ends, and the days of the year."""
+    first, end = (int(datetime(each, 1, 1, tzinfo=timezone.utc).timestamp()) for each in (year, year + 1))
+    return Zone(name), pieces(ZoneInfo(name), first - 3 * DAY, end + 3 * DAY), np.arange(first, end, DAY)
+
+
+@pytest.mark.parametrize("name, year", YEARS)
+def test_days_beside_zoneinfo(name, year):
+    zone, found, days = year_of(name, year)
+    starts = [first_in(found, day) for day in days.tolist()]
+    untils = [first_in(found, day + DAY) for day in days.tolist()]
+    assert zone.start_of_day(days).tolist() == starts
+    assert zone.start_of_day(days.view("M8[s]").astype("M8[D]")).view(np.int64).tolist() == starts
+    # The first and the last second of each day, and one within.
+    for places in (starts, [until - 1 for until in untils], [(a + b) // 2 for a, b in zip(starts, untils)]):
+        kept = [row for row in range(len(days)) if starts[row] < untils[row]]
+        asked = np.array(places)[kept]
+        day = zone.day(asked)
+        assert day.date.tolist() == days[kept].tolist()
+        assert day.start.tolist() == np.array(starts)[kept].tolist()
+        assert day.until.tolist() == np.array(untils)[kept].tolist()
+        assert zone.floor(asked, "D").tolist() == day.start.tolist()
+
+
+@pytest.mark.parametrize("name, year", YEARS)
+def test_floor_beside_zoneinfo(name, year):
+    zone, found, _ = year_of(name, year)
+    asked = {first + step for first, _, _ in found[1:] for step in range(-7_200, 14_400, 433)}
+    asked |= {first + step for first, _, _ in found[1:] for step in (-1, 0, 1)}
+    asked = sorted(each for each in asked)
+    for word, step in (("15min", 900), ("h", 3_600), ("6h", 21_600)):
+        expected = [floor_in(found, second, step) for second in asked]
+        assert zone.floor(np.array(asked), word).tolist() == expected
+
+
+@pytest.mark.parametrize("step", ["h", "15min", "D"])
+def test_floor_beside_pandas(step):
+    """Where clocks are changed by a whole number of steps, or between two of them."""
+    times = pd.Series(pd.date_range("2021-01-01", "2021-12-31", freq="433s", tz="UTC"), name="when")
+    local = times.dt.tz_convert("America/New_York")
+    is_dst = NEW_YORK.types(times)["is_dst"].to_numpy()
+    theirs = local.dt.floor(step, ambiguous=is_dst).dt.tz_convert("UTC")
+    pd.testing.assert_series_equal(NEW_YORK.floor(times, step), theirs)
+    pd.testing.assert_series_equal(NEW_YORK.floor(local, step), theirs)
+
+
+def test_forms():
+    """Answers have the form of the question; days are shown as local times."""
+    moment = datetime(2021, 3, 14, 9, 30, tzinfo=timezone.utc)
+    start = datetime(2021, 3, 14, 5, tzinfo=timezone.utc)
+    assert NEW_YORK.start_of_day(date(2021, 3, 14)) == start
+    assert NEW_YORK.start_of_day(datetime(2021, 3, 14, 23)) == start
+    assert NEW_YORK.end_of_day(date(2021, 3, 14)) == datetime(2021, 3, 15, 3, 59, 59, 999_999, timezone.utc)
+    assert NEW_YORK.floor(moment, "D") == start
+    assert NEW_YORK.floor(moment, "h") == datetime(2021, 3, 14, 9, tzinfo=timezone.utc)
+    days = NEW_YORK.day(moment)
+    assert days == (datetime(2021, 3, 14), start, datetime(2021, 3, 15, 4, tzinfo=timezone.utc))
+    stamp = pd.Timestamp("2021-03-14 09:30", tz="UTC")
+    assert NEW_YORK.floor(stamp, "D") == pd.Timestamp(start)
+    assert NEW_YORK.end_of_day(pd.Timestamp("2021-03-14")) == pd.Timestamp("2021-03-15 03:59:59.999999999Z")
+    series = pd.Series([stamp, pd.NaT], index=["a", "b"], name="when")
+    frame = NEW_YORK.day(series)
+    assert list(frame.columns) == ["date", "start", "until"] and frame.index.tolist() == ["a", "b"]
+    assert frame.loc["a"].tolist() == [pd.Timestamp("2021-03-14"), start, pd.Timestamp("2021-03-15 04:00Z")]
+    assert frame.loc["b"].isna().all()
+    assert NEW_YORK.floor(series, "h").isna().tolist() == [False, True]
+    local = pd.DatetimeIndex(["2021-03-14 12:00", "NaT"], name="day")
+    assert NEW_YORK.start_of_day(local).equals(pd.DatetimeIndex([start, pd.NaT]))
+    assert NEW_YORK.end_of_day(local).isna().tolist() == [False, True]
+    counted = pd.Series([1_615_714_200, None], dtype="Int64")
+    assert NEW_YORK.floor(counted, "D").tolist() == [int(start.timestamp()), pd.NA]
+    shaped = np.zeros((2, 3), "M8[ms]")
+    assert NEW_YORK.floor(shaped, "h").shape == NEW_YORK.start_of_day(shaped).shape == (2, 3)
+    for empty in (np.empty(0, "M8[ns]"), np.empty((0, 4), "M8[s]"), []):
+        assert NEW_YORK.floor(empty, "D").size == NEW_YORK.day(empty).date.size == 0
+        assert NEW_YORK.start_of_day(empty).size == NEW_YORK.end_of_day(empty).size == 0
+
+
+def test_months_and_years():
+    """The day of a month or of a year is its first one."""
+    months = np.array(["2021-03", "2021-11", "NaT"], "M8[M]")
+    days = np.array(["2021-03-01", "2021-11-01", "NaT"], "M8[D]")
+    np.testing.assert_array_equal(NEW_YORK.start_of_day(months), NEW_YORK.start_of_day(days))
+    assert NEW_YORK.start_of_day(np.datetime64("2021")) == np.datetime64("2021-01-01T05:00:00")
+
+
+def test_columns_of_many_rows():
+    """Days of a column in several blocks: few, many, and of a wide range."""
+    random = np.random.default_rng(0)
+    for values in (
+        random.integers(0, 2 * 10**9, 150_000),
+        np.arange(150_000) * 7_201,
+        random.integers(-(10**12), 10**12, 5_000),
+    ):
+        days = NEW_YORK.day(values)
+        assert (days.start <= values).all() and (values < days.until).all()
+        np.testing.assert_array_equal(NEW_YORK.start_of_day(days.date), days.start)
+        np.testing.assert_array_equal(NEW_YORK.start_of_day(days.date + DAY), days.until)
+        np.testing.assert_array_equal(NEW_YORK.end_of_day(days.date), days.until - 1)
+        np.testing.assert_array_equal(NEW_YORK.floor(values, "D"), days.start)
+        hours = NEW_YORK.floor(values, "h")
+        np.testing.assert_array_equal(hours, values - NEW_YORK.to_local(values) % 3_600)
+
+
+def test_errors():
+    first, last = -8_334_601_228_800, 8_210_266_876_799
+    far = np.array([0, last + 2 * DAY, 10**18])
+    for ask in (NEW_YORK.start_of_day, NEW_YORK.end_of_day, NEW_YORK.day):
+        with pytest.raises(sahvumbi.OutOfRangeError, match="outside the years") as raised:
+            ask(far)
+        assert raised.value.row == 1
+    for step in ("D", "h"):
+        with pytest.raises(sahvumbi.OutOfRangeError, match="outside the years") as raised:
+            NEW_YORK.floor(np.array([0, first - 2 * DAY, -(10**18)]), step)
+        assert raised.value.row == 1
+    assert NEW_YORK.day([first + 2 * DAY, last - 2 * DAY]).date[1] < last
+    nanoseconds = np.array([-(2**63) + 1, 2**63 - 1]).view("M8[ns]")
+    for ask in (NEW_YORK.day, lambda column: NEW_YORK.floor(column, "h")):
+        with pytest.raises(sahvumbi.OutOfRangeError, match="does not fit datetime64.ns") as raised:
+            ask(nanoseconds)
+        assert raised.value.row == 0
+    with pytest.raises(sahvumbi.OutOfRangeError) as raised:
+        NEW_YORK.end_of_day(nanoseconds[1:])
+    assert raised.value.row == 0
+    assert str(NEW_YORK.floor(nanoseconds[1:], "h")[0]) == "2262-04-11T23:00:00.000000000"
+    lengths = timedelta(hours=7), timedelta(milliseconds=500), timedelta(0), timedelta(days=2)
+    for step in ("", "7h", "2D", "0h", "h1", "25min", "1.5h", *lengths):
+        with pytest.raises(ValueError, match="step is a day"):
+            NEW_YORK.floor([0], step)
+    with pytest.raises(TypeError, match="step is 'D'"):
+        NEW_YORK.floor([0], 3_600)
+    for ask in (NEW_YORK.start_of_day, NEW_YORK.end_of_day):
+        with pytest.raises(TypeError, match="a local time has no zone"):
+            ask(datetime(2021, 1, 1, tzinfo=timezone.utc))
+
+
+def test_hostile_offsets():
+    """Clocks set back by 60 years, and offsets of many days."""
+    years = 60 * 365 * DAY
+    lists = Lists([(0, 1), (10 * DAY, 2)], [years, 0, 40 * DAY])
+    zone = Zone.from_bytes(lists.file())
+    asked = np.array([-1, 0, 9 * DAY, 10 * DAY, years - 1, years + 3 * DAY])
+    days = zone.day(asked)
+    shown = [years - 1] * 4 + [years - 1 + 40 * DAY, years + 43 * DAY]
+    assert (days.date // DAY).tolist() == [each // DAY for each in shown]
+    assert zone.floor(asked, "h")[:3].tolist() == [-3_600, 0, 9 * DAY]
