@@ -14,7 +14,7 @@ LONG_LINES = {
 # A call whose answer gets a name that nothing reads. With `?` it may end the function, and `next` moves an iterator on.
 DROPPED_ANSWER = re.compile(r"(?m)^ *let _\w+(?:: [^=;]+)? = (?![^;]*\.next\(\);)[^;]*\);$")
 # How many of them are allowed still: none is to be added.
-DROPPED_ANSWERS = 3
+DROPPED_ANSWERS = 0
 PAGES = [TOP / "README.md", TOP / "docs/TESTING.md"]
 
 

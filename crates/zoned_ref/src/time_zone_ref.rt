@@ -79,7 +79,7 @@ impl<'a> TimeZoneRef<'a> {
 fn has_offsets(zone: &tz_info::TimeZone)
     ensures { HasOffsets zone.now }
 {
-    let _types = zone.local_time_types();
+    zone.valid_law();
 }
 
 fn is_narrow(zone: &tz_info::TimeZone) -> bool

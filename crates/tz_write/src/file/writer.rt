@@ -122,7 +122,7 @@ pub fn write_file(
     ensures valid { IsValid zone.now }
     ensures rule { IsRuleOrNone zone.now.rule }
 {
-    let _types = zone.local_time_types();
+    zone.valid_law();
     let mut bytes = Vec::new(alloc);
     push_first_half(&mut bytes, extended)?;
     push_second_half(&mut bytes, zone, room, text, extended)?;

@@ -133,7 +133,7 @@ pub fn written_and_read(alloc: Global, zone: &TimeZone) -> Result<Option<TimeZon
         (λ answer. MatchOption answer (IsInNoFile zone.now) (λ z. z ≡ zone.now))
         (λ e. IsOutOfMemory e) }
 {
-    let _types = zone.local_time_types();
+    zone.valid_law();
     match zone.to_tz_data(alloc)? {
         None => Ok(None),
         Some(bytes) => Ok(Some(TimeZone::from_tz_data(alloc, &bytes)?)),

@@ -9,7 +9,7 @@ returns-in_ok-from_tz_data-in-Some c =
     let z = c.args.zone.now in
     let written = rw c.in-Some.is at c.in_ok-to_tz_data.ensures.written in
     let spelled = subst (λ b. IsTzFile b z) (sym c.deref.ensures.value) written.spells in
-    c.in_ok-from_tz_data-in-Some.ensures.only z spelled c.local_time_types-types.ensures.valid
+    c.in_ok-from_tz_data-in-Some.ensures.only z spelled c.valid_law.ensures.valid
 
 told_is : {A E : Type 0} (r : Result A E) (P : A → Type 0) (Q R : E → Type 0) → IsErrAnd r R → ((e : E) → R e → Q e) → MatchResult r P Q
 told_is (Ok a) P Q R h f = absurd h
@@ -20,5 +20,5 @@ returns-in_err-from_tz_data-in-Some c =
     let z = c.args.zone.now in
     let written = rw c.in-Some.is at c.in_ok-to_tz_data.ensures.written in
     let spelled = subst (λ b. IsTzFile b z) (sym c.deref.ensures.value) written.spells in
-    let memory = c.in_err-from_tz_data-in-Some.ensures.only z spelled c.local_time_types-types.ensures.valid in
+    let memory = c.in_err-from_tz_data-in-Some.ensures.only z spelled c.valid_law.ensures.valid in
     told_is c.from_residual-in_err-from_tz_data-in-Some.result _ IsOutOfMemory _ (c.from_residual-in_err-from_tz_data-in-Some.ensures.1) (λ e is. ap number_of (is ∙ memory))
