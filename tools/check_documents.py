@@ -25,8 +25,9 @@ usage: tools/check_documents.py [--write]
 - The code blocks in Rattle are code of the crates (tools/try_documents.py).
 - README.md and docs/TESTING.md have the counts of tests, planted bugs and wrong definitions (tools/counts.py). --write puts them
   there, and lowers the counts of tools/habits.py.
-- README.md names the version of the kit that `rt version` prints (if there is rt), and has New York's figures of docs/SPEED.md;
-  docs/FROM_CHRONO.md has how many functions idioms_utc and the crates like it have.
+- README.md names the version of the kit that `rt version` prints (if there is rt); docs/FROM_CHRONO.md has how many functions
+  idioms_utc and the crates like it have.
+- The tables of docs/SPEED.md have the figures of the latest file of bench/results, and README.md has those of New York.
 
 Prints a line for each fault, with its place, and ends with status 1 if there is one.
 """
@@ -60,6 +61,8 @@ ERROR = TOP / "crates/tz_base/src/error.rt"
 TEXTS = TOP / "crates/zoned_ffi/specs/Texts.antt"
 HEADER = TOP / "crates/zoned_ffi/include/zoned_ffi.h"
 PYTHON = TOP / "python/src/sahvumbi/errors.py"
+# The tables of SPEED.md, and the titles that bench/print_tables.py gives them.
+FIGURES = {"By instant, 1900 to 2099": "An instant, 1900 to 2099", "By local time, 1900 to 2099": "A wall clock, 1900 to 2099"}
 INDEX = "## Index of the words that contracts cite\n"
 PLANTED = "## The list of planted bugs\n"
 IN_PART, BY_HAND = "must-fail-in-part", "must-fail-by-hand"
@@ -404,14 +407,32 @@ def facts_of_documents():
     version = subprocess.run(["rt", "version"], capture_output=True, text=True).stdout.strip() if shutil.which("rt") else ""
     if version and f"`{version}`" not in text:
         yield f"{shown(README)}: it doesn't name the version of the kit, {version}"
-    for figures in re.findall(r"(?m)^\| New_York (\|.*\|) [\d.]+ \(.*\) \|$", text_of(SPEED)):
-        if figures not in text:
-            yield f"{shown(README)}: it doesn't have New York's figures of {shown(SPEED)}: {figures}"
     idioms = ["idioms_utc", "idioms_borrowed", "idioms_kept"]
     counts = [str(sum(len(re.findall(r"(?m)^ *pub fn ", text_of(path))) for path in files("src", ".rt", [crate]))) for crate in idioms]
     due = f"`crates/{idioms[0]}`, `{idioms[1]}` and `{idioms[2]}` have {counts[0]}, {counts[1]} and {counts[2]} "
     if due not in text_of(FROM_CHRONO):
         yield f"{shown(FROM_CHRONO)}: it doesn't say: {due}"
+
+
+# Figures
+
+
+def rows(text, title):
+    """The rows of the table below a heading: the cells of each but the last one, by the first one."""
+    table = text.partition(f"# {title}\n")[2].partition("\n#")[0]
+    cells = [re.split(r" *\| *", row) for row in re.findall(r"(?m)^\| (.*) \|$", table)]
+    return {zone: times for zone, *times, _ in cells if zone != "zone"}
+
+
+def figure_faults():
+    results = sorted((TOP / "bench/results").glob("*.md"))[-1]
+    for title, printed in FIGURES.items():
+        figures, due = rows(text_of(SPEED), title), rows(text_of(results), printed)
+        for zone in sorted(figures.keys() | due.keys()):
+            if sorted(figures.get(zone, [])) != sorted(due.get(zone, [])):
+                yield f"{shown(SPEED)}: {title}: {zone} doesn't have the figures of {shown(results)}"
+        if " | ".join(figures.get("New_York", ["none"])) not in text_of(README):
+            yield f"{shown(README)}: it doesn't have the figures of New_York in {shown(SPEED)}, {title}"
 
 
 # What a client that names `zoned` alone can cite
@@ -449,7 +470,7 @@ def not_passed_on():
 
 CHECKS = [
     links, merge_lines, habits, unknown_words, stale_words, index_faults, edits, unused_lemmas, unlisted_pages, map_faults,
-    not_passed_on, required_of_c, number_faults, facts_of_documents, count_faults,
+    not_passed_on, required_of_c, number_faults, facts_of_documents, figure_faults, count_faults,
     rattle_blocks, wrong_definitions,
 ]
 
