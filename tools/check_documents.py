@@ -6,8 +6,8 @@ usage: tools/check_documents.py [--write]
 - Each relative link of a document leads to a file, and its anchor to a heading there.
 - Each word between backquotes in README.md and docs/ is a name of the code, or stands in tools/known_words.txt, which lists
   the names of chrono, of the kit and of other programs that the documents speak of.
-- The index at the end of docs/DEFINITIONS.md has a line for each word of specs/ that a public contract cites, other than a pin:
-  its page and its meaning, which is the comment before its definition. --write writes the index.
+- The index at the end of docs/DEFINITIONS.md has each word of specs/ that a public contract cites, other than a pin: its page and
+  its meaning, which is the comment before its definition, or before that of several words. --write writes the index.
 - No clause of a public function cites a step of a proof (specs/Steps).
 - docs/TESTING.md ends with the list of planted bugs, which --write puts there, and each of their old texts is once in its file.
 - A lemma that nothing names is an error, and so is a page of lemmas that its proofs/Lib.antt doesn't name.
@@ -178,14 +178,18 @@ def words_in_contracts():
     return found
 
 
-def index_row(word):
-    crate, *page = module_of(word.page).split(".")[1:]
-    return f"| `{word.name}` | `{crate}` `{'/'.join(page[1:])}` | {word.meaning.replace('|', '/')} |"
+def index_row(page, meaning, names):
+    _, crate, _, *inside = page.split(".")
+    words = ", ".join(f"`{name}`" for name in sorted(names, key=str.lower))
+    return f"| {words} | `{crate}` `{'/'.join(inside)}` | {meaning.replace('|', '/')} |"
 
 
 def index():
-    words = {page_and_name: word for page_and_name, (word, _) in words_in_contracts().items()}
-    rows = [index_row(word) for (page, _), word in words.items() if ".Steps" not in page and ".pins." not in page]
+    words = {}
+    for (page, name), (word, _) in words_in_contracts().items():
+        if ".Steps" not in page and ".pins." not in page:
+            words.setdefault((page, word.meaning), []).append(name)
+    rows = [index_row(*group, names) for group, names in words.items()]
     head = "Made from the comments of the pages by `tools/check_documents.py --write`.\n\n| word | page | means |\n|---|---|---|\n"
     return INDEX + "\n" + head + "\n".join(sorted(rows, key=str.lower)) + "\n"
 
