@@ -6,8 +6,8 @@ usage: tools/check_documents.py [--write]
 - Each relative link of a document leads to a file, and its anchor to a heading there.
 - Each word between backquotes in README.md and docs/ is a name of the code, or stands in tools/known_words.txt, which lists
   the names of chrono, of the kit and of other programs that the documents speak of.
-- The index at the end of docs/DEFINITIONS.md has a line for each word of specs/ that a public contract cites, other than a pin:
-  its page and its meaning, which is the comment before its definition. --write writes the index.
+- The index at the end of docs/DEFINITIONS.md has each word of specs/ that a public contract cites, other than a pin: its page and
+  its meaning, which is the comment before its definition, or before that of several words. --write writes the index.
 - No clause of a public function cites a step of a proof (specs/Steps).
 - docs/TESTING.md ends with the list of planted bugs, which --write puts there, and each of their old texts is once in its file.
 - A lemma that nothing names is an error, and so is a page of lemmas that its proofs/Lib.antt doesn't name.
@@ -27,8 +27,9 @@ usage: tools/check_documents.py [--write]
   there, and lowers the counts of tools/habits.py.
 - No more calls in src/ are made for an answer that nothing reads (`let _name = call(..);`), and no more lines are longer than 120
   columns in src/, or 160 in .antt, than tools/counts.py allows. --write lowers the counts of lines to those of the day.
-- README.md names the version of the kit that `rt version` prints (if there is rt), and has New York's figures of docs/SPEED.md;
-  docs/FROM_CHRONO.md has how many functions idioms_utc and the crates like it have.
+- README.md names the version of the kit that `rt version` prints (if there is rt); docs/FROM_CHRONO.md has how many functions
+  idioms_utc and the crates like it have.
+- The tables of docs/SPEED.md have the figures of the latest file of bench/results, and README.md has those of New York.
 
 Prints a line for each fault, with its place, and ends with status 1 if there is one.
 """
@@ -62,6 +63,8 @@ ERROR = TOP / "crates/tz_base/src/error.rt"
 TEXTS = TOP / "crates/zoned_ffi/specs/Texts.antt"
 HEADER = TOP / "crates/zoned_ffi/include/zoned_ffi.h"
 PYTHON = TOP / "python/src/sahvumbi/errors.py"
+# The tables of SPEED.md, and the titles that bench/print_tables.py gives them.
+FIGURES = {"By instant, 1900 to 2099": "An instant, 1900 to 2099", "By local time, 1900 to 2099": "A wall clock, 1900 to 2099"}
 INDEX = "## Index of the words that contracts cite\n"
 PLANTED = "## The list of planted bugs\n"
 IN_PART, BY_HAND = "must-fail-in-part", "must-fail-by-hand"
@@ -177,14 +180,18 @@ def words_in_contracts():
     return found
 
 
-def index_row(word):
-    crate, *page = module_of(word.page).split(".")[1:]
-    return f"| `{word.name}` | `{crate}` `{'/'.join(page[1:])}` | {word.meaning.replace('|', '/')} |"
+def index_row(page, meaning, names):
+    _, crate, _, *inside = page.split(".")
+    words = ", ".join(f"`{name}`" for name in sorted(names, key=str.lower))
+    return f"| {words} | `{crate}` `{'/'.join(inside)}` | {meaning.replace('|', '/')} |"
 
 
 def index():
-    words = {page_and_name: word for page_and_name, (word, _) in words_in_contracts().items()}
-    rows = [index_row(word) for (page, _), word in words.items() if ".Steps" not in page and ".pins." not in page]
+    words = {}
+    for (page, name), (word, _) in words_in_contracts().items():
+        if ".Steps" not in page and ".pins." not in page:
+            words.setdefault((page, word.meaning), []).append(name)
+    rows = [index_row(*group, names) for group, names in words.items()]
     head = "Made from the comments of the pages by `tools/check_documents.py --write`.\n\n| word | page | means |\n|---|---|---|\n"
     return INDEX + "\n" + head + "\n".join(sorted(rows, key=str.lower)) + "\n"
 
@@ -406,14 +413,32 @@ def facts_of_documents():
     version = subprocess.run(["rt", "version"], capture_output=True, text=True).stdout.strip() if shutil.which("rt") else ""
     if version and f"`{version}`" not in text:
         yield f"{shown(README)}: it doesn't name the version of the kit, {version}"
-    for figures in re.findall(r"(?m)^\| New_York (\|.*\|) [\d.]+ \(.*\) \|$", text_of(SPEED)):
-        if figures not in text:
-            yield f"{shown(README)}: it doesn't have New York's figures of {shown(SPEED)}: {figures}"
     idioms = ["idioms_utc", "idioms_borrowed", "idioms_kept"]
     counts = [str(sum(len(re.findall(r"(?m)^ *pub fn ", text_of(path))) for path in files("src", ".rt", [crate]))) for crate in idioms]
     due = f"`crates/{idioms[0]}`, `{idioms[1]}` and `{idioms[2]}` have {counts[0]}, {counts[1]} and {counts[2]} "
     if due not in text_of(FROM_CHRONO):
         yield f"{shown(FROM_CHRONO)}: it doesn't say: {due}"
+
+
+# Figures
+
+
+def rows(text, title):
+    """The rows of the table below a heading: the cells of each but the last one, by the first one."""
+    table = text.partition(f"# {title}\n")[2].partition("\n#")[0]
+    cells = [re.split(r" *\| *", row) for row in re.findall(r"(?m)^\| (.*) \|$", table)]
+    return {zone: times for zone, *times, _ in cells if zone != "zone"}
+
+
+def figure_faults():
+    results = sorted((TOP / "bench/results").glob("*.md"))[-1]
+    for title, printed in FIGURES.items():
+        figures, due = rows(text_of(SPEED), title), rows(text_of(results), printed)
+        for zone in sorted(figures.keys() | due.keys()):
+            if sorted(figures.get(zone, [])) != sorted(due.get(zone, [])):
+                yield f"{shown(SPEED)}: {title}: {zone} doesn't have the figures of {shown(results)}"
+        if " | ".join(figures.get("New_York", ["none"])) not in text_of(README):
+            yield f"{shown(README)}: it doesn't have the figures of New_York in {shown(SPEED)}, {title}"
 
 
 # What a client that names `zoned` alone can cite
@@ -451,7 +476,7 @@ def not_passed_on():
 
 CHECKS = [
     links, merge_lines, habits, unknown_words, stale_words, index_faults, edits, unused_lemmas, unlisted_pages, map_faults,
-    not_passed_on, required_of_c, number_faults, facts_of_documents, count_faults, line_faults,
+    not_passed_on, required_of_c, number_faults, facts_of_documents, figure_faults, count_faults, line_faults,
     rattle_blocks, wrong_definitions,
 ]
 
