@@ -31,7 +31,7 @@ pub use zoned_round::laws::one_rounded_value;
 pub use zoned_series::laws::one_item;
 pub use zoned_time::laws::days::{dates_in_days, days_partition, first_instants};
 pub use zoned_time::laws::{
-    in_zone_after_move, in_zone_at_time, in_zone_on_day, local_times_come_back,
+    earlier_is_less, in_zone_after_move, in_zone_at_time, in_zone_on_day, local_times_come_back,
     one_offset_before_gap, one_relocal, one_resolution, resolution_decided,
 };
 
