@@ -8,8 +8,8 @@ ghost use Rattle.tz_base.specs.Fronts.{Gives, exact_at, tag_at, optional_tag_at,
 use crate::error::{Error, Expected};
 use std::marker::Model;
 
-/// What is left of some bytes. Each call reads from the front, and what it gives is lent from those
-/// bytes. A call that refuses leaves the cursor where it was.
+/// A place in a list of bytes. Each call reads from there on, and what it returns is lent from those
+/// bytes. A call that returns an error leaves the cursor where it was.
 #[derive(Drop)]
 pub struct Cursor<'a> {
     rest: &'a [u8],
@@ -24,35 +24,35 @@ impl<'a> Model for Cursor<'a> {
 }
 
 impl<'a> Cursor<'a> {
-    /// A cursor at the first of those bytes.
+    /// Returns a cursor at the first of those bytes.
     pub fn new(bytes: &'a [u8]) -> Self
         ensures { result ≡ bytes.now }
     {
         Cursor { rest: bytes }
     }
 
-    /// The next byte, which stays.
+    /// Returns the next byte, without going past it; `None` if no byte is left.
     pub fn peek(&self) -> Option<&u8>
         ensures { option_copied result ≡ slice_get self.now 0 }
     {
         self.rest.first()
     }
 
-    /// The bytes that are left.
+    /// Returns the bytes that are left.
     pub fn remaining(&self) -> &'a [u8]
         ensures { result.now ≡ self.now }
     {
         self.rest
     }
 
-    /// Whether no byte is left.
+    /// Returns whether no byte is left.
     pub fn is_empty(&self) -> bool
         ensures { IsTrue result ↔ (self.now ≡ []) }
     {
         self.rest.is_empty()
     }
 
-    /// The next `count` bytes.
+    /// Returns the next `count` bytes, and goes past them.
     ///
     /// # Errors
     ///
@@ -71,7 +71,7 @@ impl<'a> Cursor<'a> {
         Ok(front)
     }
 
-    /// The next four bytes as a big-endian number.
+    /// Returns the next four bytes as a big-endian number, and goes past them.
     ///
     /// # Errors
     ///
@@ -85,12 +85,12 @@ impl<'a> Cursor<'a> {
         Ok(u32::from_be_bytes([bytes[0], bytes[1], bytes[2], bytes[3]]))
     }
 
-    /// Goes past a tag that must come.
+    /// Goes past a tag, which must be next.
     ///
     /// # Errors
     ///
     /// [`Error::UnexpectedEnd`] if fewer bytes are left than the tag has, which is looked at first;
-    /// [`Error::MissingTag`] if others stand there.
+    /// [`Error::MissingTag`] if other bytes are next.
     #[tactic(auto, unfolding(crate::specs::Fronts::tag_at))]
     pub fn read_tag(&mut self, tag: &[u8]) -> Result<(), Error>
         ensures value { Gives (λ unit. (unit, self.new)) result (tag_at tag.now self.old) }
@@ -106,7 +106,7 @@ impl<'a> Cursor<'a> {
         Ok(())
     }
 
-    /// Goes past a tag that may come, and says whether it did.
+    /// Goes past a tag if it is next, and returns whether it was.
     #[tactic(auto, unfolding(crate::specs::Fronts::optional_tag_at))]
     pub fn read_optional_tag(&mut self, tag: &[u8]) -> bool
         ensures { (result, self.new) ≡ optional_tag_at tag.now self.old }
@@ -119,7 +119,7 @@ impl<'a> Cursor<'a> {
         }
     }
 
-    /// The longest run of bytes for which `f` holds.
+    /// Returns the longest run of next bytes for which `f` holds, and goes past it.
     ///
     /// Requires: `f` may be called with every byte.
     pub fn read_while<F: Fn(u8) -> bool + Drop>(&mut self, f: F) -> &'a [u8]
@@ -138,7 +138,7 @@ impl<'a> Cursor<'a> {
         run
     }
 
-    /// The longest run of bytes for which `f` fails.
+    /// Returns the longest run of next bytes for which `f` fails, and goes past it.
     ///
     /// Requires: `f` may be called with every byte.
     pub fn read_until<F: Fn(u8) -> bool + Drop>(&mut self, f: F) -> &'a [u8]
@@ -157,11 +157,12 @@ impl<'a> Cursor<'a> {
         run
     }
 
-    /// The number that the longest run of ASCII digits stands for, with any leading zeros.
+    /// Returns the number that the longest run of next ASCII digits spells, and goes past it. There
+    /// may be any number of leading zeros.
     ///
     /// # Errors
     ///
-    /// [`Error::ParseInt`] if no digit comes, or if the number is above `max`.
+    /// [`Error::ParseInt`] if no digit is next, or if the number is above `max`.
     pub fn read_int(&mut self, max: u32) -> Result<u32, Error>
         ensures value { Gives (λ n. (n, self.new)) result (int_at max self.old) }
         ensures err { OnErr result (self.new ≡ self.old) }

@@ -8,7 +8,7 @@ use std::alloc::{AllocError, AllocFailed};
 use std::fmt;
 use thiserror::Error;
 
-/// What was expected where something was refused. It prints as a short text, and by `{:?}` as that
+/// What was expected in place of what was rejected. It prints as a short text, and by `{:?}` as that
 /// text in double quotes.
 #[derive(Clone, Copy, PartialEq, Eq)]
 pub enum Expected {
@@ -16,19 +16,19 @@ pub enum Expected {
     MoreBytes,
     /// A tag.
     Tag,
-    /// Other bytes than those that stand there.
+    /// Other bytes than those that are there.
     OtherBytes,
     /// A digit.
     Digit,
     /// A number within its limit.
     NumberWithinItsLimit,
-    /// Standard time where the time is UT.
+    /// A standard indicator of 1 if the UT indicator is 1.
     StandardTimeWhereTimeIsUt,
     /// A footer in UTF-8.
     FooterInUtf8,
     /// A footer between newlines.
     FooterBetweenNewlines,
-    /// A TZ text in the footer.
+    /// A TZ string in the footer.
     TzTextInFooter,
     /// Counts that agree.
     CountsThatAgree,
@@ -97,7 +97,7 @@ pub enum Expected {
 }
 
 impl Expected {
-    /// What was expected, as a short text without a capital or a full stop.
+    /// Returns what was expected, as a short text without a capital or a full stop.
     pub fn as_str(self) -> &'static str {
         match self {
             Expected::MoreBytes => "more bytes",
@@ -222,7 +222,7 @@ pub enum Error {
 }
 
 impl Error {
-    /// The number of the refusal, from 1 to 17 in the order of the variants.
+    /// Returns the number of the error, from 1 to 17 in the order of the variants.
     pub fn number(&self) -> u8
         ensures { result ≡ number_of self.now }
     {

@@ -44,14 +44,14 @@ pub fn spans()
     ensures infallible { (a : Stretch) → ⟦<Span as Clone>⟧.is_infallible a }
 {}
 
-/// What was expected is equal where it is the same. A clone is the value, and does not fail.
+/// What was expected is equal if it is the same. A clone is the value, and does not fail.
 pub fn expectations()
     ensures equal { (a b : Wanted) → IsTrue (⟦<Expected as PartialEq>⟧.eq a b) ↔ (a ≡ b) }
     ensures clone { (a b : Wanted) → ⟦<Expected as Clone>⟧.is_clone a b ↔ (b ≡ a) }
     ensures infallible { (a : Wanted) → ⟦<Expected as Clone>⟧.is_infallible a }
 {}
 
-/// Errors are equal where they are the same. A clone is the error, and does not fail.
+/// Errors are equal if they are the same. A clone is the error, and does not fail.
 pub fn errors()
     ensures equal { (a b : Refusal) → IsTrue (⟦<Error as PartialEq>⟧.eq a b) ↔ (a ≡ b) }
     ensures clone { (a b : Refusal) → ⟦<Error as Clone>⟧.is_clone a b ↔ (b ≡ a) }

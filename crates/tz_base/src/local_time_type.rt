@@ -32,8 +32,8 @@ impl Model for LocalTimeType {
 }
 
 impl LocalTimeType {
-    /// The type of that offset, in seconds east of UTC, with that DST flag and that name, if one is
-    /// given.
+    /// Returns the type of that offset, in seconds east of UTC, with that DST flag, and with that
+    /// name or none.
     ///
     /// ```text
     /// let summer = LocalTimeType::new(7_200, true, Some(b"CEST".as_slice()))?;
@@ -42,8 +42,8 @@ impl LocalTimeType {
     ///
     /// # Errors
     ///
-    /// [`Error::LocalTimeType`] if the offset is `i32::MIN`, or if the name is none that
-    /// [`TimeZoneName::new`] takes.
+    /// [`Error::LocalTimeType`] if the offset is `i32::MIN`, or if the name is one that
+    /// [`TimeZoneName::new`] rejects.
     pub fn new(ut_offset: i32, is_dst: bool, name: Option<&[u8]>) -> Result<LocalTimeType, Error>
         ensures { let bytes = option_map (λ n. n.now) name.entry in
             MatchResult result
@@ -66,8 +66,8 @@ impl LocalTimeType {
         })
     }
 
-    /// The type of that offset, in seconds east of UTC, which is not daylight saving time and has
-    /// no name.
+    /// Returns the type of that offset, in seconds east of UTC, which is not daylight saving time
+    /// and has no name.
     ///
     /// # Errors
     ///
@@ -86,7 +86,7 @@ impl LocalTimeType {
         })
     }
 
-    /// The type of UTC: the offset 0, not daylight saving time, without a name.
+    /// Returns the type of UTC: the offset 0, not daylight saving time, without a name.
     pub fn utc() -> LocalTimeType
         ensures { result ≡ plain_type (pos 0) }
     {
@@ -97,7 +97,7 @@ impl LocalTimeType {
         }
     }
 
-    /// Seconds east of UTC.
+    /// Returns the offset, in seconds east of UTC.
     #[inline(always)]
     pub fn offset(&self) -> i32
         ensures value { result ≡ self.now.offset }
@@ -106,14 +106,14 @@ impl LocalTimeType {
         self.ut_offset
     }
 
-    /// Whether it is daylight saving time.
+    /// Returns whether it is daylight saving time.
     pub fn is_dst(&self) -> bool
         ensures { result ≡ self.now.dst }
     {
         self.is_dst
     }
 
-    /// Its name, if it has one.
+    /// Returns its name; `None` if it has none.
     pub fn name(&self) -> Option<&TimeZoneName>
         ensures { option_map (λ n. n.now) result ≡ self.now.name }
     {

@@ -41,12 +41,12 @@ impl Model for TimeZoneName {
 }
 
 impl TimeZoneName {
-    /// The name of those bytes.
+    /// Returns the name of those bytes.
     ///
     /// # Errors
     ///
     /// [`Error::LocalTimeType`] if they are fewer than three or more than seven, or if one of them
-    /// is none of `A` to `Z`, `a` to `z`, `0` to `9`, `+` and `-`.
+    /// is a byte other than `A` to `Z`, `a` to `z`, `0` to `9`, `+` and `-`.
     pub fn new(name: &[u8]) -> Result<TimeZoneName, Error>
         ensures { MatchResult result (λ n. IsName name.now × (n ≡ name.now))
             (λ e. (e ≡ LocalTimeType (expected_of_name name.now)) × ¬ (IsName name.now)) }
@@ -66,7 +66,7 @@ impl TimeZoneName {
         })
     }
 
-    /// The bytes of the name.
+    /// Returns the bytes of the name.
     pub fn as_bytes(&self) -> &[u8]
         ensures bytes { result.now ≡ self.now }
         ensures name { IsName self.now }
@@ -74,7 +74,7 @@ impl TimeZoneName {
         &self.buffer[..self.len as usize]
     }
 
-    /// The name as text.
+    /// Returns the name as text.
     pub fn as_str(&self) -> &str
         ensures { result.now ≡ self.now }
     {
@@ -84,7 +84,7 @@ impl TimeZoneName {
         }
     }
 
-    /// Whether two names are the same bytes.
+    /// Returns whether two names have the same bytes.
     pub fn equal(&self, other: &TimeZoneName) -> bool
         ensures { IsTrue result ↔ (self.now ≡ other.now) }
     {

@@ -1,12 +1,12 @@
-//! Counts of what a lookup looks at.
+//! Counts of the probes of a lookup.
 
 ghost use Rattle.std.specs.Prelude.{◌≡◌, ◌+◌, ◌↔◌, IsTrue};
 ghost use Rattle.tz_timeline.specs.Counts.{HasRoom, HasRoomFor};
 
 use std::marker::Model;
 
-/// How often lookups looked at a transition, how often they asked a rule, and how often they looked
-/// at a piece of an index.
+/// How many probes of transitions lookups made, how many questions they put to a rule, and how many
+/// probes of pieces of an index they made.
 #[derive(Debug, Drop)]
 pub struct Probes {
     transition_reads: u128,
@@ -30,7 +30,7 @@ impl Probes {
     // What each count is below where a lookup may start.
     const ROOM: u128 = 1 << 120;
 
-    /// Counts of 0.
+    /// Returns counts of 0.
     #[inline(always)]
     pub fn new() -> Probes
         ensures { result ≡ record { reads = 0; rule_questions = 0; piece_reads = 0 } }
@@ -42,28 +42,28 @@ impl Probes {
         }
     }
 
-    /// How often a transition was looked at.
+    /// Returns the number of probes of transitions.
     pub fn reads(&self) -> u128
         ensures { result ≡ self.now.reads }
     {
         self.transition_reads
     }
 
-    /// How often a rule was asked for the type at an instant.
+    /// Returns how often a rule was asked for the type at an instant.
     pub fn rule_questions(&self) -> u128
         ensures { result ≡ self.now.rule_questions }
     {
         self.questions
     }
 
-    /// How often a piece of an index was looked at.
+    /// Returns the number of probes of pieces of an index.
     pub fn piece_reads(&self) -> u128
         ensures { result ≡ self.now.piece_reads }
     {
         self.index_reads
     }
 
-    /// Whether a counted lookup may start: each count is below 2^120.
+    /// Returns whether a counted lookup may start: each count is below 2^120.
     pub fn has_room(&self) -> bool
         ensures { IsTrue result ↔ HasRoom self.now }
     {
@@ -72,7 +72,7 @@ impl Probes {
             && self.index_reads < Self::ROOM
     }
 
-    /// Counts a look at a transition. It makes none: whoever looks calls this.
+    /// Counts a probe of a transition. It doesn't make one: whoever looks at a transition calls this.
     #[inline(always)]
     pub fn count_read(&mut self)
         requires { HasRoomFor 1 self.old.reads }
@@ -81,7 +81,7 @@ impl Probes {
         self.transition_reads += 1;
     }
 
-    /// Counts a look at a piece of an index.
+    /// Counts a probe of a piece of an index.
     #[inline(always)]
     pub fn count_piece_read(&mut self)
         requires { HasRoomFor 1 self.old.piece_reads }

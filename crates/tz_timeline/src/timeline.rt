@@ -1,9 +1,9 @@
-//! Items that come in order of time, and the search for the latest one. Both calls that are made for
-//! lookups, `read` and `passed`, count each look at an item; `items` gives all of them uncounted.
+//! Items in order of time, and the search for the latest one. Both calls that are made for lookups,
+//! `read` and `passed`, count each probe of an item; `items` returns all of them uncounted.
 //!
-//! The times of the first and the last item are kept beside them, and so are hints at the places of
-//! the others. A search compares with these two first, and where one of them decides, that counts
-//! as a look at its item. Hints are no items.
+//! The times of the first and the last item are kept as well, and so are hints at the places of the
+//! others. A search compares with these two first, and if one of them decides, that counts as a
+//! probe of its item. Hints are not counted.
 
 ghost use Rattle.std.specs.Prelude.{◌≡◌, ◌+◌, ◌-◌, ◌*◌, ◌/◌, ◌<◌, ◌≤◌, [], length, map, option_map, slice_index_or, MatchResult, ℕ, ⊤};
 ghost use Rattle.tz_timeline.specs.Counts.{Counts, HasRoomFor};
@@ -33,7 +33,7 @@ pub trait Timed: Drop {
     fn second(&self) -> i64
         ensures { result ≡ time self.now };
 
-    /// Counts a look at one.
+    /// Counts a probe of one.
     fn count_look(probes: &mut Probes)
         requires { HasRoomFor 1 (looks probes.old) }
         ensures { probes.new ≡ counted probes.old 1 };
@@ -92,7 +92,8 @@ impl<T: Timed> Model for Timeline<T> {
 }
 
 impl<T: Timed> Timeline<T> {
-    /// Those items, which come in order of time: none before one that stands earlier.
+    /// Returns the timeline of those items, which are in order of time: none is before one with a lower
+    /// index.
     ///
     /// # Errors
     ///
@@ -106,7 +107,7 @@ impl<T: Timed> Timeline<T> {
         Ok(Timeline { items, ends, hints })
     }
 
-    /// No items, which take no memory.
+    /// Returns a timeline without items, which takes no memory.
     pub fn none(alloc: Global) -> Timeline<T>
         ensures { result ≡ [] }
     {
@@ -117,7 +118,7 @@ impl<T: Timed> Timeline<T> {
         }
     }
 
-    /// How many items there are.
+    /// Returns the number of items.
     #[inline(always)]
     pub fn len(&self) -> usize
         ensures count { result ≡ length self.now }
@@ -126,14 +127,14 @@ impl<T: Timed> Timeline<T> {
         self.items.len()
     }
 
-    /// All of them, to be compared or printed. No look is counted.
+    /// Returns all of them, to be compared or printed. No probe is counted.
     pub fn items(&self) -> &[T]
         ensures { result.now ≡ self.now }
     {
         &self.items
     }
 
-    /// The item at that place, which counts as one look.
+    /// Returns the item at that index, which counts as one probe.
     #[inline(always)]
     pub fn read(&self, place: usize, probes: &mut Probes) -> &T
         requires place { place < length self.now }
@@ -145,8 +146,8 @@ impl<T: Timed> Timeline<T> {
         &self.items[place]
     }
 
-    /// How many items come at or before the second. Where no end decides, the hints say among which
-    /// few items the latest is.
+    /// Returns how many items come at or before the second, and the last of them. If neither end
+    /// decides, the hints say among which few items that is.
     #[inline(always)]
     pub fn passed(&self, second: i64, probes: &mut Probes) -> Passed<'_, T>
         requires { HasRoomFor (digits (length self.now)) (T.looks probes.old) }
