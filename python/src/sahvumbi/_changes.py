@@ -10,7 +10,7 @@ import numpy.typing as npt
 
 from ._columns import GREATEST, Column
 from ._door import Door
-from ._forms import NAT, SeriesForm
+from ._forms import NAT, Array, SeriesForm
 from ._inputs import taken
 from .errors import OUT_OF_RANGE, OutOfRangeError
 
@@ -63,23 +63,28 @@ def of_stretch(door: Door, begin: Time, end: Time) -> Changes:
     """The changes from `begin` on and before `end`."""
     first, last, is_time = ends_of_stretch(begin, end)
     found = door.changes(first, last)
-    at, before, after = found["at"].copy(), found["before"], found["after"]
-    changes = Changes(
-        at,
-        before["offset"].copy(),
-        after["offset"].copy(),
-        before["is_dst"] != 0,
-        after["is_dst"] != 0,
-        before["abbreviation"].astype("U7"),
-        after["abbreviation"].astype("U7"),
+    offset_before, is_dst_before, name_before = columns_of(found["before"], is_time)
+    offset_after, is_dst_after, name_after = columns_of(found["after"], is_time)
+    return Changes(
+        seconds_of(found["at"], is_time),
+        offset_before,
+        offset_after,
+        is_dst_before,
+        is_dst_after,
+        name_before,
+        name_after,
     )
-    if not is_time:
-        return changes
-    return changes._replace(
-        at=at.view("M8[s]"),
-        offset_before=changes.offset_before.astype("m8[s]"),
-        offset_after=changes.offset_after.astype("m8[s]"),
-    )
+
+
+def columns_of(types: Array, is_time: bool) -> tuple[Array, Array, Array]:
+    """The offsets, DST flags and abbreviations of types; offsets are lengths of time or numbers."""
+    offsets = types["offset"].astype("m8[s]" if is_time else np.int32)
+    return offsets, types["is_dst"] != 0, types["abbreviation"].astype("U7")
+
+
+def seconds_of(seconds: Array, is_time: bool) -> Array:
+    """Seconds as times or as numbers."""
+    return seconds.astype("M8[s]" if is_time else np.int64)
 
 
 def ends_of_stretch(begin: Time, end: Time) -> tuple[int, int, bool]:

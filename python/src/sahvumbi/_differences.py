@@ -7,7 +7,7 @@ from typing import TYPE_CHECKING, Any, NamedTuple
 import numpy as np
 import numpy.typing as npt
 
-from ._changes import Time, ends_of_stretch
+from ._changes import Time, columns_of, ends_of_stretch, seconds_of
 from ._choice import chosen
 from ._door import NO_OFFSET, Door
 from ._forms import Array
@@ -101,45 +101,34 @@ def of_zones(old: Door, new: Door, from_: Time, to: Time) -> Differences:
     changes = [door.changes(min(begin + 1, end), end) for door in (old, new)]
     cuts = np.unique(np.concatenate([first, *(found["at"] for found in changes)]))
     before, after = (
-        np.concatenate([door.types(first), found["after"]])[
-            np.searchsorted(found["at"], cuts, "right")
-        ]
-        for door, found in zip((old, new), changes)
+        _types_at(door, first, found, cuts) for door, found in zip((old, new), changes)
     )
     differ = before != after
-    ends = np.append(cuts[1:], end)
-    stretches = _listed(cuts[differ], ends[differ], before[differ], after[differ])
-    return _in_times(stretches) if is_time else stretches
+    offset_old, is_dst_old, name_old = columns_of(before[differ], is_time)
+    offset_new, is_dst_new, name_new = columns_of(after[differ], is_time)
+    return Differences(
+        seconds_of(cuts[differ], is_time),
+        seconds_of(np.append(cuts[1:], end)[differ], is_time),
+        offset_old,
+        offset_new,
+        is_dst_old,
+        is_dst_new,
+        name_old,
+        name_new,
+    )
+
+
+def _types_at(door: Door, first: Array, changes: Array, seconds: Array) -> Array:
+    """The types at seconds, by the one at the first of them and the changes after it."""
+    types = np.concatenate([door.types(first), changes["after"]])
+    found: Array = types[np.searchsorted(changes["at"], seconds, "right")]
+    return found
 
 
 def _must_have_types(door: Door, ends: dict[str, Array]) -> None:
     for name, second in ends.items():
         if (door.offsets(second) == NO_OFFSET).any():
             raise NoOffsetError(None, int(second[0]), HAS_NO_OFFSET, label=name)
-
-
-def _listed(begin: Array, end: Array, old: Array, new: Array) -> Differences:
-    """Stretches and the types of both zones in them, as columns."""
-    return Differences(
-        begin,
-        end,
-        old["offset"].copy(),
-        new["offset"].copy(),
-        old["is_dst"] != 0,
-        new["is_dst"] != 0,
-        old["abbreviation"].astype("U7"),
-        new["abbreviation"].astype("U7"),
-    )
-
-
-def _in_times(found: Differences) -> Differences:
-    """Stretches as times, and offsets as lengths of time."""
-    return found._replace(
-        from_=found.from_.view("M8[s]"),
-        until=found.until.view("M8[s]"),
-        offset_old=found.offset_old.astype("m8[s]"),
-        offset_new=found.offset_new.astype("m8[s]"),
-    )
 
 
 def moved(
