@@ -210,6 +210,31 @@ def differing(old, new, year):
     return found
 
 
+def try_folders(program, folder, line):
+    """Two folders are compared zone by zone, also in folders below, in the order of their names."""
+    years = ("--from", "2021", "--to", "2021")
+    for name, file in (("old/a/same", "good"), ("new/a/same", "good"), ("old/moved", "good"), ("new/moved", "new"),
+                       ("old/gone", "good"), ("new/b/added", "new")):
+        (folder / name).parent.mkdir(parents=True, exist_ok=True)
+        (folder / name).write_bytes((folder / file).read_bytes())
+    for name in ("old/README", "new/README"):
+        (folder / name).write_text("no zone\n")
+    lines = f"b/added: only in new\ngone: only in old\nmoved\n{line}"
+    check("--diff of two folders", (1, lines, ""), run(program, *years, "--diff", "old", "new", folder=folder))
+    check("--diff of one folder", (0, "", ""), run(program, *years, "--diff", "old", "old", folder=folder))
+    status, output, errors = run(program, *years, "--json", "--diff", "old", "new", folder=folder)
+    told = [json.loads(each) for each in output.splitlines()]
+    check("--json --diff of two folders", (1, "", [{"only": "new/b/added"}, {"only": "old/gone"}]), (status, errors, told[:2]))
+    check("the zone that differs", [("old/moved", "new/moved", [-3600])],
+          [(each["old"], each["new"], [d["moved"] for d in each["differences"]]) for each in told[2:]])
+    check("--diff of a file and a folder", (2, "", "zonedump: --diff takes two files or two folders\n"),
+          run(program, "--diff", "good", "old", folder=folder))
+    (folder / "new/moved").write_bytes((folder / "good").read_bytes()[:60])
+    status, output, errors = run(program, *years, "--diff", "old", "new", folder=folder)
+    check("--diff of folders with a broken file", (2, "b/added: only in new\ngone: only in old\n", True),
+          (status, output, errors.startswith("zonedump: new/moved: not a TZif file: ")))
+
+
 def try_diff(program, folder):
     """The differences of two files are those that zoneinfo shows, as lines and as JSON, and the status is that of diff."""
     check("a file for --diff", 0, run(program, "--write", "new", "--text", "EST5", folder=folder)[0])
@@ -226,8 +251,9 @@ def try_diff(program, folder):
     status, output, errors = run(program, *years, "--json", "--diff", "good", "good", folder=folder)
     check("--json --diff of one file", (0, "", []), (status, errors, json.loads(output)["differences"]))
     check("--diff with a file missing", (2, ""), run(program, "--diff", "good", "none", folder=folder)[:2])
-    check("--diff with one file", (2, "", "zonedump: --diff takes two files\n"),
+    check("--diff with one file", (2, "", "zonedump: --diff takes two files or two folders\n"),
           run(program, "--diff", "good", folder=folder))
+    try_folders(program, folder, line)
     check("--diff with --svg", (2, ""), run(program, "--svg", "new.svg", "--diff", "good", "new", folder=folder)[:2])
 
 

@@ -1,9 +1,10 @@
 //! Days of three zones, around a midnight near which their clocks were set: as `zdump -v` of the tz
 //! database has them. Each zone is taken as if clocks had been set that once.
 
-ghost use Rattle.std.specs.Prelude.{ℤ, pos, neg_ℤ};
+ghost use Rattle.std.specs.Prelude.{◌≡◌, ℤ, pos, neg_ℤ};
 ghost use Rattle.naive_base.specs.Stamp.{of_secs};
 ghost use Rattle.zoned_time.specs.Days.{AreEndsOfDay, IsNeverOnDay, IsFirstAtOrAfter, IsInDay, midnight};
+ghost use Rattle.zoned_time.specs.DayEnds.{IsFirstOfWeek, first_of_month, first_of_year};
 ghost use Rattle.pins.specs.Days.{AreSetAt};
 
 /// In Apia clocks went from 10 hours behind UTC to 14 ahead at 2011-12-30 10:00:00 UTC. The date
@@ -46,4 +47,13 @@ pub fn st_johns()
     ensures overlap { (off : ℤ → ℤ)
         → AreSetAt off (pos 1_130_639_460) (neg_ℤ (pos 9_000)) (neg_ℤ (pos 12_600))
         → AreEndsOfDay off (pos 13_085) (pos 1_130_553_000) (pos 1_130_642_999) }
+{}
+
+/// 2021-03-17, day 18703, is a Wednesday: its week begins on 2021-03-15 if weeks begin on Monday, and
+/// on 2021-03-14 if they begin on Sunday; its month begins on 2021-03-01, its year on 2021-01-01.
+pub fn first_days()
+    ensures monday { IsFirstOfWeek 1 (pos 18_703) (pos 18_701) }
+    ensures sunday { IsFirstOfWeek 0 (pos 18_703) (pos 18_700) }
+    ensures month { first_of_month (pos 18_703) ≡ pos 18_687 }
+    ensures year { first_of_year (pos 18_703) ≡ pos 18_628 }
 {}

@@ -17,7 +17,7 @@ use Rattle.tz_info.specs.declared.zone.differences.Difference.{Difference}
 use Rattle.tz_info.specs.declared.zone.leap_second.LeapSecond.{LeapSecond}
 use Rattle.change_words.specs.ChangeValues.{change_value}
 use Rattle.change_words.proofs.ForCallers.{change_shallow, items_shallow, type_shallow}
-use Rattle.zone_dump.specs.DifferenceForms.{difference_value, differences_value}
+use Rattle.zone_dump.specs.DifferenceForms.{difference_value, differences_value, lone_value}
 use Rattle.zone_dump.specs.JsonValues.{day_value, leap_value, moment_value, rule_value, zone_value}
 
 -- the printed tokens of a value are a text of that value
@@ -54,3 +54,6 @@ difference_shallow d = omega (arith, type_shallow d.old, type_shallow d.new)
 
 pub differences_shallow : (old_name new_name : List ℕ) (first last : ℤ) (ds : List Difference) → depth (differences_value old_name new_name first last ds) ≤ max_depth
 differences_shallow old_name new_name first last ds = omega (arith, items_shallow difference_value 2 difference_shallow ds)
+
+pub lone_shallow : (path : List ℕ) → depth (lone_value path) ≤ max_depth
+lone_shallow path = omega arith

@@ -61,3 +61,12 @@ differences_value old_name new_name first last ds =
 pub record IsDifferencesJson (old_name new_name : List ℕ) (first last : ℤ) (ds : List Difference) (text : List ℕ) : Type 0 where
   pub value_is : document text ≡ Some (differences_value old_name new_name first last ds)
   pub printed : text ≡ print (json_tokens (differences_value old_name new_name first last ds))
+
+-- a zone that only one of two folders has, by its path
+abbrev pub lone_value : List ℕ → Json
+lone_value path = fields ((codes "only", string path) ∷ [])
+
+-- the JSON text of that value: its printed tokens
+pub record IsLoneJson (path text : List ℕ) : Type 0 where
+  pub value_is : document text ≡ Some (lone_value path)
+  pub printed : text ≡ print (json_tokens (lone_value path))

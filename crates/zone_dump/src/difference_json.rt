@@ -7,7 +7,7 @@ ghost use Rattle.json.specs.Tree.{json_tokens};
 ghost use Rattle.change_words.specs.ChangeValues.{list_value};
 ghost use Rattle.change_words.specs.Clocks.{clock_words};
 ghost use Rattle.change_words.specs.JsonSteps.{Puts};
-ghost use Rattle.zone_dump.specs.DifferenceForms.{IsDifferencesJson, difference_value, differences_value, moved_by};
+ghost use Rattle.zone_dump.specs.DifferenceForms.{IsDifferencesJson, IsLoneJson, difference_value, differences_value, lone_value, moved_by};
 
 use crate::differences::seconds_ahead;
 use crate::json_text::put_years;
@@ -36,6 +36,27 @@ pub fn differences_to_json(
     let mut writer = Writer::new(Vec::new(alloc));
     put_zones(&mut writer, alloc, old_name, new_name, years, found)?;
     Ok(writer.into_inner())
+}
+
+/// Returns a zone that only one of two folders has as a JSON object on one line: its path, `only`.
+///
+/// # Errors
+///
+/// There is no memory for it.
+pub fn lone_to_json(alloc: Global, path: &str) -> Result<Vec<u8>, AllocError>
+    ensures { IfOk result (λ text. IsLoneJson path.now text.items) }
+{
+    let mut writer = Writer::new(Vec::new(alloc));
+    put_lone(&mut writer, path)?;
+    Ok(writer.into_inner())
+}
+
+fn put_lone(writer: &mut Writer, path: &str) -> Result<(), AllocError>
+    ensures { Puts result writer.old writer.new (json_tokens (lone_value path.now)) }
+{
+    writer.begin_object()?;
+    put_string(writer, "only", path)?;
+    writer.end_object()
 }
 
 fn put_zones(

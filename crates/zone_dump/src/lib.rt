@@ -19,7 +19,7 @@ mod zdump;
 
 pub use change_words::Years;
 pub use changes::changes_in;
-pub use difference_json::differences_to_json;
+pub use difference_json::{differences_to_json, lone_to_json};
 pub use differences::{differences_in, push_differences};
 pub use extended::extended_zone;
 pub use form::{Form, told};

@@ -79,6 +79,7 @@ pub use Rattle.tz_write.specs.WrittenFiles
 pub use Rattle.zoned_time.specs.Alike
 pub use Rattle.zoned_time.specs.Choice
 pub use Rattle.zoned_time.specs.Days
+pub use Rattle.zoned_time.specs.DayEnds
 pub use Rattle.zoned_time.specs.DateTime
 pub use Rattle.zoned_time.specs.Fields as InstantFields
 pub use Rattle.zoned_time.specs.Order

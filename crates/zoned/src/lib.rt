@@ -137,6 +137,9 @@
 //! | an instant | the same clock time some months later | [`DateTime::checked_add_months`] |
 //! | two instants | the time between them | [`DateTime::signed_duration_since`], `-` |
 //! | a date | when it starts | [`ZoneDays::start_of_day`] |
+//! | a date | its last instant; how long it lasts | [`ZoneDays::end_of_day`]; [`ZoneDays::length_of_day`] |
+//! | a date | when its week, month or year starts | [`ZoneDays::start_of_week`], [`ZoneDays::start_of_month`], [`ZoneDays::start_of_year`] |
+//! | an instant | when its day starts | [`DateTime::start_of_day`] |
 //! | a date | the first and the last second at which clocks show it | [`ZoneDays::day`] |
 //! | a wall clock | the first instant at which clocks have reached it | [`ZoneDays::first_at_or_after`] |
 //! | two versions of a zone | what differs | [`tz_info::TimeZone::differences`] |

@@ -1,11 +1,12 @@
 //! The examples of the documents, compiled, proved and tested. It names one library, `zoned`.
 //!
 //! `readme` and `front_page` have the examples of README.md and of the library's front page,
-//! `borrowed` what is done with the instants of a borrowed zone, `own_zone` the zone of
+//! `borrowed` what is done with the instants of a borrowed zone, `calendar_days` when days, weeks, months and years start, `own_zone` the zone of
 //! docs/OWN_ZONE.md, and `facts` contracts of a client's own.
 #![tactic(auto)]
 
 mod borrowed;
+mod calendar_days;
 mod error;
 mod facts;
 mod front_page;
@@ -13,6 +14,7 @@ mod own_zone;
 mod readme;
 
 pub use borrowed::{by_clock, earliest_first, keep, line};
+pub use calendar_days::{Question, day_answer, same_day, seconds_of_day};
 pub use error::MyError;
 pub use facts::{
     abbreviation, bucket, clock_of, elsewhere, fire, later, months_later, next_change_twice,

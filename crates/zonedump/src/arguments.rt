@@ -13,7 +13,7 @@ const USAGE: &str = "zonedump [OPTIONS] FILE..
 
 const NOTES: &str = "--write takes one zone and none of --from, --to, --zdump, --json and --svg.
 --svg takes one zone and none of --zdump and --json. --json and --zdump exclude each other.
---diff takes two files and none of --zdump, --write, --svg and --text.
+--diff takes two files or two folders and none of --zdump, --write, --svg and --text.
 
 Exit status: 0 if every zone was printed or written, 1 if one was not, 2 for wrong arguments.
 With --diff: 0 if the two zones are the same in the years, 1 if they differ, 2 for an error.";
@@ -78,7 +78,7 @@ fn with_forms<'a>(alloc: Global, command: Command<'a>) -> Result<Command<'a>, Al
     let diff = flag(
         alloc,
         "diff",
-        "Prints where the zones of two files differ, OLD and NEW",
+        "Prints where the zones of two files or two folders differ, OLD and NEW",
     );
     without(command.arg(diff)?, "diff", &["zdump", "write", "svg"])
 }

@@ -4,10 +4,12 @@
 mod arguments;
 mod compared;
 mod files;
+mod folders;
 mod told;
 mod words;
 
 use clap::ArgMatches;
+use compared::Compared;
 use std::fmt::Write;
 use std::io;
 use std::process::ExitCode;
@@ -70,14 +72,14 @@ fn tell_matched(rt: &HostRuntime, matches: &ArgMatches<'_>) -> io::Result<u8> {
     tell_asked(rt, matches, Asked { years, what })
 }
 
-// Prints the differences of two files.
+// Prints the differences of two files or folders.
 fn compare(rt: &HostRuntime, matches: &ArgMatches<'_>, years: Years) -> io::Result<u8> {
     match matches.get_strs("FILE") {
         Some([old, new]) => {
             let is_json = matches.get_flag("json");
-            Ok(compared::print(rt, old, new, years, is_json))
+            Ok(compared::print(rt, old, new, Compared { years, is_json }))
         }
-        _ => refuse(rt, "--diff takes two files"),
+        _ => refuse(rt, "--diff takes two files or two folders"),
     }
 }
 
