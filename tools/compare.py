@@ -6,6 +6,8 @@ usage: tools/compare.py zoneinfo [ZONEQ [FOLDER]]    zoneq's answers with Python
        tools/compare.py dumps [ZONEDUMP [FOLDER]]    zonedump's table and its --zdump with zdump
        tools/compare.py files [FOLDER [SLIM]]        written TZif files with the files that were read
        tools/compare.py strings [FOLDER]             written TZ strings with those in footers
+       tools/compare.py days [FOLDER [ARCHIVE]]      starts of days, by the C library, with zoneinfo
+       tools/compare.py differences OLD NEW [ZONEDUMP]  zonedump --diff of two databases with zoneinfo
 
 ZONEQ and ZONEDUMP are the built programs (crates/zoneq/out/zoneq), ARCHIVE is the static library
 (crates/zoned_ffi/out/libzoned_ffi.a), FOLDER the database (/usr/share/zoneinfo), SLIM one that `zic -b slim` compiled.
@@ -15,11 +17,11 @@ has no known reason.
 
 import sys
 
-from comparing import changes, dumps, with_zoneinfo, written_files, written_strings
+from comparing import changes, days, differences, dumps, with_zoneinfo, written_files, written_strings
 
 COMPARISONS = {
     "zoneinfo": with_zoneinfo.main, "changes": changes.main, "dumps": dumps.main, "files": written_files.main,
-    "strings": written_strings.main,
+    "strings": written_strings.main, "days": days.main, "differences": differences.main,
 }
 
 if __name__ == "__main__":

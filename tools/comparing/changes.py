@@ -14,20 +14,17 @@ It takes half a minute and needs gcc. Prints the counts, and each difference.
 import calendar
 import ctypes
 import random
-import subprocess
 import tempfile
 from collections import Counter
-from ctypes import POINTER, byref, c_char, c_char_p, c_int32, c_int64, c_size_t, c_uint32, c_void_p
-from pathlib import Path
+from ctypes import POINTER, byref, c_char, c_int32, c_int64, c_size_t
 
 from comparing.database import FOLDER, Change, Type, changes_by_zdump, tzif_files
-from sources import TOP
+from comparing.library import ARCHIVE, FILE, OK, Handle, loaded
 
-ARCHIVE = TOP / "crates/zoned_ffi/out/libzoned_ffi.a"
 YEARS = (1900, 2037)
 WIDE_YEARS = (1, 2500)
 DRAWN = 3
-FILE, OK, NO_CHANGE = 0, 0, 35
+NO_CHANGE = 35
 
 
 class WrittenType(ctypes.Structure):
@@ -44,29 +41,11 @@ class WrittenChange(ctypes.Structure):
         return Change(self.at, self.before.read(), self.after.read())
 
 
-class Handle(ctypes.Structure):
-    _fields_ = [("zone", c_void_p)]
-
-
-def loaded(archive, folder):
-    """The calls of the static library, as a shared one."""
-    kit = subprocess.run(["rt", "doc"], capture_output=True, text=True, check=True).stdout.strip()
-    shared = folder / "libzoned_ffi.so"
-    whole = ["-Wl,--whole-archive", str(archive), "-Wl,--no-whole-archive"]
-    subprocess.run(
-        ["gcc", "-shared", "-o", str(shared), *whole, str(Path(kit).parent / "c/liblibc_c.a")], check=True
-    )
-    library = ctypes.CDLL(str(shared))
-    zone, change = POINTER(Handle), POINTER(WrittenChange)
-    for call, arguments in (
-        (library.zoned_open, [c_uint32, c_char_p, c_size_t, zone]),
-        (library.zoned_zone_types, [zone, POINTER(c_int64), c_size_t, POINTER(WrittenType), c_size_t]),
-        (library.zoned_zone_next_change, [zone, c_int64, change]),
-        (library.zoned_zone_previous_change, [zone, c_int64, change]),
-    ):
-        call.argtypes, call.restype = arguments, c_uint32
-    library.zoned_close.argtypes, library.zoned_close.restype = [zone], None
-    return library
+QUESTIONS = {
+    "zoned_zone_types": [POINTER(c_int64), c_size_t, POINTER(WrittenType), c_size_t],
+    "zoned_zone_next_change": [c_int64, POINTER(WrittenChange)],
+    "zoned_zone_previous_change": [c_int64, POINTER(WrittenChange)],
+}
 
 
 class Zone:
@@ -169,7 +148,7 @@ def main(folder=FOLDER, archive=ARCHIVE):
     chance = random.Random(20_260_728)
     counts, seen, differences = Counter(), set(), 0
     with tempfile.TemporaryDirectory() as made:
-        library = loaded(archive, Path(made))
+        library = loaded(archive, made, QUESTIONS)
         for path, content in tzif_files(folder):
             counts["files"] += 1
             if content in seen:
