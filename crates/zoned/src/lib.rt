@@ -16,7 +16,7 @@
 //! | you write | read | its fact |
 //! |---|---|---|
 //! | a scheduler | `demo_scheduler`: jobs of several zones in a queue | no run is skipped, and one in a gap runs at its end |
-//! | a calendar | `demo_calendar`: events, days of 23 and 25 hours, weeks, birthdays | each instant is in one day |
+//! | a calendar | `demo_calendar`: events, days of 23 and 25 hours, weeks, birthdays | no instant is in two days |
 //! | a reader of logs | `demo_log_reader`: local times with and without offsets, in order through a fold | an instant's local time and offset spell that instant |
 //! | texts | `demo_text`: RFC 3339, RFC 2822, HTTP, iCalendar, ISO weeks, lengths | the bytes of RFC 3339's form |
 //!
