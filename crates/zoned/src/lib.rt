@@ -1,12 +1,26 @@
 //! Zoned time, proved: the zoned-time layer of chrono 0.4.45, under chrono's names.
 //!
-//! This is the only library that a client names. It passes on what the libraries below it make, and
-//! the words of their contracts. Its own are the theorems of [`headline`], which join those
+//! This is the only library that a client names, unless it needs [less](#which-libraries-to-name). It
+//! passes on what the libraries below it make, and the words of their contracts. Its own are the theorems of [`headline`], which join those
 //! contracts, and those of [`client_laws`], for a client's own contracts.
 //!
 //! Each call answers what its contract says, and no call panics, overflows, reads out of bounds or
 //! loops for ever; no contract bounds the stack. What a call requires, such as a range, its caller
 //! proves; for a literal the check mostly finds it by itself.
+//!
+//! # Programs to read first
+//!
+//! Four small libraries of the repository, each written as a user would write it, tested against
+//! values from outside, and proved:
+//!
+//! | you write | read | its fact |
+//! |---|---|---|
+//! | a scheduler | `demo_scheduler`: jobs of several zones in a queue | no run is skipped, and one in a gap runs at its end |
+//! | a calendar | `demo_calendar`: events, days of 23 and 25 hours, weeks, birthdays | no instant is in two days |
+//! | a reader of logs | `demo_log_reader`: local times with and without offsets, in order through a fold | an instant's local time and offset spell that instant |
+//! | texts | `demo_text`: RFC 3339, RFC 2822, HTTP, iCalendar, ISO weeks, lengths | the bytes of RFC 3339's form |
+//!
+//! The first and the last name only the libraries that they need, the other two `zoned`.
 //!
 //! # The types
 //!
@@ -161,15 +175,39 @@
 //! A [`KeptZone`] has no lifetime, nor have its instants: structs and lists hold them beside one
 //! another. Its memory is never given back, so keep the zones that live as long as the program.
 //!
+//! Kept zones are equal if and only if their lists are, and a struct that holds one derives what it
+//! likes.
+//!
 //! ```
 //! let new_york = KeptZone::keep(alloc, tz_info::TimeZone::from_tz_data(alloc, bytes)?)?;
 //! let alarm = Alarm { zone: new_york, next: new_york.resolve(&local, choice)? };
 //!
+//! #[derive(Clone, Copy, Debug, PartialEq, Eq, Hash)]
 //! pub struct Alarm {
 //!     pub zone: KeptZone,
 //!     pub next: DateTime<KeptZone>,
 //! }
 //! ```
+//!
+//! # Which libraries to name
+//!
+//! The first check of a program proves each library that its line of `crates.txt` names, and those
+//! below; later checks use what was kept. With `zoned` that is all of them, the writers too, so a
+//! program that needs less names less, and imports from each library what `zoned` passes on:
+//!
+//! | you need | name | minutes |
+//! |---|---|---|
+//! | dates, times of day, lengths | `offset_core naive_base` | 6 |
+//! | instants of UTC and of fixed offsets too | `offset_core naive_base zoned_time` | 10 |
+//! | zones of files and TZ strings too, borrowed | `offset_core naive_base tz_info zoned_time zoned_ref` | 28 |
+//! | zones kept for the whole program too | `offset_core naive_base tz_info zoned_time zoned_ref zoned_kept` | 36 |
+//! | rounding too | the same and `zoned_round` | 3 more |
+//! | a local time on each day too | the same and `zoned_series` | 3 more |
+//! | everything, with what writes zones | `zoned` | 54 |
+//!
+//! The minutes are a sum over the libraries, each checked from nothing on a machine of 4 processors on
+//! which two other checks ran (2026-11-26): an upper bound, since libraries that don't need one another
+//! can be checked at once.
 //!
 //! # Where the checker doesn't reach
 //!
@@ -181,6 +219,7 @@
 //! | of | in place of | write |
 //! |---|---|---|
 //! | an instant of a borrowed or of a kept zone | a copy in place: `*instant`, `(instant, instant)`, `map.insert(*instant, ..)` | `iter().copied()`, `instant.clone()?`, or `copy_of(instant)` by `fn copy_of<T: Copy>(value: &T) -> T { *value }` |
+//! | an instant in a struct or an enum that is borrowed | `Some(heap.peek()?.at)`; `match self.when { When::Timed { start, .. } => .. }` | `Some(heap.peek().copied()?.at)`; `match &self.when { .. }` |
 //! | instants of a borrowed zone | a closure that captures an instant, as `any(\|instant\| instant > than)`, or asks the zone, as `map(\|instant\| instant.hour())` | a `for`, or a kept zone |
 //! | instants, dates | a guard that compares what its pattern takes: `Some(next) if next <= until` | `next.is_some_and(\|next\| next <= until)`, `let .. else` and an `if`, or `max` |
 //! | an enum that holds an instant or a date | a literal in its pattern: `When::AllDay { first, days: 1 }` | a guard on the number: `When::AllDay { first, days } if days == 1` |
@@ -188,6 +227,8 @@
 //! | loops | `while` | a `for` with a bound |
 //! | a struct over any zone | `#[derive(Clone, Copy)]` alone | a `where` line, `Tz::Offset: Copy`, beside it |
 //! | an error of your own | `#[from]` for what `write!` returns | `impl From<fmt::Error>`, by hand |
+//! | an error of your own | `#[from]` for what `push` returns | `impl<T: Drop> From<AllocFailed<T>>`, by hand |
+//! | items of one module | names that differ only in case, as `Rfc3339` and `rfc3339` | another name |
 #![tactic(auto)]
 
 pub mod client_laws;
