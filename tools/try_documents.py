@@ -7,8 +7,8 @@ Without words all four are tried:
 
 - rattle: each line of a `rust` block of README.md, docs/FROM_CHRONO.md and docs/OWN_ZONE.md is code of crates/*/src, which `rt ci`
   proves, or of crates/*/tried, which tools/try_tests.py runs; and so is each span of the column *here* of FROM_CHRONO's tables.
-  Comments, white space and commas before a closing bracket don't count. The lines of FROM_CHRONO's block for crates.txt are lines
-  of crates.txt. (tools/check_documents.py tries this too.)
+  So is each line of a block in doc comments, unless it is marked `text`. Comments, white space and commas before a closing bracket
+  don't count. The lines of FROM_CHRONO's block for crates.txt are lines of crates.txt. (tools/check_documents.py tries this too.)
 - programs: each command of a `console` block (a line that begins with `$ `) prints what follows it there. It needs the built
   zoneq and zonedump.
 - c: each `c` block, under the name that the line before it gives, and the `console` block that compiles it and runs it. It needs
@@ -32,6 +32,8 @@ from sources import TOP, files, shown, text_of, without_comments
 PAGES = [TOP / "README.md", *sorted((TOP / "docs").glob("*.md")), TOP / "python/README.md"]
 FROM_CHRONO = TOP / "docs/FROM_CHRONO.md"
 WITH_RATTLE = [TOP / "README.md", FROM_CHRONO, TOP / "docs/OWN_ZONE.md"]
+# Its examples name calls that aren't there (`NaiveDate::from_ymd`, `NaiveDateTime::parse`).
+WITHOUT_CODE = [TOP / "crates/zoned_time/src/zone_days.rt"]
 OURS = "| task | chrono 0.4.45 | here |"
 PYTHON = "/usr/bin/python3"
 
@@ -63,8 +65,25 @@ def ours(text):
                 yield table.start() + row.start(1) + span.start(), span[1]
 
 
+def examples():
+    """The lines of the blocks of doc comments that aren't marked as text, each with its file and place."""
+    for path in files("src", ".rt"):
+        fence = None
+        for line in re.finditer(r"(?m)^.*$", text_of(path)):
+            comment = re.match(r"\s*//[/!] ?(.*)", line[0])
+            if not comment:
+                fence = None
+            elif comment[1].startswith("```"):
+                fence = comment[1] if fence is None else None
+            elif fence == "```":
+                yield path, line.start(), comment[1]
+
+
 def rattle():
     known = code()
+    for path, place, line in examples():
+        if path not in WITHOUT_CODE and bare(without_comments(line, "//")).rstrip(",") not in known:
+            yield f"{shown(path, place)}: no code has the line: {line.strip()}"
     for path in WITH_RATTLE:
         for place, _, text in blocks(path, "rust"):
             for line in re.finditer(r"(?m)^.*$", without_comments(text, "//")):

@@ -53,7 +53,7 @@ pub trait ZoneDays: TimeZone {
     /// shows it, or if one of the two is out of the range of [`DateTime`].
     ///
     /// ```
-    /// let day = new_york.day(NaiveDate::from_ymd(2021, 3, 14))?;
+    /// let day = new_york.day(NaiveDate::from_ymd_opt(2021, 3, 14)?)?;
     /// let seconds = day.last.signed_duration_since(&day.first).num_seconds(); // 82799
     /// ```
     final fn day(&self, date: NaiveDate) -> Option<ShownDay<DateTime<Self>>>
@@ -87,7 +87,7 @@ pub trait ZoneDays: TimeZone {
     /// local time never has an earlier answer.
     ///
     /// ```
-    /// let local = NaiveDateTime::parse("2021-03-14 02:30:00")?; // in a gap
+    /// let local = NaiveDate::from_ymd_opt(2021, 3, 14)?.and_hms_opt(2, 30, 0)?; // in a gap
     /// let instant = new_york.first_at_or_after(&local)?; // 2021-03-14 03:00:00 -04:00
     /// ```
     final fn first_at_or_after(&self, local: &NaiveDateTime) -> Option<DateTime<Self>>
@@ -111,7 +111,7 @@ pub trait ZoneDays: TimeZone {
     /// forward on 1919-03-30 at 23:30, by an hour, and the next day started at 00:30.
     ///
     /// ```
-    /// let start = toronto.start_of_day(NaiveDate::from_ymd(1919, 3, 31))?; // 1919-03-31 00:30:00 -04:00
+    /// let start = toronto.start_of_day(NaiveDate::from_ymd_opt(1919, 3, 31)?)?; // 1919-03-31 00:30:00 -04:00
     /// ```
     final fn start_of_day(&self, date: NaiveDate) -> Option<DateTime<Self>>
         ensures { let law = Self.law self.now in
@@ -129,7 +129,7 @@ pub trait ZoneDays: TimeZone {
     /// [`ZoneDays::start_of_day`] of the next date.
     ///
     /// ```
-    /// let end = toronto.end_of_day(NaiveDate::from_ymd(1919, 3, 30))?; // 1919-03-30 23:29:59.999999999 -05:00
+    /// let end = toronto.end_of_day(NaiveDate::from_ymd_opt(1919, 3, 30)?)?; // 1919-03-30 23:29:59.999999999 -05:00
     /// ```
     final fn end_of_day(&self, date: NaiveDate) -> Option<DateTime<Self>>
         ensures { let law = Self.law self.now in
@@ -148,7 +148,7 @@ pub trait ZoneDays: TimeZone {
     /// a date on the buffer day after the range, which has no next date.
     ///
     /// ```
-    /// let length = new_york.length_of_day(NaiveDate::from_ymd(2021, 3, 14))?; // 23 hours
+    /// let length = new_york.length_of_day(NaiveDate::from_ymd_opt(2021, 3, 14)?)?; // 23 hours
     /// ```
     final fn length_of_day(&self, date: NaiveDate) -> Option<TimeDelta>
         ensures { MatchOption result (¬ (IsWideDay (day_of date +ℤ pos 1)))
@@ -163,7 +163,7 @@ pub trait ZoneDays: TimeZone {
     /// the range of [`DateTime`].
     ///
     /// ```
-    /// let date = NaiveDate::from_ymd(2021, 3, 17);
+    /// let date = NaiveDate::from_ymd_opt(2021, 3, 17)?;
     /// let start = new_york.start_of_week(date, Weekday::Mon)?; // 2021-03-15 00:00:00 -04:00
     /// ```
     final fn start_of_week(&self, date: NaiveDate, start: Weekday) -> Option<DateTime<Self>>
@@ -179,7 +179,7 @@ pub trait ZoneDays: TimeZone {
     /// of its first date or a later local time. `None` if it is out of the range of [`DateTime`].
     ///
     /// ```
-    /// let date = NaiveDate::from_ymd(2021, 3, 17);
+    /// let date = NaiveDate::from_ymd_opt(2021, 3, 17)?;
     /// let start = new_york.start_of_month(date)?; // 2021-03-01 00:00:00 -05:00
     /// ```
     final fn start_of_month(&self, date: NaiveDate) -> Option<DateTime<Self>>
@@ -195,7 +195,7 @@ pub trait ZoneDays: TimeZone {
     /// its first date or a later local time. `None` if it is out of the range of [`DateTime`].
     ///
     /// ```
-    /// let date = NaiveDate::from_ymd(2021, 3, 17);
+    /// let date = NaiveDate::from_ymd_opt(2021, 3, 17)?;
     /// let start = new_york.start_of_year(date)?; // 2021-01-01 00:00:00 -05:00
     /// ```
     final fn start_of_year(&self, date: NaiveDate) -> Option<DateTime<Self>>

@@ -65,8 +65,8 @@ impl TimeZone {
     ///
     /// ```text
     /// let apia = TimeZone::from_tz_data(alloc, bytes)?;
-    /// apia.find_seconds_of_day(NaiveDate::from_ymd(2011, 12, 30)); // None: 29 was followed by 31
-    /// let day = apia.find_seconds_of_day(NaiveDate::from_ymd(2011, 12, 31))?;
+    /// apia.find_seconds_of_day(NaiveDate::from_ymd_opt(2011, 12, 30)?); // None: 29 was followed by 31
+    /// let day = apia.find_seconds_of_day(NaiveDate::from_ymd_opt(2011, 12, 31)?)?;
     /// let at = day.first.at; // 1325239200: 2011-12-30 10:00:00 UTC
     /// ```
     pub fn find_seconds_of_day(&self, date: NaiveDate) -> Option<ShownSeconds>
@@ -86,7 +86,7 @@ impl TimeZone {
     ///
     /// ```text
     /// let new_york = TimeZone::from_tz_data(alloc, bytes)?;
-    /// let local = NaiveDateTime::parse("2021-03-14 02:30:00")?; // in a gap
+    /// let local = NaiveDate::from_ymd_opt(2021, 3, 14)?.and_hms_opt(2, 30, 0)?; // in a gap
     /// let at = new_york.find_first_at_or_after(local).at; // 1615705200: 03:00 EDT
     /// ```
     pub fn find_first_at_or_after(&self, local: NaiveDateTime) -> TypedSecond
