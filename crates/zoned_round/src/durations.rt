@@ -18,53 +18,79 @@ use offset_core::TimeDelta;
 use std::error::Error;
 use zoned_time::{DateTime, Offset, TimeZone};
 
-/// Values that a length of time rounds.
+/// Values that are rounded to multiples of a length of time.
 ///
-/// What a value's clock shows counts from 1970-01-01 00:00:00, whatever its offset: its stamp is
-/// all of that in nanoseconds, a leap second's included. The value moves by the time from its stamp
-/// to a multiple of the length, or stays as it is where the stamp is a multiple. A length that
-/// isn't positive, or leaves an `i64` of nanoseconds, is an error first, and then a stamp that
-/// leaves one.
+/// The stamp of a value is what its clock shows, in nanoseconds from 1970-01-01 00:00:00, whatever
+/// its offset; the nanoseconds of a leap second count on. A call returns the value moved by the time
+/// from its stamp to a multiple of the length, or the value itself if its stamp is a multiple.
 ///
-/// So its clock shows that multiple then, except in two cases. From a leap second the way counts
-/// that second: 00:00:60.900, rounded up to 7 seconds, is 00:01:02. And an instant may be moved
-/// across a change of offset: in New York 2021-03-14 03:30 -04:00, cut to a day, is
+/// So the clock of the result shows that multiple, except in two cases. From a leap second the way
+/// counts that second: 00:00:60.900, rounded up to 7 seconds, is 00:01:02. And an instant may be
+/// moved across a change of offset: in New York 2021-03-14 03:30 -04:00, cut to a day, is
 /// 2021-03-13 23:00 -05:00.
 ///
-/// ```text
-/// // 2012-12-12 18:22:29.999
-/// reading.duration_round(TimeDelta::minutes(30)); // 2012-12-12 18:30:00
-/// reading.duration_trunc(TimeDelta::minutes(30)); // 2012-12-12 18:00:00
-/// reading.duration_round_up(TimeDelta::minutes(10)); // 2012-12-12 18:30:00
-/// ```
+/// # Errors
+///
+/// [`RoundingError::DurationExceedsLimit`] if the length isn't positive, or if its nanoseconds don't
+/// fit an `i64`; else [`RoundingError::TimestampExceedsLimit`] if the stamp doesn't fit one.
 pub trait DurationRound: Sized {
     /// Why a value is not rounded.
     type Err: Error;
 
-    // the fault that an error tells
+    // the variant of an error
     ghost fault: { Self.Err → Fault };
 
     // what the value's clock shows
     ghost clock: { Self → Reading };
 
-    // the reading that moves
+    // the local date-time or the UTC date-time that moves
     ghost instant: { Self → Reading };
 
-    // the value so many nanoseconds later
+    // the value that number of nanoseconds later
     ghost IsMoved: { Self → ℤ → Self → Type 0 };
 
-    /// To the nearest multiple, and of two as near to the later one.
+    /// Returns the value at the nearest multiple; if two are as near, at the later one.
+    ///
+    /// ```
+    /// let noon = date.and_hms_nano_opt(12, 0, 0, 154_000_000)?; // 2018-01-11 12:00:00.154
+    /// let near = noon.duration_round(TimeDelta::milliseconds(10)); // Ok(2018-01-11 12:00:00.150)
+    /// let day = noon.duration_round(TimeDelta::days(1)); // Ok(2018-01-12 00:00:00)
+    /// ```
+    ///
+    /// # Errors
+    ///
+    /// Those of the trait.
     fn duration_round(self, duration: TimeDelta) -> Result<Self, Self::Err>
         ensures { let stamp = total (clock self) in
             IsRoundedTo nearest_multiple fault (IsMoved self) stamp (nanos_of duration) self
             result };
 
-    /// To the greatest multiple that isn't later.
+    /// Returns the value at the greatest multiple that isn't later.
+    ///
+    /// ```
+    /// let noon = date.and_hms_nano_opt(12, 0, 0, 154_000_000)?; // 2018-01-11 12:00:00.154
+    /// let before = noon.duration_trunc(TimeDelta::milliseconds(10)); // Ok(2018-01-11 12:00:00.150)
+    /// let day = noon.duration_trunc(TimeDelta::days(1)); // Ok(2018-01-11 00:00:00)
+    /// ```
+    ///
+    /// # Errors
+    ///
+    /// Those of the trait.
     fn duration_trunc(self, duration: TimeDelta) -> Result<Self, Self::Err>
         ensures { let stamp = total (clock self) in
             IsRoundedTo multiple_below fault (IsMoved self) stamp (nanos_of duration) self result };
 
-    /// To the least multiple that isn't earlier.
+    /// Returns the value at the least multiple that isn't earlier.
+    ///
+    /// ```
+    /// let noon = date.and_hms_nano_opt(12, 0, 0, 154_000_000)?; // 2018-01-11 12:00:00.154
+    /// let after = noon.duration_round_up(TimeDelta::milliseconds(10)); // Ok(2018-01-11 12:00:00.160)
+    /// let day = noon.duration_round_up(TimeDelta::days(1)); // Ok(2018-01-12 00:00:00)
+    /// ```
+    ///
+    /// # Errors
+    ///
+    /// Those of the trait.
     fn duration_round_up(self, duration: TimeDelta) -> Result<Self, Self::Err>
         ensures { let stamp = total (clock self) in
             IsRoundedTo multiple_above fault (IsMoved self) stamp (nanos_of duration) self result };

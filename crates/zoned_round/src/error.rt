@@ -8,11 +8,11 @@ use thiserror::Error;
 /// Why a value is not rounded to a multiple of a length of time.
 #[derive(Clone, Copy, Debug, PartialEq, Eq, Error)]
 pub enum RoundingError {
-    /// No call answers this; chrono has it.
+    /// No call returns this; chrono has it.
     DurationExceedsTimestamp,
-    /// The length in nanoseconds leaves an `i64`, or it isn't positive.
+    /// The length isn't positive, or its nanoseconds don't fit an `i64`.
     DurationExceedsLimit,
-    /// What the value's clock shows, in nanoseconds since 1970-01-01 00:00:00, leaves an `i64`.
+    /// What the value's clock shows, in nanoseconds since 1970-01-01 00:00:00, doesn't fit an `i64`.
     TimestampExceedsLimit,
 }
 

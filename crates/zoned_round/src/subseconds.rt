@@ -15,17 +15,11 @@ use naive_base::{NaiveDateTime, NaiveTime, Timelike};
 use offset_core::TimeDelta;
 use zoned_time::{DateTime, TimeZone};
 
-/// Values that digits of a second round.
+/// Values that are rounded to digits of a second.
 ///
-/// A last digit counts 10^9 nanoseconds with no digits, a tenth of that with one, and so on; with
-/// nine digits and more it counts one, and the value stays as it is. It also stays where nothing is
-/// after its last digit. A leap second's nanoseconds go from 10^9 on, below 2*10^9.
-///
-/// ```text
-/// // 10:05:13.084660684
-/// time.round_subsecs(3); // 10:05:13.085
-/// time.trunc_subsecs(3); // 10:05:13.084
-/// ```
+/// With no digits the last one counts 10^9 nanoseconds, with one digit a tenth of that, and so on;
+/// with nine digits or more a call returns the value itself, and so it does if nothing is after the
+/// last digit. A leap second's nanoseconds are from 10^9 to below 2*10^9.
 pub trait SubsecRound: Sized {
     // its second and nanoseconds, a time's on the day 0
     ghost shown: { Self → Reading };
@@ -36,14 +30,26 @@ pub trait SubsecRound: Sized {
     // where there is one
     ghost MayShow: { Self → Reading → Type 0 };
 
-    /// Moved to the nearest value with so many digits of a second, and of two as near to the later
-    /// one, which may be in the next second. It is in range, where the value has a date; a time
-    /// goes on at midnight.
+    /// Returns the nearest value with that many digits of a second; if two are as near, the later
+    /// one. It may be in the next second: of a value with a date it must be in range, and a time of
+    /// day goes on at midnight.
+    ///
+    /// ```
+    /// let noon = date.and_hms_nano_opt(12, 0, 0, 154_000_000)?; // 2018-01-11 12:00:00.154
+    /// let hundredths = noon.round_subsecs(2); // 2018-01-11 12:00:00.150
+    /// let tenths = noon.round_subsecs(1); // 2018-01-11 12:00:00.200
+    /// ```
     fn round_subsecs(self, digits: u16) -> Self
         requires { MayRound (MayShow self) (shown self) digits }
         ensures { IsRounded (IsShowing self) (shown self) digits self result };
 
-    /// Cut after so many digits of its second.
+    /// Returns the value cut after that many digits of its second.
+    ///
+    /// ```
+    /// let noon = date.and_hms_nano_opt(12, 0, 0, 154_000_000)?; // 2018-01-11 12:00:00.154
+    /// let hundredths = noon.trunc_subsecs(2); // 2018-01-11 12:00:00.150
+    /// let tenths = noon.trunc_subsecs(1); // 2018-01-11 12:00:00.100
+    /// ```
     fn trunc_subsecs(self, digits: u16) -> Self
         ensures { IsCut (IsShowing self) (shown self) digits self result };
 }

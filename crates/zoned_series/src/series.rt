@@ -12,18 +12,11 @@ use naive_base::{NaiveDate, NaiveTime};
 use offset_core::Choice;
 use zoned_time::{DateTime, TimeZone};
 
-/// A wall-clock time on each day from a first one on.
+/// One local time on each day from a first day on.
 ///
-/// Each day stands for itself: its instant is the one that the choice takes for that time on that
-/// day's clocks, and rests on no other day. So "every day at 02:30 in New York" is at 02:30 again
-/// on the day after a gap or a fold.
-///
-/// ```text
-/// let choice = Choice { gap: GapChoice::ShiftForward, fold: FoldChoice::Earliest };
-/// let series = DailySeries::new(new_york, first, NaiveTime::from_hms_opt(2, 30, 0)?, choice);
-/// let tenth = series.at(9)?;
-/// for instant in series.days(7) { .. }
-/// ```
+/// The instant of a day is the one that the policy selects for that time on that day, and depends on
+/// no other day. So "every day at 02:30 in New York" is at 02:30 again on the day after a gap or a
+/// fold.
 #[derive(Clone, Copy)]
 pub struct DailySeries<Tz> {
     zone: Tz,
@@ -33,7 +26,14 @@ pub struct DailySeries<Tz> {
 }
 
 impl<Tz: TimeZone> DailySeries<Tz> {
-    /// That time on the first day, and on each day after it.
+    /// Returns the series of that time on the first day, and on each day after it, by the clocks of
+    /// that zone.
+    ///
+    /// ```
+    /// let choice = Choice { gap: GapChoice::ShiftForward, fold: FoldChoice::Earliest };
+    /// let half_past_two = NaiveTime::from_hms_opt(2, 30, 0).ok_or(MyError::NoSuchTime)?;
+    /// let series = DailySeries::new(new_york, first, half_past_two, choice);
+    /// ```
     pub fn new(zone: Tz, first: NaiveDate, time: NaiveTime, choice: Choice) -> DailySeries<Tz>
         ensures { series_of result ≡ record {
           zone = zone;
@@ -51,12 +51,18 @@ impl<Tz: TimeZone> DailySeries<Tz> {
         }
     }
 
-    /// The instant on the day n days after the first.
+    /// Returns the instant on the day n days after the first.
+    ///
+    /// ```
+    /// let on_the_first_day = series.at(0); // Ok(2021-03-13 02:30:00 -05:00)
+    /// let in_the_gap = series.at(1); // Ok(2021-03-14 03:30:00 -04:00)
+    /// let on_the_day_after = series.at(2); // Ok(2021-03-15 02:30:00 -04:00)
+    /// ```
     ///
     /// # Errors
     ///
-    /// [`SeriesError::Date`] if that day lies outside the years -262143 to 262142, the first one on
-    /// a buffer day too; [`SeriesError::Resolve`] if the choice takes no instant there.
+    /// [`SeriesError::Date`] if that day lies outside the years -262143 to 262142, also if the first
+    /// one is a buffer day; [`SeriesError::Resolve`] if the policy selects no instant on that day.
     pub fn at(&self, n: u32) -> Result<DateTime<Tz>, SeriesError>
         ensures { MatchResult result
             (λ d. IsItem (Tz.law (series_of self.now).zone) (series_of self.now) n (zoned d))
@@ -71,7 +77,8 @@ impl<Tz: TimeZone> DailySeries<Tz> {
         }
     }
 
-    /// The first so many days, in order.
+    /// Returns the items of the first `count` days, in order; a day without an instant is an error,
+    /// and the days after it follow.
     pub fn days(&self, count: u32) -> DailyItems<Tz>
         ensures { items_of result ≡ record { series = series_of self.now; next = 0; end = count } }
     {

@@ -11,13 +11,13 @@ pub enum SeriesError {
     /// The day lies outside the years -262143 to 262142.
     #[error("the day is out of range")]
     Date,
-    /// The choice takes no instant for the time on that day.
+    /// The policy selects no instant for the time on that day.
     #[error(transparent)]
     Resolve(ResolveError),
 }
 
 impl SeriesError {
-    /// 24 for a day out of range, or the number of the error within.
+    /// Returns 24 for a day out of range, or the number of the error within.
     pub fn number(&self) -> u8
         ensures { result ≡ number_of self.now }
     {

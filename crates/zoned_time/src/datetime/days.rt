@@ -11,8 +11,8 @@ impl<Tz: ZoneDays> DateTime<Tz> {
     /// [`ZoneDays::start_of_day`] does; `None` if it is out of the range of [`DateTime`].
     ///
     /// ```
-    /// let noon = toronto.with_ymd_and_hms(1919, 3, 31, 12, 0, 0).single()?;
-    /// let start = noon.start_of_day()?; // 1919-03-31 00:30:00 -04:00
+    /// let noon = new_york.with_ymd_and_hms(2021, 3, 14, 12, 0, 0).single()?;
+    /// let start = noon.start_of_day()?; // 2021-03-14 00:00:00 -05:00, eleven hours earlier
     /// ```
     pub fn start_of_day(&self) -> Option<DateTime<Tz>>
         ensures { let law = home_of Tz.meaning self.now in
