@@ -17,7 +17,7 @@
    it was to open is changed, except that a column is written up to its first row without an answer. The first of these that
    holds (those of a handle, and of a choice, if there is one):
 
-     ZONED_UNKNOWN_KIND    `kind` is none of ZONED_FILE, ZONED_TEXT and ZONED_EXTENDED_STRING
+     ZONED_UNKNOWN_KIND    `kind` is not one of ZONED_FILE, ZONED_TEXT, ZONED_EXTENDED_STRING
      ZONED_UNKNOWN_CHOICE  `gap` or `fold` is none of its enum
      ZONED_NOT_OPEN        the handle has no zone open
      ZONED_OTHER_SIZE      the count of answers is not the one that is stated below

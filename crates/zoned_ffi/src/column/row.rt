@@ -38,7 +38,7 @@ fn added(instant: i64, counts: i64) -> Option<i64>
     Some(sum)
 }
 
-/// The instant of the local time, or the number that says why there is none.
+/// The instant of the local time, or the number that says why it has no instant.
 #[inline(always)]
 pub fn instant_of(zone: &TimeZone, unit: Unit, choice: Choice, local: i64) -> Result<i64, u32>
     ensures { MatchResult result (λ instant. IsInstantOf zone.now unit choice local instant)
