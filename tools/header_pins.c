@@ -28,7 +28,7 @@ _Static_assert(offsetof(zoned_resolved, number) == 0, "the place of number");
 _Static_assert(offsetof(zoned_resolved, offset) == 4, "the place of the resolved offset");
 _Static_assert(offsetof(zoned_resolved, instant) == 8, "the place of instant");
 
-_Static_assert(ZONED_FILE == 0 && ZONED_TEXT == 1, "the kinds");
+_Static_assert(ZONED_FILE == 0 && ZONED_TEXT == 1 && ZONED_EXTENDED_STRING == 2, "the kinds");
 _Static_assert(ZONED_OK == 0 && ZONED_UNKNOWN_KIND == 31 && ZONED_OTHER_SIZE == 32, "the numbers of a call");
 _Static_assert(sizeof(zoned_change) == 40 && _Alignof(zoned_change) == 8, "the size of a change");
 _Static_assert(offsetof(zoned_change, at) == 0, "the place of at");
@@ -37,7 +37,7 @@ _Static_assert(offsetof(zoned_change, after) == 24, "the place of the type after
 _Static_assert(sizeof(zoned_span) == 32 && _Alignof(zoned_span) == 8, "the size of a span");
 _Static_assert(offsetof(zoned_span, from) == 0 && offsetof(zoned_span, until) == 8, "the places of a span's ends");
 _Static_assert(offsetof(zoned_span, local_type) == 16, "the place of a span's type");
-_Static_assert(ZONED_UNKNOWN_UNIT == 36 && ZONED_NO_LOCAL_TIME == 37, "the numbers of a column");
+_Static_assert(ZONED_UNKNOWN_UNIT == 36 && ZONED_NO_LOCAL_TIME == 37 && ZONED_NO_GAP == 38, "other numbers of a call");
 _Static_assert(ZONED_NOT_OPEN == 33 && ZONED_UNKNOWN_CHOICE == 34 && ZONED_NO_CHANGE == 35, "the numbers of a call by handle");
 _Static_assert(ZONED_OTHER_TYPE_INDEX == 41 && ZONED_OTHER_TRANSITION_TIMES == 42, "faults of lists");
 _Static_assert(ZONED_OTHER_LEAP_SECONDS == 43 && ZONED_OTHER_RULE == 44, "faults of lists");
@@ -45,7 +45,7 @@ _Static_assert(ZONED_LOCAL_TIME_TYPE == 3 && ZONED_INVALID_TZ_FILE == 5 && ZONED
 _Static_assert(ZONED_UNEXPECTED_END == 7 && ZONED_MISSING_TAG == 8 && ZONED_PARSE_INT == 10, "faults of the bytes");
 _Static_assert(ZONED_TIME_ZONE == 12 && ZONED_TRANSITION_RULE == 13 && ZONED_UNSUPPORTED_TZ_FILE == 14, "faults of the bytes");
 _Static_assert(ZONED_UNSUPPORTED_TZ_STRING == 15 && ZONED_UTF8 == 16 && ZONED_OUT_OF_MEMORY == 17, "faults of the bytes");
-_Static_assert(ZONED_GAP_REFUSE == 0 && ZONED_GAP_SHIFT_FORWARD == 1, "choices for gaps");
+_Static_assert(ZONED_GAP_REFUSE == 0 && ZONED_GAP_SHIFT_FORWARD == 1 && ZONED_GAP_END == 2, "choices for gaps");
 _Static_assert(ZONED_FOLD_REFUSE == 0 && ZONED_FOLD_EARLIEST == 1 && ZONED_FOLD_LATEST == 2, "choices for folds");
 _Static_assert(ZONED_IN_GAP == 21 && ZONED_IN_FOLD == 22 && ZONED_INSTANT_OUT_OF_RANGE == 23, "why there is no instant");
 _Static_assert(ZONED_NEVER == 0 && ZONED_ONCE == 1 && ZONED_SEVERAL_TIMES == 2 && ZONED_OUT_OF_RANGE == 3, "how often");
@@ -145,18 +145,23 @@ int main(void) {
     IS(zoned_parse(ZONED_TEXT, NEW_YORK, LEN), ZONED_OK);
     IS(zoned_parse(ZONED_FILE, NEW_YORK, LEN), 5);
     IS(zoned_parse(ZONED_FILE, "TZif", 4), 7);
-    IS(zoned_parse(2, NEW_YORK, LEN), ZONED_UNKNOWN_KIND);
+    IS(zoned_parse(3, NEW_YORK, LEN), ZONED_UNKNOWN_KIND);
     IS(fault_of(0, 0, 1, 0), ZONED_OK);
     IS(fault_of(0, 0, 1, 1), ZONED_OTHER_TYPE_INDEX);
     IS(fault_of(0, 0, 0, 0), ZONED_OTHER_TRANSITION_TIMES);
     IS(zoned_fault(ZONED_TEXT, NEW_YORK, LEN), ZONED_OK);
     IS(zoned_fault(ZONED_FILE, NEW_YORK, LEN), ZONED_INVALID_TZ_FILE);
-    IS(zoned_fault(2, NEW_YORK, LEN), ZONED_UNKNOWN_KIND);
+    IS(zoned_fault(3, NEW_YORK, LEN), ZONED_UNKNOWN_KIND);
     IS(parsed(" EST5EDT,M3.2.0,M11.1.0\r\n"), ZONED_OK);
     IS(parsed("EST5EDT,M13.2.0,M11.1.0"), ZONED_TRANSITION_RULE);
     IS(parsed("EST5EDT"), ZONED_UNSUPPORTED_TZ_STRING);
     IS(parsed("<-03>3<-02>,M3.5.0/-2,M10.5.0/-1"), ZONED_PARSE_INT);
     IS(parsed("IST-2IDT,M3.4.4/26,M10.5.0"), ZONED_INVALID_TZ_STRING);
+    IS(zoned_parse(ZONED_EXTENDED_STRING, "<-03>3<-02>,M3.5.0/-2,M10.5.0/-1", 32), ZONED_OK);
+    IS(zoned_parse(ZONED_EXTENDED_STRING, "IST-2IDT,M3.4.4/26,M10.5.0", 26), ZONED_OK);
+    IS(zoned_parse(ZONED_EXTENDED_STRING, "IST-2IDT,M3.4.4/168,M10.5.0", 27), ZONED_INVALID_TZ_STRING);
+    IS(zoned_parse(ZONED_EXTENDED_STRING, " UTC0", 5) != ZONED_OK, 1);
+    IS(zoned_parse(ZONED_EXTENDED_STRING, "", 0) != ZONED_OK, 1);
     IS(zoned_parse(ZONED_FILE, (const uint8_t[44]){'T', 'Z', 'i', 'f', '4'}, 44), ZONED_UNSUPPORTED_TZ_FILE);
 
     /* By a handle. The gap's instant by the offset before it is 2021-03-14 07:30:00 UTC. */
@@ -165,7 +170,7 @@ int main(void) {
     IS(zoned_zone_offset(&zone, 0, &offset), ZONED_NOT_OPEN);
     IS(offset, 77);
     IS(zoned_open(ZONED_FILE, NEW_YORK, LEN, &zone), 5);
-    IS(zoned_open(2, NEW_YORK, LEN, &zone), ZONED_UNKNOWN_KIND);
+    IS(zoned_open(3, NEW_YORK, LEN, &zone), ZONED_UNKNOWN_KIND);
     IS(zone.zone != NULL, 0);
     IS(zoned_open(ZONED_TEXT, NEW_YORK, LEN, &zone), ZONED_OK);
     IS(zone.zone != NULL, 1);
@@ -193,8 +198,22 @@ int main(void) {
     IS(zoned_zone_instant(&zone, ZONED_GAP_REFUSE, ZONED_FOLD_LATEST, LOCALS[1], taken), ZONED_OK);
     IS(taken[0].instant, 1636266600);
     IS(taken[0].offset, -18000);
-    IS(zoned_zone_instant(&zone, 2, ZONED_FOLD_LATEST, LOCALS[1], taken), ZONED_UNKNOWN_CHOICE);
+    IS(zoned_zone_instant(&zone, 3, ZONED_FOLD_LATEST, LOCALS[1], taken), ZONED_UNKNOWN_CHOICE);
     IS(zoned_zone_instant(&zone, ZONED_GAP_REFUSE, 3, LOCALS[1], taken), ZONED_UNKNOWN_CHOICE);
+    IS(zoned_zone_instant(&zone, ZONED_GAP_END, ZONED_FOLD_REFUSE, LOCALS[0], taken), ZONED_OK);
+    IS(taken[0].instant, 1615705200);
+    IS(taken[0].offset, -14400);
+    /* The gap, by both its sides; no gap; out of range. */
+    zoned_change gap;
+    IS(zoned_zone_gap(&zone, LOCALS[0], &gap), ZONED_OK);
+    IS(gap.at, 1615705200);
+    IS(gap.before.offset, -18000);
+    IS(memcmp(gap.before.abbreviation, "EST\0\0\0\0", 8), 0);
+    IS(gap.after.offset, -14400);
+    IS(gap.after.is_dst, 1);
+    IS(zoned_zone_gap(&zone, LOCALS[1], &gap), ZONED_NO_GAP);
+    IS(zoned_zone_gap(&zone, LOCALS[3], &gap), ZONED_INSTANT_OUT_OF_RANGE);
+    IS(gap.at, 1615705200);
     /* The changes of 2021, from the first one on and before the second, and on into 2022 (2022-03-13 07:00:00 UTC). What is
        refused, and what stands behind the list, is as it was. */
     zoned_change changes[3], next;
@@ -213,6 +232,9 @@ int main(void) {
     IS(count, 0);
     IS(zoned_zone_changes(&zone, INT64_MAX, INT64_MIN, changes, 0, &count), ZONED_OK);
     IS(count, 0);
+    IS(zoned_zone_first_changes(&zone, 1615705200, INT64_MAX, 2, changes, 1, &count), ZONED_OK);
+    IS(count, 2);
+    IS(changes[0].at, 1615705200);
     IS(zoned_zone_next_change(&zone, 1636264800, &next), ZONED_OK);
     IS(next.at, 1647154800);
     /* The rule answers up to the year 2147483645: that November has its last change. */
@@ -273,7 +295,28 @@ int main(void) {
     IS(zoned_zone_local(&zone, 1000, column, 4, locals, 4, &row), ZONED_NO_LOCAL_TIME);
     IS(row, 3);
     IS(locals[3], 77);
+    /* Of the gap and of the fold by half a second more; no time; and a row in a gap, under a choice that refuses it. */
+    const int64_t shown[4] = {1615689000500, 1636248600500, ZONED_NO_TIME, 1615689000500};
+    int64_t times[4] = {77, 77, 77, 77};
+    row = 77;
+    IS(zoned_zone_instants(&zone, 3, ZONED_FOLD_REFUSE, 60, shown, 4, times, 4, &row), ZONED_UNKNOWN_CHOICE);
+    IS(zoned_zone_instants(&zone, ZONED_GAP_END, ZONED_FOLD_LATEST, 60, shown, 4, times, 4, &row), ZONED_UNKNOWN_UNIT);
+    IS(zoned_zone_instants(&zone, ZONED_GAP_END, ZONED_FOLD_LATEST, 1000, shown, 4, times, 3, &row), ZONED_OTHER_SIZE);
+    IS(times[0], 77);
+    IS(zoned_zone_instants(&zone, ZONED_GAP_END, ZONED_FOLD_LATEST, 1000, shown, 3, times, 3, &row), ZONED_OK);
+    IS(times[0], 1615705200000);
+    IS(times[1], 1636266600500);
+    IS(times[2], ZONED_NO_TIME);
+    IS(row, 77);
+    IS(zoned_zone_instants(&zone, ZONED_GAP_SHIFT_FORWARD, ZONED_FOLD_EARLIEST, 1000, shown, 3, times, 3, &row), ZONED_OK);
+    IS(times[0], 1615707000500);
+    IS(times[1], 1636263000500);
+    IS(zoned_zone_instants(&zone, ZONED_GAP_REFUSE, ZONED_FOLD_LATEST, 1000, shown + 1, 3, times + 1, 3, &row), ZONED_IN_GAP);
+    IS(row, 2);
+    IS(times[1], 1636266600500);
+    IS(times[3], 77);
     zoned_close(&zone);
+    zoned_close(NULL);
     IS(zoned_version(), ZONED_VERSION_NUMBER);
     char text[8] = "1234567";
     IS(zoned_error_text(17, text, 4), 13);

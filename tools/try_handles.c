@@ -57,6 +57,8 @@ struct bytes {
     size_t len;
 };
 
+static const char *const EXTENDED[] = {"<-02>2<-01>,M3.5.0/-1,M10.5.0/0", "EET-2EEST,M3.4.4/50,M10.4.4/50", "IST-2IDT,M3.4.4/26,M10.5.0"};
+
 static const char *const TEXTS[] = {"UTC0", "EST5EDT,M3.2.0,M11.1.0", "<-03>3", "LHST-10:30LHDT-11,M10.1.0,M4.1.0", ""};
 
 static struct bytes zones[64];
@@ -129,7 +131,7 @@ static struct bytes some_bytes(void) {
         for (size_t i = 0; i < bytes.len; i++) bytes.at[i] = (uint8_t)next();
         break;
     case 3:
-        bytes.kind = (uint32_t)below(4);
+        bytes.kind = (uint32_t)below(5);
         break;
     default:
         break;
@@ -307,6 +309,28 @@ static void try_first(struct tried *of) {
     EXPECT(reached.instant == (is_known ? at : 0) && reached.offset == (is_known ? offset : 0));
 }
 
+/* The gap that a local time lies in: a change of the clocks that passes over it, and the first after which they show more. */
+static void try_gap(struct tried *of) {
+    int64_t local = second();
+    zoned_change gap, change;
+    zoned_wall_clock clock = {0};
+    zoned_resolved reached;
+    memset(&gap, 0x55, sizeof gap);
+    if (of->of.at) EXPECT(zoned_zone_wall_clock(&of->zone, local, &clock) == ZONED_OK);
+    uint32_t number = zoned_zone_gap(&of->zone, local, &gap);
+    if (!of->of.at) EXPECT(number == ZONED_NOT_OPEN);
+    else if (clock.shown == ZONED_OUT_OF_RANGE) EXPECT(number == ZONED_INSTANT_OUT_OF_RANGE);
+    else EXPECT(number == (clock.shown == ZONED_NEVER ? ZONED_OK : ZONED_NO_GAP));
+    if (number) {
+        EXPECT(is_untouched(&gap, sizeof gap));
+        return;
+    }
+    EXPECT(zoned_zone_previous_change(&of->zone, gap.at, &change) == ZONED_OK && change.at == gap.at);
+    EXPECT(is_same_type(&change.before, &gap.before) && is_same_type(&change.after, &gap.after));
+    EXPECT(gap.at + gap.before.offset <= local && local < gap.at + gap.after.offset);
+    EXPECT(zoned_zone_first_at_or_after(&of->zone, local, &reached) == ZONED_OK && (reached.number || reached.instant == gap.at));
+}
+
 /* The second, or that of the next change, or one beside it. */
 static int64_t end_of_stretch(struct tried *of, int64_t at) {
     zoned_change next;
@@ -341,6 +365,15 @@ static void try_list(struct tried *of) {
         EXPECT(is_same_type(&written[i].before, &expected[i].before) && is_same_type(&written[i].after, &expected[i].after));
     }
     EXPECT(is_untouched(written + kept, (ROOM - kept) * sizeof *written));
+
+    /* Up to a limit. */
+    size_t most = below(8) ? below(found + 3) : SIZE_MAX - below(2), first = found < most ? found : most;
+    count = 77;
+    memset(written, 0x55, sizeof written);
+    EXPECT(zoned_zone_first_changes(&of->zone, from, until, most, written, room, &count) == number && count == (number ? 77 : first));
+    kept = number ? 0 : first < room ? first : room;
+    for (size_t i = 0; i < kept; i++) EXPECT(written[i].at == expected[i].at && is_same_type(&written[i].after, &expected[i].after));
+    EXPECT(is_untouched(written + kept, (ROOM - kept) * sizeof *written));
 }
 
 /* The clock's answer under a choice. In a gap: the instant by an offset before it, which is less than the one after it. */
@@ -354,6 +387,12 @@ static void expect_resolved(struct tried *of, const zoned_wall_clock *clock, uin
         offset = clock->last_offset;
     }
     if (clock->shown == ZONED_NEVER && gap == ZONED_GAP_REFUSE) number = ZONED_IN_GAP;
+    zoned_change skips;
+    if (clock->shown == ZONED_NEVER && gap == ZONED_GAP_END) {
+        EXPECT(zoned_zone_gap(&of->zone, local, &skips) == ZONED_OK);
+        instant = skips.at;
+        offset = skips.after.offset;
+    }
     if (clock->shown == ZONED_NEVER && gap == ZONED_GAP_SHIFT_FORWARD && !resolved->number) {
         instant = resolved->instant;
         EXPECT(zoned_at(of->of.kind, of->of.at, of->of.len, &instant, 1, &offset, 1) == ZONED_OK);
@@ -370,8 +409,8 @@ static void try_locals(struct tried *of) {
     int32_t triples[3 * MOST];
     zoned_resolved resolved[MOST];
     size_t count = below(MOST + 1), room = below(4) ? count : below(MOST + 1), triple_room = below(4) ? 3 * count : below(3 * MOST + 1);
-    uint32_t gap = (uint32_t)below(below(8) ? 2 : 4), fold = (uint32_t)below(below(8) ? 3 : 5);
-    int is_choice = gap <= ZONED_GAP_SHIFT_FORWARD && fold <= ZONED_FOLD_LATEST;
+    uint32_t gap = (uint32_t)below(below(8) ? 3 : 5), fold = (uint32_t)below(below(8) ? 3 : 5);
+    int is_choice = gap <= ZONED_GAP_END && fold <= ZONED_FOLD_LATEST;
     for (size_t i = 0; i < MOST; i++) locals[i] = second();
     if (of->of.at) EXPECT(zoned_wall_instants(of->of.kind, of->of.at, of->of.len, locals, MOST, expected, MOST) == ZONED_OK);
     memset(clocks, 0x55, sizeof clocks);
@@ -448,6 +487,55 @@ static void try_column(struct tried *of) {
     EXPECT(is_untouched(locals + first, (COLUMN - first) * sizeof *locals));
 }
 
+/* The instant of a local time by zoned_zone_instant of its second, or the number that says why it has none. */
+static uint32_t has_instant(struct tried *of, int64_t per_second, uint32_t gap, uint32_t fold, int64_t local, int64_t *instant) {
+    int64_t at = local / per_second - (local % per_second < 0);
+    zoned_resolved resolved;
+    zoned_wall_clock clock;
+    *instant = local;
+    if (local == ZONED_NO_TIME) return ZONED_OK;
+    EXPECT(zoned_zone_instant(&of->zone, gap, fold, at, &resolved) == ZONED_OK);
+    EXPECT(zoned_zone_wall_clock(&of->zone, at, &clock) == ZONED_OK);
+    if (resolved.number && resolved.number != ZONED_INSTANT_OUT_OF_RANGE) return resolved.number;
+    if (clock.shown == ZONED_OUT_OF_RANGE) return ZONED_INSTANT_OUT_OF_RANGE;
+    int64_t second = resolved.instant;
+    if (resolved.number) { /* the second is in range, but not its instant */
+        zoned_resolved inner;
+        int64_t day = at < 0 ? at + 86400 : at - 86400;
+        EXPECT(zoned_zone_instant(&of->zone, gap, fold, day, &inner) == ZONED_OK && inner.number == ZONED_OK);
+        second = inner.instant + (at - day);
+    }
+    __int128 time = (__int128)second * per_second;
+    if (clock.shown != ZONED_NEVER || gap != ZONED_GAP_END) time += (__int128)local - (__int128)at * per_second;
+    *instant = (int64_t)time;
+    return time > INT64_MIN && time <= INT64_MAX ? ZONED_OK : ZONED_INSTANT_OUT_OF_RANGE;
+}
+
+/* A column of local times, in order or not: what zoned_zone_instant says of each, up to the first that has no instant. */
+static void try_instants_of_column(struct tried *of) {
+    static const int64_t UNITS[] = {1, 1000, 1000000, 1000000000, 0, -1, 60};
+    int64_t locals[COLUMN] = {0}, instants[COLUMN], per_second = UNITS[below(below(8) ? 4 : 7)];
+    size_t count = below(COLUMN + 1), room = below(8) ? count : below(COLUMN + 1), row = 77, first = 0;
+    uint32_t gap = (uint32_t)below(below(8) ? 3 : 5), fold = (uint32_t)below(below(8) ? 3 : 5), why = ZONED_OK;
+    int is_unit = per_second > 0 && per_second != 60, is_choice = gap <= ZONED_GAP_END && fold <= ZONED_FOLD_LATEST, is_sorted = below(2) == 0;
+    int64_t step = (int64_t)below(20000) * (is_unit ? per_second : 1);
+    for (size_t i = 0; i < count; i++) {
+        locals[i] = time_of(is_unit ? per_second : 1);
+        if (is_sorted && i > 0 && locals[i - 1] < INT64_MAX - step) locals[i] = locals[i - 1] + step;
+    }
+    memset(instants, 0x55, sizeof instants);
+    uint32_t number = zoned_zone_instants(&of->zone, gap, fold, per_second, locals, count, instants, room, &row);
+    if (!is_choice || !is_unit || due(of, count, room) != ZONED_OK) {
+        EXPECT(number == (!is_choice ? ZONED_UNKNOWN_CHOICE : !is_unit ? ZONED_UNKNOWN_UNIT : due(of, count, room)));
+    } else {
+        for (int64_t instant; first < count && !(why = has_instant(of, per_second, gap, fold, locals[first], &instant)); first++)
+            EXPECT(instants[first] == instant);
+        EXPECT(number == why);
+    }
+    EXPECT(row == (why ? first : 77));
+    EXPECT(is_untouched(instants + first, (COLUMN - first) * sizeof *instants));
+}
+
 /* A count whose product by three wraps to the room is told, and nothing is written. */
 static void try_wrapping_count(void) {
     struct zoned_zone zone = {0};
@@ -472,6 +560,8 @@ static void try_null(void) {
     EXPECT(zoned_zone_resolve(&zone, ZONED_GAP_REFUSE, ZONED_FOLD_REFUSE, NULL, 0, NULL, 0) == ZONED_OK);
     EXPECT(zoned_zone_changes(&zone, 0, INT64_MAX / 1000, NULL, 0, &count) == ZONED_OK && count == 0);
     EXPECT(zoned_zone_local(&zone, 1, NULL, 0, NULL, 0, &count) == ZONED_OK);
+    EXPECT(zoned_zone_instants(&zone, ZONED_GAP_REFUSE, ZONED_FOLD_REFUSE, 1, NULL, 0, NULL, 0, &count) == ZONED_OK);
+    zoned_close(NULL);
     EXPECT(zoned_error_text(ZONED_OK, NULL, 0) > 0);
     zoned_close(&zone);
 }
@@ -529,16 +619,18 @@ static void try_calls(uint64_t count) {
             break;
         case 10:
             try_list(one);
-            calls += 1;
+            calls += 2;
             break;
         case 11:
             try_column(one);
-            calls += 1;
+            try_instants_of_column(one);
+            calls += 2;
             break;
         default:
             try_locals(one);
             try_first(one);
-            calls += 6;
+            try_gap(one);
+            calls += 7;
             break;
         }
     }
@@ -565,7 +657,7 @@ static uint64_t mix_clock(uint64_t sum, const zoned_wall_clock *clock) {
 static uint64_t ask_one(const struct zoned_zone *zone, int64_t at, uint64_t sum) {
     int32_t offset;
     zoned_local_type type;
-    zoned_change next = {0}, previous = {0};
+    zoned_change next = {0}, previous = {0}, gap = {0};
     zoned_wall_clock clock;
     zoned_resolved resolved, reached;
     zoned_span span;
@@ -573,13 +665,14 @@ static uint64_t ask_one(const struct zoned_zone *zone, int64_t at, uint64_t sum)
                           zoned_zone_type(zone, at, &type),
                           zoned_zone_span(zone, at, &span),
                           zoned_zone_first_at_or_after(zone, at, &reached),
+                          zoned_zone_gap(zone, at, &gap),
                           zoned_zone_next_change(zone, at, &next),
                           zoned_zone_previous_change(zone, at, &previous),
                           zoned_zone_wall_clock(zone, at, &clock),
                           zoned_zone_instant(zone, ZONED_GAP_SHIFT_FORWARD, ZONED_FOLD_LATEST, at, &resolved)};
     sum = mix(mix(mix(sum, numbers, sizeof numbers), &offset, sizeof offset), &type, sizeof type);
     sum = mix(mix(sum, &next, sizeof next), &previous, sizeof previous);
-    sum = mix(mix(sum, &span, sizeof span), &reached, sizeof reached);
+    sum = mix(mix(mix(sum, &span, sizeof span), &reached, sizeof reached), &gap, sizeof gap);
     return mix(mix_clock(sum, &clock), &resolved, sizeof resolved);
 }
 
@@ -590,7 +683,7 @@ static uint64_t ask_many(const struct zoned_zone *zone, const int64_t *at, uint6
     zoned_wall_clock clocks[MOST];
     zoned_resolved resolved[MOST];
     zoned_change changes[MOST] = {{0}};
-    int64_t locals[MOST];
+    int64_t locals[MOST], instants[MOST];
     size_t count, row;
     uint32_t numbers[] = {zoned_zone_at(zone, at, MOST, offsets, MOST),
                           zoned_zone_types(zone, at, MOST, types, MOST),
@@ -598,10 +691,13 @@ static uint64_t ask_many(const struct zoned_zone *zone, const int64_t *at, uint6
                           zoned_zone_wall(zone, at, MOST, triples, 3 * MOST),
                           zoned_zone_resolve(zone, ZONED_GAP_REFUSE, ZONED_FOLD_EARLIEST, at, MOST, resolved, MOST),
                           zoned_zone_changes(zone, at[0], at[0] + 100000000, changes, MOST, &count),
-                          zoned_zone_local(zone, 1, at, MOST, locals, MOST, &row)};
+                          zoned_zone_first_changes(zone, at[0], INT64_MAX, MOST, changes, MOST, &count),
+                          zoned_zone_local(zone, 1, at, MOST, locals, MOST, &row),
+                          zoned_zone_instants(zone, ZONED_GAP_END, ZONED_FOLD_EARLIEST, 1, at, MOST, instants, MOST, &row)};
     sum = mix(mix(mix(sum, numbers, sizeof numbers), offsets, sizeof offsets), triples, sizeof triples);
     for (int i = 0; i < MOST; i++) sum = mix_clock(sum, &clocks[i]);
     sum = mix(mix(mix(sum, types, sizeof types), resolved, sizeof resolved), locals, sizeof locals);
+    sum = mix(sum, instants, sizeof instants);
     return mix(mix(sum, &count, sizeof count), changes, sizeof changes);
 }
 
@@ -771,6 +867,8 @@ int main(int count, char **words) {
     for (int i = 3; i < count && zone_count < 50; i++) zones[zone_count++] = read_file(words[i]);
     for (size_t i = 0; i < sizeof TEXTS / sizeof *TEXTS; i++)
         zones[zone_count++] = copy((struct bytes){ZONED_TEXT, (uint8_t *)TEXTS[i], strlen(TEXTS[i])});
+    for (size_t i = 0; i < sizeof EXTENDED / sizeof *EXTENDED; i++)
+        zones[zone_count++] = copy((struct bytes){ZONED_EXTENDED_STRING, (uint8_t *)EXTENDED[i], strlen(EXTENDED[i])});
     for (size_t i = 0; i < zone_count; i++) EXPECT(zoned_parse(zones[i].kind, zones[i].at, zones[i].len) == ZONED_OK);
     EXPECT(zoned_version() == ZONED_VERSION_NUMBER);
     try_wrapping_count();

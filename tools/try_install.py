@@ -58,7 +58,7 @@ def run(*words, **more):
 
 def declared():
     text = re.sub(r"/\*.*?\*/", "", HEADER.read_text(), flags=re.S)
-    return set(re.findall(r"^(?:\w+ )*(zoned_\w+)\(", text, re.M))
+    return set(re.findall(r"^(?!ZONED_INLINE)(?:\w+ )*(zoned_\w+)\(", text, re.M))
 
 
 def version():

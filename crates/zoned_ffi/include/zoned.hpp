@@ -33,7 +33,7 @@ using sys_seconds = sys_time<seconds>;
 using local_seconds = local_time<seconds>;
 
 // What to do with a local time that the clocks skipped, and with one that they show several times.
-enum class gap : uint32_t { refuse = ZONED_GAP_REFUSE, shift_forward = ZONED_GAP_SHIFT_FORWARD };
+enum class gap : uint32_t { refuse = ZONED_GAP_REFUSE, shift_forward = ZONED_GAP_SHIFT_FORWARD, end = ZONED_GAP_END };
 enum class fold : uint32_t { refuse = ZONED_FOLD_REFUSE, earliest = ZONED_FOLD_EARLIEST, latest = ZONED_FOLD_LATEST };
 struct policy {
     enum gap gap = gap::refuse;
@@ -83,6 +83,9 @@ public:
 
     // The zone of a TZ string, such as EST5EDT,M3.2.0,M11.1.0.
     static time_zone from_string(std::string_view text) { return open(ZONED_TEXT, text.data(), text.size()); }
+
+    // The zone of a TZ string that may have the extensions of RFC 8536: hours of a time of day from -167 to 167.
+    static time_zone from_extended_string(std::string_view text) { return open(ZONED_EXTENDED_STRING, text.data(), text.size()); }
 
     // The zone of that name in a folder of TZif files. Throws std::runtime_error if there is no such file.
     static time_zone locate(std::string_view name, const std::string &folder = "/usr/share/zoneinfo") {
@@ -154,11 +157,9 @@ public:
         if (clock.shown == ZONED_ONCE) return {local_info::unique, get_info(sys(clock.first)), {}};
         if (clock.shown == ZONED_SEVERAL_TIMES)
             return {local_info::ambiguous, get_info(sys(clock.first)), get_info(sys(clock.last))};
-        // The clock change that skipped it is the last one before the instant by the offset before it, or an earlier one.
-        auto change = before(to_sys(local, {gap::shift_forward, fold::refuse}));
-        while (count(local) < change.at + change.before.offset || change.at + change.after.offset <= count(local))
-            change = before(sys(change.at - 1));
-        return {local_info::nonexistent, get_info(sys(change.at - 1)), get_info(sys(change.at))};
+        zoned_change gap;
+        check(zoned_zone_gap(&zone, count(local), &gap));
+        return {local_info::nonexistent, get_info(sys(gap.at - 1)), get_info(sys(gap.at))};
     }
 
     // Columns: vectors, std::span or whatever else has data() and size(). The second is as long as the first. Throws error with
@@ -169,25 +170,20 @@ public:
     template <class Instants, class Locals> void to_local_column(const Instants &instants, Locals &&locals) const {
         auto from = numbers<std::chrono::system_clock>(instants.data());
         auto to = numbers<local_t>(locals.data());
-        using unit = typename std::remove_reference_t<decltype(*instants.data())>::period;
-        static_assert(unit::num == 1, "a unit of which no whole number makes a second");
-        static_assert(std::is_same_v<unit, typename std::remove_reference_t<decltype(*locals.data())>::period>, "two units");
         size_t row = 0;
-        auto number = zoned_zone_local(&zone, unit::den, from, instants.size(), to, locals.size(), &row);
+        auto number = zoned_zone_local(&zone, per_second(instants.data(), locals.data()), from, instants.size(), to, locals.size(), &row);
         check(number, row);
     }
 
-    // Local times as instants, of seconds.
+    // Local times as instants, in these units. No time stays.
     template <class Locals, class Instants>
     void to_sys_column(const Locals &locals, Instants &&instants, policy choice = {}) const {
-        std::vector<zoned_resolved> resolved(locals.size());
-        if (instants.size() != locals.size()) throw error(ZONED_OTHER_SIZE);
-        check(zoned_zone_resolve(&zone, uint32_t(choice.gap), uint32_t(choice.fold), numbers<local_t>(locals.data()),
-                                 locals.size(), resolved.data(), resolved.size()));
-        for (size_t row = 0; row < resolved.size(); row++) {
-            check(resolved[row].number, row);
-            instants.data()[row] = sys(resolved[row].instant);
-        }
+        auto from = numbers<local_t>(locals.data());
+        auto to = numbers<std::chrono::system_clock>(instants.data());
+        size_t row = 0;
+        auto number = zoned_zone_instants(&zone, uint32_t(choice.gap), uint32_t(choice.fold), per_second(locals.data(), instants.data()),
+                                          from, locals.size(), to, instants.size(), &row);
+        check(number, row);
     }
 
     // The handle, for calls of zoned.h. It stays this zone's.
@@ -204,18 +200,19 @@ private:
         return opened;
     }
 
-    zoned_change before(sys_seconds at) const {
-        zoned_change change;
-        check(zoned_zone_previous_change(&zone, count(at), &change));
-        return change;
-    }
-
     template <class Time> static int64_t count(Time at) { return at.time_since_epoch().count(); }
     static sys_seconds sys(int64_t at) { return sys_seconds(seconds(at)); }
 
     static int32_t known(int32_t offset) {
         if (offset == ZONED_NO_OFFSET) throw error(ZONED_NO_LOCAL_TIME);
         return offset;
+    }
+
+    // How many of the unit of both columns make a second.
+    template <class From, class To> static constexpr int64_t per_second(const From *, const To *) {
+        static_assert(From::period::num == 1, "a unit of which no whole number makes a second");
+        static_assert(std::is_same_v<typename From::period, typename To::period>, "two units");
+        return From::period::den;
     }
 
     // A time point of 64 bits is the number of its units, and nothing else.

@@ -17,14 +17,15 @@
    it was to open is changed, except that a column is written up to its first row without an answer. The first of these that
    holds (those of a handle, and of a choice, if there is one):
 
-     ZONED_UNKNOWN_KIND    `kind` is neither ZONED_FILE nor ZONED_TEXT
+     ZONED_UNKNOWN_KIND    `kind` is not one of ZONED_FILE, ZONED_TEXT, ZONED_EXTENDED_STRING
      ZONED_UNKNOWN_CHOICE  `gap` or `fold` is none of its enum
      ZONED_NOT_OPEN        the handle has no zone open
      ZONED_OTHER_SIZE      the count of answers is not the one that is stated below
      3 .. 17               the bytes make no zone: the enum of these numbers is below, and docs/ZONEQ.md says more of each.
                            ZONED_OUT_OF_MEMORY (17) says nothing about the bytes
+     ZONED_INSTANT_OUT_OF_RANGE, ZONED_NO_GAP   zoned_zone_gap only: see there
      ZONED_NO_CHANGE       zoned_zone_next_change and zoned_zone_previous_change only: there is no such change
-     ZONED_UNKNOWN_UNIT    zoned_zone_local only, before ZONED_NOT_OPEN: no unit has that count in a second
+     ZONED_UNKNOWN_UNIT    zoned_zone_local and zoned_zone_instants only, before ZONED_NOT_OPEN: no unit has that count in a second
      ZONED_NO_LOCAL_TIME   zoned_zone_span: the zone has no type at the instant. zoned_zone_local: a row has no local time; the
                            rows before it are written, and its number
 
@@ -54,7 +55,7 @@
    Arrays
    ------
    An array is a pointer and a count of elements, and the bytes of a zone are one too. The pointer may be NULL if the count is 0;
-   no other pointer may be, also that of zoned_close. Pointers are aligned for what they point to. Within a call the answers
+   no other pointer may be, but for that of zoned_close. Pointers are aligned for what they point to. Within a call the answers
    overlap neither the bytes, nor the questions, nor a handle, two handles are two structs, and nobody else changes any of them.
    The answers need not be initialised before a call.
 
@@ -62,7 +63,8 @@
    ----------------
    zoned_zone_changes counts all changes of a stretch, also those that it has no room for, and takes as long as stepping through
    them. Give it the stretch that you mean to list, and never all of 64 bits: a rule of two types has two changes in each of the
-   4,294,967,292 years that it answers in, some 8.6 billion in all. Of a thousand years it has 2,000.
+   4,294,967,292 years that it answers in, some 8.6 billion in all. Of a thousand years it has 2,000. Or let
+   zoned_zone_first_changes stop counting: with changes_len + 1 as `most` it still says whether there are more than fit.
 
      zoned_change changes[16];
      size_t count;
@@ -122,6 +124,12 @@
 #define ZONED_NONNULL(parameters)
 #endif
 
+#if defined(__cplusplus) || (defined(__STDC_VERSION__) && __STDC_VERSION__ >= 199901L)
+#define ZONED_INLINE static inline
+#else
+#define ZONED_INLINE static __inline
+#endif
+
 #ifdef __cplusplus
 extern "C" {
 #endif
@@ -135,9 +143,12 @@ extern "C" {
 enum {
     ZONED_FILE = 0, /* a TZif file of version 1, 2 or 3 (RFC 8536), as those of /usr/share/zoneinfo; version 4 (RFC 9636) is
                        rejected (14). Debian's files under right/ have leap seconds and no footer: their last type stays */
-    ZONED_TEXT = 1  /* a TZ string (POSIX.1 section 8.3), such as EST5EDT,M3.2.0,M11.1.0, with no zero byte after it. An empty
+    ZONED_TEXT = 1, /* a TZ string (POSIX.1 section 8.3), such as EST5EDT,M3.2.0,M11.1.0, with no zero byte after it. An empty
                        one is UTC. White space around it is passed over. The extensions of RFC 8536 section 3.3.1 are faults:
                        a sign of a time of day (10) and hours of it above 24 (6). In the footer of a file they are read */
+    ZONED_EXTENDED_STRING = 2 /* a TZ string that may have these extensions: hours of a time of day from -167 to 167, such as
+                       <-02>2<-01>,M3.5.0/-1,M10.5.0/0, the footer of America/Nuuk's file. Nothing comes around it: white space
+                       and an empty string are faults */
 };
 
 /* Why the bytes make no zone. The numbers 1, 2, 4, 9 and 11 of docs/ZONEQ.md aren't returned here. */
@@ -165,7 +176,8 @@ enum {
     ZONED_UNKNOWN_CHOICE = 34,
     ZONED_NO_CHANGE = 35,
     ZONED_UNKNOWN_UNIT = 36,
-    ZONED_NO_LOCAL_TIME = 37
+    ZONED_NO_LOCAL_TIME = 37,
+    ZONED_NO_GAP = 38
 };
 
 /* What is wrong with a TZif file whose lists make no valid zone: zoned_fault returns these in place of ZONED_TIME_ZONE. */
@@ -246,8 +258,13 @@ uint32_t zoned_open(uint32_t kind, const void *zone, size_t zone_len, struct zon
    is no memory, and then `out` is as it was. */
 uint32_t zoned_share(const struct zoned_zone *zone, struct zoned_zone *out) ZONED_MUST_CHECK ZONED_NONNULL((1, 2));
 
-/* Closes the zone, if one is open. The last handle that is closed frees it. To close twice does no harm. */
+/* Closes the zone, if one is open. The last handle that is closed frees it. To close twice does no harm, and zoned_close(NULL)
+   does nothing: the macro tests for it. A call by the function's address, or from another language, passes a handle. */
 void zoned_close(struct zoned_zone *zone) ZONED_NONNULL((1));
+ZONED_INLINE void zoned_close_or_null(struct zoned_zone *zone) {
+    if (zone) zoned_close(zone);
+}
+#define zoned_close(zone) zoned_close_or_null(zone)
 
 /* *offset is the offset in force at the instant, and offsets[i] that at instants[i], as in zoned_at.
 
@@ -346,6 +363,11 @@ uint32_t zoned_zone_previous_change(const struct zoned_zone *zone, int64_t befor
 uint32_t zoned_zone_changes(const struct zoned_zone *zone, int64_t from, int64_t until,
                             zoned_change *changes, size_t changes_len, size_t *count) ZONED_MUST_CHECK ZONED_NONNULL((1, 6));
 
+/* As zoned_zone_changes, and stops at the change after the first `most`: *count is how many changes there are, and no more than
+   `most`, and none is written beyond these. New York has 2 changes in 2021: with 1 as `most` the count is 1. */
+uint32_t zoned_zone_first_changes(const struct zoned_zone *zone, int64_t from, int64_t until, size_t most,
+                                  zoned_change *changes, size_t changes_len, size_t *count) ZONED_MUST_CHECK ZONED_NONNULL((1, 7));
+
 /* *clock says when the zone's clocks show the local time, and clocks[i] when they show locals[i], as in zoned_wall_instants.
 
    clocks_len is locals_len. */
@@ -365,8 +387,9 @@ uint32_t zoned_zone_wall(const struct zoned_zone *zone,
 /* What to take of a local time in a gap, which the clocks skipped: `gap`. */
 enum {
     ZONED_GAP_REFUSE = 0,       /* nothing */
-    ZONED_GAP_SHIFT_FORWARD = 1 /* the instant at which a clock that was not set forward shows it. New York's clocks skipped
-                                   02:30 on 2021-03-14: it is the instant at which they showed 03:30 */
+    ZONED_GAP_SHIFT_FORWARD = 1, /* the instant at which a clock that was not set forward shows it. New York's clocks skipped
+                                    02:30 on 2021-03-14: it is the instant at which they showed 03:30 */
+    ZONED_GAP_END = 2           /* the second at which the gap ends: the instant at which they showed 03:00 */
 };
 
 /* What to take of a local time in a fold, which they show several times: `fold`. */
@@ -386,7 +409,7 @@ enum {
 /* The instant of a local time. */
 typedef struct zoned_resolved {
     uint32_t number; /* ZONED_OK, or ZONED_IN_GAP, ZONED_IN_FOLD or ZONED_INSTANT_OUT_OF_RANGE: then the others are 0 */
-    int32_t offset;  /* the offset in force at the instant, in seconds east of UTC; in a gap that after it */
+    int32_t offset;  /* the offset in force at the instant, in seconds east of UTC; in a gap mostly that after it */
     int64_t instant; /* a Unix second */
 } zoned_resolved;
 
@@ -399,6 +422,22 @@ uint32_t zoned_zone_resolve(const struct zoned_zone *zone, uint32_t gap, uint32_
                             const int64_t *locals, size_t locals_len,
                             zoned_resolved *resolved, size_t resolved_len) ZONED_MUST_CHECK ZONED_NONNULL((1));
 
+/* instants[i] is the instant of locals[i] under the choice. Both are counted in one unit, of which per_second make a second, as in
+   zoned_zone_local. The choice is made for the second that the local time lies in, and what it has beyond that second is added
+   to the instant, unless the instant is the end of a gap. ZONED_NO_TIME stays.
+
+   ZONED_IN_GAP, ZONED_IN_FOLD, ZONED_INSTANT_OUT_OF_RANGE: locals[*row] is the first that has no instant, for this reason; it is
+   out of range if it lies outside the years -262143 to 262142 or its instant doesn't fit 64 bits. The rows before it are
+   written. In all other cases *row is as it was. ZONED_UNKNOWN_CHOICE comes before ZONED_UNKNOWN_UNIT.
+
+   In New York, in milliseconds, by ZONED_GAP_END and ZONED_FOLD_LATEST: 1615689000500 (2021-03-14 02:30:00.5, in a gap) is
+   1615705200000, and 1636248600500 (2021-11-07 01:30:00.5, in a fold) is 1636266600500.
+
+   instants_len is locals_len. */
+uint32_t zoned_zone_instants(const struct zoned_zone *zone, uint32_t gap, uint32_t fold, int64_t per_second,
+                             const int64_t *locals, size_t locals_len,
+                             int64_t *instants, size_t instants_len, size_t *row) ZONED_MUST_CHECK ZONED_NONNULL((1, 9));
+
 /* *reached is the first instant at which a clock of the zone shows the local time or a later one, and the offset in force then.
    If the local time lies in a gap, it is the second at which the gap ends; in a fold, the first of the instants that show it. A
    later local time never has an earlier answer, so the answers of midnights divide time into days.
@@ -408,6 +447,14 @@ uint32_t zoned_zone_resolve(const struct zoned_zone *zone, uint32_t gap, uint32_
    reached->number is ZONED_OK, or ZONED_INSTANT_OUT_OF_RANGE: then the others are 0. */
 uint32_t zoned_zone_first_at_or_after(const struct zoned_zone *zone, int64_t local, zoned_resolved *reached)
     ZONED_MUST_CHECK ZONED_NONNULL((1, 3));
+
+/* *gap is the change of the clocks that skips the local time: they show less than the local time before it, and more from it on.
+
+   In New York 02:30 on 2021-03-14 (1615689000) lies in a gap: the change is at 1615705200, from EST, -18000, to EDT, -14400.
+
+   ZONED_INSTANT_OUT_OF_RANGE: the local time lies outside the years -262143 to 262142. ZONED_NO_GAP: clocks show the local
+   time. Nothing is written then. */
+uint32_t zoned_zone_gap(const struct zoned_zone *zone, int64_t local, zoned_change *gap) ZONED_MUST_CHECK ZONED_NONNULL((1, 3));
 
 /* Returns the version of the library: ZONED_VERSION_NUMBER of the header that it was built with. */
 uint32_t zoned_version(void);

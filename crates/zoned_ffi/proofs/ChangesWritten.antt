@@ -1,12 +1,13 @@
 -- The changes of a stretch: how many there can be, and how they are written into a room.
-use Rattle.std.proofs.Common.{◌≡◌, ℕ, ℤ, zero, suc, pos, ◌+◌, ◌<◌, ◌+ℤ◌, ◌≤ℤ◌, ◌<ℤ◌, ◌∙◌, List, [], ◌∷◌, ◌++◌, Fits, FitsSigned, ap, arith, get_or, length, map, refl, slice_set, sym, take, w64}
+use Rattle.std.proofs.Common.{◌≡◌, ℕ, ℤ, zero, suc, pos, ◌+◌, ◌<◌, ◌+ℤ◌, ◌≤ℤ◌, ◌<ℤ◌, ◌∙◌, List, [], ◌∷◌, ◌++◌, ◌≤◌, ◌⊎◌, Fits, FitsSigned, ap, append-nil, arith, get_or, inl, inr, length, map, refl, slice_set, subst, sym, take, take_all, w64}
+use Rattle.std.proofs.Math.Seq.{take-append_seam}
 use Rattle.std.proofs.lemmas.Int.{ints}
 use Rattle.std.proofs.lemmas.List.{length-map, map-append}
 use Rattle.std.proofs.lemmas.List.Elements.{Contains-get_or}
 use Rattle.tz_info.specs.Changes.{AreChanges}
 use Rattle.tz_info.specs.Zones.{Zone, TypeAt}
 use Rattle.tz_base.specs.declared.change.Change.{Change}
-use Rattle.zoned_ffi.specs.WrittenChanges.{written_change, written_into}
+use Rattle.zoned_ffi.specs.WrittenChanges.{AreFirstWritten, AreWrittenChanges, written_change, written_into}
 use Rattle.zoned_ffi.specs.declared.changes.WrittenChange.{WrittenChange}
 
 take_none : {A : Type 0} (n : ℕ) → take {A = A} n [] ≡ []
@@ -47,3 +48,33 @@ module _ (z : Zone) (from until : ℤ) (changes : List Change) (are : AreChanges
       let before : (get_or changes k d).at <ℤ until = here.1.1 in
       let after = risen k d place in
       omega (arith, ints, low, high, before, after)
+
+-- so all of them can be counted
+count_fits : (z : Zone) (from until : ℤ) (changes : List Change) → AreChanges (TypeAt z) from until changes → FitsSigned w64 from → FitsSigned w64 until
+    → length changes ≤ 18_446_744_073_709_551_615
+count_fits z from until [] are low high = omega arith
+count_fits z from until (c ∷ cs) are low high =
+    let fits = place_fits z from until (c ∷ cs) are (length cs) c (omega arith) low high in
+    omega (arith, fits)
+
+-- those that are found are the first ones: as many as the limit, or all
+first_are : (found rest : List Change) (most : ℕ) → length found ≤ most → (length found ≡ most) ⊎ (rest ≡ []) → take most (found ++ rest) ≡ found
+first_are found rest most within end = elim end [
+  | inl e ↦ subst (λ n. take n (found ++ rest) ≡ found) e (take-append_seam found rest)
+  | inr e ↦ ap (take most) (ap (λ r. found ++ r) e ∙ append-nil found) ∙ take_all most found within
+]
+
+pub first_written : (z : Zone) (from until : ℤ) (most : ℕ) (found rest : List Change) (room written : List WrittenChange) (count : ℕ)
+    → AreChanges (TypeAt z) from until (found ++ rest) → count ≡ length found → count ≤ most → (count ≡ most) ⊎ (rest ≡ []) → written ≡ written_into (map written_change found) room
+    → AreFirstWritten z from until most room written count
+first_written z from until most found rest room written count are counted within end was =
+    let same = first_are found rest most (subst (λ n. n ≤ most) counted within) (subst (λ n. (n ≡ most) ⊎ (rest ≡ [])) counted end) in
+    (found ++ rest, are, counted ∙ ap length (sym same), was ∙ ap (λ l. written_into (map written_change l) room) (sym same))
+
+-- with a limit that no count passes all are written
+pub all_written : (z : Zone) (from until : ℤ) (most : ℕ) (room written : List WrittenChange) (count : ℕ) → FitsSigned w64 from → FitsSigned w64 until
+    → 18_446_744_073_709_551_615 ≤ most → AreFirstWritten z from until most room written count → AreWrittenChanges z from until room written count
+all_written z from until most room written count low high big first =
+    let fits = count_fits z from until first.0 first.1 low high in
+    let same = take_all most first.0 (omega (arith, fits, big)) in
+    (first.0, first.1, first.2 ∙ ap length same, first.3 ∙ ap (λ l. written_into (map written_change l) room) same)

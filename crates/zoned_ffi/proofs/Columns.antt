@@ -1,13 +1,21 @@
 -- Local times of a column: by a lookup, and by what is kept of a stretch.
-use Rattle.std.proofs.Common.{◌≡◌, ◌≢◌, ◌∙◌, ℤ, pos, neg_ℤ, ◌+ℤ◌, ◌-ℤ◌, ◌*ℤ◌, ◌≤ℤ◌, ◌<ℤ◌, ap, arith, sym, subst, Option, None, Some, MatchOption}
+use Rattle.std.proofs.Common.{◌≡◌, ◌∙◌, ℤ, pos, neg_ℤ, ◌+ℤ◌, ◌-ℤ◌, ◌*ℤ◌, ◌≤ℤ◌, ◌<ℤ◌, ℕ, ap, arith, refl, sym, subst, Option, None, Some, MatchOption}
 use Rattle.std.proofs.lemmas.Int.{ints}
 use Rattle.gregorian.specs.Year.{floor_div}
 use Rattle.gregorian.proofs.ForCallers.{floors}
+use Rattle.naive_base.specs.Range.{IsInRange}
 use Rattle.tz_base.specs.LocalTypes.{LocalType}
 use Rattle.tz_info.specs.Zones.{Zone, TypeAt}
 use Rattle.tz_info.specs.declared.zone.offset_stretch.OffsetStretch.{OffsetStretch}
-use Rattle.zoned_ffi.specs.Units.{IsCounted, IsKept, IsLocal, IsOffsetStretch, IsWithout, uncounted, local_by, per_second}
-use Rattle.zoned_ffi.specs.declared.column.Kept.{Kept}
+use Rattle.zoned_ffi.specs.Columns.{IsInstantOf, IsInstantTaken, IsKept, IsNoInstant, IsRowNumber, second_of}
+use Rattle.zoned_ffi.specs.Resolved.{IsNoneTaken}
+use Rattle.zoned_ffi.specs.Steps.ResolvedInstants.{IsTakenAs, taken_instant}
+use Rattle.zoned_ffi.specs.Units.{IsCounted, IsLocal, IsOffsetStretch, IsWithout, uncounted, per_second}
+use Rattle.zoned_ffi.specs.declared.choice.Choice.{Choice}
+use Rattle.zoned_ffi.specs.declared.column.kept.Kept.{Kept}
+use Rattle.zoned_ffi.specs.declared.column.Way.TheVariants.{ToLocal}
+use Rattle.zoned_ffi.specs.declared.resolved.Taken.{Taken}
+use Rattle.zoned_ffi.specs.declared.resolved.Taken.TheVariants.{InForce, BeforeGap, GapEnd}
 use Rattle.zoned_ffi.specs.declared.unit.Unit.{Unit}
 use Rattle.zoned_ffi.specs.declared.unit.Unit.TheVariants as units
 
@@ -39,14 +47,41 @@ greatest = pos 9_223_372_036_854_775_807
 
 -- what is kept of a stretch
 pub kept_of : (z : Zone) (unit : Unit) (s : OffsetStretch) (k : Kept) → IsOffsetStretch z s → (s.from *ℤ pos (per_second unit)) ≤ℤ k.low → least ≤ℤ k.low → (least -ℤ k.add) ≤ℤ k.low
-    → k.high ≤ℤ (s.until *ℤ pos (per_second unit)) → k.high ≤ℤ greatest → k.high ≤ℤ (greatest -ℤ k.add) → k.add ≡ s.offset *ℤ pos (per_second unit) → IsKept z unit k
+    → k.high ≤ℤ (s.until *ℤ pos (per_second unit)) → k.high ≤ℤ greatest → k.high ≤ℤ (greatest -ℤ k.add) → k.add ≡ s.offset *ℤ pos (per_second unit) → IsKept z unit ToLocal k
 kept_of z unit s k stretch a b d e f g add = λ x low high.
-    let found = stretch (floor_div x (per_second unit)) (floor_low unit x s.from (omega (arith, ints, a, low))) (floor_high unit x s.until (omega (arith, ints, e, high))) in (
+    let found = stretch (floor_div x (per_second unit)) (floor_low unit x s.from (omega (arith, ints, a, low))) (floor_high unit x s.until (omega (arith, ints, e, high))) in
+    let counted : IsCounted (x +ℤ k.add) = (omega (arith, ints, d, g, low, high), λ none. omega (arith, ints, none, d, low)) in (
       (λ none. omega (arith, ints, none, b, low)),
+      counted,
       record {
         type = found.0;
         in_force = found.1;
         sum = ap (λ (n : ℤ). x +ℤ n) (add ∙ ap (λ (o : ℤ). o *ℤ pos (per_second unit)) found.2);
-        counted = (omega (arith, ints, d, g, low, high), λ none. omega (arith, ints, none, d, low));
+        counted = counted;
       },
     )
+
+-- the instant by what is taken
+taken_gives : (z : Zone) (unit : Unit) (choice : Choice) (local : ℤ) (taken : Taken) → IsTakenAs z (second_of unit local) choice taken → IsInstantTaken z unit choice local (taken_instant unit local taken)
+taken_gives z unit choice local (InForce offset) is = IsInstantTaken.by_offset is.0.0 is.0.1 (ap (λ (o : ℤ). local -ℤ (o *ℤ pos (per_second unit))) is.0.2)
+taken_gives z unit choice local (BeforeGap offset) is = IsInstantTaken.by_offset is.0 is.1 (ap (λ (o : ℤ). local -ℤ (o *ℤ pos (per_second unit))) is.2)
+taken_gives z unit choice local (GapEnd at offset) is = IsInstantTaken.by_gap_end at is.0 is.1 refl
+
+-- it is the local time's, if it can be counted
+pub instant_told : (z : Zone) (unit : Unit) (choice : Choice) (local : ℤ) (taken : Taken) (r : Option ℤ) → IsInRange (second_of unit local) → IsTakenAs z (second_of unit local) choice taken
+    → MatchOption r (¬ (IsCounted (taken_instant unit local taken))) (λ i. (i ≡ taken_instant unit local taken) × IsCounted i) → MatchOption r (IsNoInstant z unit choice local 23) (IsInstantOf z unit choice local)
+instant_told z unit choice local taken None in_range is none = IsNoInstant.uncounted (taken_instant unit local taken) in_range (taken_gives z unit choice local taken is) none
+instant_told z unit choice local taken (Some i) in_range is found = record {
+  in_range = in_range;
+  taken = subst (λ (x : ℤ). IsInstantTaken z unit choice local x) (sym found.0) (taken_gives z unit choice local taken is);
+  counted = found.1;
+}
+
+none_number : (z : Zone) (local : ℤ) (choice : Choice) (n : ℕ) → IsNoneTaken z local choice n → IsRowNumber n
+none_number z local choice n (IsNoneTaken.gap _ _) = (omega arith, omega arith)
+none_number z local choice n (IsNoneTaken.fold _ _ _ _) = (omega arith, omega arith)
+
+pub row_number : (z : Zone) (unit : Unit) (choice : Choice) (local : ℤ) (n : ℕ) → IsNoInstant z unit choice local n → IsRowNumber n
+row_number z unit choice local n (IsNoInstant.outside _) = (omega arith, omega arith)
+row_number z unit choice local n (IsNoInstant.refused k _ none) = none_number z (second_of unit local) choice k none
+row_number z unit choice local n (IsNoInstant.uncounted _ _ _ _) = (omega arith, omega arith)

@@ -1,16 +1,15 @@
 -- A handle that is only read: what it holds is had twice, and a `&` to it lends the value at its pointer. Assumes `Logic`.
 use Rattle.std.proofs.Common.{◌≡◌, ℕ, List, [], ◌∷◌, ◌++◌, refl, subst}
 use seplogic.Ra.Ura.{Ura}
-use mathlib.Mathlib.Data.Part.{◌∈◌}
 use mir.Val.{Val, vstruct, vcons, vnil, of_list}
 use base.Share as half
-use base.Logic.{SProp, ent, sep, upd_i, id⊢, never, fst∗}
+use base.Logic.{ent, sep, upd_i, id⊢, never, fst∗}
 use base.Fml.{Lft, Share, Fml, Incl-refl, ftrue, fsep, fex, fseps, fwand, fupd, fdead, fbor, flft, fshr_bor}
 use contract.BorrowLft.{meet_⊑_left}
 use ghost.Rules.{Halves}
 use types.Logic.{Logic, sem}
-use types.Kit.{Item, Goal, Soaks, Seq, Step, step, ‵, ◌⊛◌, raw, some, later, ◌$◌, ◌∵◌, !, qed, by, move, keep, drop, use0, use1, use2, split, fsplit, fsplit3, fjoin, fpick, fpack, feq_i, feq_l, pick, assume, suffices, await, rewrite, updating, now, done}
-use types.Tokens.{bor_open, obor_alter, bor_fracture, shr_bor_dup}
+use types.Kit.{Item, Goal, Soaks, Seq, Step, step, ‵, ◌⊛◌, some, later, ◌$◌, ◌∵◌, !, qed, by, move, keep, drop, use1, use2, split, fsplit, fsplit3, fjoin, fpick, fpack, feq_i, feq_l, pick, assume, suffices, await, rewrite, updating, now, done}
+use types.Tokens.{bor_open, obor_alter, bor_fracture}
 use denote.RattleType.{RattleType, RowLaws, Valss}
 use denote.Builtin.{RawPtr}
 use denote.RawPtr.{Ptr, block_ptr, null_ptr, ptr_val, in_a_block, Testable}

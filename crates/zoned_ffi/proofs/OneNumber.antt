@@ -1,10 +1,12 @@
 -- A call that is rejected has one number, unless memory runs out.
-use Rattle.std.proofs.Common.{◌≡◌, ◌⊎◌, ℕ, List, ap, refl, sym, ◌∙◌, inl, inr, arith}
+use Rattle.std.proofs.Common.{◌≡◌, ◌⊎◌, ℕ, List, ap, refl, true, sym, ◌∙◌, inl, inr, arith}
 use Rattle.tz_base.specs.Errors.{number_of}
 use Rattle.tz_info.proofs.ForCallers.{file_fault_once, text_fault_once}
+use Rattle.tz_info.proofs.TextLaws.{one_fault as string_fault_once}
 use Rattle.tz_info.specs.TzFiles.IsZoneFault.{In_file as Of_file, No_memory as Of_memory}
 use Rattle.zoned_ffi.specs.Kinds.{number_of as kind_number}
-use Rattle.zoned_ffi.specs.Refusals.{IsFault, IsFileError, IsRefusal, IsTextFault}
+use Rattle.zoned_ffi.specs.Refusals.{IsExtendedFault, IsFault, IsFileError, IsRefusal, IsTextFault}
+use Rattle.zoned_ffi.specs.Refusals.IsExtendedFault.{In_string, No_memory as Without_memory}
 use Rattle.zoned_ffi.specs.Refusals.IsFileError.{In_file}
 use Rattle.zoned_ffi.specs.Refusals.IsTextFault.{Not_utf8, In_text, No_memory}
 use Rattle.zoned_ffi.specs.Refusals.IsRefusal.{Unknown_kind, Other_size, Not_read}
@@ -27,11 +29,21 @@ text_alike bytes m n (Not_utf8 bad) (In_text _ utf8 _) = absurd (bad utf8)
 text_alike bytes m n (In_text _ utf8 _) (Not_utf8 bad) = absurd (bad utf8)
 text_alike bytes m n (In_text d _ f) (In_text e _ g) = inl (ap number_of (text_fault_once bytes d e f g))
 
+extended_alike : (bytes : List ℕ) (m n : ℕ) → IsExtendedFault bytes m → IsExtendedFault bytes n → Alike m n
+extended_alike bytes m n (Without_memory _ _) g = inr (inl refl)
+extended_alike bytes m n (In_string _ _) (Without_memory _ _) = inr (inr refl)
+extended_alike bytes m n (In_string d f) (In_string e g) = inl (ap number_of (string_fault_once true bytes d e f g))
+
 fault_alike : (j k : Kind) (bytes : List ℕ) (m n : ℕ) → kind_number j ≡ kind_number k → IsFault j bytes m → IsFault k bytes n → Alike m n
 fault_alike kinds.File kinds.File bytes m n same f g = file_alike bytes m n f g
 fault_alike kinds.File kinds.Text bytes m n same f g = absurd (omega (arith, same))
+fault_alike kinds.File kinds.ExtendedText bytes m n same f g = absurd (omega (arith, same))
 fault_alike kinds.Text kinds.File bytes m n same f g = absurd (omega (arith, same))
 fault_alike kinds.Text kinds.Text bytes m n same f g = text_alike bytes m n f g
+fault_alike kinds.Text kinds.ExtendedText bytes m n same f g = absurd (omega (arith, same))
+fault_alike kinds.ExtendedText kinds.File bytes m n same f g = absurd (omega (arith, same))
+fault_alike kinds.ExtendedText kinds.Text bytes m n same f g = absurd (omega (arith, same))
+fault_alike kinds.ExtendedText kinds.ExtendedText bytes m n same f g = extended_alike bytes m n f g
 
 pub one_number : (kind : ℕ) (bytes : List ℕ) (wanted room m n : ℕ) → IsRefusal kind bytes wanted room m → IsRefusal kind bytes wanted room n → Alike m n
 one_number kind bytes wanted room m n (Unknown_kind _) (Unknown_kind _) = inl refl

@@ -1,14 +1,16 @@
 -- What comes of reading, as a call tells it.
-use Rattle.std.proofs.Common.{◌≡◌, ◌≢◌, ◌⊎◌, ◌↔◌, Bool, IsTrue, IsFalse, ℕ, List, IfErr, Result, Ok, Err, subst, sym, inl, inr, arith, refl}
+use Rattle.std.proofs.Common.{◌≡◌, ◌≢◌, ◌⊎◌, ◌↔◌, Bool, IsTrue, IsFalse, ℕ, List, IfErr, MatchResult, Result, true, Ok, Err, subst, sym, inl, inr, arith, refl}
 use Rattle.std.specs.Str.{IsUtf8}
 use Rattle.tz_base.specs.Errors.{number_of, IsOutOfMemory}
 use Rattle.tz_base.specs.declared.error.Error.{Error}
 use Rattle.tz_base.specs.declared.error.Error.TheVariants as errors
-use Rattle.tz_info.specs.PosixZones.{IsPosixZone, IsPosixFault}
+use Rattle.tz_info.specs.PosixZones.{IsPosixZone, IsPosixFault, posix_zone}
 use Rattle.tz_info.specs.TzFiles.{IsZoneFault}
+use Rattle.tz_info.specs.TzGrammar.{IsTzText}
 use Rattle.tz_info.specs.Zones.{Zone}
+use Rattle.tz_info.specs.declared.rule.transition_rule.TransitionRule.{TransitionRule}
 use Rattle.zoned_ffi.specs.Kinds.{number_of as kind_number, IsZoneOf, Spells}
-use Rattle.zoned_ffi.specs.Refusals.{IsFault, IsFileError, IsReaderNumber, IsRefusal, IsTextFault, refusal_number}
+use Rattle.zoned_ffi.specs.Refusals.{IsExtendedFault, IsFault, IsFileError, IsReaderNumber, IsRefusal, IsTextFault, refusal_number}
 use Rattle.zoned_ffi.specs.declared.kind.Kind.{Kind}
 use Rattle.zoned_ffi.specs.declared.kind.Kind.TheVariants as kinds
 use Rattle.zoned_ffi.specs.declared.refusal.Refusal.{Refusal}
@@ -19,6 +21,12 @@ text_refused bytes e utf8 fault memory = elim fault [
   | inl is ↦ let zone = memory is in subst (IsTextFault bytes) (sym is) (IsTextFault.No_memory zone.0 utf8 zone.1)
   | inr there ↦ IsTextFault.In_text e utf8 there
 ]
+
+-- where there is no memory for the zone of a TZ string with extensions, that is the fault
+pub extended_refused : (bytes : List ℕ) (rule : TransitionRule) (r : Result Zone Error) → IsTzText true bytes rule → MatchResult r (λ z. z ≡ posix_zone rule) IsOutOfMemory
+    → IfErr r (λ e. IsExtendedFault bytes (number_of e))
+extended_refused bytes rule (Ok z) spelled made = tt
+extended_refused bytes rule (Err e) spelled memory = subst (IsExtendedFault bytes) (sym memory) (IsExtendedFault.No_memory (posix_zone rule) (rule, spelled, refl))
 
 pub reader_number : (e : Error) → IsReaderNumber (number_of e)
 reader_number (errors.DateTime _) = (omega arith, omega arith)
@@ -47,6 +55,7 @@ not_fitting fits wanted room is same equal = absurd (grind (arith, is, same.1 eq
 no_memory : (kind : Kind) (bytes : List ℕ) (z : Zone) → Spells kind bytes z → IsFault kind bytes 17
 no_memory kinds.File bytes z spells = IsFileError.In_file errors.OutOfMemory (IsZoneFault.No_memory spells.0.0 spells.0.1)
 no_memory kinds.Text bytes z spells = IsTextFault.No_memory z spells.0 spells.1
+no_memory kinds.ExtendedText bytes z spells = IsExtendedFault.No_memory z spells
 
 pub no_memory_refused : (number : ℕ) (bytes : List ℕ) (z : Zone) → IsZoneOf number bytes z → IsRefusal number bytes 0 0 17
 no_memory_refused number bytes z of_kind =

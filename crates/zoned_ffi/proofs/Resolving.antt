@@ -2,15 +2,15 @@
 use Rattle.std.proofs.Common.{ℤ, ◌-ℤ◌, ◌≡◌, ◌∙◌, ap, inl, inr, subst, sym}
 use Rattle.std.proofs.Math.IntN.{+ℤ-neg_ℤ_cancel}
 use Rattle.naive_base.specs.Range.{IsInRange}
-use Rattle.offset_core.specs.declared.choice.Choice.{Choice}
 use Rattle.tz_base.specs.LocalTypes.{IsUtOffset, LocalType}
 use Rattle.tz_info.specs.Gaps.{HasGap, IsBeforeGap}
 use Rattle.tz_info.specs.ShownSeconds.{IsFirstAtOrAfter}
 use Rattle.tz_info.specs.WallClocks.{Shows}
 use Rattle.tz_info.specs.Zones.{Zone, TypeAt}
 use Rattle.zoned_ffi.specs.Instants.{IsOffsetAt}
-use Rattle.zoned_ffi.specs.Resolved.{IsReachedAt, IsResolvedAt, IsTaken}
+use Rattle.zoned_ffi.specs.Resolved.{IsGapEnd, IsReachedAt, IsResolvedAt, IsTaken}
 use Rattle.zoned_ffi.specs.Steps.ResolvedInstants.{IsStamp, IsTakenAs}
+use Rattle.zoned_ffi.specs.declared.choice.Choice.{Choice}
 use Rattle.zoned_ffi.specs.declared.resolved.Resolved.{Resolved}
 use Rattle.zoned_ffi.specs.declared.resolved.Taken.TheVariants.{InForce}
 
@@ -20,6 +20,13 @@ pub resolved_by : (z : Zone) (choice : Choice) (local : ℤ) (t : LocalType) (of
 resolved_by z choice local t offset w in_range taken there stamp = elim stamp [
   | inl found ↦ IsResolvedAt.found t offset in_range taken found.0 there found.1
   | inr outside ↦ IsResolvedAt.taken_outside t in_range taken outside.0 outside.1
+]
+
+-- the gap's end
+pub ended_by : (z : Zone) (choice : Choice) (local at : ℤ) (after : LocalType) (w : Resolved) → IsInRange local → IsGapEnd z local choice at after → IsStamp at after.offset w → IsResolvedAt z choice local w
+ended_by z choice local at after w in_range end stamp = elim stamp [
+  | inl found ↦ IsResolvedAt.ended at after in_range end found.0 found.1
+  | inr outside ↦ IsResolvedAt.ended_outside at after in_range end outside.0 outside.1
 ]
 
 pub reached_by : (z : Zone) (local u : ℤ) (t : LocalType) (w : Resolved) → IsInRange local → IsFirstAtOrAfter (TypeAt z) local u t → IsStamp u t.offset w → IsReachedAt z local w

@@ -8,6 +8,7 @@ pub mod WrittenSpans
 pub mod Resolved
 pub mod Texts
 pub mod Units
+pub mod Columns
 pub mod Owned
 pub mod Handles
 pub mod Steps

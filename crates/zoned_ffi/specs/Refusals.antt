@@ -1,5 +1,5 @@
 -- Why a call is refused, by the number that it returns.
-use Rattle.std.specs.Prelude.{ℕ, ◌≡◌, ◌≢◌, ◌≤◌, List}
+use Rattle.std.specs.Prelude.{ℕ, ◌≡◌, ◌≢◌, ◌≤◌, List, true}
 use Rattle.std.specs.Str.{IsUtf8}
 use Rattle.tz_base.specs.Errors.{number_of as error_number}
 use Rattle.tz_base.specs.declared.error.Error.{Error}
@@ -8,8 +8,9 @@ use Rattle.tz_base.specs.declared.error.Expected.{Expected}
 use Rattle.tz_base.specs.declared.error.Expected.TheVariants as expected
 use Rattle.tz_info.specs.PosixZones.{IsPosixZone, IsPosixFault}
 use Rattle.tz_info.specs.TzFiles.{IsZoneFault}
+use Rattle.tz_info.specs.TzGrammar.{IsTextFault as IsStringFault}
 use Rattle.tz_info.specs.Zones.{Zone}
-use Rattle.zoned_ffi.specs.Kinds.{IsKind, number_of}
+use Rattle.zoned_ffi.specs.Kinds.{IsExtendedZone, IsKind, number_of}
 use Rattle.zoned_ffi.specs.declared.kind.Kind.{Kind}
 use Rattle.zoned_ffi.specs.declared.kind.Kind.TheVariants as kinds
 use Rattle.zoned_ffi.specs.declared.refusal.Refusal.{Refusal}
@@ -28,6 +29,11 @@ pub data IsTextFault (bytes : List ℕ) : ℕ → Type 0 where
   In_text : (e : Error) → IsUtf8 bytes → IsPosixFault bytes e → IsTextFault bytes (error_number e)
   No_memory : (z : Zone) → IsUtf8 bytes → IsPosixZone bytes z → IsTextFault bytes 17
 
+-- what is wrong with a TZ string that may have extensions, by the number of the error: it has a fault, or there is no memory for its zone
+pub data IsExtendedFault (bytes : List ℕ) : ℕ → Type 0 where
+  In_string : (e : Error) → IsStringFault true bytes e → IsExtendedFault bytes (error_number e)
+  No_memory : (z : Zone) → IsExtendedZone bytes z → IsExtendedFault bytes 17
+
 -- what is wrong with a file, by the number of the error
 pub data IsFileError (bytes : List ℕ) : ℕ → Type 0 where
   In_file : (e : Error) → IsZoneFault bytes e → IsFileError bytes (error_number e)
@@ -36,6 +42,7 @@ pub data IsFileError (bytes : List ℕ) : ℕ → Type 0 where
 abbrev pub IsFault : Kind → List ℕ → ℕ → Type 0
 IsFault kinds.File bytes n = IsFileError bytes n
 IsFault kinds.Text bytes n = IsTextFault bytes n
+IsFault kinds.ExtendedText bytes n = IsExtendedFault bytes n
 
 -- the reader's numbers
 abbrev pub IsReaderNumber : ℕ → Type 0

@@ -3,22 +3,23 @@ use Rattle.std.specs.Prelude.{ℕ, ℤ, ◌≡◌, ◌-ℤ◌, pos, List}
 use Rattle.std.specs.List.{AllZip}
 use Rattle.naive_base.specs.Range.{IsInRange}
 use Rattle.offset_core.specs.WallAnswer.{IsNeverShown, IsShownOnce, IsShownBetween}
-use Rattle.offset_core.specs.declared.choice.Choice.{Choice}
-use Rattle.offset_core.specs.declared.choice.GapChoice.{GapChoice}
-use Rattle.offset_core.specs.declared.choice.GapChoice.TheVariants as gaps
 use Rattle.offset_core.specs.declared.choice.FoldChoice.{FoldChoice}
 use Rattle.offset_core.specs.declared.choice.FoldChoice.TheVariants as folds
 use Rattle.tz_base.specs.LocalTypes.{LocalType}
-use Rattle.tz_info.specs.Gaps.{IsBeforeGap}
+use Rattle.tz_info.specs.Gaps.{HasGap, IsBeforeGap}
 use Rattle.tz_info.specs.ShownSeconds.{IsFirstAtOrAfter}
 use Rattle.tz_info.specs.WallClocks.{Shows}
 use Rattle.tz_info.specs.Zones.{Zone, TypeAt}
 use Rattle.zoned_ffi.specs.Instants.{IsOffsetAt}
+use Rattle.zoned_ffi.specs.declared.choice.Choice.{Choice}
+use Rattle.zoned_ffi.specs.declared.choice.GapChoice.{GapChoice}
+use Rattle.zoned_ffi.specs.declared.choice.GapChoice.TheVariants as gaps
 use Rattle.zoned_ffi.specs.declared.resolved.Resolved.{Resolved}
 
 abbrev pub gap_number : GapChoice → ℕ
 gap_number gaps.Refuse = 0
 gap_number gaps.ShiftForward = 1
+gap_number gaps.End = 2
 
 abbrev pub fold_number : FoldChoice → ℕ
 fold_number folds.Refuse = 0
@@ -41,6 +42,12 @@ pub data IsTaken (z : Zone) (local : ℤ) (choice : Choice) (t : LocalType) : Ty
   latest : (first : LocalType) → IsShownBetween (Shows (TypeAt z) local) first t → choice.fold ≡ folds.Latest → IsTaken z local choice t
   shifted : IsBeforeGap (TypeAt z) local t → choice.gap ≡ gaps.ShiftForward → IsTaken z local choice t
 
+-- the choice takes the second `at`, at which the gap that the local time lies in ends, and `after` is in force from then on
+pub record IsGapEnd (z : Zone) (local : ℤ) (choice : Choice) (at : ℤ) (after : LocalType) : Type 0 where
+  pub before : LocalType
+  pub gap : HasGap (TypeAt z) local before after at
+  pub end : choice.gap ≡ gaps.End
+
 -- why the choice takes none, by its number: a gap, or a fold, is refused
 pub data IsNoneTaken (z : Zone) (local : ℤ) (choice : Choice) : ℕ → Type 0 where
   gap : IsNeverShown (Shows (TypeAt z) local) → choice.gap ≡ gaps.Refuse → IsNoneTaken z local choice 21
@@ -50,14 +57,17 @@ pub data IsNoneTaken (z : Zone) (local : ℤ) (choice : Choice) : ℕ → Type 0
 abbrev pub unresolved : ℕ → Resolved
 unresolved n = record { number = n; offset = pos 0; instant = pos 0 }
 
--- What is written of a local time. The instant is the local time less the offset that is taken, and the offset is the one in force
--- there: in a gap the one after it. The number is 23 where the local time or the instant is outside the calendar's range.
+-- What is written of a local time. The instant is the local time less the offset that is taken, or the gap's end, and the offset is the
+-- one in force there: in a gap mostly the one after it. The number is 23 where the local time or the instant is outside the calendar's range.
 pub data IsResolvedAt (z : Zone) (choice : Choice) (local : ℤ) (w : Resolved) : Type 0 where
   found : (t : LocalType) (offset : ℤ) → IsInRange local → IsTaken z local choice t → IsInRange (local -ℤ t.offset) → IsOffsetAt z (local -ℤ t.offset) offset
       → w ≡ record { number = 0; offset = offset; instant = local -ℤ t.offset } → IsResolvedAt z choice local w
+  ended : (at : ℤ) (after : LocalType) → IsInRange local → IsGapEnd z local choice at after → IsInRange at
+      → w ≡ record { number = 0; offset = after.offset; instant = at } → IsResolvedAt z choice local w
   none : (n : ℕ) → IsInRange local → IsNoneTaken z local choice n → w ≡ unresolved n → IsResolvedAt z choice local w
   outside : ¬ (IsInRange local) → w ≡ unresolved 23 → IsResolvedAt z choice local w
   taken_outside : (t : LocalType) → IsInRange local → IsTaken z local choice t → ¬ (IsInRange (local -ℤ t.offset)) → w ≡ unresolved 23 → IsResolvedAt z choice local w
+  ended_outside : (at : ℤ) (after : LocalType) → IsInRange local → IsGapEnd z local choice at after → ¬ (IsInRange at) → w ≡ unresolved 23 → IsResolvedAt z choice local w
 
 -- one for each local time, in their order
 abbrev pub AreResolved : Zone → Choice → List ℤ → List Resolved → Type 0
@@ -66,6 +76,8 @@ AreResolved z choice locals resolved = AllZip (IsResolvedAt z choice) locals res
 -- What is written of the first second at which a clock shows a local time or a later one: that second, and the offset in force then.
 -- The number is 23 where the local time or that second is outside the calendar's range.
 pub data IsReachedAt (z : Zone) (local : ℤ) (w : Resolved) : Type 0 where
-  reached : (u : ℤ) (t : LocalType) → IsInRange local → IsFirstAtOrAfter (TypeAt z) local u t → IsInRange u → w ≡ record { number = 0; offset = t.offset; instant = u } → IsReachedAt z local w
+  reached : (u : ℤ) (t : LocalType) → IsInRange local → IsFirstAtOrAfter (TypeAt z) local u t → IsInRange u
+      → w ≡ record { number = 0; offset = t.offset; instant = u } → IsReachedAt z local w
   unreached : ¬ (IsInRange local) → w ≡ unresolved 23 → IsReachedAt z local w
-  reached_outside : (u : ℤ) (t : LocalType) → IsInRange local → IsFirstAtOrAfter (TypeAt z) local u t → ¬ (IsInRange u) → w ≡ unresolved 23 → IsReachedAt z local w
+  reached_outside : (u : ℤ) (t : LocalType) → IsInRange local → IsFirstAtOrAfter (TypeAt z) local u t → ¬ (IsInRange u) → w ≡ unresolved 23
+      → IsReachedAt z local w

@@ -26,6 +26,7 @@ pub data IsSaidOf : ℕ → List ℕ → Type 0 where
   No_change : IsSaidOf 35 (codes "no change of the clocks")
   Unknown_unit : IsSaidOf 36 (codes "no such unit of time")
   No_local_time : IsSaidOf 37 (codes "an instant has no local time")
+  No_gap : IsSaidOf 38 (codes "the local time lies in no gap")
   Other_index : IsSaidOf 41 (codes "a transition of a TZif file names no local time type")
   Not_rising : IsSaidOf 42 (codes "the transition times of a TZif file do not rise")
   Other_leaps : IsSaidOf 43 (codes "the leap seconds of a TZif file cannot follow one another")

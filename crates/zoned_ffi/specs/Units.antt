@@ -1,12 +1,10 @@
 -- Units of time, and local times counted in them.
-use Rattle.std.specs.Prelude.{ℕ, ℤ, ◌≡◌, ◌≢◌, ◌⊎◌, ◌+ℤ◌, ◌*ℤ◌, ◌≤ℤ◌, ◌<ℤ◌, ◌<◌, pos, neg_ℤ, FitsSigned, List, length, take, slice_index_or}
+use Rattle.std.specs.Prelude.{ℕ, ℤ, ◌≡◌, ◌≢◌, ◌+ℤ◌, ◌*ℤ◌, ◌≤ℤ◌, ◌<ℤ◌, pos, neg_ℤ, FitsSigned}
 use Rattle.std.specs.Int.{w64}
-use Rattle.std.specs.List.{AllZip}
 use Rattle.gregorian.specs.Year.{floor_div}
 use Rattle.tz_base.specs.LocalTypes.{LocalType}
 use Rattle.tz_info.specs.Zones.{Zone, TypeAt, IsTypeRefused}
 use Rattle.tz_info.specs.declared.zone.offset_stretch.OffsetStretch.{OffsetStretch}
-use Rattle.zoned_ffi.specs.declared.column.Kept.{Kept}
 use Rattle.zoned_ffi.specs.declared.unit.Unit.{Unit}
 use Rattle.zoned_ffi.specs.declared.unit.Unit.TheVariants as units
 
@@ -40,30 +38,11 @@ pub record IsLocal (z : Zone) (unit : Unit) (instant local : ℤ) : Type 0 where
   pub sum : local ≡ local_by unit instant type
   pub counted : IsCounted local
 
--- what is written: no time stays none
-abbrev pub IsLocalOrNone : Zone → Unit → ℤ → ℤ → Type 0
-IsLocalOrNone z unit instant local = ((instant ≡ no_time) × (local ≡ no_time)) ⊎ ((instant ≢ no_time) × IsLocal z unit instant local)
-
 -- the instant has no local time: the zone has no type there, or it can't be counted
 pub data IsWithout (z : Zone) (unit : Unit) (instant : ℤ) : Type 0 where
   no_type : IsTypeRefused z (floor_div instant (per_second unit)) → IsWithout z unit instant
   uncounted : (t : LocalType) → TypeAt z (floor_div instant (per_second unit)) t → ¬ (IsCounted (local_by unit instant t)) → IsWithout z unit instant
 
--- one for each instant, in their order
-abbrev pub AreLocals : Zone → Unit → List ℤ → List ℤ → Type 0
-AreLocals z unit instants locals = AllZip (IsLocalOrNone z unit) instants locals
-
--- the row at that place is the first without a local time, and those before it are written
-pub record IsFirstWithout (z : Zone) (unit : Unit) (instants locals : List ℤ) (row : ℕ) : Type 0 where
-  pub within : row < length instants
-  pub before : AreLocals z unit (take row instants) (take row locals)
-  pub time : slice_index_or instants row (pos 0) ≢ no_time
-  pub without : IsWithout z unit (slice_index_or instants row (pos 0))
-
 -- at each second of the stretch its offset is in force
 abbrev pub IsOffsetStretch : Zone → OffsetStretch → Type 0
 IsOffsetStretch z s = (u : ℤ) → s.from ≤ℤ u → u <ℤ s.until → (t : LocalType) × TypeAt z u t × (s.offset ≡ t.offset)
-
--- an instant from `low` on, and before `high`, has that local time: `add` more
-abbrev pub IsKept : Zone → Unit → Kept → Type 0
-IsKept z unit k = (x : ℤ) → k.low ≤ℤ x → x <ℤ k.high → (x ≢ no_time) × IsLocal z unit x (x +ℤ k.add)

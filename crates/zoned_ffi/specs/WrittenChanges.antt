@@ -1,6 +1,8 @@
 -- What is written of changes of the clocks.
-use Rattle.std.specs.Prelude.{ℕ, ℤ, ◌≡◌, ◌++◌, List, drop, length, map, take}
+use Rattle.std.specs.Prelude.{ℕ, ℤ, ◌≡◌, ◌⊎◌, ◌++◌, List, drop, length, map, take}
+use Rattle.naive_base.specs.Range.{IsInRange}
 use Rattle.tz_info.specs.Changes.{AreChanges, IsFirstChange, IsLastChange}
+use Rattle.tz_info.specs.Gaps.{HasGap, IsShown}
 use Rattle.tz_info.specs.Zones.{Zone, TypeAt}
 use Rattle.tz_base.specs.declared.change.Change.{Change}
 use Rattle.zoned_ffi.specs.WrittenTypes.{written_type}
@@ -18,6 +20,14 @@ IsFirstWritten z within w = (c : Change) × IsFirstChange (TypeAt z) within c ×
 abbrev pub IsLastWritten : Zone → (ℤ → Type 0) → WrittenChange → Type 0
 IsLastWritten z within w = (c : Change) × IsLastChange (TypeAt z) within c × (w ≡ written_change c)
 
+-- the change that skips the local time is written
+abbrev pub IsGapWritten : Zone → ℤ → WrittenChange → Type 0
+IsGapWritten z local w = (c : Change) × HasGap (TypeAt z) local c.before c.after c.at × (w ≡ written_change c)
+
+-- why there is none, by its number: the local time is outside the calendar's range, or some second shows it
+abbrev pub IsNoGap : Zone → ℤ → ℕ → Type 0
+IsNoGap z local n = ((n ≡ 23) × ¬ (IsInRange local)) ⊎ ((n ≡ 38) × IsShown (TypeAt z) local)
+
 -- what stands in a room once a list is written into it: as many of its elements as there is room for, and then what stood there
 abbrev pub written_into : {A : Type 0} → List A → List A → List A
 written_into new room = take (length room) new ++ drop (length new) room
@@ -26,3 +36,9 @@ written_into new room = take (length room) new ++ drop (length new) room
 abbrev pub AreWrittenChanges : Zone → ℤ → ℤ → List WrittenChange → List WrittenChange → ℕ → Type 0
 AreWrittenChanges z from until room written count =
     (all : List Change) × AreChanges (TypeAt z) from until all × (count ≡ length all) × (written ≡ written_into (map written_change all) room)
+
+-- the first changes of the stretch, at most so many, are counted and written into the room, in their order
+abbrev pub AreFirstWritten : Zone → ℤ → ℤ → ℕ → List WrittenChange → List WrittenChange → ℕ → Type 0
+AreFirstWritten z from until most room written count =
+    (all : List Change) × AreChanges (TypeAt z) from until all × (count ≡ length (take most all))
+    × (written ≡ written_into (map written_change (take most all)) room)

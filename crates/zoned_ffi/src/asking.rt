@@ -6,16 +6,20 @@ ghost use Rattle.tz_info.specs.Changes.{HasNoChange};
 ghost use Rattle.tz_info.specs.Zones.{Zone, TypeAt, IsTypeRefused};
 ghost use Rattle.zoned_ffi.specs.Handles.{IsLent, IsNoneLent, IsUnanswered};
 ghost use Rattle.zoned_ffi.specs.Instants.{AreOffsetsAt, IsOffsetAt};
-ghost use Rattle.zoned_ffi.specs.Units.{AreLocals, IsFirstWithout, IsUnit, per_second};
+ghost use Rattle.zoned_ffi.specs.Columns.{AreAnswered, IsFirstWithout};
+ghost use Rattle.zoned_ffi.specs.Units.{IsUnit, per_second};
 ghost use Rattle.zoned_ffi.specs.WallClocks.{AreTriples, AreWallClocks, IsWallClockAt};
-ghost use Rattle.zoned_ffi.specs.WrittenChanges.{AreWrittenChanges, IsFirstWritten, IsLastWritten};
+ghost use Rattle.zoned_ffi.specs.WrittenChanges.{AreFirstWritten, AreWrittenChanges, IsFirstWritten, IsLastWritten};
 ghost use Rattle.zoned_ffi.specs.WrittenSpans.{IsWrittenSpanAt};
+ghost use Rattle.zoned_ffi.specs.declared.column.Way.TheVariants.{ToLocal};
 ghost use Rattle.zoned_ffi.specs.declared.unit.Unit.{Unit as AnyUnit};
 ghost use Rattle.zoned_ffi.specs.WrittenTypes.{AreWrittenTypesAt, IsWrittenTypeAt};
 
-mod locals;
+pub mod locals;
 
-use crate::changes::{WrittenChange, answer_next, answer_previous, write_changes};
+use crate::changes::{
+    WrittenChange, answer_next, answer_previous, write_changes, write_first_changes,
+};
 use crate::column::answer_locals;
 use crate::instants::{answer_instants, offset_at};
 use crate::lent::Lent;
@@ -218,6 +222,30 @@ pub extern "C" fn zoned_zone_changes(
     0
 }
 
+/// Writes the first changes as `zoned_zone_changes` does, and counts them up to `most`.
+#[unsafe(no_mangle)]
+pub extern "C" fn zoned_zone_first_changes(
+    zone: &Lent,
+    from: i64,
+    until: i64,
+    most: usize,
+    changes: &mut [WrittenChange],
+    count: &mut usize,
+) -> u32
+    // 0: they are written, in their order, and counted. What stood behind them is as it was.
+    ensures answered { result ≡ 0 → (z : Zone) × IsLent zone.now z
+        × AreFirstWritten z from until most changes.old changes.new count.new }
+    // 33: no zone is open, and nothing is written.
+    ensures refused { result ≢ 0 → (result ≡ 33) × IsNoneLent zone.now
+        × (changes.new ≡ changes.old) × (count.new ≡ count.old) }
+{
+    let Some(share) = zone.share() else {
+        return NOT_OPEN;
+    };
+    *count = write_first_changes(share, from, until, most, changes);
+    0
+}
+
 /// Writes the local time of each instant, both counted in the unit of which `count` make a second.
 /// The least number of 64 bits is no time, and stays.
 #[unsafe(no_mangle)]
@@ -230,12 +258,12 @@ pub extern "C" fn zoned_zone_local(
 ) -> u32
     // 0: each answer is that of the zone.
     ensures answered { result ≡ 0 → (unit : AnyUnit) × (count ≡ pos (per_second unit))
-        × ((z : Zone) × IsLent zone.now z × AreLocals z unit instants.now locals.new)
+        × ((z : Zone) × IsLent zone.now z × AreAnswered z unit ToLocal instants.now locals.new)
         × (row.new ≡ row.old) }
     // 37: the instant in the row that is written has none. Those before it are answered.
     ensures without { result ≡ 37 → (unit : AnyUnit) × (count ≡ pos (per_second unit))
         × ((z : Zone) × IsLent zone.now z
-        × IsFirstWithout z unit instants.now locals.new row.new) }
+        × IsFirstWithout z unit ToLocal instants.now locals.new row.new 37) }
     // 36: no unit has that count in a second. Others as in the calls above. Nothing is written.
     ensures refused { result ≢ 0 → result ≢ 37 → (((result ≡ 36) × ¬ (IsUnit count))
         ⊎ (IsUnit count × IsUnanswered zone.now (length instants.now) (length locals.old) result))

@@ -3,11 +3,12 @@
 ghost use Rattle.std.specs.Prelude.{◌≡◌, ◌≢◌, ◌≤ℤ◌, ◌<ℤ◌, slice_set};
 ghost use Rattle.tz_info.specs.Changes.{HasNoChange};
 ghost use Rattle.tz_info.specs.Zones.{TypeAt};
-ghost use Rattle.zoned_ffi.specs.WrittenChanges.{AreWrittenChanges, IsFirstWritten, IsLastWritten, written_change};
+ghost use Rattle.zoned_ffi.specs.WrittenChanges.{AreFirstWritten, AreWrittenChanges, IsFirstWritten, IsGapWritten, IsLastWritten, IsNoGap, written_change};
 
 use crate::local_type::WrittenType;
-use crate::refusal::NO_CHANGE;
-use tz_info::{Change, TimeZone};
+use crate::refusal::{NO_CHANGE, NO_GAP, OUT_OF_RANGE};
+use naive_base::NaiveDateTime;
+use tz_info::{Change, TimeZone, TypesAround};
 
 /// A change of the clocks.
 #[repr(C)]
@@ -63,13 +64,49 @@ pub fn answer_previous(zone: &TimeZone, before_or_at: i64, change: &mut WrittenC
     }
 }
 
+/// Writes the change at which clocks skip the local time: 0; 23 if it is outside the calendar's range,
+/// and 38 if some clock shows it.
+pub fn answer_gap(zone: &TimeZone, local: i64, gap: &mut WrittenChange) -> u32
+    ensures answered { result ≡ 0 → IsGapWritten zone.now local gap.new }
+    ensures refused { result ≢ 0 → IsNoGap zone.now local result × (gap.new ≡ gap.old) }
+{
+    let Some(reading) = NaiveDateTime::from_timestamp_opt(local, 0) else {
+        return OUT_OF_RANGE;
+    };
+    match zone.find_local_time_type_around(reading) {
+        TypesAround::Gap(found) => {
+            *gap = WrittenChange::of(&found);
+            0
+        }
+        TypesAround::Single(_) => NO_GAP,
+        TypesAround::Ambiguous(_, _) => NO_GAP,
+    }
+}
+
 /// Writes the changes from the second `from` on and before `until`, in their order, as far as there
 /// is room. Returns how many there are.
 pub fn write_changes(zone: &TimeZone, from: i64, until: i64, changes: &mut [WrittenChange]) -> usize
     ensures { AreWrittenChanges zone.now from until changes.old changes.new result }
 {
+    write_first_changes(zone, from, until, usize::MAX, changes)
+}
+
+/// Writes the first of these changes, at most that many, as far as there is room. Returns how many
+/// there are, and no more than that many.
+pub fn write_first_changes(
+    zone: &TimeZone,
+    from: i64,
+    until: i64,
+    most: usize,
+    changes: &mut [WrittenChange],
+) -> usize
+    ensures { AreFirstWritten zone.now from until most changes.old changes.new result }
+{
     let mut count = 0;
     for change in zone.changes(from, until) {
+        if count == most {
+            return count;
+        }
         write_at(changes, count, &change);
         count += 1;
     }

@@ -1,11 +1,12 @@
-//! How bytes are read: as a TZif file, or as a TZ text.
+//! How bytes are read: as a TZif file, or as a TZ string, with extensions or without.
 
 ghost use Rattle.std.specs.Prelude.{◌≡◌, ◌↔◌, ℕ, IsTrue, IfOk, IfErr, MatchOption, MatchResult};
 ghost use Rattle.tz_info.specs.Zones.{Zone};
 ghost use Rattle.zoned_ffi.specs.Kinds.{IsKind, IsZoneOf, Spells, number_of};
 ghost use Rattle.zoned_ffi.specs.Refusals.{IsFault, IsReaderNumber, IsRefusal, refusal_number};
-ghost use Rattle.zoned_ffi.specs.declared.kind.Kind.TheVariants.{File, Text};
+ghost use Rattle.zoned_ffi.specs.declared.kind.Kind.TheVariants.{ExtendedText, File, Text};
 
+use crate::extended::extended_zone;
 use crate::refusal::Refusal;
 use std::alloc::Global;
 use std::str;
@@ -18,6 +19,8 @@ pub enum Kind {
     File,
     /// As a TZ text, as `EST5EDT,M3.2.0,M11.1.0`. Its number is 1.
     Text,
+    /// As a TZ string with the extensions of RFC 8536, section 3.3.1. Its number is 2.
+    ExtendedText,
 }
 
 impl Kind {
@@ -28,6 +31,7 @@ impl Kind {
         match number {
             0 => Some(Kind::File),
             1 => Some(Kind::Text),
+            2 => Some(Kind::ExtendedText),
             _ => None,
         }
     }
@@ -43,6 +47,7 @@ impl Kind {
         match self {
             Kind::File => read_file(alloc, bytes),
             Kind::Text => read_text(alloc, bytes),
+            Kind::ExtendedText => read_extended(alloc, bytes),
         }
     }
 }
@@ -80,6 +85,20 @@ fn read_text(alloc: Global, bytes: &[u8]) -> Result<TimeZone, Refusal>
         return Err(Refusal::TextNotUtf8);
     };
     match TimeZone::from_posix_tz(alloc, text) {
+        Ok(zone) => Ok(zone),
+        Err(error) => Err(Refusal::Reader(error)),
+    }
+}
+
+// The zone of a TZ string with extensions.
+fn read_extended(alloc: Global, bytes: &[u8]) -> Result<TimeZone, Refusal>
+    ensures found { IfOk result (λ z. Spells ExtendedText bytes.now z) }
+    ensures only { (z : Zone) → Spells ExtendedText bytes.now z
+        → MatchResult result (λ y. y ≡ z) (λ e. refusal_number e ≡ 17) }
+    ensures fault { IfErr result (λ e. IsFault ExtendedText bytes.now (refusal_number e)) }
+    ensures number { IfErr result (λ e. IsReaderNumber (refusal_number e)) }
+{
+    match extended_zone(alloc, bytes) {
         Ok(zone) => Ok(zone),
         Err(error) => Err(Refusal::Reader(error)),
     }

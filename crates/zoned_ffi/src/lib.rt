@@ -14,7 +14,9 @@ ghost use Rattle.zoned_ffi.specs.WallClocks.{AreTriples, AreWallClocks};
 
 mod asking;
 mod changes;
+mod choice;
 mod column;
+mod extended;
 mod handle;
 mod instants;
 mod kind;

@@ -2,8 +2,6 @@
 //! gives to C. The functions are empty, and never called.
 
 ghost use Rattle.std.specs.Prelude.{◌≡◌, ◌∷◌, [], ◌⊎◌, ℕ, ℤ, pos, neg_ℤ, true, false, Some, None};
-ghost use Rattle.offset_core.specs.declared.choice.Choice.{Choice};
-ghost use Rattle.offset_core.specs.declared.choice.GapChoice.TheVariants as gaps;
 ghost use Rattle.offset_core.specs.declared.choice.FoldChoice.TheVariants as folds;
 ghost use Rattle.offset_core.specs.declared.local_result.LocalResult.TheVariants as results;
 ghost use Rattle.tz_base.specs.LocalTypes.{LocalType};
@@ -16,22 +14,26 @@ ghost use Rattle.zoned_ffi.specs.WallClocks.{written, out_of_range};
 ghost use Rattle.zoned_ffi.specs.WrittenChanges.{written_change, written_into};
 ghost use Rattle.zoned_ffi.specs.WrittenSpans.{written_span};
 ghost use Rattle.zoned_ffi.specs.WrittenTypes.{mark, no_type, written_type, zero_ended, zeros};
+ghost use Rattle.zoned_ffi.specs.declared.choice.Choice.{Choice};
+ghost use Rattle.zoned_ffi.specs.declared.choice.GapChoice.TheVariants as gaps;
 ghost use Rattle.zoned_ffi.specs.declared.lent.Lent.{Lent};
 ghost use Rattle.zoned_ffi.specs.declared.kind.Kind.TheVariants as kinds;
 
-/// A file is of kind 0 and a TZ string of kind 1; there is no kind 2.
+/// A file is of kind 0, a TZ string of kind 1, and one with extensions of kind 2; there is no kind 3.
 pub fn kind_numbers()
     ensures file { number_of kinds.File ≡ 0 }
     ensures text { number_of kinds.Text ≡ 1 }
-    ensures two { ¬ (IsKind 2) }
+    ensures extended { number_of kinds.ExtendedText ≡ 2 }
+    ensures three { ¬ (IsKind 3) }
 {}
 
-/// For a gap 0 refuses and 1 shifts; for a fold 0 refuses, 1 takes the earliest and 2 the latest.
+/// For a gap 0 refuses, 1 shifts and 2 takes its end; for a fold 0 refuses, 1 takes the earliest and 2 the latest.
 pub fn choice_numbers()
     ensures refused { IsChoiceOf 0 0 (record { gap = gaps.Refuse; fold = folds.Refuse }) }
     ensures earliest { IsChoiceOf 1 1 (record { gap = gaps.ShiftForward; fold = folds.Earliest }) }
     ensures latest { IsChoiceOf 1 2 (record { gap = gaps.ShiftForward; fold = folds.Latest }) }
-    ensures gap_2 { ¬ (IsChoice 2 0) }
+    ensures end { IsChoiceOf 2 0 (record { gap = gaps.End; fold = folds.Refuse }) }
+    ensures gap_3 { ¬ (IsChoice 3 0) }
     ensures fold_3 { ¬ (IsChoice 0 3) }
 {}
 

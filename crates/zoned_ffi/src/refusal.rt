@@ -23,6 +23,12 @@ pub const UNKNOWN_UNIT: u32 = 36;
 /// What it returns if an instant has no local time.
 pub const NO_LOCAL_TIME: u32 = 37;
 
+/// What it returns if a local time lies in no gap.
+pub const NO_GAP: u32 = 38;
+
+/// The number of a local time that is outside the calendar's range, or whose instant is.
+pub const OUT_OF_RANGE: u32 = 23;
+
 /// What a call returns where memory runs out.
 pub const OUT_OF_MEMORY: u32 = 17;
 

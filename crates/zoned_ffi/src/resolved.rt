@@ -1,17 +1,16 @@
 //! The instants that a choice takes for local times.
 
-ghost use Rattle.std.specs.Prelude.{◌≡◌, ◌≢◌, ◌-ℤ◌, pos, length, MatchOption, MatchResult};
+ghost use Rattle.std.specs.Prelude.{◌≡◌, ◌≢◌, ◌-ℤ◌, pos, length, MatchResult};
 ghost use Rattle.naive_base.specs.NaiveDateTime.{reading};
 ghost use Rattle.naive_base.specs.Range.{IsInRange};
-ghost use Rattle.offset_core.specs.declared.choice.FoldChoice.{FoldChoice as AnyFold};
-ghost use Rattle.offset_core.specs.declared.choice.GapChoice.{GapChoice as AnyGap};
-ghost use Rattle.zoned_ffi.specs.Resolved.{AreResolved, IsChoice, IsChoiceOf, IsNoneTaken, IsReachedAt, IsResolvedAt, fold_number, gap_number, unresolved};
+ghost use Rattle.zoned_ffi.specs.Resolved.{AreResolved, IsNoneTaken, IsReachedAt, IsResolvedAt, unresolved};
 ghost use Rattle.zoned_ffi.specs.Steps.ResolvedInstants.{IsStamp, IsTakenAs};
 
+use crate::choice::{Choice, GapChoice};
 use crate::instants::offset_at;
-use crate::refusal::OTHER_SIZE;
+use crate::refusal::{OTHER_SIZE, OUT_OF_RANGE};
 use naive_base::NaiveDateTime;
-use offset_core::{Choice, FoldChoice, GapChoice};
+use offset_core::FoldChoice;
 use tz_info::{Probes, TimeZone, TypesAround};
 
 // The local time lies in a gap, and the choice refuses gaps.
@@ -19,43 +18,6 @@ const GAP: u32 = 21;
 
 // It lies in a fold, and the choice refuses folds.
 const FOLD: u32 = 22;
-
-// It or the instant is outside the calendar's range.
-const OUT_OF_RANGE: u32 = 23;
-
-/// The choice of those numbers: of a gap 0 is refused, and 1 shifted forward; of a fold 0 is
-/// refused, 1 the earliest and 2 the latest.
-pub fn choice_of(gap: u32, fold: u32) -> Option<Choice>
-    ensures { MatchOption result (¬ (IsChoice gap fold)) (λ choice. IsChoiceOf gap fold choice) }
-{
-    Some(Choice {
-        gap: gap_choice_of(gap)?,
-        fold: fold_choice_of(fold)?,
-    })
-}
-
-fn gap_choice_of(number: u32) -> Option<GapChoice>
-    ensures { MatchOption result ((choice : AnyGap) → number ≢ gap_number choice)
-        (λ choice. number ≡ gap_number choice) }
-{
-    match number {
-        0 => Some(GapChoice::Refuse),
-        1 => Some(GapChoice::ShiftForward),
-        _ => None,
-    }
-}
-
-fn fold_choice_of(number: u32) -> Option<FoldChoice>
-    ensures { MatchOption result ((choice : AnyFold) → number ≢ fold_number choice)
-        (λ choice. number ≡ fold_number choice) }
-{
-    match number {
-        0 => Some(FoldChoice::Refuse),
-        1 => Some(FoldChoice::Earliest),
-        2 => Some(FoldChoice::Latest),
-        _ => None,
-    }
-}
 
 /// The instant that a choice takes for a local time.
 #[repr(C)]
@@ -78,12 +40,13 @@ impl Resolved {
         let Some(reading) = NaiveDateTime::from_timestamp_opt(local, 0) else {
             return Resolved::none(OUT_OF_RANGE);
         };
-        match offset_taken(zone, choice, reading) {
+        match take(zone, choice, reading) {
             Ok(Taken::InForce(offset)) => Resolved::within(instant_by(local, offset), offset),
             Ok(Taken::BeforeGap(offset)) => {
                 let instant = instant_by(local, offset);
                 Resolved::within(instant, offset_at(zone, instant))
             }
+            Ok(Taken::GapEnd(at, offset)) => Resolved::within(at, offset),
             Err(number) => Resolved::none(number),
         }
     }
@@ -132,17 +95,19 @@ fn instant_by(local: i64, offset: i32) -> i64
     local - i64::from(offset)
 }
 
-// The offset by which a choice takes a reading for an instant.
+/// What a choice takes of a local time: an offset, by which it gives an instant, or a second.
 #[derive(Clone, Copy)]
-enum Taken {
-    // It is in force at that instant, at which a clock at it shows the reading.
+pub enum Taken {
+    /// The offset in force at that instant, at which a clock shows the local time.
     InForce(i32),
-    // It is in force before the gap that the reading lies in.
+    /// The offset before the gap that the local time lies in.
     BeforeGap(i32),
+    /// The second at which that gap ends, and the offset from then on.
+    GapEnd(i64, i32),
 }
 
-// What the choice takes for the reading, or why it takes nothing.
-fn offset_taken(zone: &TimeZone, choice: Choice, local: NaiveDateTime) -> Result<Taken, u32>
+/// What the choice takes of the local time, or the number that says why it takes nothing.
+pub fn take(zone: &TimeZone, choice: Choice, local: NaiveDateTime) -> Result<Taken, u32>
     ensures { MatchResult result (λ taken. IsTakenAs zone.now (reading local).s choice taken)
         (λ n. IsNoneTaken zone.now (reading local).s choice n) }
 {
@@ -157,6 +122,7 @@ fn offset_taken(zone: &TimeZone, choice: Choice, local: NaiveDateTime) -> Result
         TypesAround::Gap(gap) => match choice.gap {
             GapChoice::Refuse => Err(GAP),
             GapChoice::ShiftForward => Ok(Taken::BeforeGap(gap.before.offset())),
+            GapChoice::End => Ok(Taken::GapEnd(gap.at, gap.after.offset())),
         },
     }
 }

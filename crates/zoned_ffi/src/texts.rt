@@ -58,6 +58,7 @@ fn text_of(number: u32) -> &'static str
         35 => "no change of the clocks",
         36 => "no such unit of time",
         37 => "an instant has no local time",
+        38 => "the local time lies in no gap",
         41 => "a transition of a TZif file names no local time type",
         42 => "the transition times of a TZif file do not rise",
         43 => "the leap seconds of a TZif file cannot follow one another",

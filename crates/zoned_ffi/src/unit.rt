@@ -1,8 +1,14 @@
 //! Units in which instants are counted.
 
-ghost use Rattle.std.specs.Prelude.{◌≡◌, ◌*ℤ◌, ℤ, pos, MatchOption};
+ghost use Rattle.std.specs.Prelude.{◌≡◌, ◌*ℤ◌, ◌≤ℤ◌, ℤ, neg_ℤ, pos, MatchOption};
 ghost use Rattle.gregorian.specs.Year.{floor_div};
 ghost use Rattle.zoned_ffi.specs.Units.{IsUnit, per_second};
+
+/// The least time that can be counted.
+pub const LEAST: i128 = -9_223_372_036_854_775_807;
+
+/// The greatest.
+pub const GREATEST: i128 = 9_223_372_036_854_775_807;
 
 /// What instants are counted in.
 #[derive(Clone, Copy)]
@@ -41,6 +47,33 @@ impl Unit {
             Unit::Milliseconds => instant.div_euclid(1_000),
             Unit::Microseconds => instant.div_euclid(1_000_000),
             Unit::Nanoseconds => instant.div_euclid(1_000_000_000),
+        }
+    }
+
+    /// How many of the unit an offset has.
+    #[inline(always)]
+    pub fn counts_of(self, offset: i32) -> i64
+        ensures value { result ≡ offset *ℤ pos (per_second self) }
+        ensures bound { (neg_ℤ (pos 4_611_686_018_427_387_904) ≤ℤ result)
+            × (result ≤ℤ pos 4_611_686_018_427_387_904) }
+    {
+        match self {
+            Unit::Seconds => offset as i64,
+            Unit::Milliseconds => offset as i64 * 1_000,
+            Unit::Microseconds => offset as i64 * 1_000_000,
+            Unit::Nanoseconds => offset as i64 * 1_000_000_000,
+        }
+    }
+
+    /// The second, counted in the unit.
+    pub fn counts_at(self, second: i64) -> i128
+        ensures { result ≡ second *ℤ pos (per_second self) }
+    {
+        match self {
+            Unit::Seconds => second as i128,
+            Unit::Milliseconds => second as i128 * 1_000,
+            Unit::Microseconds => second as i128 * 1_000_000,
+            Unit::Nanoseconds => second as i128 * 1_000_000_000,
         }
     }
 }

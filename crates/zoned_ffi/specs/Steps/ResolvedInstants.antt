@@ -1,14 +1,16 @@
 -- What is written of an instant that a choice takes.
-use Rattle.std.specs.Prelude.{ℤ, ◌-ℤ◌, ◌≡◌, ◌⊎◌}
+use Rattle.std.specs.Prelude.{ℤ, ◌-ℤ◌, ◌*ℤ◌, ◌≡◌, ◌⊎◌, pos}
 use Rattle.naive_base.specs.Range.{IsInRange}
-use Rattle.offset_core.specs.declared.choice.Choice.{Choice}
 use Rattle.tz_base.specs.LocalTypes.{LocalType}
 use Rattle.tz_info.specs.Zones.{Zone}
 use Rattle.zoned_ffi.specs.Instants.{IsOffsetAt}
-use Rattle.zoned_ffi.specs.Resolved.{IsTaken, unresolved}
+use Rattle.zoned_ffi.specs.Resolved.{IsGapEnd, IsTaken, unresolved}
+use Rattle.zoned_ffi.specs.Units.{per_second}
+use Rattle.zoned_ffi.specs.declared.choice.Choice.{Choice}
 use Rattle.zoned_ffi.specs.declared.resolved.Resolved.{Resolved}
 use Rattle.zoned_ffi.specs.declared.resolved.Taken.{Taken}
-use Rattle.zoned_ffi.specs.declared.resolved.Taken.TheVariants.{InForce, BeforeGap}
+use Rattle.zoned_ffi.specs.declared.resolved.Taken.TheVariants.{InForce, BeforeGap, GapEnd}
+use Rattle.zoned_ffi.specs.declared.unit.Unit.{Unit}
 
 -- the second u and an offset, or that u is out of range
 abbrev pub IsStamp : ℤ → ℤ → Resolved → Type 0
@@ -19,3 +21,10 @@ IsStamp u offset w =
 abbrev pub IsTakenAs : Zone → ℤ → Choice → Taken → Type 0
 IsTakenAs z local choice (InForce offset) = ((t : LocalType) × IsTaken z local choice t × (offset ≡ t.offset)) × IsOffsetAt z (local -ℤ offset) offset
 IsTakenAs z local choice (BeforeGap offset) = (t : LocalType) × IsTaken z local choice t × (offset ≡ t.offset)
+IsTakenAs z local choice (GapEnd at offset) = (after : LocalType) × IsGapEnd z local choice at after × (offset ≡ after.offset)
+
+-- the instant by what is taken of the local time, counted in the unit
+abbrev pub taken_instant : Unit → ℤ → Taken → ℤ
+taken_instant unit local (InForce offset) = local -ℤ (offset *ℤ pos (per_second unit))
+taken_instant unit local (BeforeGap offset) = local -ℤ (offset *ℤ pos (per_second unit))
+taken_instant unit local (GapEnd at offset) = at *ℤ pos (per_second unit)

@@ -1,14 +1,23 @@
-//! The instants of local times.
+//! The instants of local times, and the gaps that they lie in.
 
-ghost use Rattle.std.specs.Prelude.{◌≡◌, ◌≢◌, ◌⊎◌, length};
-ghost use Rattle.offset_core.specs.declared.choice.Choice.{Choice as AnyChoice};
+ghost use Rattle.std.specs.Prelude.{◌≡◌, ◌≢◌, ◌⊎◌, pos, length};
 ghost use Rattle.tz_info.specs.Zones.{Zone};
+ghost use Rattle.zoned_ffi.specs.Columns.{AreAnswered, IsFirstWithout, IsRowNumber};
 ghost use Rattle.zoned_ffi.specs.Handles.{IsLent, IsNoneLent, IsUnanswered};
 ghost use Rattle.zoned_ffi.specs.Resolved.{AreResolved, IsChoice, IsChoiceOf, IsReachedAt, IsResolvedAt};
+ghost use Rattle.zoned_ffi.specs.Units.{IsUnit, per_second};
+ghost use Rattle.zoned_ffi.specs.WrittenChanges.{IsGapWritten, IsNoGap};
+ghost use Rattle.zoned_ffi.specs.declared.choice.Choice.{Choice as AnyChoice};
+ghost use Rattle.zoned_ffi.specs.declared.column.Way.TheVariants.{ToInstants};
+ghost use Rattle.zoned_ffi.specs.declared.unit.Unit.{Unit as AnyUnit};
 
+use crate::changes::{WrittenChange, answer_gap};
+use crate::choice::choice_of;
+use crate::column::answer_times;
 use crate::lent::Lent;
-use crate::refusal::{NOT_OPEN, UNKNOWN_CHOICE};
-use crate::resolved::{Resolved, answer_resolved, choice_of};
+use crate::refusal::{NOT_OPEN, UNKNOWN_CHOICE, UNKNOWN_UNIT};
+use crate::resolved::{Resolved, answer_resolved};
+use crate::unit::Unit;
 
 /// Writes the instant that a choice takes for the local time.
 #[unsafe(no_mangle)]
@@ -80,4 +89,62 @@ pub extern "C" fn zoned_zone_first_at_or_after(
     };
     *reached = Resolved::first_at_or_after(share, local);
     0
+}
+
+/// Writes the change at which the zone's clocks skip the local time.
+#[unsafe(no_mangle)]
+pub extern "C" fn zoned_zone_gap(zone: &Lent, local: i64, gap: &mut WrittenChange) -> u32
+    // 0: it is written.
+    ensures answered { result ≡ 0 → (z : Zone) × IsLent zone.now z × IsGapWritten z local gap.new }
+    // 33: no zone is open. 23: the local time is out of range. 38: clocks show it. Nothing is written.
+    ensures refused { result ≢ 0 → (((result ≡ 33) × IsNoneLent zone.now)
+        ⊎ ((z : Zone) × IsLent zone.now z × IsNoGap z local result)) × (gap.new ≡ gap.old) }
+{
+    let Some(share) = zone.share() else {
+        return NOT_OPEN;
+    };
+    answer_gap(share, local, gap)
+}
+
+/// Writes the instant of each local time under the choice, both counted in the unit of which `count`
+/// make a second. The least number of 64 bits is no time, and stays.
+#[unsafe(no_mangle)]
+pub extern "C" fn zoned_zone_instants(
+    zone: &Lent,
+    gap: u32,
+    fold: u32,
+    count: i64,
+    locals: &[i64],
+    instants: &mut [i64],
+    row: &mut usize,
+) -> u32
+    // 0: each answer is that of the zone.
+    ensures answered { result ≡ 0 → (choice : AnyChoice) × IsChoiceOf gap fold choice
+        × ((unit : AnyUnit) × (count ≡ pos (per_second unit))
+        × ((z : Zone) × IsLent zone.now z
+        × AreAnswered z unit (ToInstants choice) locals.now instants.new)
+        × (row.new ≡ row.old)) }
+    // 21 to 23: the local time in the row that is written has none. Those before it are answered.
+    ensures without { IsRowNumber result → (choice : AnyChoice) × IsChoiceOf gap fold choice
+        × ((unit : AnyUnit) × (count ≡ pos (per_second unit))
+        × ((z : Zone) × IsLent zone.now z
+        × IsFirstWithout z unit (ToInstants choice) locals.now instants.new row.new result)) }
+    // 34: no choice has these numbers. 36: no unit has that count in a second. Others as in the calls
+    // above. Nothing is written.
+    ensures refused { result ≢ 0 → ¬ (IsRowNumber result)
+        → (((result ≡ 34) × ¬ (IsChoice gap fold))
+        ⊎ (IsChoice gap fold × (((result ≡ 36) × ¬ (IsUnit count))
+        ⊎ (IsUnit count × IsUnanswered zone.now (length locals.now) (length instants.old) result))))
+        × (instants.new ≡ instants.old) × (row.new ≡ row.old) }
+{
+    let Some(choice) = choice_of(gap, fold) else {
+        return UNKNOWN_CHOICE;
+    };
+    let Some(unit) = Unit::of_count(count) else {
+        return UNKNOWN_UNIT;
+    };
+    let Some(share) = zone.share() else {
+        return NOT_OPEN;
+    };
+    answer_times(share, unit, choice, locals, instants, row)
 }

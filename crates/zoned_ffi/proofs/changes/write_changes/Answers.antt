@@ -1,31 +1,9 @@
-use Rattle.std.proofs.Common.{arith, ◌≡◌, ◌<◌, ◌++◌, ◌∷◌, [], ◌∙◌, ap, sym, subst, length, FitsSigned, to_z-of_z, w64}
-use Rattle.std.proofs.lemmas.List.{length-append, append_assoc}
-use Rattle.tz_info.specs.Changes.{AreChanges}
-use Rattle.tz_info.specs.ChangesLeft.{changes_left}
-use Rattle.tz_info.specs.Zones.{TypeAt}
-use Rattle.zoned_ffi.proofs.ChangesWritten.{more_written, place_fits}
+use Rattle.std.proofs.Common.{FitsSigned, arith, to_z-of_z, w64}
+use Rattle.zoned_ffi.proofs.ChangesWritten.{all_written}
 use Rattle.zoned_ffi.proofs.changes.write_changes.Goals as goal
 
-pub overflow_add-count : goal.overflow_add-count
-overflow_add-count c =
+pub returns : goal.returns
+returns c =
     let from : FitsSigned w64 c.args.from = c.ranges.from in
     let until : FitsSigned w64 c.args.until = c.ranges.until in
-    let at = c.loop-change in
-    let before = simp to_z-of_z at at.invariant in
-    let left = ap length (c.in-Some.ensures.steps) in
-    let place : at.count < length (at.yielded ++ changes_left at.change-iterator) = omega (arith, length-append at.yielded (changes_left at.change-iterator), before.2, left) in
-    place_fits c.args.zone.now c.args.from c.args.until (at.yielded ++ changes_left at.change-iterator) before.4 at.count c.in-Some.change place from until
-
-pub loop-change-preserved : goal.loop-change-preserved
-loop-change-preserved c =
-    let from : FitsSigned w64 c.args.from = c.ranges.from in
-    let until : FitsSigned w64 c.args.until = c.ranges.until in
-    let at = c.loop-change in
-    let before = simp to_z-of_z at at.invariant in
-    let put = c.write_at.ensures in
-    let written = more_written at.yielded c.in-Some.change c.args.changes.now at.changes at.count before.2 before.3 in
-    let steps = c.in-Some.ensures.steps in
-    let seam : at.yielded ++ changes_left at.change-iterator ≡ (at.yielded ++ (c.in-Some.change ∷ [])) ++ changes_left c.next.new.self =
-    ap (λ left. at.yielded ++ left) steps ∙ sym (append_assoc at.yielded (c.in-Some.change ∷ []) (changes_left c.next.new.self)) in
-    let all = subst (λ found. AreChanges (TypeAt c.args.zone.now) c.args.from c.args.until found) seam before.4 in
-    simp to_z-of_z (tt, tt, omega (arith, length-append at.yielded (c.in-Some.change ∷ []), before.2), put ∙ written, all)
+    all_written c.args.zone.now c.args.from c.args.until 18_446_744_073_709_551_615 c.args.changes.now c.write_first_changes.new.changes c.write_first_changes.result from until (omega arith) (simp to_z-of_z at c.write_first_changes.ensures)

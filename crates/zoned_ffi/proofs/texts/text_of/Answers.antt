@@ -71,6 +71,9 @@ returns-in-36 c = says c.args.number 36 _ c.in-36.is IsSaidOf.Unknown_unit
 pub returns-in-37 : goal.returns-in-37
 returns-in-37 c = says c.args.number 37 _ c.in-37.is IsSaidOf.No_local_time
 
+pub returns-in-38 : goal.returns-in-38
+returns-in-38 c = says c.args.number 38 _ c.in-38.is IsSaidOf.No_gap
+
 pub returns-in-41 : goal.returns-in-41
 returns-in-41 c = says c.args.number 41 _ c.in-41.is IsSaidOf.Other_index
 

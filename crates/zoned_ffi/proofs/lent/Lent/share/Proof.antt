@@ -1,14 +1,10 @@
 -- `share` reads the pointer, tests it, and lends the value there for as long as the handle is lent. Assumes `Logic`.
-use Rattle.std.proofs.Common.{◌≡◌, ℕ, List, [], ◌∷◌, ◌++◌, refl, sym, subst, lit<}
-use seplogic.Ra.Ura.{Ura}
-use lib.Dec.{T}
-use mir.Syntax.{named, ty_ptr}
-use mir.Val.{Val, vptr, vnull, vcons, vnil, of_list, has_ty, WT, ptr_eq_ok}
-use base.Logic.{SProp, ent, emp, id⊢}
-use base.Fml.{Lft, Share, ftrue, fsep, fex, flft}
-use prog.Wp.{WpFn, Calls, Loops}
-use types.Logic.{Logic, sem}
-use types.Kit.{‵, raw, ◌⊛◌, later, at_ret, ◌$◌, ◌∵◌, !, qed, by, move, keep, drop, split, join, fsplit, fjoin, fpick, use0, use1, use2, await, rewrite, feq_i}
+use Rattle.std.proofs.Common.{◌≡◌, ℕ, List, [], ◌∷◌, refl, sym, lit<}
+use mir.Syntax.{named}
+use mir.Val.{Val, vptr, vcons, vnil}
+use base.Logic.{SProp, emp}
+use base.Fml.{Lft, Share, ftrue, flft}
+use types.Kit.{‵, raw, ◌⊛◌, at_ret, ◌$◌, ◌∵◌, !, qed, by, move, keep, drop, split, join, fsplit, fjoin, use0, use1, rewrite, feq_i}
 use types.Run.{stop, fld, load, lit, of_opd, addr, bin, no_more, and_then, first, blocks, branches, skips, exec, returns, returns_within, enter}
 use types.ByLocal.{alloc_all, pass_all, free_all, look_at, get, through, sets, sets_last, env}
 use types.Part.{agg, sub, whole, look_in}
@@ -19,14 +15,12 @@ use denote.Exit.{yes}
 use denote.RattleType.{RattleType, owns}
 use denote.Builtin.{RefOf}
 use denote.Ref.{Bor, ShrRef, shr_vals, shr_Tells}
-use denote.Memory.{cell_at, hidden_shr}
-use denote.Opens.{hide, unhide}
+use denote.Memory.{cell_at}
+use denote.Opens.{hide}
 use denote.Signature.{plain, types_at}
-use denote.RawPtr.{Ptr, InBlock, block_ptr, null_ptr, ptr_val, Testable, tests_null}
-use denote.Steps.{nothing, looks, shuts}
-use denote.Struct.Lending.{lent_at}
+use denote.RawPtr.{Ptr, block_ptr, tests_null}
+use denote.Steps.{nothing}
 use denote.Triple.Walked.{Stays, stay_dropped, walk_of, Goes-dropped}
-use Rattle.std.specs.declared.option.Option.{Option}
 use Rattle.std.specs.declared.option.Option.TheVariants.{None, Some}
 use Rattle.std.specs.contracts.option.Option as OP
 use Rattle.std.proofs.alloc.Shapes.{after}

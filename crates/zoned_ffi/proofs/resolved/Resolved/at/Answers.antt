@@ -1,9 +1,9 @@
 use Rattle.std.proofs.Common.{◌∙◌, ◌-ℤ◌, ◌≡◌, FitsSigned, ap, rules, subst, to_z-of_z, w32, w64}
-use Rattle.zoned_ffi.proofs.Resolving.{resolved_by}
+use Rattle.zoned_ffi.proofs.Resolving.{ended_by, resolved_by}
 use Rattle.zoned_ffi.specs.Instants.{IsOffsetAt}
 use Rattle.zoned_ffi.specs.Resolved.{IsNoneTaken, IsResolvedAt}
 use Rattle.zoned_ffi.specs.Steps.ResolvedInstants.{IsStamp, IsTakenAs}
-use Rattle.zoned_ffi.specs.declared.resolved.Taken.TheVariants.{BeforeGap, InForce}
+use Rattle.zoned_ffi.specs.declared.resolved.Taken.TheVariants.{BeforeGap, GapEnd, InForce}
 use Rattle.zoned_ffi.proofs.resolved.Resolved.at.Goals as goal
 
 pub returns-in-Ok-InForce : goal.returns-in-Ok-InForce
@@ -39,6 +39,19 @@ returns-in-Ok-BeforeGap c =
     let same = at ∙ ap (λ o. c.args.local -ℤ o) taken.2 in
     resolved_by zone c.args.choice c.args.local taken.0 offset c.within-in-Ok-BeforeGap.result stamp.0.0 taken.1
     (subst (λ u. IsOffsetAt zone u offset) same there) (subst (λ u. IsStamp u offset c.within-in-Ok-BeforeGap.result) same written)
+
+pub returns-in-Ok-GapEnd : goal.returns-in-Ok-GapEnd
+returns-in-Ok-GapEnd c =
+    let zone = c.args.zone.now in
+    let at = c.in-Ok-GapEnd.at in
+    let offset = c.in-Ok-GapEnd.offset in
+    let local : FitsSigned w64 c.args.local = c.ranges.local in
+    let second : FitsSigned w64 at = search rules in
+    let fits : FitsSigned w32 offset = search rules in
+    let stamp = simp to_z-of_z at c.in-Some.ensures in
+    let taken = subst (λ l. IsTakenAs zone l c.args.choice (GapEnd at offset)) (ap (λ r. r.s) stamp.1) (subst (IsTakenAs zone c.in-Some.reading.secs c.args.choice) c.in-Ok-GapEnd.field-0-is c.in-Ok-GapEnd.ensures) in
+    let written : IsStamp at offset c.within-in-Ok-GapEnd.result = simp to_z-of_z at c.within-in-Ok-GapEnd.ensures in
+    ended_by zone c.args.choice c.args.local at taken.0 c.within-in-Ok-GapEnd.result stamp.0.0 taken.1 (subst (λ o. IsStamp at o c.within-in-Ok-GapEnd.result) taken.2 written)
 
 pub returns-in-Err : goal.returns-in-Err
 returns-in-Err c =

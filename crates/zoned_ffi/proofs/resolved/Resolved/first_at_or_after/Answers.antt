@@ -1,4 +1,4 @@
-use Rattle.std.proofs.Common.{◌≡◌, FitsSigned, ap, rules, subst, to_z-of_z, w32, w64}
+use Rattle.std.proofs.Common.{FitsSigned, ap, rules, subst, to_z-of_z, w32, w64}
 use Rattle.tz_info.specs.ShownSeconds.{IsFirstAtOrAfter}
 use Rattle.tz_info.specs.Zones.{TypeAt}
 use Rattle.zoned_ffi.proofs.Resolving.{reached_by}

@@ -1,9 +1,7 @@
-use Rattle.std.proofs.Common.{◌∙◌, FitsSigned, rules, subst, to_z-of_z, w32}
-use Rattle.tz_info.specs.Around.{IsAround}
-use Rattle.tz_info.specs.Zones.{TypeAt}
-use Rattle.zoned_ffi.specs.Resolved.{IsNoneTaken, IsTaken}
+use Rattle.std.proofs.Common.{◌∙◌, FitsSigned, rules, to_z-of_z, w32, w64}
+use Rattle.zoned_ffi.specs.Resolved.{IsGapEnd, IsNoneTaken, IsTaken}
 use Rattle.zoned_ffi.proofs.Resolving.{before_gap, in_force}
-use Rattle.zoned_ffi.proofs.resolved.offset_taken.Goals as goal
+use Rattle.zoned_ffi.proofs.resolved.take.Goals as goal
 
 pub returns-in-Single : goal.returns-in-Single
 returns-in-Single c =
@@ -41,3 +39,11 @@ returns-in-ShiftForward c =
     let gap = c.in-Gap.gap in
     let before = before_gap c.args.zone.now c.args.local.secs gap.before gap.after gap.at c.in-Gap.ensures.found in
     (gap.before, IsTaken.shifted before c.in-ShiftForward.is, to_z-of_z fits ∙ c.offset-in-ShiftForward.ensures.value)
+
+pub returns-in-End : goal.returns-in-End
+returns-in-End c =
+    let fits : FitsSigned w32 c.offset-in-End.result = search rules in
+    let at : FitsSigned w64 c.in-Gap.gap.at = search rules in
+    let gap = c.in-Gap.gap in
+    let end : IsGapEnd c.args.zone.now c.args.local.secs c.args.choice gap.at gap.after = record { before = gap.before; gap = c.in-Gap.ensures.found; end = c.in-End.is } in
+    simp to_z-of_z (gap.after, end, c.offset-in-End.ensures.value)

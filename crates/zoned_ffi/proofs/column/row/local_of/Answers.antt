@@ -2,7 +2,7 @@ use Rattle.std.proofs.Common.{FitsSigned, to_z-of_z, w32, w64, ◌∙◌, ap, �
 use Rattle.tz_info.specs.Zones.{IsTypeRefused, TypeAt}
 use Rattle.zoned_ffi.specs.Units.{no_type, per_second}
 use Rattle.zoned_ffi.proofs.Columns.{looked_up}
-use Rattle.zoned_ffi.proofs.column.local_of.Goals as goal
+use Rattle.zoned_ffi.proofs.column.row.local_of.Goals as goal
 
 pub returns-in-Ok : goal.returns-in-Ok
 returns-in-Ok c =

@@ -1,9 +1,9 @@
-use Rattle.std.proofs.Common.{FitsSigned, ℤ, ◌≤ℤ◌, ◌<ℤ◌, ◌*ℤ◌, ◌-ℤ◌, pos, arith, subst, to_z-of_z, w32, w64, rules}
-use Rattle.std.proofs.lemmas.Int.{ints, by_lt_z}
+use Rattle.std.proofs.Common.{FitsSigned, ℤ, ◌≤ℤ◌, ◌*ℤ◌, ◌-ℤ◌, pos, arith, subst, to_z-of_z, w32, w64, rules}
+use Rattle.std.proofs.lemmas.Int.{ints}
 use mir.Syntax.{w128}
 use Rattle.zoned_ffi.specs.Units.{per_second}
 use Rattle.zoned_ffi.proofs.Columns.{kept_of, least, greatest}
-use Rattle.zoned_ffi.proofs.column.Kept.of.Goals as goal
+use Rattle.zoned_ffi.proofs.column.kept.Kept.of.Goals as goal
 
 pub overflow_cast-result : goal.overflow_cast-result
 overflow_cast-result c =

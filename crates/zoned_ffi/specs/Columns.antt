@@ -1,0 +1,72 @@
+-- Columns: instants as local times, and local times as instants, counted in a unit.
+use Rattle.std.specs.Prelude.{ℕ, ℤ, ◌≡◌, ◌≢◌, ◌⊎◌, ◌+ℤ◌, ◌-ℤ◌, ◌*ℤ◌, ◌≤ℤ◌, ◌<ℤ◌, ◌<◌, ◌≤◌, pos, List, length, take, slice_index_or}
+use Rattle.std.specs.List.{AllZip}
+use Rattle.gregorian.specs.Year.{floor_div}
+use Rattle.naive_base.specs.Range.{IsInRange}
+use Rattle.tz_base.specs.LocalTypes.{LocalType}
+use Rattle.tz_info.specs.Zones.{Zone}
+use Rattle.zoned_ffi.specs.Resolved.{IsGapEnd, IsNoneTaken, IsTaken}
+use Rattle.zoned_ffi.specs.Units.{IsCounted, IsLocal, IsWithout, no_time, per_second}
+use Rattle.zoned_ffi.specs.declared.choice.Choice.{Choice}
+use Rattle.zoned_ffi.specs.declared.column.kept.Kept.{Kept}
+use Rattle.zoned_ffi.specs.declared.column.Way.{Way}
+use Rattle.zoned_ffi.specs.declared.column.Way.TheVariants as ways
+use Rattle.zoned_ffi.specs.declared.unit.Unit.{Unit}
+
+-- the second that a time lies in
+abbrev pub second_of : Unit → ℤ → ℤ
+second_of unit x = floor_div x (per_second unit)
+
+-- the choice takes the instant for the local time: by the offset of a type, or the second at which the gap ends
+pub data IsInstantTaken (z : Zone) (unit : Unit) (choice : Choice) (local instant : ℤ) : Type 0 where
+  by_offset : (t : LocalType) → IsTaken z (second_of unit local) choice t → instant ≡ local -ℤ (t.offset *ℤ pos (per_second unit))
+      → IsInstantTaken z unit choice local instant
+  by_gap_end : (at : ℤ) (after : LocalType) → IsGapEnd z (second_of unit local) choice at after → instant ≡ at *ℤ pos (per_second unit)
+      → IsInstantTaken z unit choice local instant
+
+-- the instant of the local time under the choice: the second of the local time is in the calendar's range, and the instant can be
+-- counted
+pub record IsInstantOf (z : Zone) (unit : Unit) (choice : Choice) (local instant : ℤ) : Type 0 where
+  pub in_range : IsInRange (second_of unit local)
+  pub taken : IsInstantTaken z unit choice local instant
+  pub counted : IsCounted instant
+
+-- why the local time has none, by its number
+pub data IsNoInstant (z : Zone) (unit : Unit) (choice : Choice) (local : ℤ) : ℕ → Type 0 where
+  outside : ¬ (IsInRange (second_of unit local)) → IsNoInstant z unit choice local 23
+  refused : (n : ℕ) → IsInRange (second_of unit local) → IsNoneTaken z (second_of unit local) choice n → IsNoInstant z unit choice local n
+  uncounted : (instant : ℤ) → IsInRange (second_of unit local) → IsInstantTaken z unit choice local instant → ¬ (IsCounted instant)
+      → IsNoInstant z unit choice local 23
+
+-- the answer to a time of a column: the local time of an instant, or the instant of a local time
+abbrev pub IsAnswered : Zone → Unit → Way → ℤ → ℤ → Type 0
+IsAnswered z unit ways.ToLocal x y = IsLocal z unit x y
+IsAnswered z unit (ways.ToInstants choice) x y = IsInstantOf z unit choice x y
+
+-- why there is none, by its number
+abbrev pub IsNotAnswered : Zone → Unit → Way → ℤ → ℕ → Type 0
+IsNotAnswered z unit ways.ToLocal x n = (n ≡ 37) × IsWithout z unit x
+IsNotAnswered z unit (ways.ToInstants choice) x n = IsNoInstant z unit choice x n
+
+-- what is written: no time stays none
+abbrev pub IsAnsweredOrNone : Zone → Unit → Way → ℤ → ℤ → Type 0
+IsAnsweredOrNone z unit way x y = ((x ≡ no_time) × (y ≡ no_time)) ⊎ ((x ≢ no_time) × IsAnswered z unit way x y)
+
+-- one for each time, in their order
+abbrev pub AreAnswered : Zone → Unit → Way → List ℤ → List ℤ → Type 0
+AreAnswered z unit way times answers = AllZip (IsAnsweredOrNone z unit way) times answers
+
+-- the row at that place is the first without an answer, for the reason of that number, and those before it are written
+pub record IsFirstWithout (z : Zone) (unit : Unit) (way : Way) (times answers : List ℤ) (row n : ℕ) : Type 0 where
+  pub within : row < length times
+  pub before : AreAnswered z unit way (take row times) (take row answers)
+  pub time : slice_index_or times row (pos 0) ≢ no_time
+  pub without : IsNotAnswered z unit way (slice_index_or times row (pos 0)) n
+
+-- the numbers of a local time without an instant: in a gap 21, in a fold 22, out of range 23
+abbrev pub IsRowNumber : ℕ → Type 0
+IsRowNumber n = (21 ≤ n) × (n ≤ 23)
+
+-- a time from `low` on, and before `high`, has that answer: `add` more
+abbrev pub IsKept : Zone → Unit → Way → Kept → Type 0
+IsKept z unit way k = (x : ℤ) → k.low ≤ℤ x → x <ℤ k.high → (x ≢ no_time) × IsCounted (x +ℤ k.add) × IsAnswered z unit way x (x +ℤ k.add)

@@ -1,0 +1,90 @@
+//! The answer to one time of a column, by a lookup.
+
+ghost use Rattle.std.specs.Prelude.{◌≡◌, ◌+ℤ◌, ◌≤ℤ◌, neg_ℤ, pos, MatchOption, MatchResult};
+ghost use Rattle.zoned_ffi.specs.Columns.{IsInstantOf, IsNoInstant};
+ghost use Rattle.zoned_ffi.specs.Steps.ResolvedInstants.{taken_instant};
+ghost use Rattle.zoned_ffi.specs.Units.{IsCounted, IsLocal, IsWithout};
+
+use crate::choice::Choice;
+use crate::column::NO_TIME;
+use crate::refusal::OUT_OF_RANGE;
+use crate::resolved::{Taken, take};
+use crate::unit::{GREATEST, LEAST, Unit};
+use naive_base::NaiveDateTime;
+use tz_info::TimeZone;
+
+/// The local time of the instant, by a lookup.
+#[inline(always)]
+pub fn local_of(zone: &TimeZone, unit: Unit, instant: i64) -> Option<i64>
+    ensures { MatchOption result (IsWithout zone.now unit instant)
+        (λ local. IsLocal zone.now unit instant local) }
+{
+    match zone.find_local_time_type(unit.second_of(instant)) {
+        Ok(found) => added(instant, unit.counts_of(found.offset())),
+        Err(_) => None,
+    }
+}
+
+// The sum, if it is a time that can be counted.
+#[inline(always)]
+fn added(instant: i64, counts: i64) -> Option<i64>
+    ensures { MatchOption result (¬ (IsCounted (instant +ℤ counts)))
+        (λ sum. (sum ≡ instant +ℤ counts) × IsCounted sum) }
+{
+    let sum = instant.checked_add(counts)?;
+    if sum == NO_TIME {
+        return None;
+    }
+    Some(sum)
+}
+
+/// The instant of the local time, or the number that says why it has no instant.
+#[inline(always)]
+pub fn instant_of(zone: &TimeZone, unit: Unit, choice: Choice, local: i64) -> Result<i64, u32>
+    ensures { MatchResult result (λ instant. IsInstantOf zone.now unit choice local instant)
+        (λ n. IsNoInstant zone.now unit choice local n) }
+{
+    let Some(reading) = NaiveDateTime::from_timestamp_opt(unit.second_of(local), 0) else {
+        return Err(OUT_OF_RANGE);
+    };
+    match take(zone, choice, reading) {
+        Ok(taken) => match instant_taken(unit, local, taken) {
+            Some(instant) => Ok(instant),
+            None => Err(OUT_OF_RANGE),
+        },
+        Err(number) => Err(number),
+    }
+}
+
+// The instant by what is taken, if it is a time that can be counted.
+#[inline(always)]
+fn instant_taken(unit: Unit, local: i64, taken: Taken) -> Option<i64>
+    ensures { MatchOption result (¬ (IsCounted (taken_instant unit local taken)))
+        (λ instant. (instant ≡ taken_instant unit local taken) × IsCounted instant) }
+{
+    match taken {
+        Taken::InForce(offset) => added(local, less(unit.counts_of(offset))),
+        Taken::BeforeGap(offset) => added(local, less(unit.counts_of(offset))),
+        Taken::GapEnd(at, _) => counted(unit.counts_at(at)),
+    }
+}
+
+// The count with the other sign.
+fn less(counts: i64) -> i64
+    requires { (neg_ℤ (pos 4_611_686_018_427_387_904) ≤ℤ counts)
+        × (counts ≤ℤ pos 4_611_686_018_427_387_904) }
+    ensures { result ≡ neg_ℤ counts }
+{
+    -counts
+}
+
+// The count, if it is a time of 64 bits.
+fn counted(counts: i128) -> Option<i64>
+    ensures { MatchOption result (¬ (IsCounted counts)) (λ time. (time ≡ counts) × IsCounted time) }
+{
+    if LEAST <= counts && counts <= GREATEST {
+        Some(counts as i64)
+    } else {
+        None
+    }
+}
