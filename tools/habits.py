@@ -30,7 +30,7 @@ HABITS = [
     ("behind", "after", r"\bbehind\b(?! UTC)", 2, 8),
     ("refused", "rejected, returns an error", r"\brefus\w+", 2, 25),
     ("reading for a local time", "local time, local date-time", r"\breadings?\b", 9, 120),
-    ("TZ text", "TZ string", r"\bTZ texts?\b", 3, 47),
+    ("TZ text", "TZ string", r"\bTZ texts?\b", 3, 46),
     ("wrong body", "planted bug", r"\bwrong bod\w+", 1, 0),
 ]
 
