@@ -7,7 +7,7 @@ from sources import TOP, files, shown, text_of
 
 # Lines with more columns than that, and how many of them are allowed: the counts of the day, which `--write` lowers.
 LONG_LINES = {
-    ("src", ".rt", 120): 83,
+    ("src", ".rt", 120): 79,
     ("specs", ".antt", 160): 56,
     ("proofs", ".antt", 160): 1615,
 }
@@ -62,9 +62,12 @@ def write_counts():
 
 
 def long_lines():
-    """How many lines are longer than the columns of each kind of file."""
+    """How many lines are longer than the columns of each kind of file; a row of a table in a comment can't be broken."""
     return {
-        (folder, ending, columns): sum(len(line) > columns for path in files(folder, ending) for line in text_of(path).splitlines())
+        (folder, ending, columns): sum(
+            len(line) > columns and not line.startswith(("//! |", "/// |"))
+            for path in files(folder, ending) for line in text_of(path).splitlines()
+        )
         for folder, ending, columns in LONG_LINES
     }
 

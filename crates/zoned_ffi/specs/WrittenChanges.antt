@@ -24,7 +24,7 @@ IsLastWritten z within w = (c : Change) × IsLastChange (TypeAt z) within c × (
 abbrev pub IsGapWritten : Zone → ℤ → WrittenChange → Type 0
 IsGapWritten z local w = (c : Change) × HasGap (TypeAt z) local c.before c.after c.at × (w ≡ written_change c)
 
--- why there is none, by its number: the local time is outside the calendar's range, or some second shows it
+-- why no change skips it, by its number: the local time is outside the calendar's range, or some second shows it
 abbrev pub IsNoGap : Zone → ℤ → ℕ → Type 0
 IsNoGap z local n = ((n ≡ 23) × ¬ (IsInRange local)) ⊎ ((n ≡ 38) × IsShown (TypeAt z) local)
 
