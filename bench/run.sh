@@ -4,7 +4,7 @@
 #
 # usage: bench/run.sh [PEER ..]     of sahvumbi cctz hinnant java glibc cpython chrono zoneq calls misses (else all of them)
 #
-# First `rt lib` in crates/zoned_ffi builds the archive, and `rt run` in crates/zoneq and crates/instants_timed the programs.
+# First `rt lib` in crates/zoned_ffi builds the archive, and `rt run` in crates/zoneq and crates/bench_instants the programs.
 # Debian has the peers:
 #   apt-get install g++ pkg-config libabsl-dev libhowardhinnant-date-dev openjdk-17-jdk-headless mawk python3 tzdata valgrind \
 #     cargo librust-chrono-dev

@@ -1,10 +1,10 @@
 #!/usr/bin/env python3
-"""Times instants of a kept zone beside those of a borrowed one: `instants_timed` over New York's file.
+"""Times instants of a kept zone beside those of a borrowed one: `bench_instants` over New York's file.
 
 usage: bench/time_instants.py [ZONE_FILE]
 
 It prints a row for each kind of zone and question: the processor's time for a question, the least of five runs, with the time
-of a run without a question taken off. `rt run` in crates/instants_timed builds the program.
+of a run without a question taken off. `rt run` in crates/bench_instants builds the program.
 """
 
 import resource
@@ -12,7 +12,7 @@ import subprocess
 import sys
 from pathlib import Path
 
-PROGRAM = Path(__file__).resolve().parent.parent / "crates/instants_timed/out/instants_timed"
+PROGRAM = Path(__file__).resolve().parent.parent / "crates/bench_instants/out/bench_instants"
 FILE = "/usr/share/zoneinfo/America/New_York"
 QUESTIONS = 5_000_000
 RUNS = 5

@@ -1,9 +1,9 @@
 #!/usr/bin/env python3
-"""Runs crates/instants_timed over New York and London: what programs do with instants, by this library.
+"""Runs crates/bench_instants over New York and London: what programs do with instants, by this library.
 
 usage: bench/time_work.py INPUTS OUTPUTS
 
-It prints a line for each question and writes the answers, as drivers/work.h says. `rt run` in crates/instants_timed builds the
+It prints a line for each question and writes the answers, as drivers/work.h says. `rt run` in crates/bench_instants builds the
 program, which reads the clock by itself.
 """
 
@@ -11,7 +11,7 @@ import subprocess
 import sys
 from pathlib import Path
 
-PROGRAM = Path(__file__).resolve().parent.parent / "crates/instants_timed/out/instants_timed"
+PROGRAM = Path(__file__).resolve().parent.parent / "crates/bench_instants/out/bench_instants"
 ANSWERS = "100000"
 
 

@@ -15,7 +15,7 @@ usage: tools/check_documents.py [--write]
   puts there.
 - Each page that a public contract of the libraries of `zoned` cites is passed on by zoned/specs/Lib.antt, and each type that
   one cites is a name of `zoned`.
-- Each wrong definition of crates/pins/wrong has its texts once in its page and names pins that there are, and docs/DEFINITIONS.md
+- Each wrong definition of crates/tests_pins/wrong has its texts once in its page and names pins that there are, and docs/DEFINITIONS.md
   has each pin once, with the wrong definitions that it rejects, which --write puts there (tools/try_definitions.py).
 - No call for C requires anything: what C passes is checked, or is what the header says.
 - The numbers of tz_info::Error, 1 to 17, have the same words in docs/ZONEQ.md, in the comments of `Error`, in the texts of
@@ -28,7 +28,7 @@ usage: tools/check_documents.py [--write]
 - No more calls in src/ are made for an answer that nothing reads (`let _name = call(..);`), and no more lines are longer than 120
   columns in src/, or 160 in .antt, than tools/counts.py allows. --write lowers the counts of lines to those of the day.
 - README.md names the version of the kit that `rt version` prints (if there is rt); docs/FROM_CHRONO.md has how many functions
-  idioms_utc and the crates like it have.
+  tests_idioms_utc and the crates like it have.
 - The tables of docs/SPEED.md have the figures of the latest file of bench/results, and README.md has those of New York.
 
 Prints a line for each fault, with its place, and ends with status 1 if there is one.
@@ -67,7 +67,7 @@ PYTHON = TOP / "python/src/sahvumbi/errors.py"
 FIGURES = {"By instant, 1900 to 2099": "An instant, 1900 to 2099", "By local time, 1900 to 2099": "A wall clock, 1900 to 2099"}
 INDEX = "## Index of the words that contracts cite\n"
 PLANTED = "## The list of planted bugs\n"
-IN_PART, BY_HAND = "must-fail-in-part", "must-fail-by-hand"
+IN_PART, BY_HAND = "mutants", "mutants-by-hand"
 WORD = r"[A-Za-z_][A-Za-z0-9_]*"
 
 
@@ -121,7 +121,7 @@ def names_of_code():
         for path in chain(files(folder, ".rt"), files(folder, ".antt")):
             mark = "//" if path.suffix == ".rt" else "--"
             names.update(re.findall(WORD, without_comments(text_of(path), mark)))
-    for path in files("tried", ".txt"):
+    for path in files("tests", ".txt"):
         names.update(re.findall(WORD, without_comments(text_of(path), "//")))
     others = ["tools", "examples", "bench", "python", ".ci", "crates/zoned_ffi/include"]
     for path in chain.from_iterable(sorted((TOP / other).rglob("*")) for other in others):
@@ -174,7 +174,7 @@ def words_in_contracts():
     words = {(module_of(page), word.name): word for page in files("specs", ".antt") for word in words_of(page)}
     found = {}
     for clause in public_clauses():
-        for page, name in cited(clause) if clause.path.relative_to(TOP / "crates").parts[0] != "pins" else []:
+        for page, name in cited(clause) if clause.path.relative_to(TOP / "crates").parts[0] != "tests_pins" else []:
             if (page, name) in words:
                 found.setdefault((page, name), (words[page, name], clause))
     return found
@@ -245,7 +245,7 @@ def planted():
         name = f"`{path.stem}`" if path.parent.name == BY_HAND else f"**`{path.stem}`**"
         return re.search(r"(?m)^file: (.*)$", text)[1], path.parent.name == BY_HAND, name + (f" ({says[1]})" if says else "")
 
-    head = "Each is a file of its crate, in bold one of `must-fail-in-part/`, which the gate tries; the others are in `must-fail-by-hand/`.\n"
+    head = "Each is a file of its crate, in bold one of `mutants/`, which the gate tries; the others are in `mutants-by-hand/`.\n"
     rows = []
     for crate in crates():
         names = [name for _, _, name in sorted(row(path) for folder in (IN_PART, BY_HAND) for path in files(folder, ".edit", [crate]))]
@@ -413,7 +413,7 @@ def facts_of_documents():
     version = subprocess.run(["rt", "version"], capture_output=True, text=True).stdout.strip() if shutil.which("rt") else ""
     if version and f"`{version}`" not in text:
         yield f"{shown(README)}: it doesn't name the version of the kit, {version}"
-    idioms = ["idioms_utc", "idioms_borrowed", "idioms_kept"]
+    idioms = ["tests_idioms_utc", "tests_idioms_borrowed", "tests_idioms_kept"]
     counts = [str(sum(len(re.findall(r"(?m)^ *pub fn ", text_of(path))) for path in files("src", ".rt", [crate]))) for crate in idioms]
     due = f"`crates/{idioms[0]}`, `{idioms[1]}` and `{idioms[2]}` have {counts[0]}, {counts[1]} and {counts[2]} "
     if due not in text_of(FROM_CHRONO):

@@ -24,14 +24,14 @@ def how_often(pattern, paths):
 
 def counts():
     """The words after the number, at the start of a row or in bold: `| 468 | tests in Rattle ..`, `**468** tests in Rattle ..`."""
-    pins = [*files("src", ".rt", ["pins"]), TOP / "crates/zoned_ffi/src/pins.rt"]
-    in_part, by_hand = files("must-fail-in-part", ".edit"), files("must-fail-by-hand", ".edit")
+    pins = [*files("src", ".rt", ["tests_pins"]), TOP / "crates/zoned_ffi/src/pins.rt"]
+    in_part, by_hand = files("mutants", ".edit"), files("mutants-by-hand", ".edit")
     return {
-        "tests in Rattle": how_often(r"(?m)^#\[test\]$", files("tried", ".txt")),
+        "tests in Rattle": how_often(r"(?m)^#\[test\]$", files("tests", ".txt")),
         "worked examples": how_often(r"(?m)^pub fn ", pins),
         "planted bugs in the gate": len(in_part),
         "planted bugs in all": len(in_part) + len(by_hand),
-        "wrong definitions": len(files("wrong", ".edit", ["pins"])),
+        "wrong definitions": len(files("wrong", ".edit", ["tests_pins"])),
         "programs that must not compile": len(list((TOP / "tools/refused").glob("*.txt"))),
         "tests of the Python package": how_often(r"(?m)^ *def test_", sorted((TOP / "python/tests").glob("test_*.py"))),
     }

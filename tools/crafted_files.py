@@ -4,7 +4,7 @@
 usage: tools/crafted_files.py [--check]
 
 For each file of crates/zoned_vectors/src/vectors.rt, and for each of the bytes 0x00, 0x7f, 0x80 and 0xff, each byte of the
-file is replaced by that byte in turn. Prints a constant of crates/zoned_vectors/tried/answers.txt for each of these rows: a
+file is replaced by that byte in turn. Prints a constant of crates/zoned_vectors/tests/answers.txt for each of these rows: a
 letter for each place, `.` for a zone, and else the number of the refusal, from 10 on as a letter (`a` for 10). With
 --check, compares them with that file, and ends with status 1 where it says something else.
 
@@ -20,7 +20,7 @@ from pathlib import Path
 
 TOP = Path(__file__).resolve().parent.parent
 VECTORS = TOP / "crates/zoned_vectors/src/vectors.rt"
-ANSWERS = TOP / "crates/zoned_vectors/tried/answers.txt"
+ANSWERS = TOP / "crates/zoned_vectors/tests/answers.txt"
 OTHERS = [0x00, 0x7F, 0x80, 0xFF]
 LETTERS = ".123456789abcdefgh"
 EPOCH = date(1970, 1, 1).toordinal()

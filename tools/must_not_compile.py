@@ -37,7 +37,7 @@ def repository(top):
     listed = [line for line in listed if line.split(":")[0] in LIBRARIES]
     (top / "crates.txt").write_text("\n".join([*listed, f"tried: {' '.join(LIBRARIES)}\n"]))
     for library in LIBRARIES:
-        kept = shutil.ignore_patterns("out", "must-fail")
+        kept = shutil.ignore_patterns("out", "mutants*")
         shutil.copytree(TOP / "crates" / library, top / "crates" / library, ignore=kept)
     (top / "crates/tried/src").mkdir(parents=True)
     return top / "crates/tried"

@@ -3,11 +3,11 @@
 
 usage: tools/refuse_memory.py [FOLDER]
 
-FOLDER holds crates/out_of_memory/out/out_of_memory and crates/zoneq/out/zoneq (this repository, where the gate has built
+FOLDER holds crates/tests_out_of_memory/out/tests_out_of_memory and crates/zoneq/out/zoneq (this repository, where the gate has built
 them). Each program is run with its first request for memory refused, then with its second one, and so on until a run has no
 request left to refuse. It takes a few seconds, and needs the C compiler cc for tools/refuse_request.c.
 
-out_of_memory makes zones by each constructor, and prints a line for each. In each run
+tests_out_of_memory makes zones by each constructor, and prints a line for each. In each run
 
 - every line is one of a run with memory enough, in their order;
 - where all lines are there, the status is 0;
@@ -131,8 +131,8 @@ def main():
         shim = room / "refuse_request.so"
         subprocess.run(["cc", "-shared", "-fPIC", "-O1", "-o", shim, HERE / "refuse_request.c", "-ldl"], check=True)
         crates = top / "crates"
-        due = (crates / "out_of_memory/stdout").read_bytes().splitlines()
-        tried = try_constructors(Program(crates / "out_of_memory/out/out_of_memory", shim, room), due)
+        due = (crates / "tests_out_of_memory/stdout").read_bytes().splitlines()
+        tried = try_constructors(Program(crates / "tests_out_of_memory/out/tests_out_of_memory", shim, room), due)
         print(f"out_of_memory: {tried} requests refused in turn: each zone was made as due, or there was no memory for it")
         tried, stopped, refused = try_lines(Program(crates / "zoneq/out/zoneq", shim, room))
         print(f"zoneq: {tried} requests refused in turn: {stopped} runs stopped after whole answers, {refused} kept the earlier zone")

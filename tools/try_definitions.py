@@ -3,7 +3,7 @@
 
 usage: tools/try_definitions.py [--lanes N] [--write] [NAME ..]
 
-A wrong definition is a file crates/pins/wrong/NAME.edit: the page and the texts that it exchanges there, each of which stands once
+A wrong definition is a file crates/tests_pins/wrong/NAME.edit: the page and the texts that it exchanges there, each of which stands once
 in the page, what the definition says then, and the pins that are not proved of it any more:
 
     file: crates/tz_info/specs/Changes.antt
@@ -20,7 +20,7 @@ library needs to be built. First the pins are checked over the pages as they are
 keeps its functions and its lemmas.
 
 Edits are tried together if none of them changes a definition that a pin of another one speaks of, also through other definitions
-and through lemmas of crates/pins. An edit doesn't count where a page can't be read any more, or where a proof misses a name.
+and through lemmas of crates/tests_pins. An edit doesn't count where a page can't be read any more, or where a proof misses a name.
 
 With no names all are tried, N at a time (2). It takes half an hour of a processor and more, and is run by hand. --write only
 writes into docs/DEFINITIONS.md which of them each pin rejects. Ends with status 1 unless each edit is rejected.
@@ -41,7 +41,7 @@ from queue import Queue
 from kit import kit
 from sources import TOP, imports_of, libraries_below, text_of, uses
 
-WRONG = TOP / "crates/pins/wrong"
+WRONG = TOP / "crates/tests_pins/wrong"
 DEFINITIONS = TOP / "docs/DEFINITIONS.md"
 # A line below a definition: pins, what they say, and the wrong definitions that they reject.
 PINNED = re.compile(r"(?m)^  - ((?:`\w+::\w+`(?:, )?)+): (.*?)(?: Rejects (?:.*))?$")
@@ -107,17 +107,17 @@ def faults():
     for edit in edits():
         path = TOP / edit.file
         if not path.is_file() or not edit.pairs or edit.applied(text_of(path)) is None:
-            yield f"crates/pins/wrong/{edit.name}.edit: an old text doesn't stand once in {edit.file}"
+            yield f"crates/tests_pins/wrong/{edit.name}.edit: an old text doesn't stand once in {edit.file}"
         for pin in edit.pins:
             module, _, function = pin.partition("::")
-            source = TOP / f"crates/pins/src/{module}.rt"
+            source = TOP / f"crates/tests_pins/src/{module}.rt"
             if not source.is_file() or f"pub fn {function}()" not in text_of(source):
-                yield f"crates/pins/wrong/{edit.name}.edit: there is no pin {pin}"
+                yield f"crates/tests_pins/wrong/{edit.name}.edit: there is no pin {pin}"
     listed = [pin for found in PINNED.finditer(text_of(DEFINITIONS)) for pin in re.findall(r"[\w:]+", found[1])]
     for pin in sorted(pins() ^ set(listed)) + [pin for pin in set(listed) if listed.count(pin) > 1]:
         yield f"docs/DEFINITIONS.md: it doesn't list the pin {pin} once, or there is none"
     if with_rejected(text_of(DEFINITIONS)) != text_of(DEFINITIONS):
-        yield "docs/DEFINITIONS.md: its wrong definitions aren't those of crates/pins/wrong: run tools/try_definitions.py --write"
+        yield "docs/DEFINITIONS.md: its wrong definitions aren't those of crates/tests_pins/wrong: run tools/try_definitions.py --write"
 
 
 # The lines of docs/DEFINITIONS.md
@@ -125,7 +125,7 @@ def faults():
 
 def pins():
     """The pins of the code, each as MODULE::FUNCTION; those of zoned_ffi are in its module pins."""
-    paths = [*sorted((TOP / "crates/pins/src").glob("*.rt")), TOP / "crates/zoned_ffi/src/pins.rt"]
+    paths = [*sorted((TOP / "crates/tests_pins/src").glob("*.rt")), TOP / "crates/zoned_ffi/src/pins.rt"]
     return {f"{path.stem}::{pin}" for path in paths for pin in re.findall(r"(?m)^pub fn (\w+)\(", text_of(path))}
 
 
@@ -329,10 +329,10 @@ def named(words, own, imports):
 def spoken_of(pin):
     """Each definition that the pin speaks of: in its clauses and its answers, and through other definitions and lemmas."""
     module, _, function = pin.partition("::")
-    source = text_of(TOP / f"crates/pins/src/{module}.rt")
+    source = text_of(TOP / f"crates/tests_pins/src/{module}.rt")
     start = source.index(f"pub fn {function}()")
     todo = set(named(WORD.findall(source[start : source.index("{}\n", start)]), None, imports_of(source)))
-    answers = TOP / f"crates/pins/proofs/{module}/{function}/Answers.antt"
+    answers = TOP / f"crates/tests_pins/proofs/{module}/{function}/Answers.antt"
     if answers.is_file():
         todo |= set(named(WORD.findall(text_of(answers)), answers, imports_of(text_of(answers))))
     seen = set()
@@ -422,14 +422,14 @@ def tried(chosen, room):
     """Tries edits of one round by pins in that copy. If pages can't be read, those that change them are tried one by one."""
     for page, text in made(chosen).items():
         (room / page).write_text(text)
-    said = check(room, "pins", sorted({pin for edit in chosen for pin in edit.pins}))
+    said = check(room, "tests_pins", sorted({pin for edit in chosen for pin in edit.pins}))
     for page in made(chosen):
         (room / page).write_text(text_of(TOP / "crates" / page))
     faulty = [edit for edit in chosen if unread(edit, said, room)]
     if faulty and len(chosen) > 1:
         apart = [[edit for edit in chosen if edit not in faulty], *([edit] for edit in faulty)]
         return [row for those in apart if those for row in tried(those, room)]
-    return [told(edit, said, room, "pins") for edit in chosen]
+    return [told(edit, said, room, "tests_pins") for edit in chosen]
 
 
 def tried_by_law(edit):
@@ -450,10 +450,10 @@ def tried_by_pins(chosen, lanes):
     with tempfile.TemporaryDirectory() as folder:
         rooms = Queue()
         first = Path(folder) / "0"
-        lay(first, "pins")
+        lay(first, "tests_pins")
         pins = sorted({pin for edit in chosen for pin in edit.pins})
-        said = check(first, "pins", pins)
-        found = verdicts(said, "pins")
+        said = check(first, "tests_pins", pins)
+        found = verdicts(said, "tests_pins")
         unproved = [pin for pin in pins if not is_accepted(found.get(pin, ""))]
         if unproved:
             yield f"not proved of the pages as they are: {', '.join(unproved)}: {said[-900:] if not found else ''}", False
@@ -486,7 +486,7 @@ def main():
         return 0
     missing = set(given.names) - {edit.name for edit in edits()}
     if missing:
-        sys.exit(f"no file of crates/pins/wrong: {', '.join(sorted(missing))}")
+        sys.exit(f"no file of crates/tests_pins/wrong: {', '.join(sorted(missing))}")
     for edit in edits():
         if not edit.pairs or edit.applied(text_of(TOP / edit.file)) is None:
             sys.exit(f"{edit.name}: an old text doesn't stand once in {edit.file}")

@@ -6,7 +6,7 @@ usage: tools/try_documents.py [rattle | programs | c | python ..]
 Without words all four are tried:
 
 - rattle: each line of a `rust` block of README.md, docs/FROM_CHRONO.md and docs/OWN_ZONE.md is code of crates/*/src, which `rt ci`
-  proves, or of crates/*/tried, which tools/try_tests.py runs; and so is each span of the column *here* of FROM_CHRONO's tables.
+  proves, or of crates/*/tests, which tools/try_tests.py runs; and so is each span of the column *here* of FROM_CHRONO's tables.
   So is each line of a block in doc comments, unless it is marked `text`. Comments, white space and commas before a closing bracket
   don't count. The lines of FROM_CHRONO's block for crates.txt are lines of crates.txt. (tools/check_documents.py tries this too.)
 - programs: each command of a `console` block (a line that begins with `$ `) prints what follows it there. It needs the built
@@ -53,7 +53,7 @@ def bare(text):
 
 
 def code():
-    paths = [*files("src", ".rt"), *files("tried", ".txt")]
+    paths = [*files("src", ".rt"), *files("tests", ".txt")]
     return "".join(bare(without_comments(text_of(path), "//")) for path in paths)
 
 

@@ -4,8 +4,8 @@
 usage: tools/try_edits.py [--lanes N] [--beside FILE] [NAME | NAME/EDIT ..]
        tools/try_edits.py --self-test
 
-Without names it tries the edits of must-fail-in-part/, as the gate does. For a named crate it also tries those of
-must-fail-by-hand/.
+Without names it tries the edits of mutants/, as the gate does. For a named crate it also tries those of
+mutants-by-hand/.
 
 A planted bug is rejected by the contract of the function that has it, whatever is above and below that function. So only the
 functions that edits change are checked, in a copy of their crate, and one check tries all edits of a crate that change different
@@ -43,7 +43,7 @@ from pathlib import Path
 from kit import wait_for, words
 from sources import TOP, crates, files, libraries_below
 
-IN_PART, BY_HAND = "must-fail-in-part", "must-fail-by-hand"
+IN_PART, BY_HAND = "mutants", "mutants-by-hand"
 # Its proof takes as long as those of all crates that can be proved beside it.
 EARLY = "tz_info"
 FUNCTION = re.compile(r'(?m)^( *)(?:pub(?:\([a-z]+\))? )?(?:(?:final|const|unsafe|extern "C") )*fn (\w+)')

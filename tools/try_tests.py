@@ -1,10 +1,10 @@
 #!/usr/bin/env python3
-"""Runs the tests of crates/NAME/tried, which are run and not proved.
+"""Runs the tests of crates/NAME/tests, which are run and not proved.
 
 usage: tools/try_tests.py [--fmt] [NAME ..]
 
 `rt ci` proves each test of a crate's src/, which takes seconds to minutes for a test. What a test tells of values from outside
-it tells when it runs. So tests stand beside their crate: each text of crates/NAME/tried is a module that uses the crate by its
+it tells when it runs. So tests stand beside their crate: each text of crates/NAME/tests is a module that uses the crate by its
 name, and others that it needs, as a client does. All of them, or those of the named crates, are laid into one crate beside a
 copy of this repository's libraries, and are run as `rt try --test` does: it stops at what Rust would panic at, and proves nothing. No
 crate can stand on a static library: its texts are laid into the copy of that crate itself.
@@ -26,7 +26,7 @@ from pathlib import Path
 from kit import RT, tried
 from sources import TOP, crates, is_static, uses
 
-LAID = "tried"
+LAID = "tests"
 # The gate runs them beside its proofs, where they take longer than alone.
 SECONDS = "1200"
 
@@ -47,7 +47,7 @@ def repository(top, names):
     below = {library for name in apart for library in [name, *uses()[name], *named_in(texts_of(name))]}
     for file in ("HANDLES", "crates.txt"):
         shutil.copy(TOP / file, top / file)
-    left = shutil.ignore_patterns("out", "must-fail*", LAID)
+    left = shutil.ignore_patterns("out", "mutants*", LAID)
     shutil.copytree(TOP / "crates", top / "crates", ignore=left)
     laid_in = {top / "crates" / name: ([name], uses()[name]) for name in names if is_static(name)}
     if apart:

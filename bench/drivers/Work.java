@@ -15,7 +15,7 @@ import java.util.Arrays;
 import java.util.Comparator;
 
 /**
- * java.time's ZonedDateTime at the questions of crates/instants_timed. What it prints and writes is said in work.h.
+ * java.time's ZonedDateTime at the questions of crates/bench_instants. What it prints and writes is said in work.h.
  *
  * <p>usage: Work INPUTS OUTPUTS QUESTION, one question for each process, so that the compiler sees one call at a time.
  */

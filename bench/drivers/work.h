@@ -1,4 +1,4 @@
-// What the drivers in C++ of the questions of crates/instants_timed share.
+// What the drivers in C++ of the questions of crates/bench_instants share.
 //
 // usage of each: DRIVER INPUTS OUTPUTS, the folder of make_inputs.py and one for the answers. They ask about New York, and
 // London where two zones are needed, and about the first values of at_near, wall_near and gap_near.

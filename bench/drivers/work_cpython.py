@@ -1,4 +1,4 @@
-"""CPython's datetime and zoneinfo at the questions of crates/instants_timed.
+"""CPython's datetime and zoneinfo at the questions of crates/bench_instants.
 
 usage: work_cpython.py INPUTS OUTPUTS
 

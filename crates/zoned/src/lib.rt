@@ -212,8 +212,8 @@
 //! # Where the checker doesn't reach
 //!
 //! What is written every day needs no contract, no lemma and no proof file: the repository's crates
-//! `idioms_utc`, `idioms_borrowed` and `idioms_kept` have sixty such functions and more for each kind
-//! of zone, and `idioms_dates` has those over dates, times of day and lengths. These aren't covered
+//! `tests_idioms_utc`, `tests_idioms_borrowed` and `tests_idioms_kept` have sixty such functions and more for each kind
+//! of zone, and `tests_idioms_dates` has those over dates, times of day and lengths. These aren't covered
 //! yet:
 //!
 //! | of | in place of | write |

@@ -3,7 +3,7 @@
 use crate::told::What;
 use clap::{Arg, ArgAction, ArgMatches, Command, value_parser};
 use std::alloc::{AllocError, Global};
-use zone_dump::Years;
+use zonedump_lib::Years;
 
 const VERSION: &str = "0.4.0";
 

@@ -4,7 +4,7 @@ use crate::{files, folders, told};
 use std::fmt::Write;
 use std::io;
 use tz_info::Difference;
-use zone_dump::{Years, differences_in, differences_to_json, lone_to_json, push_differences};
+use zonedump_lib::{Years, differences_in, differences_to_json, lone_to_json, push_differences};
 
 // The status of a run, as that of diff. Of several files it is the greatest.
 const EQUAL: u8 = 0;

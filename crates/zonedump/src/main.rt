@@ -14,7 +14,7 @@ use std::fmt::Write;
 use std::io;
 use std::process::ExitCode;
 use told::{Asked, What, tell_file, tell_text};
-use zone_dump::Years;
+use zonedump_lib::Years;
 
 // The status of a run that told all that was asked, of one that did not, and of wrong arguments.
 const TOLD: u8 = 0;

@@ -7,7 +7,7 @@ use std::io;
 use std::io::Write as _;
 use tz_info::{Error, TimeZone};
 use tz_write::ToTzData;
-use zone_dump::{Form, Years, extended_zone, to_json, told};
+use zonedump_lib::{Form, Years, extended_zone, to_json, told};
 
 /// What is done with a zone.
 #[derive(Clone, Copy)]
@@ -64,9 +64,9 @@ impl Source<'_> {
         out: &mut String,
     ) -> Result<(), Error> {
         match self {
-            Source::Text(text) => zone_dump::tell_text(alloc, text, years, form, out),
+            Source::Text(text) => zonedump_lib::tell_text(alloc, text, years, form, out),
             Source::Extended(text) => tell_extended(alloc, text, years, form, out),
-            Source::File(bytes) => zone_dump::tell_file(alloc, bytes, years, form, out),
+            Source::File(bytes) => zonedump_lib::tell_file(alloc, bytes, years, form, out),
         }
     }
 
@@ -250,7 +250,7 @@ fn draw(
     years: Years,
     path: &str,
 ) -> io::Result<bool> {
-    match zone_dump::draw(rt.alloc(), name, zone, years) {
+    match zonedump_lib::draw(rt.alloc(), name, zone, years) {
         Ok(picture) => put(rt, path, picture.as_bytes()),
         Err(_) => {
             eprintln!(rt; "zonedump: {name}: out of memory")?;

@@ -4,7 +4,7 @@
 
 use std::io::BufWriter;
 use std::process::ExitCode;
-use zone_query::{RunError, Watched, report, run};
+use zoneq_lib::{RunError, Watched, report, run};
 
 // Room for the answers to a block of input, so that a block's answers mostly leave in one write.
 const OUTPUT: usize = 65536;

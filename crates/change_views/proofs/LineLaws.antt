@@ -1,0 +1,82 @@
+-- Lines one after the other, and seconds in years.
+use Rattle.std.proofs.Common.{◌≡◌, ℕ, suc, ◌+◌, ◌<◌, arith, refl, ap, sym, ◌∙◌, List, [], ◌∷◌, ◌++◌, append_assoc, append-nil, length, get_or, take, codes, ℤ, pos, neg_ℤ, ◌+ℤ◌, ◌-ℤ◌, ◌≤ℤ◌, FitsSigned, w64}
+use Rattle.std.specs.List.{flat_map}
+use Rattle.std.specs.Fmt.{signed_decimal}
+use Rattle.std.proofs.Math.Seq.{take-suc}
+use Rattle.std.proofs.lemmas.List.Concat.{flat_map-append}
+use Rattle.std.proofs.lemmas.Int.{ints}
+use Rattle.naive_base.specs.Reading.{Reading, ahead}
+use Rattle.naive_base.specs.Stamp.{of_secs}
+use Rattle.naive_base.specs.Text.{reading_text}
+use Rattle.naive_base.specs.Year.{year_start}
+use Rattle.naive_base.proofs.ForCallers.{starts_rise, floors}
+use Rattle.tz_base.specs.LocalTypes.{LocalType}
+use Rattle.tz_base.specs.declared.change.Change.{Change}
+use Rattle.change_views.specs.Spans.{IsInYears, IsNearYears, year_second, year_until}
+use Rattle.change_views.specs.ChangeLines.{change_text, line}
+use Rattle.change_views.specs.Words.{step_words, type_words}
+use Rattle.change_views.specs.ZdumpLines.{asctime_text, pair_lines, second_text, type_fields}
+
+-- one more piece is appended
+pub piece_next : {X : Type 0} (f : X → List ℕ) (start before after : List ℕ) (xs : List X) (i : ℕ) (d : X) → i < length xs
+    → before ≡ start ++ flat_map f (take i xs) → after ≡ before ++ f (get_or xs i d) → after ≡ start ++ flat_map f (take (i + 1) xs)
+piece_next f start before after xs i d within so_far now =
+    let x = get_or xs i d in
+    let so = take i xs in
+    let e : i + 1 ≡ suc i = omega arith in
+    let step : flat_map f (take (i + 1) xs) ≡ flat_map f so ++ f x =
+    ap (λ n. flat_map f (take n xs)) e ∙ ap (flat_map f) (take-suc xs i d within) ∙ flat_map-append f so (x ∷ []) ∙ ap (λ t. flat_map f so ++ t) (append-nil (f x)) in
+    now ∙ ap (λ t. t ++ f x) so_far ∙ append_assoc start (flat_map f so) (f x) ∙ sym (ap (λ t. start ++ t) step)
+
+-- what a change prints
+pub change_printed : (c : Change) (utc before after : Reading) (step at : ℤ) → utc ≡ of_secs c.at 0 → before ≡ ahead (of_secs c.at 0) c.before.offset
+    → after ≡ ahead (of_secs c.at 0) c.after.offset → step ≡ c.after.offset -ℤ c.before.offset → at ≡ c.at
+    → reading_text 32 utc ++ codes " UTC  " ++ (reading_text 32 before ++ codes " " ++ type_words c.before) ++ codes " -> "
+    ++ (reading_text 32 after ++ codes " " ++ type_words c.after) ++ codes "  " ++ (step_words step ++ codes " at " ++ signed_decimal at)
+    ≡ change_text c
+change_printed c utc before after step at is_utc is_before is_after is_step is_at = rw (is_utc, is_before, is_after, is_step, is_at) refl
+
+-- a second near the years fits 64 bits
+pub near_fits : (at : ℤ) → IsNearYears at → FitsSigned w64 at
+near_fits at near = let low = near.0 in let high = near.1 in omega (arith, ints, low, high)
+
+first_start : year_start (pos 1) ≡ neg_ℤ (pos 719_162)
+unfolding year_start
+first_start = refl
+
+last_start : year_start (pos 10_000) ≡ pos 2_932_897
+unfolding year_start
+last_start = refl
+
+pub from_first : (year : ℤ) → pos 1 ≤ℤ year → neg_ℤ (pos 62_135_596_800) ≤ℤ year_second year
+from_first year low = let rise = starts_rise (pos 1) year low in omega (arith, floors, rise, first_start)
+
+pub until_last : (year : ℤ) → year ≤ℤ pos 9999 → year_until year ≤ℤ pos 253_402_300_800
+until_last year high = let rise = starts_rise (year +ℤ pos 1) (pos 10_000) (omega (arith, floors, high)) in omega (arith, floors, rise, last_start)
+
+-- a year of 1 to 10000 begins in the years, or right after them
+pub start_in_years : (year : ℤ) → pos 1 ≤ℤ year → year ≤ℤ pos 10_000 → IsInYears (year_second year)
+start_in_years year low high =
+    let rise = starts_rise year (pos 10_000) high in
+    let from = from_first year low in
+    (from, omega (arith, floors, rise, last_start))
+
+pub near_of : (at : ℤ) → IsInYears at → IsNearYears at
+near_of at in_years = let low = in_years.0 in let high = in_years.1 in (omega (arith, ints, low), omega (arith, ints, high))
+
+-- what a second prints
+pub second_printed : (name : List ℕ) (at : ℤ) (t : LocalType) (utc local : Reading) → utc ≡ of_secs at 0 → local ≡ ahead (of_secs at 0) t.offset
+    → name ++ codes "  " ++ (asctime_text utc ++ codes " UT = " ++ asctime_text local) ++ codes " " ++ type_fields t ≡ second_text name at t
+second_printed name at t utc local is_utc is_local = rw (is_utc, is_local) refl
+
+-- two pieces are appended, one by one
+pub two_pieces : (start one two a b : List ℕ) → one ≡ start ++ a → two ≡ one ++ b → two ≡ start ++ (a ++ b)
+two_pieces start one two a b first second = second ∙ ap (λ t. t ++ b) first ∙ append_assoc start a b
+
+-- a pair of lines is appended, one by one
+pub pair_told : (name : List ℕ) (c : Change) (start one two : List ℕ) (before at : ℤ) → before ≡ c.at -ℤ pos 1 → at ≡ c.at
+    → one ≡ start ++ line (second_text name before c.before) → two ≡ one ++ line (second_text name at c.after) → two ≡ start ++ pair_lines name c
+pair_told name c start one two before at is_before is_at first second =
+    two_pieces start one two (line (second_text name (c.at -ℤ pos 1) c.before)) (line (second_text name c.at c.after))
+    (first ∙ ap (λ u. start ++ line (second_text name u c.before)) is_before)
+    (second ∙ ap (λ u. one ++ line (second_text name u c.after)) is_at)

@@ -1,0 +1,7 @@
+use Rattle.std.proofs.Common.{◌≡◌, ◌++◌, string_bytes}
+use Rattle.change_views.specs.Steps.Axes.{axes_of}
+use Rattle.change_views.specs.PictureChart.{hour_ticks}
+use Rattle.change_views.proofs.picture.chart.put_hours.Given as goal
+
+abbrev pub invariant-loop-place : goal.invariant-loop-place
+invariant-loop-place l = string_bytes l.out ≡ string_bytes l.fn.out ++ hour_ticks (axes_of l.scale) l.place

@@ -1,0 +1,6 @@
+use Rattle.change_views.specs.PictureChart.{line_start}
+use Rattle.change_views.proofs.picture.chart.put_line_start.Goals as goal
+
+pub returns : goal.returns
+unfolding line_start
+returns c = rw c.down_to-y.ensures.value at c.write.ensures.bytes

@@ -1,0 +1,13 @@
+use Rattle.std.proofs.Common.{◌≡◌, ◌≤◌, ◌++◌, drop, string_bytes}
+use Rattle.change_views.specs.Steps.Axes.{axes_of}
+use Rattle.change_views.specs.PictureChart.{labels_text}
+use Rattle.change_views.proofs.picture.chart.put_names.Given as goal
+
+-- what is written and the names of the rest are all
+abbrev pub invariant-loop-change : goal.invariant-loop-change
+invariant-loop-change l =
+    record {
+      told : string_bytes l.out ++ labels_text (axes_of l.scale) l.left l.shown (drop l.change-index l.changes)
+          ≡ string_bytes l.fn.out ++ labels_text (axes_of l.scale) 70 l.start l.changes;
+      within : l.left ≤ 870;
+    }

@@ -1,0 +1,7 @@
+use Rattle.std.proofs.Common.{append_assoc}
+use Rattle.change_views.specs.PicturePanels.{place_text}
+use Rattle.change_views.proofs.picture.panels.put_place.Goals as goal
+
+pub returns : goal.returns
+unfolding place_text
+returns c = simp append_assoc (rw c.kind_of-kind.ensures at c.write.ensures.bytes)

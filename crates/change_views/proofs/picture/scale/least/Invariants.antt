@@ -1,0 +1,12 @@
+use Rattle.std.proofs.Common.{◌≡◌, drop, ◌≤ℤ◌}
+use Rattle.tz_base.specs.LocalTypes.{IsUtOffset}
+use Rattle.change_views.specs.PictureChart.{least}
+use Rattle.change_views.proofs.picture.scale.least.Given as goal
+
+abbrev pub invariant-loop-change : goal.invariant-loop-change
+invariant-loop-change l =
+    record {
+      value : least l.fewest (drop l.change-index l.changes) ≡ least l.first l.changes;
+      bound : IsUtOffset l.fewest;
+      less : l.fewest ≤ℤ l.first;
+    }

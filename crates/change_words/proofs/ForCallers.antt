@@ -1,3 +1,0 @@
--- Lemmas for the crates above.
-pub use Rattle.change_words.proofs.LineLaws.{piece_next, from_first, until_last}
-pub use Rattle.change_words.proofs.JsonPutting.{wrote, puts_then, items_all, items_shallow, pushed, type_shallow, change_shallow}

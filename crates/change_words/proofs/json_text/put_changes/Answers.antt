@@ -1,7 +1,0 @@
-use Rattle.change_words.specs.ChangeValues.{change_value}
-use Rattle.change_words.proofs.JsonPutting.{items_all, puts_then, wrote}
-use Rattle.change_words.proofs.json_text.put_changes.Goals as goal
-
-pub returns : goal.returns
-returns c =
-    rw (items_all change_value c.args.changes.now) (puts_then (wrote c.in_ok-key.ensures) (puts_then (wrote c.in_ok-begin_array.ensures) (puts_then c.in_ok-put_change_list.ensures (wrote c.end_array.ensures))))

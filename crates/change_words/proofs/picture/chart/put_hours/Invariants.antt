@@ -1,7 +1,0 @@
-use Rattle.std.proofs.Common.{◌≡◌, ◌++◌, string_bytes}
-use Rattle.change_words.specs.Steps.Axes.{axes_of}
-use Rattle.change_words.specs.PictureChart.{hour_ticks}
-use Rattle.change_words.proofs.picture.chart.put_hours.Given as goal
-
-abbrev pub invariant-loop-place : goal.invariant-loop-place
-invariant-loop-place l = string_bytes l.out ≡ string_bytes l.fn.out ++ hour_ticks (axes_of l.scale) l.place

@@ -1,7 +1,0 @@
-use Rattle.std.proofs.Common.{append_assoc}
-use Rattle.change_words.specs.PictureChart.{name_text}
-use Rattle.change_words.proofs.picture.chart.put_name_text.Goals as goal
-
-pub returns : goal.returns
-unfolding name_text
-returns c = simp append_assoc (rw c.down_to.ensures.value at c.write.ensures.bytes)

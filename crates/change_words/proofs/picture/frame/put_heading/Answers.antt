@@ -1,7 +1,0 @@
-use Rattle.std.proofs.Common.{append_assoc, to_z-of_z}
-use Rattle.change_words.specs.PictureFrame.{heading_text}
-use Rattle.change_words.proofs.picture.frame.put_heading.Goals as goal
-
-pub returns : goal.returns
-unfolding heading_text
-returns c = let fits = c.ranges.year in simp append_assoc (simp to_z-of_z at (rw c.heading_words-words.ensures at c.write.ensures.bytes))

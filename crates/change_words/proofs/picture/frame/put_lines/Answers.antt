@@ -1,6 +1,0 @@
-use Rattle.change_words.specs.PictureFrame.{line_style}
-use Rattle.change_words.proofs.picture.frame.put_lines.Goals as goal
-
-pub returns : goal.returns
-unfolding line_style
-returns c = c.write.ensures.bytes

@@ -1,8 +1,0 @@
-use Rattle.std.proofs.Common.{◌≡◌, ◌++◌, drop, string_bytes}
-use Rattle.change_words.specs.PicturePanels.{panels_text}
-use Rattle.change_words.proofs.picture.panels.put_panels.Given as goal
-
--- what is written and the panels of the rest are all
-abbrev pub invariant-loop-place : goal.invariant-loop-place
-invariant-loop-place l =
-    string_bytes l.out ++ panels_text l.place (drop l.place l.changes) ≡ string_bytes l.fn.out ++ panels_text 0 l.changes

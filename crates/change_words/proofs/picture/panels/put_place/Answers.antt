@@ -1,7 +1,0 @@
-use Rattle.std.proofs.Common.{append_assoc}
-use Rattle.change_words.specs.PicturePanels.{place_text}
-use Rattle.change_words.proofs.picture.panels.put_place.Goals as goal
-
-pub returns : goal.returns
-unfolding place_text
-returns c = simp append_assoc (rw c.kind_of-kind.ensures at c.write.ensures.bytes)

@@ -1,7 +1,0 @@
-use Rattle.std.proofs.Common.{append_assoc}
-use Rattle.change_words.specs.PicturePanels.{types_text}
-use Rattle.change_words.proofs.picture.panels.put_types.Goals as goal
-
-pub returns : goal.returns
-unfolding types_text
-returns c = simp append_assoc (simp append_assoc at c.write.ensures.bytes)

@@ -1,9 +1,0 @@
-use Rattle.std.proofs.Common.{◌∙◌, ap, ◌++◌, string_bytes}
-use Rattle.change_words.specs.ZdumpLines.{pair_lines}
-use Rattle.change_words.proofs.LineLaws.{piece_next}
-use Rattle.change_words.proofs.zdump.push_pairs.Goals as goal
-
-pub loop-change-preserved : goal.loop-change-preserved
-loop-change-preserved c =
-    let pair = c.in_ok-push_pair.ensures ∙ ap (λ x. string_bytes c.loop-change.out ++ pair_lines c.args.name.now x) c.change-item.is in
-    piece_next (pair_lines c.args.name.now) _ _ _ c.args.changes.now c.loop-change.change-index c.change-item.result c.loop-change-test.true c.loop-change.invariant pair

@@ -1,0 +1,16 @@
+use Rattle.std.proofs.Common.{ap, arith, rules, refl, to_z-of_z, pos, ◌+ℤ◌, w64, SFits}
+use Rattle.std.proofs.lemmas.Int.{ints}
+use Rattle.naive_base.specs.NaiveDate.{day_of}
+use Rattle.naive_base.specs.Reading.{Reading}
+use Rattle.demo_own_zone.proofs.OddDays.{ends_of_day}
+use Rattle.demo_own_zone.proofs.zone.OddZoneDays.seconds_of_day.Goals as goal
+
+pub returns : goal.returns
+returns c =
+    let day = day_of c.args.date in
+    let first = c.first_second_at_or_after-first.result in
+    let reached = rw (ap (λ (r : Reading). r.s) c.and_time.ensures.value) at c.first_second_at_or_after-first.ensures in
+    let inside = reached.reached.in_zone in
+    let ff : SFits w64 c.first_second_at_or_after-first.result = search rules in
+    let fl : SFits w64 (c.first_second_at_or_after-first.result +ℤ pos 86_399) = omega (arith, ints, inside) in
+    simp to_z-of_z (ends_of_day day first (first +ℤ pos 86_399) c.args.date.in_range reached refl)

@@ -1,9 +1,0 @@
-use Rattle.pins.proofs.AskedWords.{shift_earliest, refuse_latest, refuse_refuse}
-use Rattle.pins.proofs.asked_lines.choices.Goals as goal
-
-pub returns : goal.returns
-returns c = record {
-  shift_earliest = shift_earliest;
-  refuse_latest = refuse_latest;
-  refuse_refuse = refuse_refuse;
-}

@@ -1,6 +1,0 @@
-use Rattle.std.proofs.Common.{refl}
-use Rattle.pins.proofs.FileParts.{no_flag}
-use Rattle.pins.proofs.files.flags.Goals as goal
-
-pub returns : goal.returns
-returns c = record { standard = refl; daylight = refl; other = no_flag }

@@ -1,8 +1,0 @@
-use Rattle.std.proofs.Common.{refl}
-use Rattle.pins.proofs.files.indicators.Goals as goal
-
-pub returns-clause-wall : goal.returns-clause-wall
-returns-clause-wall c agree = agree 0 refl refl
-
-pub returns-clause-left_out : goal.returns-clause-left_out
-returns-clause-left_out c agree = agree 0 refl refl

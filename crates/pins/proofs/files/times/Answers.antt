@@ -1,7 +1,0 @@
-use Rattle.std.proofs.Common.{refl}
-use Rattle.tz_info.specs.FileContents.{signed}
-use Rattle.pins.proofs.files.times.Goals as goal
-
-pub returns : goal.returns
-unfolding signed
-returns c = record { eight_bytes = refl; four_bytes = refl }

@@ -1,9 +1,0 @@
-use Rattle.std.proofs.Common.{arith, pos}
-use Rattle.pins.proofs.NewYorkClocks.{in_fold, est_once_late}
-use Rattle.pins.proofs.gaps.fold.Goals as goal
-
-pub returns : goal.returns
-returns c = record {
-  half_past_one = in_fold (pos 1_636_248_600) (omega arith) (omega arith);
-  after = est_once_late (pos 1_636_250_400) (omega arith) (omega arith);
-}

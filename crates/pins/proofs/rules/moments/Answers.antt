@@ -1,5 +1,0 @@
-use Rattle.pins.proofs.NewYork.{start_2021, end_2021}
-use Rattle.pins.proofs.rules.moments.Goals as goal
-
-pub returns : goal.returns
-returns c = record { start = start_2021; end = end_2021 }

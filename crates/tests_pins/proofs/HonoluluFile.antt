@@ -1,0 +1,274 @@
+-- The pieces of Honolulu's file, put together from bytes.
+use Rattle.std.proofs.Common.{◌≡◌, refl, arith, inl, inr, ℕ, ◌<◌, ℤ, ◌<ℤ◌, Bool, false, true, List, [], ◌∷◌, ◌++◌, length, pos, neg_ℤ}
+use Rattle.std.proofs.lemmas.Str.{IsUtf8-from_ascii}
+use Rattle.std.proofs.lemmas.Str.Ascii.{IsAscii-cons, IsAscii-nil}
+use Rattle.std.specs.Prelude.{None}
+use Rattle.std.specs.Int.{w32, from_be_bytes}
+use Rattle.tz_base.specs.declared.error.Error.{Error}
+use Rattle.tz_base.specs.declared.error.Error.TheVariants.{InvalidTzFile, UnsupportedTzFile}
+use Rattle.tz_base.specs.declared.error.Expected.TheVariants.{NothingAfterBlockOfVersion1, Version1To3, Version2Or3InSecondHeader}
+use Rattle.tz_base.specs.Names.{is_name_byte}
+use Rattle.tz_base.specs.Fronts.{exact_at, optional_tag_at}
+use Rattle.tz_base.specs.Grammar.{Spells, be_u32}
+use Rattle.tz_base.proofs.ForCallers.{lawful, apart}
+use Rattle.tz_info.specs.FileBlocks.{block as a_block}
+use Rattle.tz_info.specs.FileContents.{signed, least_offset, SpellsType, IsMark, SpellTransitions, SpellTypes, IndicatorsAgree}
+use Rattle.tz_info.specs.FileHeaders.{magic, tzif, version, version_1, six_counts, counts_test, header as a_header}
+use Rattle.tz_info.specs.FilePieces.{HasPieces, PieceFault, first_pieces, after_first_block, first_version, later_version, file as a_file}
+use Rattle.tz_info.specs.Footers.{IsFooter}
+use Rattle.tz_info.specs.TzFiles.{IsTzFile}
+use Rattle.tz_info.specs.Zones.{Zone}
+use Rattle.tz_info.specs.declared.file.header.Place.{Place}
+use Rattle.tz_info.specs.declared.file.header.Version.{Version}
+use Rattle.tz_info.specs.declared.file.header.Version.TheVariants.{Two}
+use Rattle.tests_pins.specs.Honolulu.{counts, header, short_times, long_times, type_indexes, type_records, designations, indicators, parts, block, pieces, hst_footer, file_with, honolulu_file, short_file}
+use Rattle.tests_pins.specs.Zones.{named, honolulu, honolulu_from, hst10}
+use Rattle.tests_pins.proofs.FileParts.{parts_are}
+use Rattle.tests_pins.proofs.SpelledPieces.{is_name_3, some_bytes}
+use Rattle.tests_pins.proofs.SpelledTexts.{hst_10}
+
+-- ---- headers
+four_bytes : (a b c d : ℕ) (rest : List ℕ) → Spells be_u32 (a ∷ b ∷ c ∷ d ∷ rest) (from_be_bytes w32 (a ∷ b ∷ c ∷ d ∷ [])) rest
+unfolding be_u32
+four_bytes a b c d rest = (a ∷ b ∷ c ∷ d ∷ [], rest, (refl, refl), (refl, refl))
+
+counted : (rest : List ℕ) → Spells six_counts (0 ∷ 0 ∷ 0 ∷ 6 ∷ 0 ∷ 0 ∷ 0 ∷ 6 ∷ 0 ∷ 0 ∷ 0 ∷ 0 ∷ 0 ∷ 0 ∷ 0 ∷ 7 ∷ 0 ∷ 0 ∷ 0 ∷ 6 ∷ 0 ∷ 0 ∷ 0 ∷ 20 ∷ rest) counts rest
+unfolding six_counts
+counted rest =
+    (_, _, four_bytes 0 0 0 6 _, (_, _, four_bytes 0 0 0 6 _, (_, _, four_bytes 0 0 0 0 _, (_, _, four_bytes 0 0 0 7 _, (_, _, four_bytes 0 0 0 6 _, (_, _, four_bytes 0 0 0 20 _, (refl, refl)))))))
+
+pub is_header : (place : Place) (byte : ℕ) (v : Version) (rest : List ℕ) → ((after : List ℕ) → Spells (version place) (byte ∷ after) v after)
+    → Spells (a_header place) (header byte ++ rest) (record { version = v; counts = counts }) rest
+unfolding a_header tzif
+is_header place byte v rest stands =
+    (tt, _, (magic, _, (refl, refl), (refl, refl, refl)), (v, _, stands _, (0 ∷ 0 ∷ 0 ∷ 0 ∷ 0 ∷ 0 ∷ 0 ∷ 0 ∷ 0 ∷ 0 ∷ 0 ∷ 0 ∷ 0 ∷ 0 ∷ 0 ∷ [], _, (refl, refl), (counts, _, counted rest, ((counts_test counts).decides.0 refl, refl, refl)))))
+
+pub version_2 : (place : Place) (after : List ℕ) → Spells (version place) (50 ∷ after) Two after
+unfolding version
+version_2 place after = inr ((λ e. absurd (omega arith)), inl (after, refl, (refl, refl)))
+
+-- ---- blocks
+pub first_block : (rest : List ℕ) → Spells (a_block 4 counts) (block short_times ++ rest) (parts short_times) rest
+first_block rest = parts_are 4 counts (parts short_times) rest refl refl refl refl refl refl refl
+
+pub second_block : (rest : List ℕ) → Spells (a_block 8 counts) (block long_times ++ rest) (parts long_times) rest
+second_block rest = parts_are 8 counts (parts long_times) rest refl refl refl refl refl refl refl
+
+-- ---- what the second block says
+pub transitions : SpellTransitions 8 long_times type_indexes (honolulu hst10).transitions
+unfolding signed
+transitions = record {
+  times_are = (
+    255 ∷ 255 ∷ 255 ∷ 255 ∷ 116 ∷ 224 ∷ 112 ∷ 190 ∷ [],
+    _,
+    refl,
+    refl,
+    refl,
+    (
+      255 ∷ 255 ∷ 255 ∷ 255 ∷ 187 ∷ 5 ∷ 67 ∷ 72 ∷ [],
+      _,
+      refl,
+      refl,
+      refl,
+      (
+        255 ∷ 255 ∷ 255 ∷ 255 ∷ 187 ∷ 33 ∷ 113 ∷ 88 ∷ [],
+        _,
+        refl,
+        refl,
+        refl,
+        (
+          255 ∷ 255 ∷ 255 ∷ 255 ∷ 203 ∷ 137 ∷ 61 ∷ 200 ∷ [],
+          _,
+          refl,
+          refl,
+          refl,
+          (
+            255 ∷ 255 ∷ 255 ∷ 255 ∷ 210 ∷ 35 ∷ 244 ∷ 112 ∷ [],
+            _,
+            refl,
+            refl,
+            refl,
+            (
+              255 ∷ 255 ∷ 255 ∷ 255 ∷ 210 ∷ 97 ∷ 73 ∷ 56 ∷ [],
+              _,
+              refl,
+              refl,
+              refl,
+              (255 ∷ 255 ∷ 255 ∷ 255 ∷ 213 ∷ 141 ∷ 115 ∷ 72 ∷ [], _, refl, refl, refl, refl),
+            ),
+          ),
+        ),
+      ),
+    ),
+  );
+  indexes_are = refl;
+}
+
+-- what the first block says
+short_transitions : SpellTransitions 4 short_times type_indexes (honolulu_from (neg_ℤ (pos 2_147_483_648)) None).transitions
+unfolding signed
+short_transitions = record {
+  times_are = (
+    128 ∷ 0 ∷ 0 ∷ 0 ∷ [],
+    _,
+    refl,
+    refl,
+    refl,
+    (
+      187 ∷ 5 ∷ 67 ∷ 72 ∷ [],
+      _,
+      refl,
+      refl,
+      refl,
+      (
+        187 ∷ 33 ∷ 113 ∷ 88 ∷ [],
+        _,
+        refl,
+        refl,
+        refl,
+        (
+          203 ∷ 137 ∷ 61 ∷ 200 ∷ [],
+          _,
+          refl,
+          refl,
+          refl,
+          (
+            210 ∷ 35 ∷ 244 ∷ 112 ∷ [],
+            _,
+            refl,
+            refl,
+            refl,
+            (
+              210 ∷ 97 ∷ 73 ∷ 56 ∷ [],
+              _,
+              refl,
+              refl,
+              refl,
+              (213 ∷ 141 ∷ 115 ∷ 72 ∷ [], _, refl, refl, refl, refl),
+            ),
+          ),
+        ),
+      ),
+    ),
+  );
+  indexes_are = refl;
+}
+
+-- the record of a type whose name, two letters and a `T`, stands among the others
+spells : (a b mark : ℕ) (before after : List ℕ) (west : ℤ) (dst : Bool) (first second : ℕ)
+    → signed w32 (255 ∷ 255 ∷ a ∷ b ∷ []) ≡ neg_ℤ west → least_offset <ℤ neg_ℤ west → IsMark mark dst
+    → designations ≡ before ++ (first ∷ second ∷ 84 ∷ 0 ∷ after)
+    → 0 < first → 0 < second → is_name_byte first ≡ true → is_name_byte second ≡ true
+    → SpellsType designations (255 ∷ 255 ∷ a ∷ b ∷ mark ∷ length before ∷ []) (named west dst first second)
+spells a b mark before after west dst first second offset above marked whole some some₂ letter letter₂ = record {
+  text = first ∷ second ∷ 84 ∷ [];
+  offset = offset;
+  above_least = above;
+  mark = marked;
+  stands = record {
+    before = before;
+    after = after;
+    whole = whole;
+    at = refl;
+    ends = (λ e. absurd (omega (arith, e, some)), (λ e. absurd (omega (arith, e, some₂)), (λ e. absurd (omega (arith, e)), tt)));
+  };
+  name = refl;
+  name_fits = is_name_3 first second 84 letter letter₂ refl;
+}
+
+pub types : SpellTypes designations type_records (honolulu hst10).types
+unfolding signed
+types = (
+  255 ∷ 255 ∷ 108 ∷ 2 ∷ 0 ∷ 0 ∷ [],
+  _,
+  refl,
+  refl,
+  spells 108 2 0 [] _ (pos 37_886) false 76 77 refl (omega arith) refl refl (omega arith) (omega arith) refl refl,
+  (
+    255 ∷ 255 ∷ 108 ∷ 88 ∷ 0 ∷ 4 ∷ [],
+    _,
+    refl,
+    refl,
+    spells 108 88 0 (76 ∷ 77 ∷ 84 ∷ 0 ∷ []) _ (pos 37_800) false 72 83 refl (omega arith) refl refl (omega arith) (omega arith) refl refl,
+    (
+      255 ∷ 255 ∷ 122 ∷ 104 ∷ 1 ∷ 8 ∷ [],
+      _,
+      refl,
+      refl,
+      spells 122 104 1 (76 ∷ 77 ∷ 84 ∷ 0 ∷ 72 ∷ 83 ∷ 84 ∷ 0 ∷ []) _ (pos 34_200) true 72 68 refl (omega arith) refl refl (omega arith) (omega arith) refl refl,
+      (
+        255 ∷ 255 ∷ 122 ∷ 104 ∷ 1 ∷ 12 ∷ [],
+        _,
+        refl,
+        refl,
+        spells 122 104 1 (76 ∷ 77 ∷ 84 ∷ 0 ∷ 72 ∷ 83 ∷ 84 ∷ 0 ∷ 72 ∷ 68 ∷ 84 ∷ 0 ∷ []) _ (pos 34_200) true 72 87 refl (omega arith) refl refl (omega arith) (omega arith) refl refl,
+        (
+          255 ∷ 255 ∷ 122 ∷ 104 ∷ 1 ∷ 16 ∷ [],
+          _,
+          refl,
+          refl,
+          spells 122 104 1 (76 ∷ 77 ∷ 84 ∷ 0 ∷ 72 ∷ 83 ∷ 84 ∷ 0 ∷ 72 ∷ 68 ∷ 84 ∷ 0 ∷ 72 ∷ 87 ∷ 84 ∷ 0 ∷ []) _ (pos 34_200) true 72 80 refl (omega arith) refl refl (omega arith) (omega arith) refl refl,
+          (255 ∷ 255 ∷ 115 ∷ 96 ∷ 0 ∷ 4 ∷ [], _, refl, refl, spells 115 96 0 (76 ∷ 77 ∷ 84 ∷ 0 ∷ []) _ (pos 36_000) false 72 83 refl (omega arith) refl refl (omega arith) (omega arith) refl refl, refl),
+        ),
+      ),
+    ),
+  ),
+)
+
+pub footer : IsFooter false hst_footer hst10
+footer = record {
+  text = 72 ∷ 83 ∷ 84 ∷ 49 ∷ 48 ∷ [];
+  has_text = record {
+    utf8 = IsUtf8-from_ascii (10 ∷ 72 ∷ 83 ∷ 84 ∷ 49 ∷ 48 ∷ 10 ∷ []) (IsAscii-cons 10 (72 ∷ 83 ∷ 84 ∷ 49 ∷ 48 ∷ 10 ∷ []) (omega arith) (IsAscii-cons 72 (83 ∷ 84 ∷ 49 ∷ 48 ∷ 10 ∷ []) (omega arith) (IsAscii-cons 83 (84 ∷ 49 ∷ 48 ∷ 10 ∷ []) (omega arith) (IsAscii-cons 84 (49 ∷ 48 ∷ 10 ∷ []) (omega arith) (IsAscii-cons 49 (48 ∷ 10 ∷ []) (omega arith) (IsAscii-cons 48 (10 ∷ []) (omega arith) (IsAscii-cons 10 [] (omega arith) IsAscii-nil)))))));
+    newlines = record { after_first = _; before_last = 10 ∷ 72 ∷ 83 ∷ 84 ∷ 49 ∷ 48 ∷ []; starts = refl; ends = refl };
+    trimmed = record { before = 10 ∷ []; after = 10 ∷ []; whole = refl; space_before = (refl, tt); space_after = (refl, tt); first = refl; last = refl };
+  };
+  no_colon = λ e. absurd (omega (arith, e));
+  no_zero = (λ e. absurd (omega (arith, e)), (λ e. absurd (omega (arith, e)), (λ e. absurd (omega (arith, e)), (λ e. absurd (omega (arith, e)), (λ e. absurd (omega (arith, e)), tt)))));
+  says = (
+    some_bytes _ _,
+    hst_10,
+  );
+}
+
+indicators_agree : IndicatorsAgree indicators indicators
+indicators_agree = λ k a b. absurd (omega (arith, a, b))
+
+-- ---- the whole
+pub file_pieces : HasPieces honolulu_file pieces
+unfolding a_file a_header version version_1 six_counts tzif a_block be_u32 after_first_block first_version later_version exact_at optional_tag_at
+file_pieces = (lawful a_file honolulu_file).takes (pieces, []) refl
+
+pub file : IsTzFile honolulu_file (honolulu hst10)
+file = (
+  pieces,
+  file_pieces,
+  record { transitions = transitions; types = types; leaps = refl; indicators = indicators_agree; rule = footer },
+)
+
+short_pieces : HasPieces short_file (first_pieces counts (parts short_times))
+unfolding a_file a_header version version_1 six_counts tzif a_block be_u32 after_first_block first_version later_version exact_at optional_tag_at
+short_pieces = (lawful a_file short_file).takes (first_pieces counts (parts short_times), []) refl
+
+pub of_version_1 : IsTzFile short_file (honolulu_from (neg_ℤ (pos 2_147_483_648)) None)
+of_version_1 = (
+  first_pieces counts (parts short_times),
+  short_pieces,
+  record { transitions = short_transitions; types = types; leaps = refl; indicators = indicators_agree; rule = refl },
+)
+
+-- ---- wrong files
+pub other_version : PieceFault (file_with 49) (UnsupportedTzFile Version1To3)
+unfolding a_file a_header version version_1 six_counts tzif a_block be_u32 after_first_block first_version later_version exact_at optional_tag_at
+other_version = (lawful a_file (file_with 49)).fails (UnsupportedTzFile Version1To3) refl
+
+pub version_1_again : PieceFault (file_with 0) (InvalidTzFile Version2Or3InSecondHeader)
+unfolding a_file a_header version version_1 six_counts tzif a_block be_u32 after_first_block first_version later_version exact_at optional_tag_at
+version_1_again = (lawful a_file (file_with 0)).fails (InvalidTzFile Version2Or3InSecondHeader) refl
+
+pub byte_after : (b : ℕ) → PieceFault (short_file ++ (b ∷ [])) (InvalidTzFile NothingAfterBlockOfVersion1)
+unfolding a_file a_header version version_1 six_counts tzif a_block be_u32 after_first_block first_version later_version exact_at optional_tag_at
+byte_after b = (lawful a_file (short_file ++ (b ∷ []))).fails (InvalidTzFile NothingAfterBlockOfVersion1) refl
+
+pub no_file : (bytes : List ℕ) (e : Error) → PieceFault bytes e → (z : Zone) → IsTzFile bytes z → ⊥
+no_file bytes e fault z whole = apart (lawful a_file bytes) (whole.0, []) e whole.1 fault

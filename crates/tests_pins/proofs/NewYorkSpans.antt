@@ -1,0 +1,45 @@
+-- New York's span of standard time in the winter of 2020.
+use Rattle.std.proofs.Common.{◌≡◌, sym, ◌∙◌, arith, ℤ, pos, ◌-ℤ◌, ◌≤ℤ◌, ◌<ℤ◌, Some, None}
+use Rattle.std.proofs.lemmas.Int.{ints}
+use Rattle.tz_base.specs.LocalTypes.{LocalType}
+use Rattle.tz_base.specs.declared.change.Change.{Change}
+use Rattle.tz_base.specs.declared.span.Span.{Span}
+use Rattle.tz_info.specs.Changes.{IsChange}
+use Rattle.tz_info.specs.RuleTypes.{RuleAt}
+use Rattle.tz_info.specs.Spans.{IsInSpan, IsSpan, IsSpanAt}
+use Rattle.tz_info.specs.Zones.{TypeAt}
+use Rattle.tests_pins.specs.Changes.{change_at}
+use Rattle.tests_pins.specs.NewYork.{new_york_rule, new_york_zone, est, edt}
+use Rattle.tests_pins.specs.Spans.{winter, span_of}
+use Rattle.tests_pins.proofs.NewYork.{est_winter, edt_until_2020, edt_between}
+use Rattle.tests_pins.proofs.NewYorkChanges.{spring_is, no_change}
+use Rattle.tests_pins.proofs.NewYorkClocks.{apart, fits, one_type, type_of_rule}
+
+winter_begins : IsChange (TypeAt new_york_zone) (change_at (pos 1_604_210_400) edt est)
+winter_begins = record {
+  fits = fits (pos 1_604_210_400) (omega arith) (omega arith);
+  fits_before = fits (pos 1_604_210_399) (omega arith) (omega arith);
+  before = type_of_rule (pos 1_604_210_399) edt edt_until_2020;
+  after = type_of_rule (pos 1_604_210_400) est (est_winter (pos 1_604_210_400) (omega arith) (omega arith));
+  differ = λ e. apart (sym e);
+}
+
+pub winter_is : IsSpanAt (TypeAt new_york_zone) (pos 1_615_705_199) winter
+winter_is = record {
+  in_force_then = type_of_rule (pos 1_615_705_199) est (est_winter (pos 1_615_705_199) (omega arith) (omega arith));
+  inside = record { fits = fits (pos 1_615_705_199) (omega arith) (omega arith); since = omega arith; until = omega arith };
+  span = record {
+    each = λ u t inside here. one_type u est t (est_winter u inside.since inside.until) here;
+    begins = (edt, winter_begins);
+    ends = (edt, spring_is);
+  };
+}
+
+-- a span of standard time has no second of daylight saving time
+pub only_est : (s : Span) (u : ℤ) → s.local_time_type ≡ est → IsSpan (TypeAt new_york_zone) s → IsInSpan s u → RuleAt new_york_rule u edt → ⊥
+only_est s u is h inside edt_then = apart (sym (h.each u edt inside (type_of_rule u edt edt_then) ∙ is))
+
+-- nor does a change come within standard time
+pub no_change_within : (at : ℤ) (before after : LocalType) → pos 1_604_210_400 <ℤ at → at <ℤ pos 1_615_705_200 → IsChange (TypeAt new_york_zone) (change_at at before after) → ⊥
+no_change_within at before after low high =
+    no_change (change_at at before after) est (est_winter (at -ℤ pos 1) (omega (arith, ints)) (omega (arith, ints))) (est_winter at (omega (arith, ints)) high)

@@ -1,0 +1,63 @@
+-- Days of clocks that are set once.
+use Rattle.std.proofs.Common.{◌≡◌, ◌<◌, ℤ, pos, neg_ℤ, ◌+ℤ◌, ◌-ℤ◌, ◌*ℤ◌, ◌≤ℤ◌, ◌<ℤ◌, inl, inr, arith, refl}
+use Rattle.std.proofs.lemmas.Int.{ints, by_lt_z}
+use Rattle.naive_base.specs.Reading.{Reading, ahead, IsEarlier}
+use Rattle.naive_base.specs.Stamp.{of_secs}
+use Rattle.zoned_time.specs.Days.{AreEndsOfDay, IsNeverOnDay, IsFirstAtOrAfter, midnight}
+use Rattle.zoned_time.specs.Zone.{IsZoneSecond}
+use Rattle.tests_pins.specs.Days.{AreSetAt}
+
+pub not_earlier_than : (x y : Reading) → y.f ≡ 0 → y.s ≤ℤ x.s → ¬ (IsEarlier x y)
+not_earlier_than x y whole h (inl less) = omega (arith, ints)
+not_earlier_than x y whole h (inr (_, less)) = omega (arith, ints)
+
+-- a whole second is the first instant at or after a midnight if clocks show the midnight or more then, and less at each second before
+first_instant : (off : ℤ → ℤ) (day u : ℤ) → IsZoneSecond u → (day *ℤ pos 86_400) ≤ℤ (u +ℤ off u) → ((v : ℤ) → v <ℤ u → (v +ℤ off v) <ℤ (day *ℤ pos 86_400)) → IsFirstAtOrAfter off (midnight day) (of_secs u 0)
+first_instant off day u inside reached less = record {
+  shown = record { in_zone = inside; not_before = not_earlier_than (ahead (of_secs u 0) (off u)) (midnight day) refl (omega (arith, ints)) };
+  first = λ q h. not_earlier_than q (of_secs u 0) refl (by_lt_z q.s u (λ early. let below = less q.s early in absurd (h.not_before (inl (omega (arith, ints))))) (λ m. m));
+}
+
+-- the second at which clocks are set, if they jump over the midnight
+pub at_the_jump : (off : ℤ → ℤ) (at k m day : ℤ) → AreSetAt off at k m → IsZoneSecond at → (at +ℤ k) ≤ℤ (day *ℤ pos 86_400) → (day *ℤ pos 86_400) ≤ℤ (at +ℤ m) → IsFirstAtOrAfter off (midnight day) (of_secs at 0)
+at_the_jump off at k m day set inside below above =
+    let is = set.from at (omega (arith, ints)) in
+    first_instant off day at inside (omega (arith, ints)) (λ v early. let was = set.before v early in omega (arith, ints))
+
+-- a second before they are set shows the midnight
+pub before_the_jump : (off : ℤ → ℤ) (at k m day u : ℤ) → AreSetAt off at k m → IsZoneSecond u → u <ℤ at → (u +ℤ k) ≡ day *ℤ pos 86_400 → IsFirstAtOrAfter off (midnight day) (of_secs u 0)
+before_the_jump off at k m day u set inside early shown =
+    let is = set.before u early in
+    first_instant off day u inside (omega (arith, ints)) (λ v less. let was = set.before v (omega (arith, ints)) in omega (arith, ints))
+
+-- and a second after they are set back does
+pub after_the_jump : (off : ℤ → ℤ) (at k m day u : ℤ) → AreSetAt off at k m → IsZoneSecond u → at ≤ℤ u → (u +ℤ m) ≡ day *ℤ pos 86_400 → (at +ℤ k) ≤ℤ (day *ℤ pos 86_400) → IsFirstAtOrAfter off (midnight day) (of_secs u 0)
+after_the_jump off at k m day u set inside late shown below =
+    let is = set.from u late in
+    first_instant off day u inside (omega (arith, ints)) (λ v less. by_lt_z v at (λ before. let was = set.before v before in omega (arith, ints)) (λ from. let was = set.from v from in omega (arith, ints)))
+
+-- clocks are set over the whole day
+pub skipped : (off : ℤ → ℤ) (at k m day : ℤ) → AreSetAt off at k m → (at +ℤ k) ≤ℤ (day *ℤ pos 86_400) → ((day +ℤ pos 1) *ℤ pos 86_400) ≤ℤ (at +ℤ m) → IsNeverOnDay off day
+skipped off at k m day set below above u h =
+    let since = h.since in let before = h.before in
+    by_lt_z u at
+    (λ early. let is = set.before u early in omega (arith, ints))
+    (λ late. let is = set.from u late in omega (arith, ints))
+
+pub day_after_the_jump : (off : ℤ → ℤ) (at k m day last : ℤ) → AreSetAt off at k m → IsZoneSecond at → IsZoneSecond last → (at +ℤ k) ≤ℤ (day *ℤ pos 86_400) → (day *ℤ pos 86_400) ≤ℤ (at +ℤ m)
+    → (last +ℤ m) +ℤ pos 1 ≡ (day +ℤ pos 1) *ℤ pos 86_400 → at ≤ℤ last → AreEndsOfDay off day at last
+day_after_the_jump off at k m day last set inside inside_last below above ends late = record {
+  shown_first = let is = set.from at (omega (arith, ints)) in record { in_zone = inside; since = omega (arith, ints); before = omega (arith, ints) };
+  shown_last = let is = set.from last late in record { in_zone = inside_last; since = omega (arith, ints); before = omega (arith, ints) };
+  not_before = λ u h. by_lt_z u at (λ early. let is = set.before u early in let since = h.since in absurd (omega (arith, ints))) (λ from. from);
+  not_after = λ u h. by_lt_z u at (λ early. omega (arith, ints)) (λ from. let is = set.from u from in let before = h.before in omega (arith, ints));
+}
+
+pub day_over_the_jump : (off : ℤ → ℤ) (at k m day first last : ℤ) → AreSetAt off at k m → IsZoneSecond first → IsZoneSecond last → first <ℤ at → at ≤ℤ last → (first +ℤ k) ≡ day *ℤ pos 86_400
+    → (last +ℤ m) +ℤ pos 1 ≡ (day +ℤ pos 1) *ℤ pos 86_400 → m ≤ℤ k → AreEndsOfDay off day first last
+day_over_the_jump off at k m day first last set inside inside_last early late begins ends back = record {
+  shown_first = let is = set.before first early in record { in_zone = inside; since = omega (arith, ints); before = omega (arith, ints) };
+  shown_last = let is = set.from last late in record { in_zone = inside_last; since = omega (arith, ints); before = omega (arith, ints) };
+  not_before = λ u h. let since = h.since in by_lt_z u at (λ less. let is = set.before u less in omega (arith, ints)) (λ from. omega (arith, ints));
+  not_after = λ u h. let before = h.before in by_lt_z u at (λ less. omega (arith, ints)) (λ from. let is = set.from u from in omega (arith, ints));
+}

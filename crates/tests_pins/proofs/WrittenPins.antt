@@ -1,0 +1,58 @@
+-- Texts and designations that are not written, since shorter ones do.
+use Rattle.std.proofs.Common.{◌≡◌, refl, sym, ap, arith, ℕ, zero, suc, ◌<◌, inl, inr, ◌⊎◌, Bool, true, false, List, [], ◌∷◌, length, get_or}
+use Rattle.std.specs.Prelude.{codes}
+use Rattle.std.proofs.lemmas.Bool.{false≢true}
+use Rattle.tz_base.specs.LocalTypes.{LocalType}
+use Rattle.tz_info.specs.declared.rule.transition_rule.TransitionRule.{TransitionRule}
+use Rattle.tz_info.specs.declared.rule.transition_rule.TransitionRule.TheVariants as rules
+use Rattle.tz_info.specs.PosixZones.{IsPosixZone}
+use Rattle.tz_info.proofs.TextLaws.{one_rule}
+use Rattle.tz_write.specs.FileDesignations.{IsNamedIn, AreShortest}
+use Rattle.tz_write.specs.WrittenTexts.{AreInPairs, IsWrittenText, IsWrittenZone}
+use Rattle.tests_pins.specs.NewYork.{new_york_rule, new_york_zone}
+use Rattle.tests_pins.specs.Texts.{new_york_text, new_york_long, utc_text, utc_rule}
+use Rattle.tests_pins.specs.Zones.{hst}
+use Rattle.tests_pins.proofs.SpelledTexts.{new_york, utc, new_york_gives}
+
+no_colons : AreInPairs new_york_text
+no_colons = (λ e. absurd (omega (arith, e)), (λ e. absurd (omega (arith, e)), (λ e. absurd (omega (arith, e)), (λ e. absurd (omega (arith, e)), (λ e. absurd (omega (arith, e)), (λ e. absurd (omega (arith, e)), (λ e. absurd (omega (arith, e)), (λ e. absurd (omega (arith, e)), (λ e. absurd (omega (arith, e)), (λ e. absurd (omega (arith, e)), (λ e. absurd (omega (arith, e)), (λ e. absurd (omega (arith, e)), (λ e. absurd (omega (arith, e)), (λ e. absurd (omega (arith, e)), (λ e. absurd (omega (arith, e)), (λ e. absurd (omega (arith, e)), (λ e. absurd (omega (arith, e)), (λ e. absurd (omega (arith, e)), (λ e. absurd (omega (arith, e)), (λ e. absurd (omega (arith, e)), (λ e. absurd (omega (arith, e)), (λ e. absurd (omega (arith, e)), tt))))))))))))))))))))))
+
+longer : (new_york_text ≡ new_york_long) ⊎ (length new_york_long < length new_york_text) → ⊥
+longer (inl same) = let count : 22 ≡ 24 = ap length same in absurd (omega (arith, count))
+longer (inr less) = absurd (omega (arith, less))
+
+pub not_longer : (extended : Bool) → IsWrittenText new_york_rule new_york_long extended → ⊥
+not_longer extended w = longer (w.shortest new_york_text (new_york extended) no_colons)
+
+pub not_longer_zone : IsWrittenZone new_york_zone new_york_long → ⊥
+not_longer_zone w = longer (w.shortest new_york_text new_york_gives no_colons)
+
+pub not_extended : IsWrittenText new_york_rule new_york_text true → ⊥
+not_extended w = w.needed refl new_york_text (new_york false)
+
+abbrev has_turns : TransitionRule → Bool
+has_turns (rules.Fixed t) = false
+has_turns (rules.Alternate a) = true
+
+pub not_another : IsWrittenText new_york_rule utc_text false → ⊥
+not_another w = false≢true (ap has_turns (one_rule false utc_text utc_rule new_york_rule (utc false) w.spells))
+
+pub two_digits : AreInPairs (codes "FOO5:05:30")
+two_digits = (λ e. absurd (omega (arith, e)), (λ e. absurd (omega (arith, e)), (λ e. absurd (omega (arith, e)), (λ e. absurd (omega (arith, e)), (λ e. (refl, refl, refl), (λ e. absurd (omega (arith, e)), (λ e. absurd (omega (arith, e)), (λ e. (refl, refl, tt), (λ e. absurd (omega (arith, e)), (λ e. absurd (omega (arith, e)), tt))))))))))
+
+pub one_digit : AreInPairs (codes "FOO5:5") → ⊥
+one_digit h = h.1.1.1.1.0 refl
+
+pub three_digits : AreInPairs (codes "FOO5:005") → ⊥
+three_digits h = let pair = h.1.1.1.1.0 refl in false≢true (sym pair.2)
+
+named : (k : ℕ) (d : LocalType) → k < 1 → IsNamedIn (72 ∷ 83 ∷ 84 ∷ 0 ∷ []) (get_or (hst ∷ []) k d)
+named zero d place = record {
+  place = 0;
+  stands = record { before = []; after = []; whole = refl; at = refl; ends = (λ e. absurd (omega (arith, e)), (λ e. absurd (omega (arith, e)), (λ e. absurd (omega (arith, e)), tt))) };
+  named = omega arith;
+}
+named (suc k) d place = absurd (omega (arith, place))
+
+pub not_shortest : AreShortest (72 ∷ 83 ∷ 84 ∷ 0 ∷ 0 ∷ []) (hst ∷ []) → ⊥
+not_shortest h = let at_most = h.shortest (72 ∷ 83 ∷ 84 ∷ 0 ∷ []) named in absurd (omega (arith, at_most))

@@ -1,0 +1,17 @@
+use Rattle.std.proofs.Common.{refl, arith, inl, pos}
+use Rattle.std.specs.Fmt.{digits}
+use Rattle.offset_core.specs.declared.local_result.LocalResult.TheVariants as results
+use Rattle.tests_pins.specs.NewYork.{est, edt}
+use Rattle.tests_pins.proofs.NewYork.{edt_between}
+use Rattle.tests_pins.proofs.NewYorkClocks.{in_gap, in_fold, type_of_rule}
+use Rattle.tests_pins.proofs.asked_lines.answers.Goals as goal
+
+pub returns : goal.returns
+unfolding digits
+returns c = record {
+  instant = inl (edt, type_of_rule (pos 1_615_705_200) edt (edt_between (pos 1_615_705_200) (omega arith) (omega arith)), refl);
+  gap = (results.None, in_gap (pos 1_615_689_000) (omega arith) (omega arith), refl);
+  fold = (results.Ambiguous edt est, in_fold (pos 1_636_248_600) (omega arith) (omega arith), refl);
+  no_zone = refl;
+  no_zone_yet = refl;
+}

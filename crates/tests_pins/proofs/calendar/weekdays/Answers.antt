@@ -1,0 +1,13 @@
+use Rattle.std.proofs.Common.{refl}
+use Rattle.naive_base.specs.Year.{year_start}
+use Rattle.naive_base.specs.Month.{days_of_months}
+use Rattle.naive_base.specs.Date.{day_number}
+use Rattle.tests_pins.proofs.calendar.weekdays.Goals as goal
+
+pub returns : goal.returns
+unfolding year_start days_of_months day_number
+returns c = record {
+  first = refl;
+  march_2021 = refl;
+  before_first = refl;
+}

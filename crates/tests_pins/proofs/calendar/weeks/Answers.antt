@@ -1,0 +1,15 @@
+use Rattle.std.proofs.Common.{refl, arith, pos}
+use Rattle.naive_base.specs.Year.{year_start}
+use Rattle.naive_base.specs.Month.{days_of_months}
+use Rattle.naive_base.specs.Date.{day_number}
+use Rattle.tests_pins.proofs.Weeks.{week_is, first_week}
+use Rattle.tests_pins.proofs.calendar.weeks.Goals as goal
+
+pub returns : goal.returns
+unfolding year_start days_of_months day_number
+returns c = record {
+  friday = λ week w. week_is (pos 18_628) (pos 18_627) (pos 2020) 365 week (refl, omega arith, omega arith) (omega arith, omega arith) refl w;
+  sunday = λ week w. week_is (pos 18_630) (pos 18_627) (pos 2020) 365 week (refl, omega arith, omega arith) (omega arith, omega arith) refl w;
+  monday = λ week w. week_is (pos 17_896) (pos 17_899) (pos 2019) 2 week (refl, omega arith, omega arith) (omega arith, omega arith) refl w;
+  fourth_of_january = first_week;
+}

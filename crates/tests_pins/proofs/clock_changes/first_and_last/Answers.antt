@@ -1,0 +1,29 @@
+use Rattle.std.proofs.Common.{arith, inl, inr}
+use Rattle.std.proofs.lemmas.Int.{ints}
+use Rattle.tests_pins.specs.Changes.{spring, autumn}
+use Rattle.tests_pins.proofs.NewYorkChanges.{spring_is, autumn_is, change_of_year, none_between}
+use Rattle.tests_pins.proofs.clock_changes.first_and_last.Goals as goal
+
+pub returns : goal.returns
+returns c = record {
+  first = record {
+    is = spring_is;
+    inside = (omega arith, omega arith);
+    first = λ d is within. elim (change_of_year d within.0 within.1 is) [
+      | inl same ↦ rw same (omega arith)
+      | inr same ↦ rw same (omega arith)
+    ];
+  };
+  last = record {
+    is = autumn_is;
+    inside = (omega arith, omega arith);
+    last = λ d is within. elim (change_of_year d within.0 within.1 is) [
+      | inl same ↦ rw same (omega arith)
+      | inr same ↦ rw same (omega arith)
+    ];
+  };
+  not_first = λ h. let first = h.first spring spring_is (omega arith, omega arith) in absurd (omega (arith, first));
+  not_last = λ h. let last = h.last autumn autumn_is (omega arith, omega arith) in absurd (omega (arith, last));
+  none_first = none_between;
+  none_last = none_between;
+}

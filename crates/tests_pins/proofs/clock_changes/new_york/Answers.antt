@@ -1,0 +1,12 @@
+use Rattle.std.proofs.Common.{refl, inl, inr, pos}
+use Rattle.tests_pins.specs.Changes.{change_at}
+use Rattle.tests_pins.proofs.NewYorkChanges.{spring_is, autumn_is, none_at}
+use Rattle.tests_pins.proofs.clock_changes.new_york.Goals as goal
+
+pub returns : goal.returns
+returns c = record {
+  start = spring_is;
+  stop = autumn_is;
+  second_before = λ before after. none_at (pos 1_615_705_199) before after (change_at (pos 1_615_705_199) before after) refl (inl refl);
+  second_after = λ before after. none_at (pos 1_615_705_201) before after (change_at (pos 1_615_705_201) before after) refl (inr refl);
+}

@@ -1,0 +1,10 @@
+use Rattle.tests_pins.proofs.NewYorkChanges.{year, until_autumn, not_backwards, not_spring_alone}
+use Rattle.tests_pins.proofs.clock_changes.year_2021.Goals as goal
+
+pub returns : goal.returns
+returns c = record {
+  year = year;
+  ends = until_autumn;
+  backwards = not_backwards;
+  one_left_out = not_spring_alone;
+}

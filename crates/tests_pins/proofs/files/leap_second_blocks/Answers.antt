@@ -1,0 +1,10 @@
+use Rattle.std.proofs.Common.{refl}
+use Rattle.tests_pins.specs.Files.{one_leap_second, short_record, long_record, with_leap_second}
+use Rattle.tests_pins.proofs.FileParts.{parts_are}
+use Rattle.tests_pins.proofs.files.leap_second_blocks.Goals as goal
+
+pub returns : goal.returns
+returns c = record {
+  first = λ rest. parts_are 4 one_leap_second (with_leap_second short_record) rest refl refl refl refl refl refl refl;
+  second = λ rest. parts_are 8 one_leap_second (with_leap_second long_record) rest refl refl refl refl refl refl refl;
+}

@@ -1,0 +1,7 @@
+use Rattle.std.proofs.Common.{refl}
+use Rattle.tz_info.specs.FileContents.{signed}
+use Rattle.tests_pins.proofs.files.times.Goals as goal
+
+pub returns : goal.returns
+unfolding signed
+returns c = record { eight_bytes = refl; four_bytes = refl }

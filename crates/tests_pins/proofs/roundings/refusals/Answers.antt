@@ -1,0 +1,23 @@
+use Rattle.std.proofs.Common.{◌≡◌, refl, arith}
+use Rattle.std.proofs.lemmas.Int.{ints}
+use Rattle.zoned_round.specs.Errors.{IsRefusal}
+use Rattle.zoned_round.specs.declared.error.RoundingError.{RoundingError}
+use Rattle.zoned_round.specs.declared.error.RoundingError.TheVariants.{DurationExceedsTimestamp, DurationExceedsLimit, TimestampExceedsLimit}
+use Rattle.tests_pins.proofs.roundings.refusals.Goals as goal
+
+both : (e : RoundingError) → IsRefusal ⊥ ⊥ e → e ≡ DurationExceedsLimit
+both DurationExceedsLimit h = refl
+both TimestampExceedsLimit h = absurd h.0
+both DurationExceedsTimestamp h = absurd h
+
+pub returns : goal.returns
+returns c = record {
+  no_length = λ s. let more = s.0 in absurd (omega (arith, ints, more));
+  shortest = (omega arith, omega arith);
+  longest = (omega arith, omega arith);
+  too_long = λ s. let fits = s.1 in absurd (omega (arith, ints, fits));
+  both = both;
+  limit = refl;
+  timestamp = refl;
+  exceeds = refl;
+}

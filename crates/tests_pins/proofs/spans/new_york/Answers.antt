@@ -1,0 +1,12 @@
+use Rattle.std.proofs.Common.{arith, pos}
+use Rattle.tests_pins.proofs.NewYorkClocks.{fits}
+use Rattle.tests_pins.proofs.NewYorkSpans.{winter_is}
+use Rattle.tests_pins.proofs.spans.new_york.Goals as goal
+
+pub returns : goal.returns
+returns c = record {
+  winter = winter_is;
+  first = record { fits = fits (pos 1_604_210_400) (omega arith) (omega arith); since = omega arith; until = omega arith };
+  before = λ h. let since = h.since in absurd (omega (arith, since));
+  end = λ h. let until = h.until in absurd (omega (arith, until));
+}

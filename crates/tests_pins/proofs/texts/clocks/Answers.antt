@@ -1,0 +1,16 @@
+use Rattle.std.proofs.Common.{refl}
+use Rattle.std.specs.Prelude.{codes}
+use Rattle.tz_base.specs.Fronts.{int_at, tag_at, optional_tag_at}
+use Rattle.tz_info.specs.TzGrammar.{name, quoted, seconds, minutes_seconds, optional_minutes, hours_minutes_seconds, sign, duration, offset, time_sign, time, rule_day, month_date, julian_date, day_number, date, optional_time, day, days, next_hour, more, given_offset, dst_offset, named, end, fixed, alternate, rule, text}
+use Rattle.tests_pins.specs.Texts.{foo_5_30, foo_5_06_07, small}
+use Rattle.tests_pins.proofs.SpelledTexts.{spelled}
+use Rattle.tests_pins.proofs.texts.clocks.Goals as goal
+
+pub returns : goal.returns
+unfolding name quoted seconds minutes_seconds optional_minutes hours_minutes_seconds sign duration offset time_sign time rule_day month_date julian_date
+    day_number date optional_time day days next_hour more given_offset dst_offset named end fixed alternate rule text int_at tag_at optional_tag_at
+returns c = record {
+  minutes = λ extended. spelled extended (codes "FOO5:30") foo_5_30 refl;
+  seconds = λ extended. spelled extended (codes "FOO5:06:07") foo_5_06_07 refl;
+  small_letters = λ extended. spelled extended (codes "foo5") small refl;
+}

@@ -1,0 +1,17 @@
+use Rattle.std.proofs.Common.{refl, []}
+use Rattle.tz_info.proofs.ForCallers.{text_fault_or_zone}
+use Rattle.tests_pins.specs.Texts.{no_days}
+use Rattle.tests_pins.proofs.SpelledPieces.{some_bytes}
+use Rattle.tests_pins.proofs.SpelledTexts.{ends_early}
+use Rattle.tests_pins.proofs.texts.faults.Goals as goal
+
+pub returns : goal.returns
+returns c = record {
+  ends = ends_early;
+  none = λ zone z. text_fault_or_zone no_days _ zone (record {
+    some = some_bytes _ _;
+    trimmed = no_days;
+    trims = record { before = []; after = []; whole = refl; space_before = tt; space_after = tt; first = refl; last = refl };
+    fault = ends_early;
+  }) z;
+}

@@ -1,0 +1,13 @@
+use Rattle.std.proofs.Common.{refl}
+use Rattle.tz_base.specs.Fronts.{int_at, tag_at, optional_tag_at}
+use Rattle.tz_info.specs.TzGrammar.{name, quoted, seconds, minutes_seconds, optional_minutes, hours_minutes_seconds, sign, duration, offset, time_sign, time, rule_day, month_date, julian_date, day_number, date, optional_time, day, days, next_hour, more, given_offset, dst_offset, named, end, fixed, alternate, rule, text}
+use Rattle.tests_pins.specs.Texts.{numbered_text, numbered_rule}
+use Rattle.tests_pins.proofs.SpelledTexts.{spelled}
+use Rattle.tests_pins.proofs.texts.numbered_days.Goals as goal
+
+pub returns : goal.returns
+unfolding name quoted seconds minutes_seconds optional_minutes hours_minutes_seconds sign duration offset time_sign time rule_day month_date julian_date
+    day_number date optional_time day days next_hour more given_offset dst_offset named end fixed alternate rule text int_at tag_at optional_tag_at
+returns c = record {
+  rule = λ extended. spelled extended numbered_text numbered_rule refl;
+}

@@ -1,0 +1,19 @@
+use Rattle.std.proofs.Common.{refl}
+use Rattle.std.specs.Fmt.{digits}
+use Rattle.offset_core.specs.Digits.{in_digits}
+use Rattle.change_views.specs.Words.{offset_words}
+use Rattle.zonedump_lib.specs.RuleWords.{week_words, weekday_words, month_words, moment_words}
+use Rattle.tests_pins.proofs.told_zones.rules.Goals as goal
+
+pub returns : goal.returns
+unfolding digits in_digits offset_words week_words weekday_words month_words moment_words
+returns c = record {
+  new_york = refl;
+  utc = refl;
+  none = refl;
+  julian = refl;
+  numbered = refl;
+  next_day = refl;
+  day_before = refl;
+  midnight_after = refl;
+}

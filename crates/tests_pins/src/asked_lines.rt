@@ -1,0 +1,97 @@
+//! Lines that `zoneq` reads, and their answers.
+
+ghost use Rattle.std.specs.Prelude.{◌≡◌, ◌∷◌, [], codes, pos, neg_ℤ, None, Some, Ok, Err};
+ghost use Rattle.offset_core.specs.declared.choice.GapChoice.TheVariants as gaps;
+ghost use Rattle.offset_core.specs.declared.choice.FoldChoice.TheVariants as folds;
+ghost use Rattle.offset_core.specs.declared.local_result.LocalResult.TheVariants as results;
+ghost use Rattle.naive_base.specs.Stamp.{of_secs};
+ghost use Rattle.tz_base.specs.Grammar.{Spells};
+ghost use Rattle.zoneq_lib.specs.Answers.{AnswersAt, AnswersWall, instant_text, refusal_text, type_text, wall_text, zone_text};
+ghost use Rattle.zoneq_lib.specs.Endings.{message_of, status_of};
+ghost use Rattle.zoneq_lib.specs.Faults.{fault_text};
+ghost use Rattle.zoneq_lib.specs.Lines.{IsCut, ended_lines, last_line};
+ghost use Rattle.zoneq_lib.specs.Questions.{Asks, At, Data, Wall, Resolve, Show, IsBadLine, choice};
+ghost use Rattle.zoneq_lib.specs.declared.run_error.RunError.TheVariants as errors;
+ghost use Rattle.tests_pins.specs.Changes.{unnamed};
+ghost use Rattle.tests_pins.specs.NewYork.{new_york_zone, est, edt};
+ghost use Rattle.tests_pins.specs.Zones.{honolulu, hst10, utc_zone};
+
+/// A line of each kind but `text`.
+pub fn questions()
+    ensures at { Asks (codes "at -1") (At (neg_ℤ (pos 1))) }
+    ensures data { Asks (codes "data 01fF") (Data (1 ∷ 255 ∷ [])) }
+    ensures wall { Asks (codes "wall 2021 3 14 2 30 0") (Wall (pos 1_615_689_000)) }
+    ensures resolve { Asks (codes "wall 2021 3 14 2 30 0 shift/latest")
+        (Resolve (of_secs (pos 1_615_689_000) 0)
+        (record { gap = gaps.ShiftForward; fold = folds.Latest })) }
+    ensures show { Asks (codes "show 1615705200 7") (Show (pos 1_615_705_200) 7) }
+{}
+
+/// Lines that ask nothing: the empty line, numbers above their limits, days that the calendar
+/// doesn't have, a number too many.
+pub fn bad_lines()
+    ensures empty { IsBadLine [] }
+    ensures month_13 { IsBadLine (codes "wall 2021 13 1 0 0 0") }
+    ensures month_0 { IsBadLine (codes "wall 2021 0 1 0 0 0") }
+    ensures day_29 { IsBadLine (codes "wall 2021 2 29 0 0 0") }
+    ensures hour_24 { IsBadLine (codes "wall 2021 3 14 24 0 0") }
+    ensures second_60 { IsBadLine (codes "wall 2021 3 14 2 30 60") }
+    ensures second_of_64_bits { IsBadLine (codes "at 9223372036854775808") }
+    ensures two_numbers { IsBadLine (codes "at 1 0") }
+{}
+
+/// How types, zones, instants and errors are written.
+pub fn words()
+    ensures edt { type_text edt ≡ codes "-14400 dst EDT" }
+    ensures unnamed { type_text unnamed ≡ codes "3600 std -" }
+    ensures none { wall_text results.None ≡ codes "none" }
+    ensures single { wall_text (results.Single est) ≡ codes "single -18000 std EST" }
+    ensures ambiguous { wall_text (results.Ambiguous edt est)
+        ≡ codes "ambiguous -14400 dst EDT, -18000 std EST" }
+    ensures new_york { zone_text new_york_zone ≡ codes "ok 0 2 0 alternate" }
+    ensures honolulu { zone_text (honolulu hst10) ≡ codes "ok 7 6 0 fixed" }
+    ensures no_rule { zone_text (honolulu None) ≡ codes "ok 7 6 0 none" }
+    ensures refused { refusal_text 17 ≡ codes "refused 17" }
+    ensures instant { instant_text (of_secs (pos 1_615_705_200) 0) (neg_ℤ (pos 14_400))
+        ≡ codes "2021-03-14 03:00:00 -04:00" }
+{}
+
+/// How choices for gaps and folds are spelled.
+pub fn choices()
+    ensures shift_earliest { Spells choice (codes "shift/earliest")
+        (record { gap = gaps.ShiftForward; fold = folds.Earliest }) [] }
+    ensures refuse_latest { Spells choice (codes "refuse/latest")
+        (record { gap = gaps.Refuse; fold = folds.Latest }) [] }
+    ensures refuse_refuse { Spells choice (codes "refuse/refuse")
+        (record { gap = gaps.Refuse; fold = folds.Refuse }) [] }
+{}
+
+/// New York's answers: the type at an instant, no clock in the gap, two in the fold.
+pub fn answers()
+    ensures instant { AnswersAt (Some new_york_zone) (pos 1_615_705_200) (codes "-14400 dst EDT") }
+    ensures gap { AnswersWall (Some new_york_zone) (pos 1_615_689_000) (codes "none") }
+    ensures fold { AnswersWall (Some new_york_zone) (pos 1_636_248_600)
+        (codes "ambiguous -14400 dst EDT, -18000 std EST") }
+    ensures no_zone { AnswersAt None (pos 0) (codes "no zone") }
+    ensures no_zone_yet { AnswersWall None (pos 0) (codes "no zone") }
+{}
+
+/// A carriage return before a newline is no part of a line; what follows the last newline is one.
+pub fn lines()
+    ensures cut { IsCut (codes "at 1\r\nat 2") (codes "at 1\r" ∷ []) (codes "at 2") }
+    ensures ended { ended_lines (codes "at 1\r" ∷ codes "at 2" ∷ [])
+        ≡ codes "at 1" ∷ codes "at 2" ∷ [] }
+    ensures last { last_line (codes "at 2") ≡ codes "at 2" ∷ [] }
+    ensures none_left { last_line [] ≡ [] }
+{}
+
+/// The exit status and the message of a run.
+pub fn endings()
+    ensures fine { status_of (Ok tt) ≡ 0 }
+    ensures failed { status_of (Err errors.Read) ≡ 1 }
+    ensures silent { message_of (Ok tt) ≡ [] }
+    ensures read { message_of (Err errors.Read) ≡ codes "zoneq: read failed\n" }
+    ensures write { fault_text errors.Write ≡ codes "zoneq: write failed" }
+    ensures memory { fault_text errors.Memory ≡ codes "zoneq: out of memory" }
+    ensures too_long { fault_text errors.TooLong ≡ codes "zoneq: input too long" }
+{}

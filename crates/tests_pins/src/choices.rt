@@ -1,0 +1,50 @@
+//! Choices on clocks that are set forward by an hour at 1970-01-01 00:00:00 UTC, and on clocks that
+//! are set back by an hour then: 00:30 is shown never, or twice.
+
+ghost use Rattle.std.specs.Prelude.{◌≡◌, ℤ, pos, neg_ℤ};
+ghost use Rattle.naive_base.specs.Range.{first_second, last_second, first_reading};
+ghost use Rattle.zoned_time.specs.Choice.{IsBeforeGap, IsTaken, IsResolved, IsUnresolved};
+ghost use Rattle.zoned_time.specs.ResolveNumbers.{number_of};
+ghost use Rattle.zoned_time.specs.Zoned.{Zoned};
+ghost use Rattle.zoned_time.specs.declared.resolve_error.ResolveError.{ResolveError};
+ghost use Rattle.zoned_time.specs.declared.resolve_error.ResolveError.TheVariants.{Gap, Fold, OutOfRange};
+ghost use Rattle.tests_pins.specs.Choices.{set_forward, set_back, forward, back, half_past, refuse, shift, earliest, latest};
+
+/// Before the gap clocks were at 0, and by no other offset 00:30 is taken.
+pub fn gaps()
+    ensures before { (k : ℤ) → IsBeforeGap set_forward (pos 1_800) k → k ≡ pos 0 }
+    ensures is_before { IsBeforeGap set_forward (pos 1_800) (pos 0) }
+    ensures shifted { (k : ℤ) → IsTaken set_forward (pos 1_800) shift k → k ≡ pos 0 }
+    ensures refused { (k : ℤ) → ¬ (IsTaken set_forward (pos 1_800) refuse k) }
+    ensures why { (e : ResolveError) → IsUnresolved set_forward (pos 1_800) refuse e → e ≡ Gap }
+    ensures instant { (d : Zoned ℤ) → IsResolved forward half_past shift d
+        → d ≡ record { utc = half_past; offset = pos 3_600 } }
+{}
+
+/// In the fold 00:30 is shown first by the offset of an hour, and last by 0.
+pub fn folds()
+    ensures first { (k : ℤ) → IsTaken set_back (pos 1_800) earliest k → k ≡ pos 3_600 }
+    ensures last { (k : ℤ) → IsTaken set_back (pos 1_800) latest k → k ≡ pos 0 }
+    ensures refused { (k : ℤ) → ¬ (IsTaken set_back (pos 1_800) refuse k) }
+    ensures why { (e : ResolveError) → IsUnresolved set_back (pos 1_800) refuse e → e ≡ Fold }
+    ensures instant { (d : Zoned ℤ) → IsResolved back half_past earliest d
+        → d ≡ record {
+          utc = record { s = neg_ℤ (pos 1_800); f = half_past.f };
+          offset = pos 3_600;
+        } }
+{}
+
+/// On clocks an hour ahead of UTC the first reading of the range has no instant in range, and the
+/// last second has one.
+pub fn range()
+    ensures below { IsUnresolved set_back first_second refuse OutOfRange }
+    ensures no_instant { (d : Zoned ℤ) → ¬ (IsResolved back first_reading refuse d) }
+    ensures within { (e : ResolveError) → ¬ (IsUnresolved set_forward last_second refuse e) }
+{}
+
+/// The numbers of the reasons.
+pub fn numbers()
+    ensures gap { number_of Gap ≡ 21 }
+    ensures fold { number_of Fold ≡ 22 }
+    ensures out_of_range { number_of OutOfRange ≡ 23 }
+{}

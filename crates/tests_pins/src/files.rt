@@ -1,0 +1,145 @@
+//! Parts of TZif files, as Honolulu's file has them (RFC 8536 appendix B.2).
+
+ghost use Rattle.std.specs.Prelude.{◌≡◌, ℕ, Bool, true, false, [], ◌∷◌, ◌++◌, List, None, pos, neg_ℤ};
+ghost use Rattle.tz_base.specs.LocalTypes.{LocalType};
+ghost use Rattle.tz_base.specs.declared.error.Error.TheVariants.{InvalidTzFile, LocalTimeType};
+ghost use Rattle.tz_base.specs.declared.error.Expected.TheVariants.{OffsetAboveI32Min, TzTextInFooter, ZeroOrOneAsIsDst};
+ghost use Rattle.tz_info.specs.FileContents.{IsMark, SpellsType, TypeFault, SpellsLeapSecond, IndicatorsAgree, time_of};
+ghost use Rattle.tz_base.specs.Grammar.{Spells, be_u32};
+ghost use Rattle.tz_info.specs.FileHeaders.{version, six_counts, CountsAgree};
+ghost use Rattle.tz_info.specs.FilePieces.{FilePieces, after_first_block, is_extended};
+ghost use Rattle.tz_info.specs.FileBlocks.{block, Parts};
+ghost use Rattle.tz_info.specs.declared.file.header.Place.{Place};
+ghost use Rattle.tz_info.specs.declared.file.header.Place.TheVariants.{First};
+ghost use Rattle.tz_info.specs.declared.file.header.Counts.{Counts};
+ghost use Rattle.tz_info.specs.declared.file.header.Version.{Version};
+ghost use Rattle.tz_info.specs.declared.file.header.Version.TheVariants.{One, Two, Three};
+ghost use Rattle.tz_info.specs.Footers.{IsFooter, FooterFault};
+ghost use Rattle.tests_pins.specs.Honolulu.{designations, hst_record, hst_footer, first_time, least_time};
+ghost use Rattle.tests_pins.specs.Files.{one_to_six, of_types, short_record, long_record, one_leap_second, with_leap_second};
+ghost use Rattle.tests_pins.specs.LeapSeconds.{entry};
+ghost use Rattle.tests_pins.specs.Zones.{hst, hst10};
+
+/// A 0 byte and the digits 2 and 3 are versions; 1 and 4 are none. Nothing comes after the block of
+/// version 1.
+pub fn versions()
+    ensures one { Spells (version First) (0 ∷ []) One [] }
+    ensures two { (place : Place) → Spells (version place) (50 ∷ []) Two [] }
+    ensures three { (place : Place) → Spells (version place) (51 ∷ []) Three [] }
+    ensures digit_1 { (place : Place) (v : Version) (rest : List ℕ)
+        → ¬ (Spells (version place) (49 ∷ []) v rest) }
+    ensures digit_4 { (place : Place) (v : Version) (rest : List ℕ)
+        → ¬ (Spells (version place) (52 ∷ []) v rest) }
+    ensures nothing { (c : Counts) (p : Parts) (b : ℕ) (bytes rest : List ℕ) (pieces : FilePieces)
+        → ¬ (Spells (after_first_block One c p) (b ∷ bytes) pieces rest) }
+{}
+
+/// A header gives the six counts in this order.
+pub fn counts()
+    ensures order { Spells six_counts one_to_six (record {
+      ut_local = 1;
+      standard_wall = 2;
+      leap_seconds = 3;
+      transitions = 4;
+      types = 5;
+      designations = 6;
+    }) [] }
+    ensures high_byte_first { Spells be_u32 (1 ∷ 2 ∷ 3 ∷ 4 ∷ []) 16_909_060 [] }
+{}
+
+/// There is a type, and a byte of designations; indicators are given for no type, or for each.
+pub fn counts_that_agree()
+    ensures indicators { CountsAgree (of_types 6 6 20) }
+    ensures no_indicators { CountsAgree (of_types 0 6 20) }
+    ensures some_indicators { ¬ (CountsAgree (of_types 5 6 20)) }
+    ensures no_types { ¬ (CountsAgree (of_types 0 0 20)) }
+    ensures no_designations { ¬ (CountsAgree (of_types 6 6 0)) }
+{}
+
+/// The isdst byte is 0 or 1.
+pub fn flags()
+    ensures standard { IsMark 0 false }
+    ensures daylight { IsMark 1 true }
+    ensures other { (dst : Bool) → ¬ (IsMark 2 dst) }
+{}
+
+/// Times are numbers in two's complement, the highest byte first.
+pub fn times()
+    ensures eight_bytes { time_of 8 first_time ≡ neg_ℤ (pos 2_334_101_314) }
+    ensures four_bytes { time_of 4 least_time ≡ neg_ℤ (pos 2_147_483_648) }
+{}
+
+/// Version 3 alone has the extensions of TZ texts.
+pub fn extended()
+    ensures one { is_extended One ≡ false }
+    ensures two { is_extended Two ≡ false }
+    ensures three { is_extended Three ≡ true }
+{}
+
+/// A type's record: its offset, its isdst byte, and where its name begins.
+pub fn types()
+    ensures hst { SpellsType designations (hst_record 0) hst }
+    ensures least_offset { (t : LocalType)
+        → ¬ (SpellsType designations (128 ∷ 0 ∷ 0 ∷ 0 ∷ 0 ∷ 4 ∷ []) t) }
+    ensures flag_2 { (t : LocalType) → ¬ (SpellsType designations (hst_record 2) t) }
+{}
+
+/// Of a type's record the isdst byte is judged before the offset, of which only the least number of
+/// 32 bits is a fault.
+pub fn type_faults()
+    ensures flag { TypeFault designations (128 ∷ 0 ∷ 0 ∷ 0 ∷ 2 ∷ 0 ∷ [])
+        (InvalidTzFile ZeroOrOneAsIsDst) }
+    ensures not_offset { ¬ (TypeFault designations (128 ∷ 0 ∷ 0 ∷ 0 ∷ 2 ∷ 0 ∷ [])
+        (LocalTimeType OffsetAboveI32Min)) }
+{}
+
+/// Honolulu's footer, `HST10` between newlines, says a rule of one type. One newline alone says
+/// none. A colon first is a fault.
+pub fn footers()
+    ensures hst { IsFooter false hst_footer hst10 }
+    ensures none { IsFooter false (10 ∷ []) None }
+    ensures colon { FooterFault false (10 ∷ 58 ∷ 10 ∷ []) (InvalidTzFile TzTextInFooter) }
+{}
+
+/// A leap second's record: its time, and the correction from then on. 1972-06-30 23:59:60 was the
+/// first.
+pub fn leap_seconds()
+    ensures four_bytes { SpellsLeapSecond 4 short_record (entry (pos 78_796_800) 1) }
+    ensures eight_bytes { SpellsLeapSecond 8 long_record (entry (pos 78_796_800) 1) }
+{}
+
+/// A block has its parts in this order: standard/wall indicators come before UT/local ones.
+pub fn parts()
+    ensures order { Spells (block 4 (record {
+      ut_local = 2;
+      standard_wall = 1;
+      leap_seconds = 0;
+      transitions = 0;
+      types = 0;
+      designations = 1;
+    })) (7 ∷ 8 ∷ 9 ∷ 10 ∷ []) (record {
+      times = [];
+      type_indexes = [];
+      types = [];
+      designations = 7 ∷ [];
+      leap_seconds = [];
+      standard_wall = 8 ∷ [];
+      ut_local = 9 ∷ 10 ∷ [];
+    }) [] }
+{}
+
+/// A leap second's record has eight bytes in the first block, and twelve in the second.
+pub fn leap_second_blocks()
+    ensures first { (rest : List ℕ) → Spells (block 4 one_leap_second) (short_record ++ rest)
+        (with_leap_second short_record) rest }
+    ensures second { (rest : List ℕ) → Spells (block 8 one_leap_second) (long_record ++ rest)
+        (with_leap_second long_record) rest }
+{}
+
+/// What is given in UT is given in standard time; an indicator left out is 0.
+pub fn indicators()
+    ensures standard { IndicatorsAgree (1 ∷ []) (1 ∷ []) }
+    ensures wall { ¬ (IndicatorsAgree (0 ∷ []) (1 ∷ [])) }
+    ensures left_out { ¬ (IndicatorsAgree [] (1 ∷ [])) }
+    ensures local { IndicatorsAgree (0 ∷ 1 ∷ []) [] }
+{}

@@ -1,0 +1,69 @@
+//! The file of Pacific/Honolulu, whole (RFC 8536 appendix B.2): its bytes spell the lists that the
+//! appendix says, these make a zone, and they spell no other.
+
+ghost use Rattle.std.specs.Prelude.{◌≡◌, ℕ, List, [], ◌∷◌, ◌++◌, None, pos, neg_ℤ};
+ghost use Rattle.tz_base.specs.Grammar.{Spells};
+ghost use Rattle.tz_base.specs.declared.error.Error.TheVariants.{InvalidTzFile, UnsupportedTzFile};
+ghost use Rattle.tz_base.specs.declared.error.Expected.TheVariants.{NothingAfterBlockOfVersion1, Version1To3, Version2Or3InSecondHeader};
+ghost use Rattle.tz_info.specs.FileBlocks.{block as a_block};
+ghost use Rattle.tz_info.specs.FileContents.{SpellTransitions, SpellTypes, IndicatorsAgree};
+ghost use Rattle.tz_info.specs.FileHeaders.{header as a_header};
+ghost use Rattle.tz_info.specs.FilePieces.{HasPieces};
+ghost use Rattle.tz_info.specs.TzFiles.{IsTzFile, IsZoneFault};
+ghost use Rattle.tz_info.specs.Zones.{Zone, IsValid};
+ghost use Rattle.tz_info.specs.declared.file.header.Place.TheVariants.{First, Second};
+ghost use Rattle.tz_info.specs.declared.file.header.Version.TheVariants.{Two};
+ghost use Rattle.tests_pins.specs.Honolulu.{counts, header, short_times, long_times, type_indexes, type_records, designations, indicators, parts, block, pieces, file_with, honolulu_file, short_file};
+ghost use Rattle.tests_pins.specs.Zones.{honolulu, honolulu_from, hst10};
+
+/// Both headers are of version 2, and have the same counts.
+pub fn headers()
+    ensures first { (rest : List ℕ)
+        → Spells (a_header First) (header 50 ++ rest) (record { version = Two; counts = counts }) rest }
+    ensures second { (rest : List ℕ)
+        → Spells (a_header Second) (header 50 ++ rest) (record { version = Two; counts = counts }) rest }
+{}
+
+/// The blocks differ in their times, of four bytes and of eight.
+pub fn blocks()
+    ensures first { (rest : List ℕ)
+        → Spells (a_block 4 counts) (block short_times ++ rest) (parts short_times) rest }
+    ensures second { (rest : List ℕ)
+        → Spells (a_block 8 counts) (block long_times ++ rest) (parts long_times) rest }
+{}
+
+/// The second block and the footer say what the zone is.
+pub fn file_pieces()
+    ensures { HasPieces honolulu_file pieces }
+{}
+
+/// What the parts of the second block say.
+pub fn contents()
+    ensures transitions { SpellTransitions 8 long_times type_indexes (honolulu hst10).transitions }
+    ensures types { SpellTypes designations type_records (honolulu hst10).types }
+    ensures indicators { IndicatorsAgree indicators indicators }
+{}
+
+/// The file spells Honolulu's zone and no other, and the zone is valid.
+pub fn file()
+    ensures spells { IsTzFile honolulu_file (honolulu hst10) }
+    ensures valid { IsValid (honolulu hst10) }
+    ensures only { (z : Zone) → IsTzFile honolulu_file z → z ≡ honolulu hst10 }
+{}
+
+/// The first block alone is a file of version 1, whose first transition is at the least time of
+/// four bytes and which has no rule. With any byte after it, it is no file.
+pub fn version_1()
+    ensures spells { IsTzFile short_file (honolulu_from (neg_ℤ (pos 2_147_483_648)) None) }
+    ensures byte_after { (b : ℕ) (z : Zone) → ¬ (IsTzFile (short_file ++ (b ∷ [])) z) }
+    ensures byte_after_fault { (b : ℕ) → IsZoneFault (short_file ++ (b ∷ []))
+        (InvalidTzFile NothingAfterBlockOfVersion1) }
+{}
+
+/// With a second header of version 1, or with the digit 1 in its place, the bytes are no file.
+pub fn second_versions()
+    ensures version_1 { (z : Zone) → ¬ (IsTzFile (file_with 0) z) }
+    ensures version_1_fault { IsZoneFault (file_with 0) (InvalidTzFile Version2Or3InSecondHeader) }
+    ensures digit_1 { (z : Zone) → ¬ (IsTzFile (file_with 49) z) }
+    ensures digit_1_fault { IsZoneFault (file_with 49) (UnsupportedTzFile Version1To3) }
+{}

@@ -1,0 +1,84 @@
+//! Instants: what clocks with an offset show then, their order, their timestamps, and whole years
+//! between what two clocks show.
+
+ghost use Rattle.std.specs.Prelude.{◌≡◌, ℤ, pos, neg_ℤ};
+ghost use Rattle.std.specs.declared.cmp.Ordering.TheVariants as orders;
+ghost use Rattle.naive_base.specs.NaiveDate.{day_of};
+ghost use Rattle.naive_base.specs.Reading.{Reading};
+ghost use Rattle.naive_base.specs.Stamp.{IsSubsecond};
+ghost use Rattle.zoned_time.specs.Order.{compared};
+ghost use Rattle.zoned_time.specs.Relocal.{instant_of};
+ghost use Rattle.zoned_time.specs.Stamps.{millis_of, micros_of, of_millis, of_micros};
+ghost use Rattle.zoned_time.specs.Years.{IsWholeYears};
+ghost use Rattle.naive_base.specs.declared.date.NaiveDate.{NaiveDate};
+ghost use Rattle.zoned_time.specs.Zone.{midnight_of};
+ghost use Rattle.zoned_time.specs.Zoned.{Zoned, local_of};
+ghost use Rattle.tests_pins.specs.Readings.{at};
+ghost use Rattle.tests_pins.specs.Instants.{seconds, in_new_york, noon};
+
+/// New York's clocks show 2021-11-07 01:30:00 five hours and a half after 06:30:00 of UTC began to
+/// be shown at Greenwich: at an offset of five hours behind.
+pub fn shown()
+    ensures local { local_of seconds (in_new_york (pos 1_636_266_600))
+        ≡ record { s = pos 1_636_248_600; f = 5 } }
+    ensures instant { instant_of seconds (record { s = pos 1_636_248_600; f = 5 })
+        (neg_ℤ (pos 18_000))
+        ≡ in_new_york (pos 1_636_266_600) }
+{}
+
+/// The second that a date means is that of its midnight: of 1970-01-01, of the day before and of
+/// 2021-03-14.
+pub fn midnights()
+    ensures first { (date : NaiveDate) → day_of date ≡ pos 0 → midnight_of date ≡ pos 0 }
+    ensures day_before { (date : NaiveDate) → day_of date ≡ neg_ℤ (pos 1)
+        → midnight_of date ≡ neg_ℤ (pos 86_400) }
+    ensures march_2021 { (date : NaiveDate) → day_of date ≡ pos 18_700
+        → midnight_of date ≡ pos 1_615_680_000 }
+{}
+
+/// By the second first, then by the nanoseconds.
+pub fn order()
+    ensures second { compared (at 3 0 1 0) (at 3 0 0 999) ≡ orders.Greater }
+    ensures nanoseconds { compared (at 3 0 0 998) (at 3 0 0 999) ≡ orders.Less }
+    ensures leap_second { compared (at 2 59 59 1_999) (at 3 0 0 0) ≡ orders.Less }
+    ensures same { compared (at 3 0 0 0) (at 3 0 0 0) ≡ orders.Equal }
+{}
+
+/// 1,444 milliseconds after 1970 began, a nanosecond before, and a leap second.
+pub fn stamps()
+    ensures millis { millis_of (at 0 0 1 444) ≡ pos 1_444 }
+    ensures micros { micros_of (at 0 0 1 444) ≡ pos 1_444_000 }
+    ensures millis_before_1970 { millis_of (record { s = neg_ℤ (pos 1); f = 999_999_999 })
+        ≡ neg_ℤ (pos 1) }
+    ensures micros_before_1970 { micros_of (record { s = neg_ℤ (pos 1); f = 999_999_999 })
+        ≡ neg_ℤ (pos 1) }
+    ensures millis_of_leap { millis_of (at 0 0 59 1_300) ≡ pos 60_300 }
+    ensures micros_of_leap { micros_of (at 0 0 59 1_300) ≡ pos 60_300_000 }
+    ensures of_millis { of_millis (neg_ℤ (pos 1)) ≡ record { s = neg_ℤ (pos 1); f = 999_000_000 } }
+    ensures of_micros { of_micros (neg_ℤ (pos 1)) ≡ record { s = neg_ℤ (pos 1); f = 999_999_000 } }
+{}
+
+/// A timestamp may be in a leap second only after the last second of a minute.
+pub fn leap_stamps()
+    ensures last { IsSubsecond (pos 59) 1_999_999_999 }
+    ensures too_long { ¬ (IsSubsecond (pos 59) 2_000_000_000) }
+    ensures within_minute { ¬ (IsSubsecond (pos 58) 1_000_000_000) }
+    ensures last_before_1970 { IsSubsecond (neg_ℤ (pos 1)) 1_000_000_000 }
+{}
+
+/// From 29 February 2000, noon, to 28 February 2001 no year has passed, to noon of 1 March one has,
+/// and from noon to the second before noon four years later three.
+pub fn years()
+    ensures day_before { (n : ℤ) → IsWholeYears (noon (pos 2001) 2 28 0) (noon (pos 2000) 2 29 0) n
+        → n ≡ pos 0 }
+    ensures first_of_march { (n : ℤ)
+        → IsWholeYears (noon (pos 2001) 3 1 0) (noon (pos 2000) 2 29 0) n
+        → n ≡ pos 1 }
+    ensures second_before { (n : ℤ)
+        → IsWholeYears (noon (pos 2004) 2 29 0) (noon (pos 2000) 2 29 1) n
+        → n ≡ pos 3 }
+    ensures same_time { (n : ℤ) → IsWholeYears (noon (pos 2004) 2 29 1) (noon (pos 2000) 2 29 1) n
+        → n ≡ pos 4 }
+    ensures backwards { (n : ℤ) → IsWholeYears (noon (pos 1999) 2 28 0) (noon (pos 2000) 2 29 0) n
+        → n ≡ neg_ℤ (pos 2) }
+{}

@@ -1,0 +1,37 @@
+//! Clock changes of parsed zones as two instants, and zones that are not kept.
+
+ghost use Rattle.std.specs.Prelude.{◌≡◌, ◌∷◌, [], pos, neg_ℤ};
+ghost use Rattle.naive_base.specs.Range.{first_second, last_second};
+ghost use Rattle.naive_base.specs.Stamp.{of_secs};
+ghost use Rattle.zoned_ref.specs.ZoneChange.{IsAfter, IsUpTo, change_between};
+ghost use Rattle.zoned_ref.specs.Offsets.{IsNarrow};
+ghost use Rattle.zoned_kept.specs.KeepError.{IsRefused, given_back};
+ghost use Rattle.zoned_kept.specs.declared.keep_error.KeepError.TheVariants.{WideZone, OutOfMemory};
+ghost use Rattle.tests_pins.specs.Changes.{spring, wide};
+ghost use Rattle.tests_pins.specs.NewYork.{new_york_zone, est, edt};
+ghost use Rattle.tests_pins.specs.Zones.{utc_zone};
+
+/// 06:59:59 UTC with EST and 07:00:00 UTC with EDT are New York's change of 14 March 2021.
+pub fn changes()
+    ensures spring { change_between (λ t. t)
+        (record { utc = of_secs (pos 1_615_705_199) 0; offset = est })
+        (record { utc = of_secs (pos 1_615_705_200) 0; offset = edt }) ≡ spring }
+    ensures next { IsAfter (pos 5) (pos 6) }
+    ensures not_itself { ¬ (IsAfter (pos 5) (pos 5)) }
+    ensures last { IsAfter (pos 5) last_second }
+    ensures itself { IsUpTo (pos 5) (pos 5) }
+    ensures not_next { ¬ (IsUpTo (pos 5) (pos 6)) }
+    ensures not_first { ¬ (IsUpTo (pos 5) first_second) }
+{}
+
+/// A zone with an offset of a day is wide. A narrow one is not kept only if there is no memory, and is
+/// given back.
+pub fn not_kept()
+    ensures narrow { IsNarrow utc_zone }
+    ensures not_narrow { ¬ (IsNarrow wide) }
+    ensures wide { IsRefused wide (WideZone wide) }
+    ensures not_wide { ¬ (IsRefused utc_zone (WideZone utc_zone)) }
+    ensures memory { IsRefused utc_zone (OutOfMemory utc_zone) }
+    ensures other_zone { ¬ (IsRefused utc_zone (OutOfMemory wide)) }
+    ensures back { given_back (WideZone wide) ≡ wide }
+{}

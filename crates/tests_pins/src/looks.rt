@@ -1,0 +1,38 @@
+//! How many looks a lookup may take.
+
+ghost use Rattle.std.specs.Prelude.{◌≡◌, ℕ};
+ghost use Rattle.tz_timeline.specs.Counts.{Counts};
+ghost use Rattle.tz_timeline.specs.Digits.{digits};
+ghost use Rattle.tz_info.specs.Looks.{RoseByInstant, RoseByWallClock};
+ghost use Rattle.tests_pins.specs.Zones.{honolulu, hst10};
+ghost use Rattle.tests_pins.specs.Looks.{looks};
+
+/// Binary digits: `0` has none, `11111111` is 255.
+pub fn binary_digits()
+    ensures zero { digits 0 ≡ 0 }
+    ensures one { digits 1 ≡ 1 }
+    ensures two { digits 2 ≡ 2 }
+    ensures three { digits 3 ≡ 2 }
+    ensures four { digits 4 ≡ 3 }
+    ensures byte { digits 255 ≡ 8 }
+    ensures after_byte { digits 256 ≡ 9 }
+    ensures thousand { digits 1_000 ≡ 10 }
+{}
+
+/// By instant, Honolulu's seven transitions take three looks at most, and the rule one question.
+pub fn by_instant()
+    ensures most { RoseByInstant (honolulu hst10) (looks 0 0 0) (looks 3 1 0) }
+    ensures too_many { ¬ (RoseByInstant (honolulu hst10) (looks 0 0 0) (looks 4 0 0)) }
+    ensures two_questions { ¬ (RoseByInstant (honolulu hst10) (looks 0 0 0) (looks 3 2 0)) }
+    ensures pieces { ¬ (RoseByInstant (honolulu hst10) (looks 0 0 0) (looks 0 0 1)) }
+{}
+
+/// By wall clock they take four looks at pieces of the index at most, one at least, and two
+/// questions.
+pub fn by_wall_clock()
+    ensures most { RoseByWallClock (honolulu hst10) (looks 0 0 0) (looks 0 2 4) }
+    ensures too_many { ¬ (RoseByWallClock (honolulu hst10) (looks 0 0 0) (looks 0 0 5)) }
+    ensures none { ¬ (RoseByWallClock (honolulu hst10) (looks 0 0 0) (looks 0 0 0)) }
+    ensures three_questions { ¬ (RoseByWallClock (honolulu hst10) (looks 0 0 0) (looks 0 3 4)) }
+    ensures transitions { ¬ (RoseByWallClock (honolulu hst10) (looks 0 0 0) (looks 1 0 4)) }
+{}

@@ -1,0 +1,20 @@
+//! The odd zone: its clocks are a second ahead at each odd second.
+
+ghost use Rattle.std.specs.Prelude.{◌≡◌, pos, neg_ℤ};
+ghost use Rattle.offset_core.specs.WallAnswer.{IsNeverShown, IsShownBetween};
+ghost use Rattle.zoned_time.specs.Zone.{Shows};
+ghost use Rattle.demo_own_zone.specs.Odd.{odd_offset};
+
+/// Before 1970 too.
+pub fn offsets()
+    ensures even { odd_offset (pos 0) ≡ pos 0 }
+    ensures odd { odd_offset (pos 1) ≡ pos 1 }
+    ensures odd_before_1970 { odd_offset (neg_ℤ (pos 1)) ≡ pos 1 }
+    ensures even_before_1970 { odd_offset (neg_ℤ (pos 2)) ≡ pos 0 }
+{}
+
+/// The reading 1 is shown at no second, and 2 at two, first with the offset 1 and then with 0.
+pub fn clocks()
+    ensures odd { IsNeverShown (Shows odd_offset (pos 1)) }
+    ensures even { IsShownBetween (Shows odd_offset (pos 2)) (pos 1) (pos 0) }
+{}

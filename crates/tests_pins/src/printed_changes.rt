@@ -1,0 +1,93 @@
+//! Clock changes as text: the lines of `zdump -v`, a line of a table, and JSON.
+
+ghost use Rattle.std.specs.Prelude.{◌≡◌, ◌∷◌, [], ◌++◌, codes, pos, neg_ℤ, true, false};
+ghost use Rattle.json.specs.Print.{print};
+ghost use Rattle.json.specs.Tree.{json_tokens};
+ghost use Rattle.change_views.specs.ChangeLines.{change_lines};
+ghost use Rattle.change_views.specs.ChangeValues.{change_value, step_name, type_value};
+ghost use Rattle.change_views.specs.Words.{offset_words, type_words, step_words};
+ghost use Rattle.change_views.specs.ZdumpLines.{pair_lines, first_lines, last_lines, short_month, short_weekday, short_day, flag_text};
+ghost use Rattle.tests_pins.specs.Changes.{change_at, spring, unnamed};
+ghost use Rattle.tests_pins.specs.NewYork.{est, edt};
+
+/// What `zdump -v` prints of New York's change on 11 March 2007.
+pub fn zdump_pair()
+    ensures { pair_lines (codes "America/New_York") (change_at (pos 1_173_596_400) est edt)
+        ≡ codes "America/New_York  Sun Mar 11 06:59:59 2007 UT = Sun Mar 11 01:59:59 2007 EST"
+        ++ codes " isdst=0 gmtoff=-18000\n"
+        ++ codes "America/New_York  Sun Mar 11 07:00:00 2007 UT = Sun Mar 11 03:00:00 2007 EDT"
+        ++ codes " isdst=1 gmtoff=-14400\n" }
+{}
+
+/// The lines with which `zdump -v` begins and ends, of seconds that have no date in C.
+pub fn zdump_ends()
+    ensures first { first_lines (codes "UTC")
+        ≡ codes "UTC  -9223372036854775808 = NULL\nUTC  -9223372036854689408 = NULL\n" }
+    ensures last { last_lines (codes "UTC")
+        ≡ codes "UTC  9223372036854689407 = NULL\nUTC  9223372036854775807 = NULL\n" }
+{}
+
+/// Months and weekdays as `asctime` has them; a day of one digit has a space in front.
+pub fn zdump_names()
+    ensures january { short_month 1 ≡ codes "Jan" }
+    ensures february { short_month 2 ≡ codes "Feb" }
+    ensures march { short_month 3 ≡ codes "Mar" }
+    ensures april { short_month 4 ≡ codes "Apr" }
+    ensures may { short_month 5 ≡ codes "May" }
+    ensures june { short_month 6 ≡ codes "Jun" }
+    ensures july { short_month 7 ≡ codes "Jul" }
+    ensures august { short_month 8 ≡ codes "Aug" }
+    ensures september { short_month 9 ≡ codes "Sep" }
+    ensures october { short_month 10 ≡ codes "Oct" }
+    ensures november { short_month 11 ≡ codes "Nov" }
+    ensures december { short_month 12 ≡ codes "Dec" }
+    ensures sunday { short_weekday 0 ≡ codes "Sun" }
+    ensures monday { short_weekday 1 ≡ codes "Mon" }
+    ensures tuesday { short_weekday 2 ≡ codes "Tue" }
+    ensures wednesday { short_weekday 3 ≡ codes "Wed" }
+    ensures thursday { short_weekday 4 ≡ codes "Thu" }
+    ensures friday { short_weekday 5 ≡ codes "Fri" }
+    ensures saturday { short_weekday 6 ≡ codes "Sat" }
+    ensures one_digit { short_day 3 ≡ codes " 3" }
+    ensures two_digits { short_day 10 ≡ codes "10" }
+    ensures standard { flag_text false ≡ codes "0" }
+    ensures daylight { flag_text true ≡ codes "1" }
+{}
+
+/// The line of New York's change on 14 March 2021.
+pub fn table_line()
+    ensures { change_lines (spring ∷ [])
+        ≡ codes "2021-03-14 07:00:00 UTC  2021-03-14 02:00:00 -05:00 std EST"
+        ++ codes " -> 2021-03-14 03:00:00 -04:00 dst EDT  gap of 3600 s at 1615705200\n" }
+{}
+
+/// Offsets, types and steps in words.
+pub fn table_words()
+    ensures within_a_day { offset_words (neg_ℤ (pos 86_399)) ≡ codes "-23:59:59" }
+    ensures a_day { offset_words (pos 86_400) ≡ codes "86400" }
+    ensures a_day_behind { offset_words (neg_ℤ (pos 86_400)) ≡ codes "-86400" }
+    ensures standard { type_words est ≡ codes "-05:00 std EST" }
+    ensures daylight { type_words edt ≡ codes "-04:00 dst EDT" }
+    ensures unnamed { type_words unnamed ≡ codes "+01:00 std -" }
+    ensures gap { step_words (pos 1_800) ≡ codes "gap of 1800 s" }
+    ensures fold { step_words (neg_ℤ (pos 3_600)) ≡ codes "fold of 3600 s" }
+    ensures none { step_words (pos 0) ≡ codes "no step" }
+{}
+
+/// New York's change on 14 March 2021 as JSON.
+pub fn json_change()
+    ensures { print (json_tokens (change_value spring))
+        ≡ codes "{\"at\":1615705200,\"utc\":\"2021-03-14 07:00:00\","
+        ++ codes "\"before\":{\"offset\":-18000,\"dst\":false,\"name\":\"EST\"},"
+        ++ codes "\"after\":{\"offset\":-14400,\"dst\":true,\"name\":\"EDT\"},"
+        ++ codes "\"step\":\"gap\",\"length\":3600}" }
+{}
+
+/// Steps of all three kinds, and a type without a name.
+pub fn json_words()
+    ensures gap { step_name (pos 0) (pos 3_600) ≡ codes "gap" }
+    ensures fold { step_name (pos 3_600) (pos 0) ≡ codes "fold" }
+    ensures none { step_name (pos 3_600) (pos 3_600) ≡ codes "none" }
+    ensures unnamed { print (json_tokens (type_value unnamed))
+        ≡ codes "{\"offset\":3600,\"dst\":false,\"name\":null}" }
+{}

@@ -1,0 +1,124 @@
+//! TZ texts and the rules that they spell (POSIX.1 section 8.3, RFC 8536 section 3.3.1).
+
+ghost use Rattle.std.specs.Prelude.{◌≡◌, ℕ, [], ◌∷◌, ◌++◌, List, Bool, true, false, codes, pos, neg_ℤ};
+ghost use Rattle.tz_base.specs.Names.{IsName};
+ghost use Rattle.tz_base.specs.declared.error.Error.TheVariants.{InvalidTzString, LocalTimeType, ParseInt, TransitionRule as RuleError, UnsupportedTzString};
+ghost use Rattle.tz_base.specs.declared.error.Expected.TheVariants.{DayFromJ1ToJ365, DaysWhenDaylightSavingTimeStartsAndEnds, Digit, HoursMinutesAndSecondsWithinTheirLimits, NameOfThreeToSevenBytes};
+ghost use Rattle.tz_info.specs.TzGrammar.{time_limit, seconds_of, IsTzText, IsTextFault};
+ghost use Rattle.tz_info.specs.PosixZones.{IsPosixZone, posix_zone, types_of};
+ghost use Rattle.tz_info.specs.Zones.{Zone, plain_zone};
+ghost use Rattle.tz_info.specs.declared.rule.transition_rule.TransitionRule.{TransitionRule};
+ghost use Rattle.tests_pins.specs.NewYork.{new_york_rule, new_york_zone, est, edt};
+ghost use Rattle.tests_pins.specs.Texts.{new_york_text, no_days, foo_23, foo_23_rule, foo_24, foo_5_60, foo, fo_5, day_0, utc_text, utc_rule, jerusalem_text, jerusalem_rule, nuuk_text, nuuk_rule, foo_plus_5, foo_minus_5, foo_behind, foo_ahead, foo_5_06_07, foo_5_30, small, numbered_text, numbered_rule};
+
+/// `EST5EDT,M3.2.0,M11.1.0` spells that rule, as it does with the offset of EDT in it; and `UTC0` one
+/// of one type.
+pub fn rules()
+    ensures new_york { (extended : Bool) → IsTzText extended new_york_text new_york_rule }
+    ensures offset_given { (extended : Bool)
+        → IsTzText extended (codes "EST5EDT4,M3.2.0,M11.1.0") new_york_rule }
+    ensures utc { (extended : Bool) → IsTzText extended utc_text utc_rule }
+    ensures zone { IsPosixZone new_york_text new_york_zone }
+{}
+
+/// Offsets count west of UTC: `+5` is five hours behind it, as `5` is, and `-5` five hours ahead.
+pub fn signs()
+    ensures plus { (extended : Bool) → IsTzText extended foo_plus_5 foo_behind }
+    ensures minus { (extended : Bool) → IsTzText extended foo_minus_5 foo_ahead }
+{}
+
+/// `J60` is the 60th day of a common year, and `300` the day 300 after 1 January.
+pub fn numbered_days()
+    ensures rule { (extended : Bool) → IsTzText extended numbered_text numbered_rule }
+{}
+
+/// White space around a text is no part of it, and no text at all gives the zone of UTC.
+pub fn zones()
+    ensures spaced { IsPosixZone (32 ∷ (utc_text ++ (10 ∷ []))) (posix_zone utc_rule) }
+    ensures empty { IsPosixZone [] (plain_zone (pos 0)) }
+    ensures types { types_of new_york_rule ≡ est ∷ edt ∷ [] }
+{}
+
+/// A name has three to seven letters, digits, `+` or `-`.
+pub fn names()
+    ensures three { IsName (codes "EST") }
+    ensures seven { IsName (codes "+123-Zz") }
+    ensures two { ¬ (IsName (codes "ES")) }
+    ensures eight { ¬ (IsName (codes "ESTESTES")) }
+    ensures underscore { ¬ (IsName (codes "E_T")) }
+{}
+
+/// Hours of a time of day go to 24, and with extensions to 167. Of an offset 1:30:15 west is less
+/// than UTC by so many seconds.
+pub fn times()
+    ensures plain { time_limit false ≡ 24 }
+    ensures extended { time_limit true ≡ 167 }
+    ensures west { seconds_of true 1 30 15 ≡ neg_ℤ (pos 5_415) }
+    ensures east { seconds_of false 1 30 15 ≡ pos 5_415 }
+{}
+
+/// RFC 8536's examples of its extensions: a time of 26 hours, and times before midnight.
+pub fn extensions()
+    ensures jerusalem { IsTzText true jerusalem_text jerusalem_rule }
+    ensures nuuk { IsTzText true nuuk_text nuuk_rule }
+{}
+
+/// `EST5EDT` ends where the days should come, and gives no zone.
+pub fn faults()
+    ensures ends { IsTextFault false no_days
+        (UnsupportedTzString DaysWhenDaylightSavingTimeStartsAndEnds) }
+    ensures none { (zone : Zone) → ¬ (IsPosixZone no_days zone) }
+{}
+
+/// A minute is below 60, an offset has a digit, a name three letters, and the first date of a year
+/// is `J1`.
+pub fn fault_numbers()
+    ensures minute_60 { (extended : Bool) → IsTextFault extended foo_5_60
+        (InvalidTzString HoursMinutesAndSecondsWithinTheirLimits) }
+    ensures no_digit { (extended : Bool) → IsTextFault extended foo (ParseInt Digit) }
+    ensures two_letters { (extended : Bool) → IsTextFault extended fo_5
+        (LocalTimeType NameOfThreeToSevenBytes) }
+    ensures date_0 { (extended : Bool) → IsTextFault extended day_0
+        (RuleError DayFromJ1ToJ365) }
+{}
+
+/// The hours of an offset go to 23, and not to 24 as POSIX.1 allows.
+pub fn limits()
+    ensures hours_23 { (extended : Bool) → IsTzText extended foo_23 foo_23_rule }
+    ensures hours_24 { (extended : Bool) → IsTextFault extended foo_24
+        (InvalidTzString HoursMinutesAndSecondsWithinTheirLimits) }
+    ensures none { (zone : Zone) → ¬ (IsPosixZone foo_24 zone) }
+{}
+
+/// Minutes and seconds come after hours, each after a colon, and seconds may be left out; names have
+/// small letters too.
+pub fn clocks()
+    ensures minutes { (extended : Bool) → IsTzText extended (codes "FOO5:30") foo_5_30 }
+    ensures seconds { (extended : Bool) → IsTzText extended (codes "FOO5:06:07") foo_5_06_07 }
+    ensures small_letters { (extended : Bool) → IsTzText extended (codes "foo5") small }
+{}
+
+/// These spell no rule: a second 60; bytes after a rule; days, months, weeks and weekdays above
+/// their limits; names of eight bytes, and with other bytes.
+pub fn no_rules()
+    ensures second_60 { (extended : Bool) (r : TransitionRule)
+        → ¬ (IsTzText extended (codes "FOO5:00:60") r) }
+    ensures left_over { (extended : Bool) (r : TransitionRule)
+        → ¬ (IsTzText extended (codes "FOO5BAR,J1,J2,J3") r) }
+    ensures julian_366 { (extended : Bool) (r : TransitionRule)
+        → ¬ (IsTzText extended (codes "FOO5BAR,J366,J2") r) }
+    ensures day_366 { (extended : Bool) (r : TransitionRule)
+        → ¬ (IsTzText extended (codes "FOO5BAR,366,J2") r) }
+    ensures month_13 { (extended : Bool) (r : TransitionRule)
+        → ¬ (IsTzText extended (codes "FOO5BAR,M13.1.0,J2") r) }
+    ensures week_6 { (extended : Bool) (r : TransitionRule)
+        → ¬ (IsTzText extended (codes "FOO5BAR,M1.6.0,J2") r) }
+    ensures weekday_7 { (extended : Bool) (r : TransitionRule)
+        → ¬ (IsTzText extended (codes "FOO5BAR,M1.1.7,J2") r) }
+    ensures eight_letters { (extended : Bool) (r : TransitionRule)
+        → ¬ (IsTzText extended (codes "ABCDEFGH5") r) }
+    ensures underscore { (extended : Bool) (r : TransitionRule)
+        → ¬ (IsTzText extended (codes "<FO_>5") r) }
+    ensures signed_time { (r : TransitionRule)
+        → ¬ (IsTzText false (codes "FOO5BAR,J1/-1,J2") r) }
+{}

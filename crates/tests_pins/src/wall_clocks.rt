@@ -1,0 +1,38 @@
+//! What New York's clocks show in 2021, over all seconds of 64 bits: a gap on 14 March, from 02:00
+//! to 03:00, and a fold on 7 November, from 01:00 to 02:00.
+
+ghost use Rattle.std.specs.Prelude.{◌≡◌, pos};
+ghost use Rattle.offset_core.specs.WallAnswer.{IsWallAnswer};
+ghost use Rattle.offset_core.specs.declared.local_result.LocalResult.TheVariants as results;
+ghost use Rattle.tz_base.specs.LocalTypes.{LocalType};
+ghost use Rattle.tz_info.specs.Gaps.{IsBeforeGap};
+ghost use Rattle.tz_info.specs.WallClocks.{Shows};
+ghost use Rattle.tz_info.specs.Zones.{TypeAt};
+ghost use Rattle.tests_pins.specs.NewYork.{new_york_zone, est, edt};
+
+/// No second shows 02:30, nor 02:00. 01:59:59 is shown once, by EST, and 03:00 once, by EDT.
+pub fn gap()
+    ensures before { IsWallAnswer (Shows (TypeAt new_york_zone) (pos 1_615_687_199))
+        (results.Single est) }
+    ensures first { IsWallAnswer (Shows (TypeAt new_york_zone) (pos 1_615_687_200)) results.None }
+    ensures half_past_two { IsWallAnswer (Shows (TypeAt new_york_zone) (pos 1_615_689_000))
+        results.None }
+    ensures last { IsWallAnswer (Shows (TypeAt new_york_zone) (pos 1_615_690_799)) results.None }
+    ensures after { IsWallAnswer (Shows (TypeAt new_york_zone) (pos 1_615_690_800))
+        (results.Single edt) }
+    ensures type_before { IsBeforeGap (TypeAt new_york_zone) (pos 1_615_689_000) est }
+    ensures no_other_before { (t : LocalType)
+        → IsBeforeGap (TypeAt new_york_zone) (pos 1_615_689_000) t → t ≡ est }
+{}
+
+/// Two seconds show 01:30, the first by EDT and the last by EST. So it is from 01:00 on.
+pub fn fold()
+    ensures before { IsWallAnswer (Shows (TypeAt new_york_zone) (pos 1_636_246_799))
+        (results.Single edt) }
+    ensures first { IsWallAnswer (Shows (TypeAt new_york_zone) (pos 1_636_246_800))
+        (results.Ambiguous edt est) }
+    ensures half_past_one { IsWallAnswer (Shows (TypeAt new_york_zone) (pos 1_636_248_600))
+        (results.Ambiguous edt est) }
+    ensures last { IsWallAnswer (Shows (TypeAt new_york_zone) (pos 1_636_250_399))
+        (results.Ambiguous edt est) }
+{}

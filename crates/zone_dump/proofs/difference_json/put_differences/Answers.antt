@@ -1,7 +1,0 @@
-use Rattle.zone_dump.specs.DifferenceForms.{difference_value}
-use Rattle.change_words.proofs.ForCallers.{items_all, puts_then, wrote}
-use Rattle.zone_dump.proofs.difference_json.put_differences.Goals as goal
-
-pub returns : goal.returns
-returns c =
-    rw (items_all difference_value c.args.found.now) (puts_then (wrote c.in_ok-key.ensures) (puts_then (wrote c.in_ok-begin_array.ensures) (puts_then c.in_ok-put_list.ensures (wrote c.end_array.ensures))))

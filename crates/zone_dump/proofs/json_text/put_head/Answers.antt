@@ -1,5 +1,0 @@
-use Rattle.change_words.proofs.ForCallers.{puts_then}
-use Rattle.zone_dump.proofs.json_text.put_head.Goals as goal
-
-pub returns : goal.returns
-returns c = puts_then c.in_ok-put_string.ensures (puts_then c.in_ok-put_years.ensures c.put_counts.ensures)

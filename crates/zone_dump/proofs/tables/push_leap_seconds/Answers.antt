@@ -1,7 +1,0 @@
-use Rattle.change_words.specs.ChangeLines.{line}
-use Rattle.zone_dump.specs.Tables.{leap_text}
-use Rattle.change_words.proofs.ForCallers.{piece_next}
-use Rattle.zone_dump.proofs.tables.push_leap_seconds.Goals as goal
-
-pub loop-leap-preserved : goal.loop-leap-preserved
-loop-leap-preserved c = piece_next (λ e. line (leap_text e)) _ _ _ c.args.leaps.now c.loop-leap.leap-index _ c.loop-leap-test.true c.loop-leap.invariant c.in_ok-push_leap_second.ensures

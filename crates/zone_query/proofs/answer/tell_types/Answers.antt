@@ -1,6 +1,0 @@
-use Rattle.std.proofs.Common.{codes, refl}
-use Rattle.std.proofs.lemmas.Result.{on_ok_weaker}
-use Rattle.zone_query.proofs.answer.tell_types.Goals as goal
-
-pub returns-in_default : goal.returns-in_default
-returns-in_default c = on_ok_weaker c.writeln.result (λ bytes. (codes "no zone", bytes, rw c.in_default.is refl)) c.writeln.ensures.bytes

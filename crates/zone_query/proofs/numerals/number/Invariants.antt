@@ -1,9 +1,0 @@
-use Rattle.std.proofs.Common.{◌≤◌}
-use Rattle.zone_query.proofs.NumberLaws.{ReadTo}
-use Rattle.zone_query.proofs.numerals.number.Given as goal
-
-abbrev pub invariant-loop-i : goal.invariant-loop-i
-invariant-loop-i l = record {
-  fits : l.value ≤ l.max;
-  read : ReadTo l.text l.i l.value;
-}

@@ -1,0 +1,38 @@
+-- Lines one after the other, and the seconds of the changes in some years.
+use Rattle.std.proofs.Common.{◌≡◌, ap, ◌∙◌, arith, ℕ, ℤ, List, ◌++◌, append_assoc, get_or, pos, ◌+ℤ◌, All}
+use Rattle.std.proofs.lemmas.List.Elements.{Contains-get_or}
+use Rattle.naive_base.proofs.ForCallers.{floors}
+use Rattle.tz_base.specs.LocalTypes.{LocalType}
+use Rattle.tz_base.specs.declared.change.Change.{Change}
+use Rattle.tz_info.specs.Changes.{AreChanges}
+use Rattle.change_views.specs.Spans.{AreYears, IsInYears, IsNearYears, year_second, year_until}
+use Rattle.change_views.proofs.ForCallers.{from_first, until_last}
+
+-- four pieces are appended, one by one
+pub four_pieces : (start one two three four a b d e : List ℕ) → one ≡ start ++ a → two ≡ one ++ b → three ≡ two ++ d → four ≡ three ++ e
+    → four ≡ start ++ (a ++ b ++ d ++ e)
+four_pieces start one two three four a b d e first second third last =
+    last ∙ ap (λ t. t ++ e) (third ∙ ap (λ t. t ++ d) (second ∙ ap (λ t. t ++ b) first))
+    ∙ ap (λ t. t ++ e) (ap (λ t. t ++ d) (append_assoc start a b) ∙ append_assoc start (a ++ b) d) ∙ append_assoc start (a ++ b ++ d) e
+
+-- the changes after the first second of years, and up to the first second after them, come in them
+pub in_years : (in_force : ℤ → LocalType → Type 0) (first last : ℤ) (changes : List Change) → AreYears first last
+    → AreChanges in_force (year_second first +ℤ pos 1) (year_until last +ℤ pos 1) changes → All (λ c. IsInYears c.at) changes
+in_years in_force first last changes years are k d within =
+    let here = ((are.each (get_or changes k d)).0 (Contains-get_or changes k d within)).1 in
+    let low = from_first first years.after_zero in
+    let high = until_last last years.four_digits in
+    let from = here.0 in
+    let until = here.1 in
+    (omega (arith, floors, from, low), omega (arith, floors, until, high))
+
+-- the changes in years come at seconds near them
+pub near_years : (in_force : ℤ → LocalType → Type 0) (first last : ℤ) (changes : List Change) → AreYears first last
+    → AreChanges in_force (year_second first) (year_until last) changes → All (λ c. IsNearYears c.at) changes
+near_years in_force first last changes years are k d within =
+    let here = ((are.each (get_or changes k d)).0 (Contains-get_or changes k d within)).1 in
+    let low = from_first first years.after_zero in
+    let high = until_last last years.four_digits in
+    let from = here.0 in
+    let until = here.1 in
+    (omega (arith, floors, from, low), omega (arith, floors, until, high))

@@ -1,0 +1,5 @@
+use Rattle.change_views.proofs.ForCallers.{puts_then}
+use Rattle.zonedump_lib.proofs.difference_json.put_names.Goals as goal
+
+pub returns : goal.returns
+returns c = puts_then c.in_ok-put_string.ensures c.put_string-2.ensures

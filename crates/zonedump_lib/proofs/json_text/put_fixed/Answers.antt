@@ -1,0 +1,6 @@
+use Rattle.change_views.proofs.ForCallers.{puts_then, wrote}
+use Rattle.zonedump_lib.proofs.json_text.put_fixed.Goals as goal
+
+pub returns : goal.returns
+returns c =
+    puts_then (wrote c.in_ok-begin_object.ensures) (puts_then c.in_ok-put_type.ensures (wrote c.end_object.ensures))

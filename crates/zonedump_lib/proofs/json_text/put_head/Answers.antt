@@ -1,0 +1,5 @@
+use Rattle.change_views.proofs.ForCallers.{puts_then}
+use Rattle.zonedump_lib.proofs.json_text.put_head.Goals as goal
+
+pub returns : goal.returns
+returns c = puts_then c.in_ok-put_string.ensures (puts_then c.in_ok-put_years.ensures c.put_counts.ensures)

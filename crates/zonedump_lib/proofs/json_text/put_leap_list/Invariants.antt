@@ -1,0 +1,12 @@
+use Rattle.std.proofs.Common.{◌≡◌, ◌++◌, take}
+use Rattle.std.specs.List.{flat_map}
+use Rattle.json.specs.Tree.{json_tokens}
+use Rattle.zonedump_lib.specs.JsonValues.{leap_value}
+use Rattle.zonedump_lib.proofs.json_text.put_leap_list.Given as goal
+
+abbrev pub invariant-loop-leap : goal.invariant-loop-leap
+invariant-loop-leap l =
+    record {
+      tokens : l.writer.tokens ≡ l.fn.writer.tokens ++ flat_map (λ x. json_tokens (leap_value x)) (take l.leap-index l.leaps);
+      before : l.writer.before ≡ l.fn.writer.before;
+    }

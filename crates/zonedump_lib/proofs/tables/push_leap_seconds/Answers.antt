@@ -1,0 +1,7 @@
+use Rattle.change_views.specs.ChangeLines.{line}
+use Rattle.zonedump_lib.specs.Tables.{leap_text}
+use Rattle.change_views.proofs.ForCallers.{piece_next}
+use Rattle.zonedump_lib.proofs.tables.push_leap_seconds.Goals as goal
+
+pub loop-leap-preserved : goal.loop-leap-preserved
+loop-leap-preserved c = piece_next (λ e. line (leap_text e)) _ _ _ c.args.leaps.now c.loop-leap.leap-index _ c.loop-leap-test.true c.loop-leap.invariant c.in_ok-push_leap_second.ensures

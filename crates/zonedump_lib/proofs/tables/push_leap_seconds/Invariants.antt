@@ -1,0 +1,6 @@
+use Rattle.std.proofs.Common.{◌≡◌, ◌++◌, take, string_bytes}
+use Rattle.zonedump_lib.specs.Tables.{leap_lines}
+use Rattle.zonedump_lib.proofs.tables.push_leap_seconds.Given as goal
+
+abbrev pub invariant-loop-leap : goal.invariant-loop-leap
+invariant-loop-leap l = string_bytes l.out ≡ string_bytes l.fn.out ++ leap_lines (take l.leap-index l.leaps)

@@ -1,0 +1,72 @@
+-- The differences of two zones in some years, as lines and as a JSON value.
+use Rattle.std.specs.Prelude.{◌≡◌, ℕ, ℤ, ◌-ℤ◌, List, [], ◌∷◌, ◌++◌, Some, codes}
+use Rattle.std.specs.Fmt.{signed_decimal}
+use Rattle.std.specs.List.{flat_map}
+use Rattle.json.specs.Json.{Json, number, string, document}
+use Rattle.json.specs.Print.{print}
+use Rattle.json.specs.Tree.{json_tokens}
+use Rattle.tz_info.specs.Differences.{AreDifferences}
+use Rattle.tz_info.specs.Zones.{Zone, TypeAt}
+use Rattle.tz_info.specs.declared.zone.differences.Difference.{Difference}
+use Rattle.change_views.specs.ChangeLines.{line}
+use Rattle.change_views.specs.ChangeValues.{fields, list_value, type_value}
+use Rattle.change_views.specs.Clocks.{clock_words}
+use Rattle.change_views.specs.Spans.{year_second, year_until}
+use Rattle.change_views.specs.Words.{type_words}
+
+-- the differences of two zones from the first second of the first year to the last second of the last year in UTC
+abbrev pub AreDifferencesInYears : Zone → Zone → ℤ → ℤ → List Difference → Type 0
+AreDifferencesInYears old_zone new_zone first last ds = AreDifferences (TypeAt old_zone) (TypeAt new_zone) (year_second first) (year_until last) ds
+
+-- by how many seconds clocks of the new zone are ahead of those of the old one
+abbrev pub moved_by : Difference → ℤ
+moved_by d = d.new.offset -ℤ d.old.offset
+
+-- a difference: what UTC shows at its first second and at the second after its last one, both types, and the seconds by which clocks move
+abbrev pub difference_text : Difference → List ℕ
+difference_text d =
+    clock_words d.from ++ codes " to " ++ clock_words d.until ++ codes " UTC  " ++ type_words d.old ++ codes " -> " ++ type_words d.new
+    ++ codes "  moved by " ++ signed_decimal (moved_by d) ++ codes " s"
+
+-- a line for each difference
+abbrev pub difference_lines : List Difference → List ℕ
+difference_lines ds = flat_map (λ d. line (difference_text d)) ds
+
+-- a difference: its first second and the second after its last one, in Unix time and as UTC shows them, both types, and the seconds by
+-- which clocks move
+abbrev pub difference_value : Difference → Json
+difference_value d =
+    fields
+    ((codes "from", number (signed_decimal d.from))
+    ∷ (codes "from_utc", string (clock_words d.from))
+    ∷ (codes "until", number (signed_decimal d.until))
+    ∷ (codes "until_utc", string (clock_words d.until))
+    ∷ (codes "old", type_value d.old)
+    ∷ (codes "new", type_value d.new)
+    ∷ (codes "moved", number (signed_decimal (moved_by d)))
+    ∷ [])
+
+-- the two zones under their names, with those differences
+abbrev pub differences_value : List ℕ → List ℕ → ℤ → ℤ → List Difference → Json
+differences_value old_name new_name first last ds =
+    fields
+    ((codes "old", string old_name)
+    ∷ (codes "new", string new_name)
+    ∷ (codes "from", number (signed_decimal first))
+    ∷ (codes "to", number (signed_decimal last))
+    ∷ (codes "differences", list_value difference_value ds)
+    ∷ [])
+
+-- the JSON text of that value: its printed tokens
+pub record IsDifferencesJson (old_name new_name : List ℕ) (first last : ℤ) (ds : List Difference) (text : List ℕ) : Type 0 where
+  pub value_is : document text ≡ Some (differences_value old_name new_name first last ds)
+  pub printed : text ≡ print (json_tokens (differences_value old_name new_name first last ds))
+
+-- a zone that only one of two folders has, by its path
+abbrev pub lone_value : List ℕ → Json
+lone_value path = fields ((codes "only", string path) ∷ [])
+
+-- the JSON text of that value: its printed tokens
+pub record IsLoneJson (path text : List ℕ) : Type 0 where
+  pub value_is : document text ≡ Some (lone_value path)
+  pub printed : text ≡ print (json_tokens (lone_value path))

@@ -1,0 +1,30 @@
+//! What the clocks of a zone do in some years, as a table, as `zdump` prints it, and as JSON.
+//!
+//! [`tell_file`] reads the bytes of a TZif file and writes a line or two for each change of the
+//! zone's clocks in those years, in order; [`tell_text`] does so for a TZ text. Nothing is written
+//! for a file or a text that is refused. [`to_json`] tells a zone in JSON.
+#![tactic(auto)]
+
+mod changes;
+mod difference_json;
+mod differences;
+mod extended;
+mod form;
+mod json_text;
+mod picture;
+mod rule_words;
+mod tables;
+mod tell;
+mod zdump;
+
+pub use change_views::Years;
+pub use changes::changes_in;
+pub use difference_json::{differences_to_json, lone_to_json};
+pub use differences::{differences_in, push_differences};
+pub use extended::extended_zone;
+pub use form::{Form, told};
+pub use json_text::to_json;
+pub use picture::draw;
+pub use tables::table;
+pub use tell::{tell_file, tell_text};
+pub use zdump::zdump_lines;

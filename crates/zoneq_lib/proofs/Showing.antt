@@ -1,0 +1,88 @@
+-- Every instant that is asked for has an answer.
+use Rattle.std.proofs.Common.{◌≡◌, ℕ, ℤ, pos, neg_ℤ, ◌⊎◌, inl, inr, refl, List, [], ◌∷◌, All, Some, codes, arith}
+use Rattle.std.proofs.lemmas.Bool.{cases_eq, cases_lt}
+use Rattle.std.proofs.lemmas.Int.{ints, by_lt_z}
+use Rattle.std.proofs.lemmas.List.Elements.{All-nil, All-cons, All-head, All-tail}
+use Rattle.offset_core.specs.Offset.{IsWithinDay}
+use Rattle.offset_core.specs.LocalResult.{map_of}
+use Rattle.offset_core.specs.declared.local_result.LocalResult.{LocalResult}
+use Rattle.offset_core.specs.declared.local_result.LocalResult.TheVariants.{Single, Ambiguous, None}
+use Rattle.naive_base.specs.Range.{IsInRange}
+use Rattle.naive_base.specs.Reading.{Reading}
+use Rattle.naive_base.specs.Year.{floor_mod}
+use Rattle.naive_base.proofs.ForCallers.{in_range_or_not}
+use Rattle.tz_base.specs.LocalTypes.{LocalType}
+use Rattle.tz_info.specs.Zones.{Zone, IsValid, IsRuleOrNone}
+use Rattle.naive_base.specs.Stamp.{IsStamp, IsSubsecond, of_secs}
+use Rattle.zoned_time.specs.Stamps.{IsAtWhere}
+use Rattle.zoned_time.specs.Zone.{Meaning, Law, IsZoneSecond}
+use Rattle.zoned_time.specs.Zoned.{Zoned}
+use Rattle.zoned_ref.specs.Offsets.{IsNarrow, AreOffsetsOf, rule_types}
+use Rattle.zoned_ref.proofs.ForCallers.{zone_has_offsets}
+use Rattle.zoneq_lib.specs.Answers.{AnswersShow, instant_text}
+
+within_or_not : (k : ℤ) → IsWithinDay k ⊎ (IsWithinDay k → ⊥)
+within_or_not k = by_lt_z (neg_ℤ (pos 86_400)) k
+    (λ from. by_lt_z k (pos 86_400) (λ to. inl (from, to)) (λ high. inr (λ h. let to = h.1 in omega (arith, ints, high, to))))
+    (λ low. inr (λ h. let from = h.0 in omega (arith, ints, low, from)))
+
+both_or_not : {P Q : Type 0} → P ⊎ (P → ⊥) → Q ⊎ (Q → ⊥) → (P × Q) ⊎ (P × Q → ⊥)
+both_or_not (inl p) (inl q) = inl (p, q)
+both_or_not (inl p) (inr not) = inr (λ h. not h.1)
+both_or_not (inr not) q = inr (λ h. not h.0)
+
+all_or_not : (types : List LocalType) → All (λ t. IsWithinDay t.offset) types ⊎ (All (λ t. IsWithinDay t.offset) types → ⊥)
+all_or_not [] = inl (All-nil (λ (t : LocalType). IsWithinDay t.offset))
+all_or_not (t ∷ types) =
+    let within = λ (s : LocalType). IsWithinDay s.offset in
+    elim (both_or_not (within_or_not t.offset) (all_or_not types)) [
+      | inl all ↦ inl (All-cons within t types all.0 all.1)
+      | inr not ↦ inr (λ h. not (All-head within t types h, All-tail within t types h))
+    ]
+
+pub narrow_or_not : (z : Zone) → IsNarrow z ⊎ (IsNarrow z → ⊥)
+narrow_or_not z = elim (both_or_not (all_or_not z.types) (all_or_not (rule_types z.rule))) [
+  | inl all ↦ inl (record { types = all.0; rule = all.1 })
+  | inr not ↦ inr (λ h. not (h.types, h.rule))
+]
+
+subsecond_or_not : (s : ℤ) (f : ℕ) → IsSubsecond s f ⊎ (IsSubsecond s f → ⊥)
+subsecond_or_not s f = elim (cases_lt f 2_000_000_000) [
+  | inl below ↦ elim (cases_lt f 1_000_000_000) [
+    | inl plain ↦ inl (below, λ leap. absurd (omega (arith, plain, leap)))
+    | inr leap ↦ elim (cases_eq (floor_mod s 60) 59) [ inl last ↦ inl (below, λ _. last) | inr other ↦ inr (λ h. other (h.1 leap)) ]
+  ]
+  | inr above ↦ inr (λ h. absurd (omega (arith, h.0, above)))
+]
+
+stamp_or_not : (r : Reading) → IsStamp r ⊎ (IsStamp r → ⊥)
+stamp_or_not r = both_or_not (in_range_or_not r.s) (subsecond_or_not r.s r.f)
+
+pub zone_second : (s : ℤ) → IsInRange s → IsZoneSecond s
+zone_second s h = let from = h.0 in let to = h.1 in (omega (arith, ints, from), omega (arith, ints, to))
+
+pub show_covered : (z : Zone) (seconds : ℤ) (nanos : ℕ) → IsValid z → IsRuleOrNone z.rule → (answer : List ℕ) × AnswersShow (Some z) seconds nanos answer
+show_covered z seconds nanos valid rule = elim (narrow_or_not z) [
+  | inl narrow ↦ elim (stamp_or_not (of_secs seconds nanos)) [
+    | inl stamp ↦
+        let has = zone_has_offsets z valid rule seconds (zone_second seconds stamp.0) in
+        let t = has.1.type in
+        (instant_text (of_secs seconds nanos) t.offset, inr (inr (narrow, stamp, (t, has.1.in_force, refl))))
+    | inr none ↦ (codes "out of range", inr (inl (narrow, none, refl)))
+  ]
+  | inr wide ↦ (codes "wide zone", inl (wide, refl))
+]
+
+-- what is written of the instant that a lawful zone gives
+pub shown_instant : (z : Zone) (off : ℤ → ℤ) (seconds : ℤ) (nanos : ℕ) (utc : Reading) (k : ℤ) → IsNarrow z → AreOffsetsOf z off → IsStamp (of_secs seconds nanos)
+    → utc ≡ of_secs seconds nanos → k ≡ off seconds → AnswersShow (Some z) seconds nanos (instant_text utc k)
+shown_instant z off seconds nanos utc k narrow offsets stamp same there =
+    let at_second = offsets seconds (zone_second seconds stamp.0) in
+    inr (inr (narrow, stamp, (at_second.type, at_second.in_force, rw (same, there, at_second.offset) refl)))
+
+-- no instant is given but of a timestamp
+pub no_stamp : {O D : Type 0} {m : Meaning O} (law : Law m) (p : Type 0) (r : Reading) (f : D → Zoned O) (given : LocalResult D)
+    → ((d : D) → given ≡ Single d → ⊥) → IsAtWhere law p r (map_of f given) → p → ⊥
+no_stamp law p r f (Single d) other h = absurd (other d refl)
+no_stamp law p r f (Ambiguous d e) other h = absurd h
+no_stamp law p r f None other h = h

@@ -1,0 +1,42 @@
+-- The answer to what sets the zone, by what was read.
+use Rattle.std.proofs.Common.{◌≡◌, ℕ, ◌⊎◌, refl, inl, inr, List, Option, Some, Result, Ok, Err, IfOk, IfErr, MatchResult}
+use Rattle.tz_base.specs.Errors.{number_of, IsOutOfMemory}
+use Rattle.tz_base.specs.declared.error.Error.{Error}
+use Rattle.tz_info.proofs.ForCallers.{text_fault_or_zone, file_fault_or_zone}
+use Rattle.tz_info.specs.PosixZones.{IsPosixZone, IsPosixFault}
+use Rattle.tz_info.specs.TzFiles.{IsTzFile, IsFileFault, IsZoneFault, In_file, No_memory}
+use Rattle.tz_info.specs.Zones.{Zone, IsValid}
+use Rattle.tz_info.specs.declared.zone.time_zone.TimeZone.{TimeZone}
+use Rattle.zoneq_lib.specs.Answers.{AnswersRead, AnswersText, AnswersData, zone_text, refusal_text}
+
+-- what is written and kept of what was read
+abbrev Sets : Option Zone → Result TimeZone Error → List ℕ → Option Zone → Type 0
+Sets before read answer after =
+    MatchResult read (λ found. (answer ≡ zone_text found) × (after ≡ Some found)) (λ fault. (answer ≡ refusal_text (number_of fault)) × (after ≡ before))
+
+-- of a file either memory runs out, or its first fault is returned
+pub memory_or_fault : (bytes : List ℕ) (e : Error) → IsZoneFault bytes e → IsOutOfMemory e ⊎ IsFileFault bytes e
+memory_or_fault bytes e (In_file m fault) = inr fault
+memory_or_fault bytes e (No_memory pieces whole) = inl refl
+
+-- what has a fault spells no zone
+told : (is_zone : Zone → Type 0) (is_fault : Error → Type 0) → ((e : Error) → is_fault e → (z : Zone) → ¬ (is_zone z)) → (e : Error)
+    → IsOutOfMemory e ⊎ is_fault e → IsOutOfMemory e ⊎ (is_fault e × ((z : Zone) → ¬ (is_zone z)))
+told is_zone is_fault apart e (inl memory) = inl memory
+told is_zone is_fault apart e (inr fault) = inr (fault, apart e fault)
+
+read_answered : (is_zone : Zone → Type 0) (is_fault : Error → Type 0) → ((e : Error) → is_fault e → (z : Zone) → ¬ (is_zone z))
+    → (before : Option Zone) (read : Result TimeZone Error) (answer : List ℕ) (after : Option Zone) → IfOk read is_zone → IfErr read (λ e. IsOutOfMemory e ⊎ is_fault e) → Sets before read answer after → AnswersRead is_zone is_fault before answer after
+read_answered is_zone is_fault apart before (Ok found) answer after ok err sets = inl (found, ok, sets.0, sets.1)
+read_answered is_zone is_fault apart before (Err fault) answer after ok err sets =
+    inr (fault, told is_zone is_fault apart fault err, sets.0, sets.1)
+
+pub text_answered : (zone : Option Zone) (text : List ℕ) (read : Result TimeZone Error) (answer : List ℕ) (after : Option Zone)
+    → IfOk read (λ z. IsPosixZone text z) → IfErr read (λ e. IsOutOfMemory e ⊎ IsPosixFault text e) → Sets zone read answer after → AnswersText zone text answer after
+text_answered zone text read answer after ok err sets = read_answered (IsPosixZone text) (IsPosixFault text) (λ e fault z. text_fault_or_zone text e z fault) zone read answer after ok err sets
+
+pub data_answered : (zone : Option Zone) (bytes : List ℕ) (read : Result TimeZone Error) (answer : List ℕ) (after : Option Zone)
+    → IfOk read (λ z. IsTzFile bytes z × IsValid z) → IfErr read (λ e. IsOutOfMemory e ⊎ IsFileFault bytes e) → Sets zone read answer after → AnswersData zone bytes answer after
+data_answered zone bytes read answer after ok err sets =
+    read_answered (λ found. IsTzFile bytes found × IsValid found) (IsFileFault bytes)
+    (λ e fault z is. file_fault_or_zone bytes e z fault is.0 is.1) zone read answer after ok err sets

@@ -1,0 +1,7 @@
+use Rattle.std.proofs.Common.{codes, inr, refl}
+use Rattle.std.proofs.lemmas.Result.{on_ok_weaker}
+use Rattle.zoneq_lib.proofs.answer.answer.Goals as goal
+
+pub returns-in-None : goal.returns-in-None
+returns-in-None c =
+    on_ok_weaker c.writeln.result (λ bytes. (codes "bad line", rw c.clear.ensures.bytes at bytes, inr (c.in-None.ensures, refl, refl))) c.writeln.ensures.bytes

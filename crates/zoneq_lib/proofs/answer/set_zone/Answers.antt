@@ -1,0 +1,13 @@
+use Rattle.std.proofs.Common.{refl}
+use Rattle.std.proofs.lemmas.Result.{on_ok_weaker}
+use Rattle.tz_base.specs.Errors.{number_of}
+use Rattle.zoneq_lib.specs.Answers.{zone_text, refusal_text}
+use Rattle.zoneq_lib.proofs.answer.set_zone.Goals as goal
+
+pub returns-in_ok-writeln-in-Ok : goal.returns-in_ok-writeln-in-Ok
+returns-in_ok-writeln-in-Ok c = (zone_text c.in-Ok.found, c.in_ok-writeln-in-Ok.ensures.bytes, rw c.in-Ok.is (refl, refl))
+
+pub returns-in-Err : goal.returns-in-Err
+returns-in-Err c =
+    let written = rw c.number.ensures at c.writeln-in-Err.ensures.bytes in
+    on_ok_weaker c.writeln-in-Err.result (λ bytes. (refusal_text (number_of c.in-Err.fault), bytes, rw c.in-Err.is (refl, refl))) written

@@ -1,0 +1,40 @@
+use Rattle.std.proofs.Common.{codes, inl, refl}
+use Rattle.std.proofs.lemmas.Result.{on_ok_weaker}
+use Rattle.naive_base.specs.NaiveDateTime.{reading}
+use Rattle.zoned_time.specs.DateTime.{zoned}
+use Rattle.zoned_time.specs.ResolveNumbers.{number_of}
+use Rattle.zoned_ref.specs.TimeZoneRef.{off_of}
+use Rattle.zoned_ref.specs.ZoneOffset.{ahead_of, law_of}
+use Rattle.zoneq_lib.specs.Answers.{instant_text, refusal_text}
+use Rattle.zoneq_lib.proofs.Resolving.{resolved_instant, refused_reading}
+use Rattle.zoneq_lib.proofs.answer.tell_resolved.Goals as goal
+
+pub returns-in_default : goal.returns-in_default
+returns-in_default c = on_ok_weaker c.writeln.result (λ bytes. (codes "no zone", bytes, rw c.in_default.is refl)) c.writeln.ensures.bytes
+
+pub returns-in_default-new : goal.returns-in_default-new
+returns-in_default-new c =
+    on_ok_weaker c.writeln-in_default-new.result (λ bytes. (codes "wide zone", bytes, rw c.in-Some.is (inl ((λ narrow. cc (c.in_default-new.ensures.some.1 narrow)), refl)))) c.writeln-in_default-new.ensures.bytes
+
+pub returns-in-Ok : goal.returns-in-Ok
+returns-in-Ok c =
+    let r = c.in-Some-new.narrow in
+    let of_zone = c.in-Some-new.ensures in
+    let d = zoned c.in-Ok.instant in
+    on_ok_weaker c.write_instant.result (λ bytes. (
+      instant_text d.utc (ahead_of d.offset),
+      bytes,
+      rw c.in-Some.is (resolved_instant c.in-Some.zone (law_of r) (reading c.args.local) c.args.choice d (of_zone.some.0 refl) of_zone.offsets c.in-Ok.ensures),
+    )) c.write_instant.ensures
+
+pub returns-in-Err : goal.returns-in-Err
+returns-in-Err c =
+    let r = c.in-Some-new.narrow in
+    let of_zone = c.in-Some-new.ensures in
+    let e = c.in-Err.refusal in
+    let written = rw c.number.ensures at c.writeln-in-Err.ensures.bytes in
+    on_ok_weaker c.writeln-in-Err.result (λ bytes. (
+      refusal_text (number_of e),
+      bytes,
+      rw c.in-Some.is (refused_reading c.in-Some.zone (off_of r) (reading c.args.local) c.args.choice e (of_zone.some.0 refl) of_zone.offsets c.in-Err.ensures),
+    )) written

@@ -1,0 +1,17 @@
+use Rattle.std.proofs.Common.{ap, codes, inr, refl, ◌∙◌, to_z-of_z}
+use Rattle.std.proofs.lemmas.Result.{on_ok_weaker}
+use Rattle.tz_base.specs.Errors.{number_of}
+use Rattle.tz_info.proofs.ForCallers.{type_error_number}
+use Rattle.zoneq_lib.specs.Answers.{refusal_text}
+use Rattle.zoneq_lib.proofs.answer.tell_type.Goals as goal
+
+pub returns-in_default : goal.returns-in_default
+returns-in_default c = on_ok_weaker c.writeln.result (λ bytes. (codes "no zone", bytes, rw c.in_default.is refl)) c.writeln.ensures.bytes
+
+pub returns-in-Err : goal.returns-in-Err
+returns-in-Err c =
+    let fits = c.ranges.seconds in
+    let refused = simp to_z-of_z at c.in-Err.ensures in
+    let number = ap number_of refused.1 ∙ type_error_number c.in-Some.zone c.args.seconds refused.0 in
+    let written = rw (c.number.ensures, number) at c.writeln-in-Err.ensures.bytes in
+    on_ok_weaker c.writeln-in-Err.result (λ bytes. (refusal_text 2, bytes, rw c.in-Some.is (inr (refused.0, refl)))) written

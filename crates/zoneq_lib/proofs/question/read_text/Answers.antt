@@ -1,0 +1,12 @@
+use Rattle.std.proofs.Common.{[], ap, sym, refl, Ok}
+use Rattle.zoneq_lib.specs.Questions.{Text, text, utf8_test}
+use Rattle.zoneq_lib.proofs.HexLaws.{refuted}
+use Rattle.zoneq_lib.proofs.question.read_text.Goals as goal
+
+pub returns-in-Ok : goal.returns-in-Ok
+unfolding text
+returns-in-Ok c = let read = c.in-Ok.ensures.cases in rw ((utf8_test c.args.bytes.now).decides.1 read.1) (ap (λ t. Ok (Text t, [])) (sym read.0))
+
+pub returns-in-Err : goal.returns-in-Err
+unfolding text
+returns-in-Err c = rw (refuted _ (utf8_test c.args.bytes.now).decides c.in-Err.ensures.cases.0) refl

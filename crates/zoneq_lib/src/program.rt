@@ -1,0 +1,49 @@
+//! How a program ends after a run.
+
+ghost use Rattle.std.specs.Prelude.{◌≡◌, ◌++◌, false, codes};
+ghost use Rattle.zoneq_lib.specs.Endings.{WritesUnlessFailed, status_of, message_of};
+ghost use Rattle.zoneq_lib.specs.Faults.{fault_text};
+
+use crate::output::write_all;
+use crate::run_error::RunError;
+use crate::watched::Watched;
+use std::io::Write;
+
+/// The exit status of a program that ends after a run: 0 where every line was answered, and 1 where
+/// the run stopped before. Why it stopped is told in one line to `errors`, which is standard error.
+///
+/// An end that fails takes a beginning of that line, and the status is the same: there is nowhere
+/// left to say so.
+///
+/// Requires: `errors` has not failed before.
+///
+/// ```
+/// let mut errors = Watched::new(Vec::new(alloc));
+/// report(Err(RunError::Read), &mut errors);
+/// // gives 1, and writes "zoneq: read failed\n"
+/// ```
+pub fn report<E: Write>(ended: Result<(), RunError>, errors: &mut Watched<E>) -> u8
+    requires { errors.old.failed ≡ false }
+    ensures status { result ≡ status_of ended }
+    ensures told { WritesUnlessFailed errors.new.failed
+        (E.contents errors.old.inner) (E.contents errors.new.inner) (message_of ended) }
+{
+    match ended {
+        Ok(()) => 0,
+        Err(stop) => {
+            let _ = tell(errors, stop);
+            1
+        }
+    }
+}
+
+// Writes why a run stopped, and a newline.
+fn tell<E: Write>(errors: &mut Watched<E>, stop: RunError) -> Result<(), RunError>
+    requires { errors.old.failed ≡ false }
+    ensures { WritesUnlessFailed errors.new.failed
+        (E.contents errors.old.inner) (E.contents errors.new.inner)
+        (fault_text stop ++ codes "\n") }
+{
+    write_all(errors, stop.text().as_bytes())?;
+    write_all(errors, b"\n")
+}
