@@ -1,17 +1,8 @@
 -- Tokens that are written one after the other.
-use Rattle.std.proofs.Common.{◌≡◌, ℕ, ◌+◌, ◌<◌, ◌≤◌, length, get_or, take, arith, refl, ap, sym, ◌∙◌, List, [], ◌∷◌, ◌++◌, append_assoc, map, Result, Ok, Option, Some, None}
-use Rattle.std.specs.List.{flat_map}
-use Rattle.std.proofs.lemmas.List.{flat_map_more, take_more}
-use Rattle.std.proofs.lemmas.Result.{on_ok_weaker}
-use Rattle.json.specs.Json.{Json}
-use Rattle.json.specs.Token.{Token, end_array}
-use Rattle.json.specs.Tree.{json_tokens, items_tokens, depth, items_depth}
-use Rattle.json.specs.Value.{items_of}
-use Rattle.json.specs.Written.{Written, Writes}
-use Rattle.tz_base.specs.LocalTypes.{LocalType}
-use Rattle.tz_base.specs.declared.change.Change.{Change}
-use Rattle.change_views.specs.JsonSteps.{Puts}
-use Rattle.change_views.specs.ChangeValues.{change_value, name_value, type_value}
+use Rattle.change_views.proofs.CitedWords.{Change, Json, List, LocalType, None, Ok, Option, Puts, Result, Some, Token, Writes, Written, ap, append_assoc, arith}
+use Rattle.change_views.proofs.CitedWords.{change_value, depth, end_array, flat_map, flat_map_more, get_or, items_depth, items_of, items_tokens, json_tokens}
+use Rattle.change_views.proofs.CitedWords.{length, map, name_value, on_ok_weaker, refl, sym, take, take_more, type_value, ℕ, [], ◌++◌, ◌+◌, ◌<◌, ◌∙◌, ◌∷◌, ◌≡◌}
+use Rattle.change_views.proofs.CitedWords.{◌≤◌}
 
 pub wrote : {E : Type 0} {r : Result (Unit {0}) E} {old new : Written} {t : Token} → Writes r old new t → Puts r old new (t ∷ [])
 wrote {r = r} w = record { tokens = w.ok; before = on_ok_weaker r (λ _. w.room.0) w.ok }

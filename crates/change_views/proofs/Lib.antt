@@ -1,3 +1,4 @@
+pub mod CitedWords
 mod LineLaws
 mod JsonPutting
 mod PictureLaws

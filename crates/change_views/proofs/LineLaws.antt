@@ -1,21 +1,9 @@
 -- Lines one after the other, and seconds in years.
-use Rattle.std.proofs.Common.{◌≡◌, ℕ, suc, ◌+◌, ◌<◌, arith, refl, ap, sym, ◌∙◌, List, [], ◌∷◌, ◌++◌, append_assoc, append-nil, length, get_or, take, codes, ℤ, pos, neg_ℤ, ◌+ℤ◌, ◌-ℤ◌, ◌≤ℤ◌, FitsSigned, w64}
-use Rattle.std.specs.List.{flat_map}
-use Rattle.std.specs.Fmt.{signed_decimal}
-use Rattle.std.proofs.Math.Seq.{take-suc}
-use Rattle.std.proofs.lemmas.List.Concat.{flat_map-append}
-use Rattle.std.proofs.lemmas.Int.{ints}
-use Rattle.naive_base.specs.Reading.{Reading, ahead}
-use Rattle.naive_base.specs.Stamp.{of_secs}
-use Rattle.naive_base.specs.Text.{reading_text}
-use Rattle.naive_base.specs.Year.{year_start}
-use Rattle.naive_base.proofs.ForCallers.{starts_rise, floors}
-use Rattle.tz_base.specs.LocalTypes.{LocalType}
-use Rattle.tz_base.specs.declared.change.Change.{Change}
-use Rattle.change_views.specs.Spans.{IsInYears, IsNearYears, year_second, year_until}
-use Rattle.change_views.specs.ChangeLines.{change_text, line}
-use Rattle.change_views.specs.Words.{step_words, type_words}
-use Rattle.change_views.specs.ZdumpLines.{asctime_text, pair_lines, second_text, type_fields}
+use Rattle.change_views.proofs.CitedWords.{Change, FitsSigned, IsInYears, IsNearYears, List, LocalType, Reading, ahead, ap, append-nil, append_assoc, arith}
+use Rattle.change_views.proofs.CitedWords.{asctime_text, change_text, codes, flat_map, flat_map-append, floors, get_or, ints, length, line, neg_ℤ, of_secs}
+use Rattle.change_views.proofs.CitedWords.{pair_lines, pos, reading_text, refl, second_text, signed_decimal, starts_rise, step_words, suc, sym, take, take-suc}
+use Rattle.change_views.proofs.CitedWords.{type_fields, type_words, w64, year_second, year_start, year_until, ℕ, ℤ, [], ◌++◌, ◌+ℤ◌, ◌+◌, ◌-ℤ◌, ◌<◌, ◌∙◌, ◌∷◌}
+use Rattle.change_views.proofs.CitedWords.{◌≡◌, ◌≤ℤ◌}
 
 -- one more piece is appended
 pub piece_next : {X : Type 0} (f : X → List ℕ) (start before after : List ℕ) (xs : List X) (i : ℕ) (d : X) → i < length xs

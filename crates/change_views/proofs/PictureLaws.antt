@@ -1,9 +1,6 @@
 -- Pieces of a picture, one after the other, and one change or one year more.
-use Rattle.std.proofs.Common.{◌≡◌, ℕ, suc, ◌+◌, ◌<◌, arith, List, ◌∷◌, ◌++◌, length, get_or, drop, ap, sym, ◌∙◌, append_assoc, add-one, ℤ, ◌<ℤ◌}
-use Rattle.std.proofs.Math.Seq.{drop-cons}
-use Rattle.naive_base.proofs.ForCallers.{days_at_least, floors, starts_rise, year_step}
-use Rattle.tz_base.specs.declared.change.Change.{Change}
-use Rattle.change_views.specs.Spans.{AreYears, year_second, year_until}
+use Rattle.change_views.proofs.CitedWords.{AreYears, Change, List, add-one, ap, append_assoc, arith, days_at_least, drop, drop-cons, floors, get_or, length}
+use Rattle.change_views.proofs.CitedWords.{starts_rise, suc, sym, year_second, year_step, year_until, ℕ, ℤ, ◌++◌, ◌+◌, ◌<ℤ◌, ◌<◌, ◌∙◌, ◌∷◌, ◌≡◌}
 
 -- a piece is appended, and then the others
 pub onto : {A : Type 0} (start one end piece rest : List A) → one ≡ start ++ piece → end ≡ one ++ rest → end ≡ start ++ (piece ++ rest)

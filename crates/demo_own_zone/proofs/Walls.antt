@@ -1,12 +1,6 @@
 -- What the clocks of the odd zone show.
-use Rattle.std.proofs.Common.{◌≡◌, ◌<◌, arith, ℤ, pos, negsuc, ◌+ℤ◌, ◌-ℤ◌, ◌*ℤ◌, refl}
-use Rattle.std.proofs.lemmas.Int.{ints}
-use Rattle.offset_core.specs.WallAnswer.{IsShownBetween}
-use Rattle.naive_base.specs.Range.{IsWide}
-use Rattle.naive_base.specs.Year.{floor_div, floor_mod}
-use Rattle.zoned_time.specs.Choice.{IsBeforeGap}
-use Rattle.zoned_time.specs.Zone.{Shows}
-use Rattle.demo_own_zone.specs.Odd.{odd_offset}
+use Rattle.demo_own_zone.proofs.Words.{IsBeforeGap, IsShownBetween, IsWide, Shows, arith, floor_div, floor_mod, ints, negsuc, odd_offset, pos, refl, ℤ, ◌*ℤ◌}
+use Rattle.demo_own_zone.proofs.Words.{◌+ℤ◌, ◌-ℤ◌, ◌<◌, ◌≡◌}
 
 -- a second is twice its half, and one more where it is odd
 pub two_halves : (u : ℤ) → (pos 2 *ℤ floor_div u 2 +ℤ odd_offset u ≡ u) × (floor_mod u 2 < 2)

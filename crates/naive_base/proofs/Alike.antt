@@ -1,20 +1,13 @@
 -- Dates, times and readings print alike only where they are equal.
-use Rattle.std.proofs.Common.{◌≡◌, ℕ, ◌+◌, ◌-◌, ◌*◌, ◌/◌, ◌%◌, ◌^◌, ◌<◌, ◌≤◌, List, [], ◌∷◌, ◌++◌, length, Bool, arith, refl, sym, ap, ◌∙◌, inl, inr, ◌⊎◌, length-append, ℤ, pos, ◌<ℤ◌, ◌≤ℤ◌, unsigned_abs}
-use Rattle.std.proofs.lemmas.Bool.{cases_lt}
-use Rattle.std.proofs.lemmas.Bool.Decides.{nat_tests}
-use Rattle.std.proofs.lemmas.Int.{ints, by_lt_z}
-use Rattle.offset_core.specs.Digits.{in_digits}
-use Rattle.gregorian.specs.Year.{is_leap}
-use Rattle.gregorian.specs.Month.{days_in_month}
-use Rattle.gregorian.specs.DateOf.{year_of, month_of, day_of_month}
-use Rattle.naive_base.specs.Range.{IsWide, IsWideDay, IsWideYear}
-use Rattle.naive_base.specs.Reading.{Reading, day_at, second_at}
-use Rattle.naive_base.specs.Text.{four_digits, year_text, month_day_text, date_text, clock_text, fraction_text, time_text, reading_text}
-use Rattle.gregorian.proofs.ForCallers.{floors, floor_mod_parts, date_is}
+use Rattle.naive_base.proofs.Words.{Bool, IsWide, IsWideDay, IsWideYear, List, Reading, ap, arith, by_lt_z, cases_lt, clock_text, date_is, date_text, day_at}
+use Rattle.naive_base.proofs.Words.{day_of_month, days_in_month, floor_mod_parts, floors, four_digits, fraction_text, in_digits, in_digits_once, inl, inr, ints}
+use Rattle.naive_base.proofs.Words.{is_leap, length, length-append, length-in_digits, month_day_text, month_of, nat_tests, pos, reading_text, refl, second_at}
+use Rattle.naive_base.proofs.Words.{split_left, split_right, sym, time_text, unsigned_abs, year_of, year_text, ℕ, ℤ, [], ◌%◌, ◌*◌, ◌++◌, ◌+◌, ◌-◌, ◌/◌, ◌<ℤ◌}
+use Rattle.naive_base.proofs.Words.{◌<◌, ◌^◌, ◌∙◌, ◌∷◌, ◌≡◌, ◌≤ℤ◌, ◌≤◌, ◌⊎◌}
+use Rattle.naive_base.proofs.Digits.{IsNumeric, IsNumeric-append, byte_and, cut_at, four_digits-alike, four_digits-numeric, heads_alike, in_digits-numeric}
+use Rattle.naive_base.proofs.Digits.{tails_alike}
 use Rattle.naive_base.proofs.Ranges.{wide_year}
 use Rattle.naive_base.proofs.Readings.{same_second, seconds_in_wide}
-use Rattle.offset_core.proofs.ForCallers.{split_left, split_right, length-in_digits, in_digits_once}
-use Rattle.naive_base.proofs.Digits.{heads_alike, tails_alike, cut_at, four_digits-alike, IsNumeric, byte_and, IsNumeric-append, in_digits-numeric, four_digits-numeric}
 
 -- Years: one with its sign is no year of four digits.
 

@@ -1,13 +1,9 @@
 -- Printed numbers: they are told apart by their digits, and hold no byte that could end a date.
-use Rattle.std.proofs.Common.{◌≡◌, ℕ, zero, suc, ◌+◌, ◌/◌, ◌%◌, ◌^◌, ◌<◌, ◌≤◌, List, [], ◌∷◌, ◌++◌, length, arith, refl, sym, ap, ◌∙◌, inl, inr, ◌⊎◌, length-append, append_assoc}
-use Rattle.std.specs.Fmt.{decimal}
-use Rattle.std.proofs.lemmas.Fmt.{decimal_digit, decimal_step, decimal_nonempty, decimal_injective}
-use Rattle.std.proofs.lemmas.Bool.{cases_lt}
-use Rattle.std.proofs.lemmas.Bool.Decides.{nat_tests}
 use Rattle.std.proofs.Math.Nat.{pow-suc}
-use Rattle.offset_core.specs.Digits.{in_digits}
-use Rattle.offset_core.proofs.ForCallers.{length-in_digits, in_digits_once, two_digits, in_digits-two_more, in_digits-three_more}
-use Rattle.naive_base.specs.Text.{four_digits, fraction_text}
+use Rattle.naive_base.proofs.Words.{List, ap, append_assoc, arith, cases_lt, decimal, decimal_digit, decimal_injective, decimal_nonempty, decimal_step}
+use Rattle.naive_base.proofs.Words.{four_digits, fraction_text, in_digits, in_digits-three_more, in_digits-two_more, in_digits_once, inl, inr, length}
+use Rattle.naive_base.proofs.Words.{length-append, length-in_digits, nat_tests, refl, suc, sym, two_digits, zero, ℕ, [], ◌%◌, ◌++◌, ◌+◌, ◌/◌, ◌<◌, ◌^◌, ◌∙◌}
+use Rattle.naive_base.proofs.Words.{◌∷◌, ◌≡◌, ◌≤◌, ◌⊎◌}
 
 pub heads_alike : (x y : ℕ) (a b : List ℕ) → x ∷ a ≡ y ∷ b → x ≡ y
 heads_alike x y a b e = cc

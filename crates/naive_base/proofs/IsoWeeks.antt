@@ -1,12 +1,7 @@
 -- The ISO week of a day is one, and the year's first has 4 January.
-use Rattle.std.proofs.Common.{◌≡◌, ◌∙◌, refl, ap, sym, ◌+◌, ◌/◌, ◌<◌, arith, ℤ, pos, ◌+ℤ◌, ◌≤ℤ◌, ◌<ℤ◌}
-use Rattle.gregorian.specs.Date.{day_number}
-use Rattle.gregorian.specs.DateOf.{year_of, day_of_year}
-use Rattle.naive_base.specs.IsoWeek.{IsWeekOf, iso_year, iso_number}
-use Rattle.gregorian.specs.Month.{days_of_months}
-use Rattle.gregorian.specs.Year.{year_start, LiesIn}
-use Rattle.naive_base.specs.declared.iso_week.IsoWeek.{IsoWeek}
-use Rattle.gregorian.proofs.ForCallers.{day_of_year_is, floors, one_thursday, year_step, days_at_least, lies_in, one_year}
+use Rattle.naive_base.proofs.Words.{IsWeekOf, IsoWeek, LiesIn, ap, arith, day_number, day_of_year, day_of_year_is, days_at_least, days_of_months, floors}
+use Rattle.naive_base.proofs.Words.{iso_number, iso_year, lies_in, one_thursday, one_year, pos, refl, sym, year_of, year_start, year_step, ℤ, ◌+ℤ◌, ◌+◌, ◌/◌}
+use Rattle.naive_base.proofs.Words.{◌<ℤ◌, ◌<◌, ◌∙◌, ◌≡◌, ◌≤ℤ◌}
 use Rattle.naive_base.proofs.Values.{same_week}
 
 pub one_week : (day : ℤ) (a b : IsoWeek) → IsWeekOf day a → IsWeekOf day b → a ≡ b

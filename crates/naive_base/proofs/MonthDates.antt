@@ -1,16 +1,8 @@
 -- The month so many months from a day's has the day of the month, or its own last one.
-use Rattle.std.proofs.Common.{◌≡◌, refl, subst, inl, arith, ℤ, min}
 use Rattle.std.proofs.Math.Nat.{le-min, min-le_right}
-use Rattle.gregorian.specs.Date.{IsDate}
-use Rattle.gregorian.specs.DateOf.{day_of_month}
-use Rattle.gregorian.specs.Month.{days_in_month}
-use Rattle.gregorian.specs.Year.{is_leap}
-use Rattle.gregorian.proofs.ForCallers.{date_is, floor_mod_parts, month_bounds}
-use Rattle.gregorian.specs.Date.{day_number}
-use Rattle.naive_base.specs.Fields.{MayShow, IsMonthsLater, month_after}
-use Rattle.naive_base.specs.Months.{year_of_number, month_of_number}
-use Rattle.naive_base.specs.Range.{IsYearInRange}
-use Rattle.std.specs.Prelude.{Option, Some, None, IsSome, SomeIff, option_map}
+use Rattle.naive_base.proofs.Words.{IsDate, IsMonthsLater, IsSome, IsYearInRange, MayShow, None, Option, Some, SomeIff, arith, date_is, day_number}
+use Rattle.naive_base.proofs.Words.{day_of_month, days_in_month, floor_mod_parts, inl, is_leap, min, month_after, month_bounds, month_of_number, option_map}
+use Rattle.naive_base.proofs.Words.{refl, subst, year_of_number, ℤ, ◌≡◌}
 
 pub date_in_month : (old n : ℤ) → IsDate (year_of_number n) (month_of_number n)
     (min (day_of_month old) (days_in_month (is_leap (year_of_number n)) (month_of_number n)))

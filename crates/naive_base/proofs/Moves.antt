@@ -1,11 +1,7 @@
 -- The cases of a move.
-use Rattle.std.proofs.Common.{◌≡◌, ◌∙◌, inl, inr, ap, ℕ, ◌<◌, ◌≤◌, ℤ, neg_ℤ, pos, ◌+ℤ◌, ◌-ℤ◌, ◌*ℤ◌, ◌≤ℤ◌, ◌<ℤ◌, unsigned_abs, refl, arith}
-use Rattle.std.proofs.lemmas.Bool.{cases_lt}
-use Rattle.std.proofs.lemmas.Bool.Decides.{nat_tests}
-use Rattle.std.proofs.lemmas.Int.{ints}
-use Rattle.gregorian.specs.Year.{floor_div, floor_mod}
-use Rattle.gregorian.proofs.ForCallers.{floors, floor_mod_parts}
-use Rattle.naive_base.specs.Reading.{Reading, moved, moved_leap, of_total, total, difference, leap_between}
+use Rattle.naive_base.proofs.Words.{Reading, ap, arith, cases_lt, difference, floor_div, floor_mod, floor_mod_parts, floors, inl, inr, ints, leap_between}
+use Rattle.naive_base.proofs.Words.{moved, moved_leap, nat_tests, neg_ℤ, of_total, pos, refl, total, unsigned_abs, ℕ, ℤ, ◌*ℤ◌, ◌+ℤ◌, ◌-ℤ◌, ◌<ℤ◌, ◌<◌, ◌∙◌, ◌≡◌}
+use Rattle.naive_base.proofs.Words.{◌≤ℤ◌, ◌≤◌}
 
 pub moved-plain : (r : Reading) (d : ℤ) → r.f < 1_000_000_000 → moved r d ≡ of_total (total r +ℤ d)
 moved-plain r d h = grind (arith, nat_tests)

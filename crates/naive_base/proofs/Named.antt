@@ -1,21 +1,11 @@
 -- Days of ISO weeks, and the n-th weekday of a month.
-use Rattle.std.proofs.Common.{◌≡◌, ◌∙◌, sym, ap, subst, refl, ℕ, ◌+◌, ◌-◌, ◌*◌, ◌/◌, ◌%◌, ◌<◌, ◌≤◌, arith, ℤ, pos, ◌+ℤ◌, ◌-ℤ◌}
-use Rattle.gregorian.specs.Date.{IsDate, day_number}
-use Rattle.gregorian.specs.DateOf.{year_of, day_of_year, month_of, day_of_month}
-use Rattle.gregorian.specs.Weekdays.{weekday_of}
-use Rattle.gregorian.specs.Weeks.{IsThursdayOf}
-use Rattle.gregorian.specs.Year.{year_start, days_in_year, LiesIn}
-use Rattle.gregorian.proofs.ForCallers.{floors, floor_mod_parts, date_is, date_only, number_at, weekday_later, weekday_below, lies_in, one_year, year_step, day_of_year_is}
-use Rattle.std.specs.Prelude.{Option, Some, None, MatchOption, IsSome, true, false}
-use Rattle.gregorian.specs.Year.{is_leap}
-use Rattle.gregorian.proofs.ForCallers.{month_bounds}
-use Rattle.naive_base.specs.Named.{IsWeekdayOfMonth, IsThursdayOfWeek, IsDayOfIsoWeek, is_earlier_in_year, whole_years}
-use Rattle.naive_base.specs.NaiveDate.{day_of, IsDateOf, IsDateOfDay}
-use Rattle.naive_base.specs.Range.{IsYearInRange, IsInnerDay, IsDayInRange}
-use Rattle.naive_base.specs.declared.date.NaiveDate.{NaiveDate}
-use Rattle.naive_base.specs.Weekday.{weekday_number}
-use Rattle.naive_base.specs.declared.weekday.Weekday.{Weekday}
-use Rattle.naive_base.specs.declared.weekday.Weekday.TheVariants.{Mon, Tue, Wed, Thu, Fri, Sat, Sun}
+use Rattle.naive_base.proofs.Words.{IsDate, IsDateOf, IsDateOfDay, IsDayInRange, IsDayOfIsoWeek, IsInnerDay, IsSome, IsThursdayOf, IsThursdayOfWeek}
+use Rattle.naive_base.proofs.Words.{IsWeekdayOfMonth, IsYearInRange, LiesIn, MatchOption, NaiveDate, None, Option, Some, Weekday, ap, arith, date_is, date_only}
+use Rattle.naive_base.proofs.Words.{day_number, day_of, day_of_month, day_of_year, day_of_year_is, days_in_year, false, floor_mod_parts, floors}
+use Rattle.naive_base.proofs.Words.{is_earlier_in_year, is_leap, lies_in, month_bounds, month_of, number_at, one_year, pos, refl, subst, sym, true}
+use Rattle.naive_base.proofs.Words.{weekday_below, weekday_later, weekday_number, weekday_of, whole_years, year_of, year_start, year_step, ℕ, ℤ, ◌%◌, ◌*◌, ◌+ℤ◌}
+use Rattle.naive_base.proofs.Words.{◌+◌, ◌-ℤ◌, ◌-◌, ◌/◌, ◌<◌, ◌∙◌, ◌≡◌, ◌≤◌}
+use Rattle.naive_base.specs.declared.weekday.Weekday.TheVariants.{Fri, Mon, Sat, Sun, Thu, Tue, Wed}
 
 -- the day of the month of the n-th weekday w, where the month begins on the weekday f
 abbrev pub nth_day : ℕ → ℕ → ℕ → ℕ

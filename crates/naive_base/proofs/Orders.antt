@@ -1,10 +1,8 @@
 -- What a comparison answers that goes by two numbers in turn.
-use Rattle.std.proofs.Common.{◌≡◌, ℕ, ◌<◌, ◌⊎◌, inl, inr, refl, sym}
-use Rattle.std.proofs.lemmas.Cmp.{ranked, int_ranked}
 use Rattle.std.specs.declared.cmp.Ordering.{Ordering}
-use Rattle.std.specs.declared.cmp.Ordering.TheVariants.{Less, Equal, Greater}
-use Rattle.std.specs.Ordering.{MatchOrdering, nat_cmp, int_cmp, ordering_then}
-use Rattle.naive_base.specs.Reading.{Reading, IsEarlier, IsEarlierTime}
+use Rattle.std.specs.declared.cmp.Ordering.TheVariants.{Equal, Greater, Less}
+use Rattle.naive_base.proofs.Words.{IsEarlier, IsEarlierTime, MatchOrdering, Reading, inl, inr, int_cmp, int_ranked, nat_cmp, ordering_then, ranked, refl, sym}
+use Rattle.naive_base.proofs.Words.{ℕ, ◌<◌, ◌≡◌, ◌⊎◌}
 
 in_turn : (P Q S R : Type 0) → (Q → S) → (f g : ℕ) (o p : Ordering) → MatchOrdering o P Q R → MatchOrdering p (f < g) (f ≡ g) (g < f)
     → MatchOrdering (ordering_then o p) (P ⊎ (Q × (f < g))) (Q × (f ≡ g)) (R ⊎ (S × (g < f)))

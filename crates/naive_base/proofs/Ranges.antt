@@ -1,11 +1,7 @@
 -- The days of the years in range, and the seconds.
-use Rattle.std.proofs.Common.{◌≡◌, ℕ, ◌<◌, arith, refl, ℤ, pos, neg_ℤ, ◌+ℤ◌, ◌-ℤ◌, ◌≤ℤ◌, ◌<ℤ◌, ◌⊎◌, inl, inr}
-use Rattle.std.proofs.lemmas.Int.{by_lt_z}
-use Rattle.gregorian.specs.Year.{year_start, days_in_year}
-use Rattle.gregorian.specs.Date.{IsDate, day_number}
-use Rattle.gregorian.specs.DateOf.{year_of}
-use Rattle.naive_base.specs.Range.{IsInRange, IsYearInRange, IsInnerYear, IsDayInRange, IsInnerDay, IsWideDay, IsWideYear}
-use Rattle.gregorian.proofs.ForCallers.{floors, lies_in, starts_rise, year_step, date_between}
+use Rattle.naive_base.proofs.Words.{IsDate, IsDayInRange, IsInRange, IsInnerDay, IsInnerYear, IsWideDay, IsWideYear, IsYearInRange, arith, by_lt_z}
+use Rattle.naive_base.proofs.Words.{date_between, day_number, days_in_year, floors, inl, inr, lies_in, neg_ℤ, pos, refl, starts_rise, year_of, year_start}
+use Rattle.naive_base.proofs.Words.{year_step, ℕ, ℤ, ◌+ℤ◌, ◌-ℤ◌, ◌<ℤ◌, ◌<◌, ◌≡◌, ◌≤ℤ◌, ◌⊎◌}
 
 first_day_is : year_start (neg_ℤ (pos 262_143)) ≡ neg_ℤ (pos 96_465_292)
 unfolding year_start

@@ -1,10 +1,7 @@
 -- A reading is its day and its time.
-use Rattle.std.proofs.Common.{◌≡◌, ℕ, ◌<◌, ◌⊎◌, inl, inr, arith, refl, ℤ, pos, ◌+ℤ◌, ◌*ℤ◌, ◌<ℤ◌}
-use Rattle.std.proofs.lemmas.Int.{by_lt_z}
-use Rattle.gregorian.specs.Year.{floor_div, floor_mod}
-use Rattle.naive_base.specs.Reading.{Reading, reading_at, day_at, second_at, IsEarlier, IsEarlierByDay}
-use Rattle.naive_base.specs.Range.{IsInRange, IsDayInRange, IsInner, IsInnerDay, IsWide, IsWideDay}
-use Rattle.gregorian.proofs.ForCallers.{floors, floor_mod_parts}
+use Rattle.naive_base.proofs.Words.{IsDayInRange, IsEarlier, IsEarlierByDay, IsInRange, IsInner, IsInnerDay, IsWide, IsWideDay, Reading, arith, by_lt_z, day_at}
+use Rattle.naive_base.proofs.Words.{floor_div, floor_mod, floor_mod_parts, floors, inl, inr, pos, reading_at, refl, second_at, ℕ, ℤ, ◌*ℤ◌, ◌+ℤ◌, ◌<ℤ◌, ◌<◌, ◌≡◌}
+use Rattle.naive_base.proofs.Words.{◌⊎◌}
 
 whole_second : (s : ℤ) → floor_div s 86_400 *ℤ pos 86_400 +ℤ pos (floor_mod s 86_400) ≡ s
 whole_second s = let parts = floor_mod_parts s 86_400 (omega arith) in omega (arith, floors)

@@ -1,18 +1,7 @@
 -- Dates, times and readings are what they show.
-use Rattle.std.proofs.Common.{◌≡◌, ◌≤◌, ◌∙◌, refl, sym, ℕ, zero, suc, ℤ, ap, subst}
-use Rattle.std.proofs.Props.{props}
-use Rattle.naive_base.specs.declared.date.NaiveDate.{NaiveDate}
-use Rattle.naive_base.specs.declared.time.NaiveTime.{NaiveTime}
-use Rattle.naive_base.specs.declared.datetime.NaiveDateTime.{NaiveDateTime}
-use Rattle.naive_base.specs.Range.{IsWideDay, IsWideYear, IsTime, IsReading}
-use Rattle.naive_base.specs.NaiveDate.{day_of}
-use Rattle.naive_base.specs.NaiveTime.{second_of, fraction_of}
-use Rattle.naive_base.specs.NaiveDateTime.{reading}
-use Rattle.naive_base.specs.Weekday.{weekday_number}
-use Rattle.naive_base.specs.IsoWeek.{iso_year, iso_number}
-use Rattle.naive_base.specs.declared.iso_week.IsoWeek.{IsoWeek}
-use Rattle.naive_base.specs.declared.weekday.Weekday.{Weekday}
-use Rattle.naive_base.specs.declared.weekday.Weekday.TheVariants.{Mon, Tue, Wed, Thu, Fri, Sat, Sun}
+use Rattle.naive_base.proofs.Words.{IsReading, IsTime, IsWideDay, IsWideYear, IsoWeek, NaiveDate, NaiveDateTime, NaiveTime, Weekday, ap, day_of, fraction_of}
+use Rattle.naive_base.proofs.Words.{iso_number, iso_year, props, reading, refl, second_of, subst, suc, sym, weekday_number, zero, ℕ, ℤ, ◌∙◌, ◌≡◌, ◌≤◌}
+use Rattle.naive_base.specs.declared.weekday.Weekday.TheVariants.{Fri, Mon, Sat, Sun, Thu, Tue, Wed}
 
 IsWideDay-once : (day : ℤ) → IsProp (IsWideDay day)
 IsWideDay-once day = hlevel props

@@ -1,9 +1,9 @@
 //! Instants of a borrowed zone copied.
 
 use crate::zones::next_day;
-use tests_idioms::copy_of;
 use std::alloc::{AllocError, Global};
 use std::collections::BTreeMap;
+use tests_idioms::copy_of;
 use zoned::{DateTime, TimeZoneRef};
 
 pub fn twice<'a>(

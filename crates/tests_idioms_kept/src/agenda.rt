@@ -1,7 +1,7 @@
 //! Jobs of several zones in the order in which they come: a client without a lifetime.
 
-use tests_idioms::{IdiomError, copy_of};
 use std::alloc::{AllocError, Global};
+use tests_idioms::{IdiomError, copy_of};
 use zoned::{Choice, DateTime, Days, KeptZone, NaiveDateTime, TimeZone};
 
 /// A job of each day, and when it comes next.

@@ -1,8 +1,8 @@
 //! Instants of a kept zone copied.
 
-use tests_idioms::copy_of;
 use std::alloc::{AllocError, Global};
 use std::collections::BTreeMap;
+use tests_idioms::copy_of;
 use zoned::{DateTime, Days, KeptZone};
 
 pub fn twice(instant: &DateTime<KeptZone>) -> (DateTime<KeptZone>, DateTime<KeptZone>) {

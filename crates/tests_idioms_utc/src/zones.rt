@@ -1,8 +1,8 @@
 //! Instants of UTC, and what is made of them.
 
-use tests_idioms::IdiomError;
 use naive_base::{Datelike, Days, NaiveDate, NaiveDateTime, Timelike};
 use offset_core::{Choice, TimeDelta};
+use tests_idioms::IdiomError;
 use zoned_round::DurationRound;
 use zoned_time::{DateTime, Offset, TimeZone, Utc};
 

@@ -1,11 +1,8 @@
 -- Where rules answer, and how often they are asked.
-use Rattle.std.proofs.Common.{◌≡◌, refl, ap, sym, ◌∙◌, arith, inl, inr, ◌⊎◌, ℕ, zero, suc, ◌<◌, ◌+◌, ℤ, pos, neg_ℤ, ◌+ℤ◌, ◌-ℤ◌, List, [], ◌∷◌, length, get_or}
-use Rattle.std.specs.Prelude.{Contains, ◌≢◌, unsigned_abs}
-use Rattle.std.proofs.lemmas.Int.{ints}
-use Rattle.tz_info.specs.Questions.{IsByRule, IsByRuleFor, IsAskedAt, IsAskedFor}
-use Rattle.tests_pins.specs.NewYork.{new_york_rule, new_york_zone}
-use Rattle.tests_pins.specs.Zones.{honolulu, hst10, hst}
 use Rattle.tz_info.specs.declared.rule.transition_rule.TransitionRule.TheVariants as rules
+use Rattle.tests_pins.proofs.Words.{Contains, IsAskedAt, IsAskedFor, IsByRule, IsByRuleFor, List, ap, arith, get_or, honolulu, hst, hst10, inl, inr, ints}
+use Rattle.tests_pins.proofs.Words.{length, neg_ℤ, new_york_rule, new_york_zone, pos, refl, suc, sym, unsigned_abs, zero, ℕ, ℤ, [], ◌+ℤ◌, ◌+◌, ◌-ℤ◌, ◌<◌, ◌∙◌}
+use Rattle.tests_pins.proofs.Words.{◌∷◌, ◌≡◌, ◌≢◌, ◌⊎◌}
 
 pub always : (u : ℤ) → IsByRule new_york_zone u
 always u = record { rule = new_york_rule; of_zone = refl; leap_time = u; of_second = λ h. absurd (omega (arith, h)); from_last = refl }

@@ -1,21 +1,12 @@
 -- What lines of `zoneq` ask: what a reading of them comes to.
-use Rattle.std.proofs.Common.{◌≡◌, refl, pos, neg_ℤ, ℕ, List, [], ◌∷◌, Ok, Err}
-use Rattle.std.specs.Prelude.{codes}
-use Rattle.offset_core.specs.declared.choice.GapChoice.{GapChoice}
-use Rattle.offset_core.specs.declared.choice.GapChoice.TheVariants as gaps
-use Rattle.offset_core.specs.declared.choice.FoldChoice.{FoldChoice}
 use Rattle.offset_core.specs.declared.choice.FoldChoice.TheVariants as folds
-use Rattle.naive_base.specs.Date.{day_number}
-use Rattle.naive_base.specs.Month.{days_of_months}
-use Rattle.naive_base.specs.Stamp.{of_secs}
-use Rattle.naive_base.specs.Year.{year_start}
-use Rattle.tz_base.specs.Fronts.{int_at, tag_at, optional_tag_at}
-use Rattle.tz_base.specs.Grammar.{read, Spells}
-use Rattle.tz_base.specs.declared.error.Error.{Error}
+use Rattle.offset_core.specs.declared.choice.GapChoice.TheVariants as gaps
 use Rattle.tz_base.specs.declared.error.Error.TheVariants.{InvalidTzString, ParseInt}
 use Rattle.tz_base.specs.declared.error.Expected.TheVariants.{NumberWithinItsLimit, OtherBytes}
-use Rattle.tz_base.proofs.ForCallers.{lawful}
-use Rattle.zoneq_lib.specs.Questions.{Query, At, Data, Wall, Resolve, Show, Asks, IsBadLine, Word, Begins, integer, seconds, next, date, local_time, gap, fold, choice, text, data_of_file, at, resolve, wall, show, question, line}
+use Rattle.zoneq_lib.specs.Questions.{date, fold, seconds, text}
+use Rattle.tests_pins.proofs.Words.{Asks, At, Begins, Data, Err, Error, FoldChoice, GapChoice, IsBadLine, List, Ok, Query, Resolve, Show, Spells, Wall, Word}
+use Rattle.tests_pins.proofs.Words.{at, choice, codes, data_of_file, day_number, days_of_months, gap, int_at, integer, lawful, line, local_time, neg_ℤ, next}
+use Rattle.tests_pins.proofs.Words.{of_secs, optional_tag_at, pos, question, read, refl, resolve, show, tag_at, wall, year_start, ℕ, [], ◌∷◌, ◌≡◌}
 
 asks : (bytes : List ℕ) (query : Query) → read line bytes ≡ Ok (query, []) → Asks bytes query
 asks bytes query = (lawful line bytes).takes (query, [])

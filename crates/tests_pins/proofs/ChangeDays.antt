@@ -1,10 +1,5 @@
 -- Days of clock changes, as dates.
-use Rattle.std.proofs.Common.{◌≡◌, arith, refl, pos}
-use Rattle.naive_base.specs.Year.{year_start}
-use Rattle.naive_base.specs.Month.{days_of_months}
-use Rattle.naive_base.specs.Date.{day_number}
-use Rattle.naive_base.specs.DateOf.{year_of, month_of, day_of_month}
-use Rattle.naive_base.proofs.ForCallers.{date_only}
+use Rattle.tests_pins.proofs.Words.{arith, date_only, day_number, day_of_month, days_of_months, month_of, pos, refl, year_of, year_start, ◌≡◌}
 
 -- 2007-03-11 and 2021-03-14
 pub march_2007 : (year_of (pos 13_583) ≡ pos 2007) × (month_of (pos 13_583) ≡ 3) × (day_of_month (pos 13_583) ≡ 11)

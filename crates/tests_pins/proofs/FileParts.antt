@@ -1,9 +1,5 @@
 -- Parts of files.
-use Rattle.std.proofs.Common.{◌≡◌, ℕ, ◌+◌, ◌*◌, List, ◌++◌, length, refl, arith, Bool, true, false}
-use Rattle.tz_base.specs.Grammar.{Spells}
-use Rattle.tz_info.specs.FileBlocks.{Parts, block}
-use Rattle.tz_info.specs.FileContents.{IsMark}
-use Rattle.tz_info.specs.declared.file.header.Counts.{Counts}
+use Rattle.tests_pins.proofs.Words.{Bool, Counts, IsMark, List, Parts, Spells, arith, block, false, length, refl, true, ℕ, ◌*◌, ◌++◌, ◌+◌, ◌≡◌}
 
 -- parts of the lengths that the counts announce, end to end, are a block
 pub parts_are : (w : ℕ) (c : Counts) (p : Parts) (rest : List ℕ) → length p.times ≡ c.transitions * w → length p.type_indexes ≡ c.transitions → length p.types ≡ c.types * 6 → length p.designations ≡ c.designations

@@ -1,8 +1,5 @@
 -- Days that are given another day, where the answer is that day.
-use Rattle.std.proofs.Common.{◌≡◌, ◌∙◌, ap, refl, ℤ}
-use Rattle.std.specs.Prelude.{Option, Some, None, SomeIff}
-use Rattle.naive_base.specs.Fields.{IsGiven}
-use Rattle.tests_pins.specs.Fields.{itself, given}
+use Rattle.tests_pins.proofs.Words.{IsGiven, None, Option, Some, SomeIff, ap, given, itself, refl, ℤ, ◌∙◌, ◌≡◌}
 
 some_is : (value : Option ℤ) (p : Type 0) (v : ℤ) → p → SomeIff value p v → value ≡ Some v
 some_is (Some x) p v holds there = ap Some there.1

@@ -1,28 +1,16 @@
 -- The pieces of Honolulu's file, put together from bytes.
-use Rattle.std.proofs.Common.{◌≡◌, refl, arith, inl, inr, ℕ, ◌<◌, ℤ, ◌<ℤ◌, Bool, false, true, List, [], ◌∷◌, ◌++◌, length, pos, neg_ℤ}
-use Rattle.std.proofs.lemmas.Str.{IsUtf8-from_ascii}
-use Rattle.std.proofs.lemmas.Str.Ascii.{IsAscii-cons, IsAscii-nil}
-use Rattle.std.specs.Prelude.{None}
-use Rattle.std.specs.Int.{w32, from_be_bytes}
-use Rattle.tz_base.specs.declared.error.Error.{Error}
 use Rattle.tz_base.specs.declared.error.Error.TheVariants.{InvalidTzFile, UnsupportedTzFile}
 use Rattle.tz_base.specs.declared.error.Expected.TheVariants.{NothingAfterBlockOfVersion1, Version1To3, Version2Or3InSecondHeader}
-use Rattle.tz_base.specs.Names.{is_name_byte}
-use Rattle.tz_base.specs.Fronts.{exact_at, optional_tag_at}
-use Rattle.tz_base.specs.Grammar.{Spells, be_u32}
-use Rattle.tz_base.proofs.ForCallers.{lawful, apart}
-use Rattle.tz_info.specs.FileBlocks.{block as a_block}
-use Rattle.tz_info.specs.FileContents.{signed, least_offset, SpellsType, IsMark, SpellTransitions, SpellTypes, IndicatorsAgree}
-use Rattle.tz_info.specs.FileHeaders.{magic, tzif, version, version_1, six_counts, counts_test, header as a_header}
-use Rattle.tz_info.specs.FilePieces.{HasPieces, PieceFault, first_pieces, after_first_block, first_version, later_version, file as a_file}
-use Rattle.tz_info.specs.Footers.{IsFooter}
-use Rattle.tz_info.specs.TzFiles.{IsTzFile}
-use Rattle.tz_info.specs.Zones.{Zone}
-use Rattle.tz_info.specs.declared.file.header.Place.{Place}
-use Rattle.tz_info.specs.declared.file.header.Version.{Version}
 use Rattle.tz_info.specs.declared.file.header.Version.TheVariants.{Two}
-use Rattle.tests_pins.specs.Honolulu.{counts, header, short_times, long_times, type_indexes, type_records, designations, indicators, parts, block, pieces, hst_footer, file_with, honolulu_file, short_file}
-use Rattle.tests_pins.specs.Zones.{named, honolulu, honolulu_from, hst10}
+use Rattle.tests_pins.proofs.Words.{Bool, Error, HasPieces, IndicatorsAgree, IsAscii-cons, IsAscii-nil, IsFooter, IsMark, IsTzFile, IsUtf8-from_ascii, List}
+use Rattle.tests_pins.proofs.Words.{None, PieceFault, Place, SpellTransitions, SpellTypes, Spells, SpellsType, Version, Zone, after_first_block, apart, arith}
+use Rattle.tests_pins.proofs.Words.{be_u32, block as a_block, counts, counts_test, designations, exact_at, false, file as a_file, file_with, first_pieces}
+use Rattle.tests_pins.proofs.Words.{first_version, from_be_bytes, header as a_header, honolulu, honolulu_file, honolulu_from, hst10, hst_footer, indicators}
+use Rattle.tests_pins.proofs.Words.{inl, inr, is_name_byte, later_version, lawful, least_offset, length, long_times, magic, neg_ℤ, optional_tag_at, parts}
+use Rattle.tests_pins.proofs.Words.{pieces, pos, refl, short_file, short_times, signed, six_counts, true, type_indexes, type_records, tzif, version, version_1}
+use Rattle.tests_pins.proofs.Words.{w32, ℕ, ℤ, [], ◌++◌, ◌<ℤ◌, ◌<◌, ◌∷◌, ◌≡◌}
+use Rattle.tests_pins.specs.Honolulu.{block, header}
+use Rattle.tests_pins.specs.Zones.{named}
 use Rattle.tests_pins.proofs.FileParts.{parts_are}
 use Rattle.tests_pins.proofs.SpelledPieces.{is_name_3, some_bytes}
 use Rattle.tests_pins.proofs.SpelledTexts.{hst_10}

@@ -1,12 +1,6 @@
 -- Lists of leap seconds, by tests that compute.
-use Rattle.std.proofs.Common.{◌≡◌, ℕ, zero, suc, ◌<◌, arith, add-one, inl, inr, List, [], ◌∷◌, length, get_or, ℤ, pos, ◌+ℤ◌, ◌≤ℤ◌, ◌<ℤ◌, w64}
-use Rattle.std.proofs.lemmas.Int.{fits_signed_from_abs}
-use Rattle.std.proofs.lemmas.Int.{ints}
-use Rattle.std.specs.List.{AllAdjacentBelow}
-use Rattle.std.specs.Prelude.{FitsSigned}
-use Rattle.tz_info.specs.Leaps.{IsOneStep, IsNextLeap, corrections}
-use Rattle.tests_pins.specs.LeapSeconds.{utc_leaps}
-use Rattle.tz_info.specs.declared.zone.leap_second.LeapSecond.{LeapSecond}
+use Rattle.tests_pins.proofs.Words.{AllAdjacentBelow, FitsSigned, IsNextLeap, IsOneStep, LeapSecond, List, add-one, arith, corrections, fits_signed_from_abs}
+use Rattle.tests_pins.proofs.Words.{get_or, inl, inr, ints, length, pos, suc, utc_leaps, w64, zero, ℕ, ℤ, [], ◌+ℤ◌, ◌<ℤ◌, ◌<◌, ◌∷◌, ◌≡◌, ◌≤ℤ◌}
 
 -- each entry comes 28 days later, less a second, or more, and is one second more
 abbrev pub Chained : List LeapSecond → Type 0

@@ -1,3 +1,4 @@
+pub mod Words
 pub mod Weeks
 pub mod LeapSeconds
 pub mod NewYork

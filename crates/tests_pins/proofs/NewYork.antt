@@ -1,18 +1,9 @@
 -- New York's moments, and the types between them.
-use Rattle.std.proofs.Common.{◌≡◌, refl, arith, true, false, ℤ, pos, ◌≤ℤ◌, ◌<ℤ◌}
-use Rattle.std.proofs.lemmas.Bool.{false≢true}
-use Rattle.std.proofs.lemmas.Int.{by_lt_z, ints}
-use Rattle.naive_base.specs.Year.{year_start}
-use Rattle.naive_base.specs.Month.{days_of_months}
-use Rattle.naive_base.specs.Date.{day_number}
-use Rattle.naive_base.proofs.ForCallers.{floors}
+use Rattle.tz_info.proofs.RuleDays.{day_rises, rule_day_closed}
 use Rattle.tz_info.specs.RuleDayOf.{rule_day}
-use Rattle.tz_info.specs.Moments.{moment, start_in, end_in, IsYearOf, IsInSomeYear, IsDstAt}
-use Rattle.tz_info.specs.Steps.RuleDays.{closed_day}
-use Rattle.tz_info.specs.RuleTypes.{RuleAt}
 use Rattle.tz_info.specs.declared.rule.day.DayForm.TheVariants.{MonthWeekday}
-use Rattle.tz_info.proofs.RuleDays.{rule_day_closed, day_rises}
-use Rattle.tests_pins.specs.NewYork.{new_york, new_york_rule, est, edt}
+use Rattle.tests_pins.proofs.Words.{IsDstAt, IsInSomeYear, IsYearOf, RuleAt, arith, by_lt_z, closed_day, day_number, days_of_months, edt, end_in, est, false}
+use Rattle.tests_pins.proofs.Words.{false≢true, floors, ints, moment, new_york, new_york_rule, pos, refl, start_in, true, year_start, ℤ, ◌<ℤ◌, ◌≡◌, ◌≤ℤ◌}
 
 march : (y : ℤ) → rule_day (MonthWeekday 3 2 0) y ≡ closed_day (MonthWeekday 3 2 0) y
 march y = rule_day_closed (MonthWeekday 3 2 0) y (omega arith, omega arith, omega arith, omega arith, omega arith)

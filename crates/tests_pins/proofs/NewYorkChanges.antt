@@ -1,15 +1,8 @@
 -- New York's clock changes in 2021.
-use Rattle.std.proofs.Common.{◌≡◌, ap, sym, ◌∙◌, arith, ℕ, zero, suc, ◌<◌, inl, inr, ◌⊎◌, ℤ, pos, ◌-ℤ◌, ◌≤ℤ◌, ◌<ℤ◌, List, [], ◌∷◌, get_or, length, subst}
-use Rattle.std.specs.Prelude.{Contains, unsigned_abs}
-use Rattle.std.proofs.lemmas.Int.{by_lt_z, ints}
-use Rattle.tz_base.specs.LocalTypes.{LocalType}
-use Rattle.tz_base.specs.declared.change.Change.{Change}
-use Rattle.tz_info.specs.Changes.{IsChange, IsFromUntil, AreChanges}
-use Rattle.tz_info.specs.RuleTypes.{RuleAt}
-use Rattle.tz_info.specs.Zones.{TypeAt}
-use Rattle.tests_pins.specs.Changes.{change_at, spring, autumn}
-use Rattle.tests_pins.specs.NewYork.{new_york_rule, new_york_zone, est, edt}
-use Rattle.tests_pins.proofs.NewYork.{est_winter, est_2022, est_early, est_late, edt_between}
+use Rattle.tests_pins.proofs.Words.{AreChanges, Change, Contains, IsChange, IsFromUntil, List, LocalType, RuleAt, TypeAt, ap, arith, autumn, by_lt_z, change_at}
+use Rattle.tests_pins.proofs.Words.{edt, est, get_or, inl, inr, ints, length, new_york_rule, new_york_zone, pos, spring, subst, suc, sym, unsigned_abs, zero, ℕ}
+use Rattle.tests_pins.proofs.Words.{ℤ, [], ◌-ℤ◌, ◌<ℤ◌, ◌<◌, ◌∙◌, ◌∷◌, ◌≡◌, ◌≤ℤ◌, ◌⊎◌}
+use Rattle.tests_pins.proofs.NewYork.{edt_between, est_2022, est_early, est_late, est_winter}
 use Rattle.tests_pins.proofs.NewYorkClocks.{apart, fits, one_type, type_of_rule}
 
 pub spring_is : IsChange (TypeAt new_york_zone) spring

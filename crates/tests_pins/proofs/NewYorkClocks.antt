@@ -1,19 +1,11 @@
 -- What New York's clocks show in 2021.
-use Rattle.std.proofs.Common.{◌≡◌, refl, ap, arith, inl, inr, ◌⊎◌, Bool, true, false, ℤ, pos, ◌+ℤ◌, ◌-ℤ◌, ◌≤ℤ◌, ◌<ℤ◌}
-use Rattle.std.proofs.lemmas.Bool.{false≢true}
-use Rattle.std.proofs.lemmas.Int.{by_lt_z, ints, fits_signed_from_abs}
-use Rattle.std.specs.Prelude.{FitsSigned}
-use Rattle.std.specs.Int.{w64}
-use Rattle.offset_core.specs.WallAnswer.{IsNeverShown, IsShownOnce, IsShownBetween}
-use Rattle.tz_base.specs.LocalTypes.{LocalType}
-use Rattle.tz_info.specs.Gaps.{IsBeforeGap, ShowsMore}
-use Rattle.tz_info.specs.Moments.{type_when}
-use Rattle.tz_info.specs.RuleTypes.{RuleAt}
-use Rattle.tz_info.specs.WallClocks.{Shows}
-use Rattle.tz_info.specs.Zones.{TypeAt}
 use Rattle.tz_info.proofs.RuleLaws.{rule_once}
-use Rattle.tests_pins.specs.NewYork.{new_york, new_york_rule, new_york_zone, est, edt}
-use Rattle.tests_pins.proofs.NewYork.{est_early, est_late, edt_between}
+use Rattle.tz_info.specs.Gaps.{IsBeforeGap}
+use Rattle.tz_info.specs.WallClocks.{Shows}
+use Rattle.tests_pins.proofs.Words.{Bool, FitsSigned, IsNeverShown, IsShownBetween, IsShownOnce, LocalType, RuleAt, ShowsMore, TypeAt, ap, arith, by_lt_z, edt}
+use Rattle.tests_pins.proofs.Words.{est, false, false≢true, fits_signed_from_abs, inl, inr, ints, new_york, new_york_rule, new_york_zone, pos, refl, true}
+use Rattle.tests_pins.proofs.Words.{type_when, w64, ℤ, ◌+ℤ◌, ◌-ℤ◌, ◌<ℤ◌, ◌≡◌, ◌≤ℤ◌, ◌⊎◌}
+use Rattle.tests_pins.proofs.NewYork.{edt_between, est_early, est_late}
 
 pub type_of_rule : (u : ℤ) (t : LocalType) → RuleAt new_york_rule u t → TypeAt new_york_zone u t
 type_of_rule u t r = record {

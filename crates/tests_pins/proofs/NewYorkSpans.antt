@@ -1,18 +1,8 @@
 -- New York's span of standard time in the winter of 2020.
-use Rattle.std.proofs.Common.{◌≡◌, sym, ◌∙◌, arith, ℤ, pos, ◌-ℤ◌, ◌≤ℤ◌, ◌<ℤ◌, Some, None}
-use Rattle.std.proofs.lemmas.Int.{ints}
-use Rattle.tz_base.specs.LocalTypes.{LocalType}
-use Rattle.tz_base.specs.declared.change.Change.{Change}
-use Rattle.tz_base.specs.declared.span.Span.{Span}
-use Rattle.tz_info.specs.Changes.{IsChange}
-use Rattle.tz_info.specs.RuleTypes.{RuleAt}
-use Rattle.tz_info.specs.Spans.{IsInSpan, IsSpan, IsSpanAt}
-use Rattle.tz_info.specs.Zones.{TypeAt}
-use Rattle.tests_pins.specs.Changes.{change_at}
-use Rattle.tests_pins.specs.NewYork.{new_york_rule, new_york_zone, est, edt}
-use Rattle.tests_pins.specs.Spans.{winter, span_of}
-use Rattle.tests_pins.proofs.NewYork.{est_winter, edt_until_2020, edt_between}
-use Rattle.tests_pins.proofs.NewYorkChanges.{spring_is, no_change}
+use Rattle.tests_pins.proofs.Words.{Change, IsChange, IsInSpan, IsSpan, IsSpanAt, LocalType, None, RuleAt, Some, Span, TypeAt, arith, change_at, edt, est, ints}
+use Rattle.tests_pins.proofs.Words.{new_york_rule, new_york_zone, pos, span_of, sym, winter, ℤ, ◌-ℤ◌, ◌<ℤ◌, ◌∙◌, ◌≡◌, ◌≤ℤ◌}
+use Rattle.tests_pins.proofs.NewYork.{edt_between, edt_until_2020, est_winter}
+use Rattle.tests_pins.proofs.NewYorkChanges.{no_change, spring_is}
 use Rattle.tests_pins.proofs.NewYorkClocks.{apart, fits, one_type, type_of_rule}
 
 winter_begins : IsChange (TypeAt new_york_zone) (change_at (pos 1_604_210_400) edt est)

@@ -1,9 +1,5 @@
 -- Whole years between readings whose years are known.
-use Rattle.std.proofs.Common.{◌≡◌, arith, ℤ, pos, ◌-ℤ◌, inl, inr}
-use Rattle.std.proofs.lemmas.Int.{ints}
-use Rattle.naive_base.specs.DateOf.{year_of}
-use Rattle.naive_base.specs.Reading.{Reading, day_at}
-use Rattle.zoned_time.specs.Years.{IsEarlierInYear, IsWholeYears}
+use Rattle.tests_pins.proofs.Words.{IsEarlierInYear, IsWholeYears, Reading, arith, day_at, inl, inr, ints, pos, year_of, ℤ, ◌-ℤ◌, ◌≡◌}
 
 -- one less than the years are apart, where the later one is earlier in its year
 pub years_less : (l m : Reading) (yl ym n : ℤ) → year_of (day_at l) ≡ yl → year_of (day_at m) ≡ ym → IsEarlierInYear l m → IsWholeYears l m n → n ≡ yl -ℤ ym -ℤ pos 1

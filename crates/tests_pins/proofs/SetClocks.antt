@@ -1,19 +1,10 @@
 -- Clocks that are set once, by an hour, at 1970-01-01 00:00:00 UTC.
-use Rattle.std.proofs.Common.{◌≡◌, ◌≢◌, ap, refl, sym, ◌∙◌, arith, ℕ, ℤ, pos, neg_ℤ, negsuc, ◌<ℤ◌, ◌≤ℤ◌, ◌+ℤ◌, ◌-ℤ◌}
-use Rattle.std.proofs.lemmas.Int.{ints}
-use Rattle.offset_core.specs.WallAnswer.{IsShownOnce, IsShownBetween}
-use Rattle.offset_core.specs.declared.choice.GapChoice.{GapChoice}
+use Rattle.offset_core.specs.declared.choice.FoldChoice.TheVariants.{Earliest, Latest, Refuse as RefuseFold}
 use Rattle.offset_core.specs.declared.choice.GapChoice.TheVariants.{Refuse as RefuseGap, ShiftForward}
-use Rattle.offset_core.specs.declared.choice.FoldChoice.{FoldChoice}
-use Rattle.offset_core.specs.declared.choice.FoldChoice.TheVariants.{Refuse as RefuseFold, Earliest, Latest}
-use Rattle.naive_base.specs.Reading.{Reading}
-use Rattle.naive_base.specs.Range.{first_second, last_second}
-use Rattle.zoned_time.specs.Choice.{IsBeforeGap, IsTaken}
-use Rattle.zoned_time.specs.Choice.IsTaken.{once, earliest, latest, shifted}
-use Rattle.zoned_time.specs.Zone.{Shows}
-use Rattle.zoned_time.specs.Zoned.{Zoned}
+use Rattle.zoned_time.specs.Choice.IsTaken.{earliest, latest, once, shifted}
+use Rattle.tests_pins.proofs.Words.{FoldChoice, GapChoice, IsBeforeGap, IsShownBetween, IsShownOnce, IsTaken, Reading, Shows, Zoned, ap, arith, first_second}
+use Rattle.tests_pins.proofs.Words.{ints, last_second, neg_ℤ, negsuc, pos, refl, set_back, set_forward, sym, ℕ, ℤ, ◌+ℤ◌, ◌-ℤ◌, ◌<ℤ◌, ◌∙◌, ◌≡◌, ◌≢◌, ◌≤ℤ◌}
 use Rattle.tests_pins.specs.Choices as choices
-use Rattle.tests_pins.specs.Choices.{set_forward, set_back}
 
 -- ---- the gap
 pub never : (u k : ℤ) → Shows set_forward (pos 1_800) u k → ⊥

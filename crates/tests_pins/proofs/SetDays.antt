@@ -1,11 +1,6 @@
 -- Days of clocks that are set once.
-use Rattle.std.proofs.Common.{◌≡◌, ◌<◌, ℤ, pos, neg_ℤ, ◌+ℤ◌, ◌-ℤ◌, ◌*ℤ◌, ◌≤ℤ◌, ◌<ℤ◌, inl, inr, arith, refl}
-use Rattle.std.proofs.lemmas.Int.{ints, by_lt_z}
-use Rattle.naive_base.specs.Reading.{Reading, ahead, IsEarlier}
-use Rattle.naive_base.specs.Stamp.{of_secs}
-use Rattle.zoned_time.specs.Days.{AreEndsOfDay, IsNeverOnDay, IsFirstAtOrAfter, midnight}
-use Rattle.zoned_time.specs.Zone.{IsZoneSecond}
-use Rattle.tests_pins.specs.Days.{AreSetAt}
+use Rattle.tests_pins.proofs.Words.{AreEndsOfDay, AreSetAt, IsEarlier, IsFirstAtOrAfter, IsNeverOnDay, IsZoneSecond, Reading, ahead, arith, by_lt_z, inl, inr}
+use Rattle.tests_pins.proofs.Words.{ints, midnight, neg_ℤ, of_secs, pos, refl, ℤ, ◌*ℤ◌, ◌+ℤ◌, ◌-ℤ◌, ◌<ℤ◌, ◌<◌, ◌≡◌, ◌≤ℤ◌}
 
 pub not_earlier_than : (x y : Reading) → y.f ≡ 0 → y.s ≤ℤ x.s → ¬ (IsEarlier x y)
 not_earlier_than x y whole h (inl less) = omega (arith, ints)

@@ -1,7 +1,5 @@
 -- Names of three bytes, and lists with an item.
-use Rattle.std.proofs.Common.{◌≡◌, ap, arith, ℕ, zero, suc, ◌<◌, Bool, true, false, List, [], ◌∷◌, slice_index}
-use Rattle.std.proofs.lemmas.Bool.{false≢true}
-use Rattle.tz_base.specs.Names.{IsName, is_name_byte}
+use Rattle.tests_pins.proofs.Words.{Bool, IsName, List, ap, arith, false, false≢true, is_name_byte, slice_index, suc, true, zero, ℕ, [], ◌<◌, ◌∷◌, ◌≡◌}
 
 pub is_name_3 : (a b c : ℕ) → is_name_byte a ≡ true → is_name_byte b ≡ true → is_name_byte c ≡ true → IsName (a ∷ b ∷ c ∷ [])
 is_name_3 a b c first second third = (omega arith, omega arith, each)

@@ -1,21 +1,17 @@
 -- What the texts spell, and their faults: what a reading of them comes to.
-use Rattle.std.proofs.Common.{◌≡◌, refl, ap, sym, ◌∙◌, ℕ, Bool, true, false, List, [], ◌∷◌, Ok, Err, inr}
-use Rattle.tz_base.specs.Fronts.{int_at, tag_at, optional_tag_at}
-use Rattle.tz_base.specs.Grammar.{read}
-use Rattle.tz_base.proofs.ForCallers.{lawful}
-use Rattle.tz_base.specs.declared.error.Error.{Error}
 use Rattle.tz_base.specs.declared.error.Error.TheVariants.{InvalidTzString, LocalTimeType, ParseInt, TransitionRule as RuleError, UnsupportedTzString}
-use Rattle.tz_base.specs.declared.error.Expected.TheVariants.{DayFromJ1ToJ365, DaysWhenDaylightSavingTimeStartsAndEnds, Digit, HoursMinutesAndSecondsWithinTheirLimits, NameOfThreeToSevenBytes}
-use Rattle.tz_info.specs.TzGrammar.{name, quoted, seconds, minutes_seconds, optional_minutes, hours_minutes_seconds, sign, duration, offset, time_sign, time, rule_day, month_date, julian_date, day_number, date, optional_time, day, days, next_hour, more, given_offset, dst_offset, named, end, fixed, alternate, rule, text, IsTzText, IsTextFault}
-use Rattle.tz_info.specs.declared.rule.transition_rule.TransitionRule.{TransitionRule}
+use Rattle.tz_base.specs.declared.error.Expected.TheVariants.{DayFromJ1ToJ365, DaysWhenDaylightSavingTimeStartsAndEnds, Digit}
+use Rattle.tz_base.specs.declared.error.Expected.TheVariants.{HoursMinutesAndSecondsWithinTheirLimits, NameOfThreeToSevenBytes}
+use Rattle.tz_info.specs.TzGrammar.{day_number}
 use Rattle.tz_info.specs.declared.rule.transition_rule.TransitionRule.TheVariants as rules
-use Rattle.tz_info.specs.PosixZones.{IsPosixZone}
-use Rattle.tests_pins.specs.NewYork.{new_york_rule, new_york_zone}
+use Rattle.tests_pins.proofs.Words.{Bool, Err, Error, IsPosixZone, IsTextFault, IsTzText, List, Ok, Result, TransitionRule, alternate, ap, codes, date, day}
+use Rattle.tests_pins.proofs.Words.{day_0, days, dst_offset, duration, end, false, false≢true, fixed, fo_5, foo, foo_23, foo_23_rule, foo_24, foo_5_06_07}
+use Rattle.tests_pins.proofs.Words.{foo_5_60, foo_ahead, foo_behind, foo_minus_5, foo_plus_5, given_offset, hours_minutes_seconds, hst, inr, int_at}
+use Rattle.tests_pins.proofs.Words.{jerusalem_rule, jerusalem_text, julian_date, lawful, minutes_seconds, month_date, more, name, named, new_york_rule}
+use Rattle.tests_pins.proofs.Words.{new_york_text, new_york_zone, next_hour, no_days, numbered_rule, numbered_text, nuuk_rule, nuuk_text, offset}
+use Rattle.tests_pins.proofs.Words.{optional_minutes, optional_tag_at, optional_time, quoted, read, refl, rule, rule_day, seconds, sign, small, sym, tag_at}
+use Rattle.tests_pins.proofs.Words.{text, time, time_sign, true, utc_rule, utc_text, ℕ, [], ◌∙◌, ◌∷◌, ◌≡◌}
 use Rattle.tests_pins.proofs.SpelledPieces.{some_bytes}
-use Rattle.tests_pins.specs.Zones.{hst}
-use Rattle.tests_pins.specs.Texts.{new_york_text, no_days, foo_23, foo_23_rule, foo_24, foo_5_60, foo, fo_5, day_0, utc_text, utc_rule, jerusalem_text, jerusalem_rule, nuuk_text, nuuk_rule, foo_plus_5, foo_minus_5, foo_behind, foo_ahead, numbered_text, numbered_rule, foo_5_06_07, small}
-use Rattle.std.specs.Prelude.{codes, Result}
-use Rattle.std.proofs.lemmas.Bool.{false≢true}
 
 pub spelled : (extended : Bool) (bytes : List ℕ) (r : TransitionRule) → read (text extended) bytes ≡ Ok (r, []) → IsTzText extended bytes r
 spelled extended bytes r = (lawful (text extended) bytes).takes (r, [])

@@ -1,12 +1,7 @@
 -- The week of a day, where its Thursday and the Thursday's year are known.
-use Rattle.std.proofs.Common.{◌≡◌, ◌∙◌, ap, ℕ, ◌+◌, ◌/◌, arith, refl, ℤ, pos, ◌+ℤ◌, ◌≤ℤ◌}
-use Rattle.naive_base.specs.Year.{year_start, LiesIn}
-use Rattle.naive_base.specs.Month.{days_of_months}
-use Rattle.naive_base.specs.Date.{day_number}
-use Rattle.naive_base.specs.DateOf.{year_of, day_of_year}
-use Rattle.naive_base.specs.IsoWeek.{IsThursdayOf, IsWeekOf, iso_year, iso_number}
-use Rattle.naive_base.specs.declared.iso_week.IsoWeek.{IsoWeek}
-use Rattle.naive_base.proofs.ForCallers.{floors, floor_mod_parts, lies_in, one_year, year_step, days_at_least, day_of_year_is}
+use Rattle.tests_pins.proofs.Words.{IsThursdayOf, IsWeekOf, IsoWeek, LiesIn, ap, arith, day_number, day_of_year, day_of_year_is, days_at_least, days_of_months}
+use Rattle.tests_pins.proofs.Words.{floor_mod_parts, floors, iso_number, iso_year, lies_in, one_year, pos, refl, year_of, year_start, year_step, ℕ, ℤ, ◌+ℤ◌}
+use Rattle.tests_pins.proofs.Words.{◌+◌, ◌/◌, ◌∙◌, ◌≡◌, ◌≤ℤ◌}
 
 one_thursday : (day a b : ℤ) → IsThursdayOf day a → IsThursdayOf day b → a ≡ b
 one_thursday day a b h k =

@@ -1,18 +1,10 @@
 -- Texts and designations that are not written, since shorter ones do.
-use Rattle.std.proofs.Common.{◌≡◌, refl, sym, ap, arith, ℕ, zero, suc, ◌<◌, inl, inr, ◌⊎◌, Bool, true, false, List, [], ◌∷◌, length, get_or}
-use Rattle.std.specs.Prelude.{codes}
-use Rattle.std.proofs.lemmas.Bool.{false≢true}
-use Rattle.tz_base.specs.LocalTypes.{LocalType}
-use Rattle.tz_info.specs.declared.rule.transition_rule.TransitionRule.{TransitionRule}
-use Rattle.tz_info.specs.declared.rule.transition_rule.TransitionRule.TheVariants as rules
-use Rattle.tz_info.specs.PosixZones.{IsPosixZone}
 use Rattle.tz_info.proofs.TextLaws.{one_rule}
-use Rattle.tz_write.specs.FileDesignations.{IsNamedIn, AreShortest}
-use Rattle.tz_write.specs.WrittenTexts.{AreInPairs, IsWrittenText, IsWrittenZone}
-use Rattle.tests_pins.specs.NewYork.{new_york_rule, new_york_zone}
-use Rattle.tests_pins.specs.Texts.{new_york_text, new_york_long, utc_text, utc_rule}
-use Rattle.tests_pins.specs.Zones.{hst}
-use Rattle.tests_pins.proofs.SpelledTexts.{new_york, utc, new_york_gives}
+use Rattle.tz_info.specs.declared.rule.transition_rule.TransitionRule.TheVariants as rules
+use Rattle.tests_pins.proofs.Words.{AreInPairs, AreShortest, Bool, IsNamedIn, IsPosixZone, IsWrittenText, IsWrittenZone, List, LocalType, TransitionRule, ap}
+use Rattle.tests_pins.proofs.Words.{arith, codes, false, false≢true, get_or, hst, inl, inr, length, new_york_long, new_york_rule, new_york_text, new_york_zone}
+use Rattle.tests_pins.proofs.Words.{refl, suc, sym, true, utc_rule, utc_text, zero, ℕ, [], ◌<◌, ◌∷◌, ◌≡◌, ◌⊎◌}
+use Rattle.tests_pins.proofs.SpelledTexts.{new_york, new_york_gives, utc}
 
 no_colons : AreInPairs new_york_text
 no_colons = (λ e. absurd (omega (arith, e)), (λ e. absurd (omega (arith, e)), (λ e. absurd (omega (arith, e)), (λ e. absurd (omega (arith, e)), (λ e. absurd (omega (arith, e)), (λ e. absurd (omega (arith, e)), (λ e. absurd (omega (arith, e)), (λ e. absurd (omega (arith, e)), (λ e. absurd (omega (arith, e)), (λ e. absurd (omega (arith, e)), (λ e. absurd (omega (arith, e)), (λ e. absurd (omega (arith, e)), (λ e. absurd (omega (arith, e)), (λ e. absurd (omega (arith, e)), (λ e. absurd (omega (arith, e)), (λ e. absurd (omega (arith, e)), (λ e. absurd (omega (arith, e)), (λ e. absurd (omega (arith, e)), (λ e. absurd (omega (arith, e)), (λ e. absurd (omega (arith, e)), (λ e. absurd (omega (arith, e)), (λ e. absurd (omega (arith, e)), tt))))))))))))))))))))))

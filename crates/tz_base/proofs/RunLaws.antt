@@ -1,10 +1,11 @@
 -- Longest runs, and what digits stand for.
-use Rattle.std.proofs.Common.{◌≡◌, ℕ, suc, ◌+◌, ◌-◌, ◌*◌, ◌<◌, ◌≤◌, arith, refl, ap, sym, List, [], ◌∷◌, ◌++◌, length, get_or, drop, drop-cons, add-one, Bool, true, false, Ok, Err, Result}
+use Rattle.std.proofs.Common.{Bool, Err, List, Ok, Result, add-one, ap, arith, drop, drop-cons, false, get_or, length, refl, suc, sym, true, ℕ, [], ◌*◌, ◌++◌}
+use Rattle.std.proofs.Common.{◌+◌, ◌-◌, ◌<◌, ◌∷◌, ◌≡◌, ◌≤◌}
 use Rattle.std.proofs.lemmas.Bool.Decides.{nat_tests}
+use Rattle.tz_base.specs.Fronts.{AllOf, after_run, int_at, is_digit, number_within, run_of, value_from, ◌>>=◌}
 use Rattle.tz_base.specs.declared.error.Error.{Error}
 use Rattle.tz_base.specs.declared.error.Error.TheVariants.{ParseInt}
 use Rattle.tz_base.specs.declared.error.Expected.TheVariants.{NumberWithinItsLimit}
-use Rattle.tz_base.specs.Fronts.{is_digit, run_of, after_run, value_from, number_within, int_at, ◌>>=◌, AllOf}
 
 pub next_value : (ds : List ℕ) (i n : ℕ) → i < length ds → value_from n (drop i ds) ≡ value_from (10 * n + (get_or ds i 0 - 48)) (drop (i + 1) ds)
 next_value ds i n h = rw (add-one, drop-cons ds i 0) refl

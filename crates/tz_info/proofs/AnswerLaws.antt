@@ -1,10 +1,6 @@
 -- Answers of wall clocks: equal sets of seconds, and two sets of which one comes before the other.
-use Rattle.std.proofs.Common.{◌≡◌, arith, refl, ℤ, ◌<ℤ◌, inl, inr, ◌⊎◌, ⊎_elim}
-use Rattle.std.proofs.lemmas.Int.{ints}
-use Rattle.offset_core.specs.WallAnswer.{IsWallAnswer}
-use Rattle.offset_core.specs.declared.local_result.LocalResult.{LocalResult}
-use Rattle.offset_core.specs.declared.local_result.LocalResult.TheVariants.{None, Single, Ambiguous}
-use Rattle.tz_info.specs.Steps.Answers.{joined}
+use Rattle.offset_core.specs.declared.local_result.LocalResult.TheVariants.{Ambiguous, None, Single}
+use Rattle.tz_info.proofs.Words.{IsWallAnswer, LocalResult, arith, inl, inr, ints, joined, refl, ℤ, ⊎_elim, ◌<ℤ◌, ◌≡◌, ◌⊎◌}
 
 -- p and q take the same seconds
 pub same_answer : {T : Type 0} (p q : ℤ → T → Type 0) (a : LocalResult T) → ((u : ℤ) (t : T) → p u t → q u t) → ((u : ℤ) (t : T) → q u t → p u t) → IsWallAnswer p a → IsWallAnswer q a

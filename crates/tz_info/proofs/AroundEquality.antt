@@ -1,19 +1,14 @@
 -- What shows a local time, seconds with types, and differences are equal by `==` if and only if they are equal.
-use Rattle.std.proofs.Common.{int_eq, ◌≡◌, IsTrue, refl, ap}
 use Rattle.tz_base.proofs.ChangeEquality.{change_exact, second_exact}
-use Rattle.tz_base.proofs.ForCallers.{IsExact, and_left, and_right, and_both, type_exact}
-use Rattle.tz_base.specs.LocalTypes.{LocalType}
 use Rattle.tz_base.specs.contracts.local_time_type.LocalTimeTypePartialEq.TheImpl.{eq-value as type_eq}
+use Rattle.tz_info.proofs.Words.{Difference, IsExact, IsTrue, LocalType, ShownSeconds, TypedSecond, TypesAround, and_both, and_left, and_right, ap, int_eq}
+use Rattle.tz_info.proofs.Words.{refl, type_exact, ◌≡◌}
 use Rattle.tz_info.specs.contracts.zone.around.TypesAroundPartialEq.TheImpl.{eq-value as around_eq}
 use Rattle.tz_info.specs.contracts.zone.differences.DifferencePartialEq.TheImpl.{eq-value as difference_eq}
 use Rattle.tz_info.specs.contracts.zone.shown_seconds.ShownSecondsPartialEq.TheImpl.{eq-value as seconds_eq}
 use Rattle.tz_info.specs.contracts.zone.shown_seconds.TypedSecondPartialEq.TheImpl.{eq-value as second_eq}
+use Rattle.tz_info.specs.declared.zone.around.TypesAround.TheVariants.{Ambiguous, Gap, Single}
 use Rattle.tz_info.proofs.Equalities.{by_parts, pair_eq, pair_exact}
-use Rattle.tz_info.specs.declared.zone.around.TypesAround.{TypesAround}
-use Rattle.tz_info.specs.declared.zone.around.TypesAround.TheVariants.{Single, Ambiguous, Gap}
-use Rattle.tz_info.specs.declared.zone.differences.Difference.{Difference}
-use Rattle.tz_info.specs.declared.zone.shown_seconds.ShownSeconds.{ShownSeconds}
-use Rattle.tz_info.specs.declared.zone.shown_seconds.TypedSecond.{TypedSecond}
 
 both_same : (s t v w : LocalType) → s ≡ t → v ≡ w → Ambiguous s v ≡ Ambiguous t w
 both_same s t v w p q = cc

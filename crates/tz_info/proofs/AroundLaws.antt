@@ -1,13 +1,7 @@
 -- A local time has one answer with both sides of its gap.
-use Rattle.std.proofs.Common.{◌≡◌, ℤ, pos, ◌-ℤ◌, ap, subst, arith}
-use Rattle.std.proofs.lemmas.Int.{ints}
-use Rattle.offset_core.specs.declared.local_result.LocalResult.TheVariants.{Single as Once, Ambiguous as Twice}
-use Rattle.tz_base.specs.declared.change.Change.{Change}
-use Rattle.tz_info.specs.Around.{IsAround}
-use Rattle.tz_info.specs.Gaps.{HasGap}
-use Rattle.tz_info.specs.Zones.{Zone, TypeAt}
-use Rattle.tz_info.specs.declared.zone.around.TypesAround.{TypesAround}
-use Rattle.tz_info.specs.declared.zone.around.TypesAround.TheVariants.{Single, Ambiguous, Gap}
+use Rattle.offset_core.specs.declared.local_result.LocalResult.TheVariants.{Ambiguous as Twice, Single as Once}
+use Rattle.tz_info.proofs.Words.{Change, HasGap, IsAround, TypeAt, TypesAround, Zone, ap, arith, ints, pos, subst, ℤ, ◌-ℤ◌, ◌≡◌}
+use Rattle.tz_info.specs.declared.zone.around.TypesAround.TheVariants.{Ambiguous, Gap, Single}
 use Rattle.tz_info.proofs.WallLaws.{one_wall_clock}
 use Rattle.tz_info.proofs.ZoneLaws.{type_once}
 

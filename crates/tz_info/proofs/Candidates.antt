@@ -1,22 +1,10 @@
 -- The candidates of a wall clock: each second that shows a local time is that time less the offset of a type in force there.
-use Rattle.std.proofs.Common.{Bool, true, false, ◌≡◌, refl, sym, ap, subst, arith, ℤ, ◌+ℤ◌, ◌-ℤ◌, ◌≤ℤ◌, ◌<ℤ◌, ◌⊎◌, inl, inr, Contains, Some, FitsSigned}
-use Rattle.std.specs.Int.{w64}
-use Rattle.std.proofs.lemmas.Int.{ints}
-use Rattle.offset_core.specs.WallAnswer.{IsWallAnswer}
-use Rattle.offset_core.specs.declared.local_result.LocalResult.{LocalResult}
 use Rattle.offset_core.specs.declared.local_result.LocalResult.TheVariants.{None, Single}
-use Rattle.tz_base.specs.LocalTypes.{LocalType}
-use Rattle.tz_info.specs.Moments.{AlternateAt, type_when}
-use Rattle.tz_info.specs.Rules.{Alternate as AlternateRule}
-use Rattle.tz_info.specs.RuleTypes.{RuleAt}
-use Rattle.tz_info.specs.Steps.Answers.{joined}
-use Rattle.tz_info.specs.Steps.RuleSeconds.{TypeFrom}
-use Rattle.tz_info.specs.Steps.Walk.{IsAskedLast}
-use Rattle.tz_info.specs.WallClocks.{Shows}
-use Rattle.tz_info.specs.Windows.{rule_offsets}
-use Rattle.tz_info.specs.declared.rule.transition_rule.TransitionRule.{TransitionRule}
-use Rattle.tz_info.specs.declared.rule.transition_rule.TransitionRule.TheVariants.{Fixed, Alternate}
-use Rattle.tz_info.proofs.AnswerLaws.{same_answer, behind_answer}
+use Rattle.tz_info.proofs.Words.{Alternate as AlternateRule, AlternateAt, Bool, Contains, FitsSigned, IsAskedLast, IsWallAnswer, LocalResult, LocalType, RuleAt}
+use Rattle.tz_info.proofs.Words.{Shows, Some, TransitionRule, TypeFrom, ap, arith, false, inl, inr, ints, joined, refl, rule_offsets, subst, sym, true}
+use Rattle.tz_info.proofs.Words.{type_when, w64, ℤ, ◌+ℤ◌, ◌-ℤ◌, ◌<ℤ◌, ◌≡◌, ◌≤ℤ◌, ◌⊎◌}
+use Rattle.tz_info.specs.declared.rule.transition_rule.TransitionRule.TheVariants.{Alternate, Fixed}
+use Rattle.tz_info.proofs.AnswerLaws.{behind_answer, same_answer}
 use Rattle.tz_info.proofs.RuleLaws.{rule_once}
 
 -- q takes what p takes, and besides at most the second c, where that shows the local time; and then c is behind the others

@@ -1,11 +1,6 @@
 -- At a second there is one change, and so one next change, one previous change and one list of them.
-use Rattle.std.proofs.Common.{◌≡◌, ◌⊎◌, zero, suc, List, [], ◌∷◌, AllPairs, Contains, Option, Some, None, ℤ, pos, ◌-ℤ◌, ◌≤ℤ◌, ◌<ℤ◌, refl, sym, ap, subst, arith, inl, inr}
-use Rattle.std.proofs.lemmas.Int.{ints, by_lt_z}
-use Rattle.tz_base.specs.LocalTypes.{LocalType}
-use Rattle.tz_base.specs.declared.change.Change.{Change}
-use Rattle.tz_info.specs.Changes.{IsChange, IsFirst, IsLast, AreChanges}
-use Rattle.tz_info.specs.Gaps.{IsBeforeGap}
-use Rattle.tz_info.specs.Zones.{Zone, TypeAt}
+use Rattle.tz_info.proofs.Words.{AllPairs, AreChanges, Change, Contains, IsBeforeGap, IsChange, IsFirst, IsLast, List, LocalType, None, Option, Some, TypeAt}
+use Rattle.tz_info.proofs.Words.{Zone, ap, arith, by_lt_z, inl, inr, ints, pos, refl, subst, suc, sym, zero, ℤ, [], ◌-ℤ◌, ◌<ℤ◌, ◌∷◌, ◌≡◌, ◌≤ℤ◌, ◌⊎◌}
 use Rattle.tz_info.proofs.ZoneLaws.{type_once}
 
 same_parts : (c d : Change) → c.at ≡ d.at → c.before ≡ d.before → c.after ≡ d.after → c ≡ d

@@ -1,20 +1,10 @@
 -- The list of a stretch's changes: there is no other, and how it begins and ends.
-use Rattle.std.proofs.Common.{◌≡◌, ℕ, zero, suc, ◌+◌, add-zero, add-suc, append_assoc, ◌<◌, arith, refl, sym, ap, ◌∙◌, List, [], ◌∷◌, ◌++◌, length, get_or, ℤ, pos, ◌+ℤ◌, ◌-ℤ◌, ◌≤ℤ◌, ◌<ℤ◌, inl, inr, Option, Some, None, MatchOption, ◌↔◌, w64, subst}
-use Rattle.std.specs.Prelude.{Contains}
-use Rattle.std.proofs.lemmas.List.{append-nil, length-append}
-use mir.Val.{SFits}
-use Rattle.std.proofs.lemmas.Int.{ints, by_lt_z}
-use Rattle.std.proofs.lemmas.List.Elements.{Contains-get_or, Contains-push, Contains-push_cases, Contains-append_left}
-use Rattle.std.proofs.lemmas.List.Quantifiers.{all_pairs_push}
-use Rattle.tz_base.specs.LocalTypes.{LocalType}
-use Rattle.tz_timeline.proofs.ForCallers.{lt_true, lt_false}
-use Rattle.tz_info.specs.Changes.{IsChange, HasNoChange, IsFirstChange, IsLastChange, IsFirst, IsLast, IsFromUntil, AreChanges}
-use Rattle.tz_info.specs.ChangesLeft.{changes_left}
-use Rattle.tz_info.specs.Leaps.{least_time}
-use Rattle.tz_base.specs.declared.change.Change.{Change}
-use Rattle.tz_info.specs.declared.zone.all_changes.Changes.{Changes}
-use Rattle.tz_info.specs.Steps.ChangeLists.{change_here, changes_in, changes_of, seconds_between, type_or_none}
-use Rattle.tz_info.specs.Zones.{Zone, IsValid, IsRuleOrNone, TypeAt}
+use Rattle.tz_info.proofs.Words.{AreChanges, Change, Changes, Contains, Contains-append_left, Contains-get_or, Contains-push, Contains-push_cases, HasNoChange}
+use Rattle.tz_info.proofs.Words.{IsChange, IsFirst, IsFirstChange, IsFromUntil, IsLast, IsLastChange, IsRuleOrNone, IsValid, List, LocalType, MatchOption, None}
+use Rattle.tz_info.proofs.Words.{Option, SFits, Some, TypeAt, Zone, add-suc, add-zero, all_pairs_push, ap, append-nil, append_assoc, arith, by_lt_z}
+use Rattle.tz_info.proofs.Words.{change_here, changes_in, changes_left, changes_of, get_or, inl, inr, ints, least_time, length, length-append, lt_false}
+use Rattle.tz_info.proofs.Words.{lt_true, pos, refl, seconds_between, subst, suc, sym, type_or_none, w64, zero, ℕ, ℤ, [], ◌++◌, ◌+ℤ◌, ◌+◌, ◌-ℤ◌, ◌<ℤ◌, ◌<◌, ◌↔◌}
+use Rattle.tz_info.proofs.Words.{◌∙◌, ◌∷◌, ◌≡◌, ◌≤ℤ◌}
 use Rattle.tz_info.proofs.ChangeSearch.{InForce, IsOnce}
 use Rattle.tz_info.proofs.SecondTypes.{AreTypes, here_listed, types_told}
 use Rattle.tz_info.proofs.ZoneLaws.{type_once}

@@ -1,15 +1,9 @@
 -- The first and the last change among seconds, and in a stretch.
-use Rattle.std.proofs.Common.{◌≡◌, ◌≢◌, ℕ, zero, suc, ◌+◌, arith, refl, sym, subst, ◌∙◌, List, get_or, ℤ, pos, negsuc, ◌+ℤ◌, ◌-ℤ◌, ◌≤ℤ◌, ◌<ℤ◌, ◌⊎◌, inl, inr, ⊎_elim, Bool, true, false, Option, Some, None, MatchOption, w64}
-use Rattle.std.proofs.lemmas.Int.{ints, by_lt_z}
-use Rattle.std.proofs.lemmas.Bool.{cases_lt}
-use mir.Val.{SFits}
-use Rattle.tz_base.specs.LocalTypes.{LocalType}
 use Rattle.tz_base.specs.contracts.local_time_type.LocalTimeTypePartialEq.TheImpl.{eq-value as type_eq}
-use Rattle.tz_base.proofs.ForCallers.{type_exact}
-use Rattle.tz_timeline.proofs.ForCallers.{lt_true, lt_false}
-use Rattle.tz_info.specs.Changes.{IsChange, HasNoChange, IsFirst, IsLast, IsLastChange}
-use Rattle.tz_info.specs.Steps.Changes.{IsAhead, IsInStretch, IsNearest, IsOneOf, IsIdle, IsStretchAhead, Precedes, nearer_one}
-use Rattle.tz_base.specs.declared.change.Change.{Change}
+use Rattle.tz_info.proofs.Words.{Bool, Change, HasNoChange, IsAhead, IsChange, IsFirst, IsIdle, IsInStretch, IsLast, IsLastChange, IsNearest, IsOneOf}
+use Rattle.tz_info.proofs.Words.{IsStretchAhead, List, LocalType, MatchOption, None, Option, Precedes, SFits, Some, arith, by_lt_z, cases_lt, false, get_or}
+use Rattle.tz_info.proofs.Words.{inl, inr, ints, lt_false, lt_true, nearer_one, negsuc, pos, refl, subst, suc, sym, true, type_exact, w64, zero, ℕ, ℤ, ⊎_elim}
+use Rattle.tz_info.proofs.Words.{◌+ℤ◌, ◌+◌, ◌-ℤ◌, ◌<ℤ◌, ◌∙◌, ◌≡◌, ◌≢◌, ◌≤ℤ◌, ◌⊎◌}
 
 abbrev pub InForce : Type 1
 InForce = ℤ → LocalType → Type 0

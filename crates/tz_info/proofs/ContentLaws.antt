@@ -1,19 +1,12 @@
 -- The laws of transitions, leap seconds and indicators.
-use Rattle.std.proofs.Common.{◌≡◌, ◌≢◌, ℕ, zero, suc, ◌+◌, ◌*◌, ◌<◌, ◌==◌, List, [], ◌∷◌, length, get_or, slice_index, take, drop, map, Ok, Bool, true, not, ◌&&◌, refl, sym, ap, ◌∙◌, subst, arith, inl, inr}
-use Rattle.std.proofs.lemmas.Bool.{and_parts, cases_lt}
-use Rattle.std.proofs.lemmas.Bool.Decides.{nat_tests}
-use Rattle.std.proofs.lemmas.List.{length-take, nil_from_length, take-append-drop}
-use Rattle.std.proofs.Math.ListN.{get_or-eq_default}
 use Rattle.tz_base.specs.declared.error.Error.TheVariants.{InvalidTzFile}
 use Rattle.tz_base.specs.declared.error.Expected.TheVariants.{StandardTimeWhereTimeIsUt}
-use Rattle.tz_info.specs.FileContents.{time_of, SpellTransitions, SpellsLeapSecond, SpellLeapSeconds, IndicatorsAgree}
-use Rattle.tz_info.specs.Steps.ContentReading.{values_below, transition_in, leap_second_of, leap_second_in, pair_agrees, indicators_of}
-use Rattle.tz_info.specs.Steps.Below.{all_below}
-use Rattle.tz_info.specs.declared.zone.transition.Transition.{Transition}
-use Rattle.tz_info.specs.declared.zone.leap_second.LeapSecond.{LeapSecond}
-use Rattle.tz_base.proofs.ForCallers.{Decided, like, said, done, guard}
-use Rattle.tz_info.proofs.RecordLaws.{first_and_more, first_record, next_record, behind_first, records}
-use Rattle.tz_base.proofs.ForCallers.{exact_cut}
+use Rattle.tz_info.proofs.Words.{Bool, Decided, IndicatorsAgree, LeapSecond, List, Ok, SpellLeapSeconds, SpellTransitions, SpellsLeapSecond, Transition}
+use Rattle.tz_info.proofs.Words.{all_below, and_parts, ap, arith, cases_lt, done, drop, exact_cut, get_or, get_or-eq_default, guard, indicators_of, inl, inr}
+use Rattle.tz_info.proofs.Words.{leap_second_in, leap_second_of, length, length-take, like, map, nat_tests, nil_from_length, not, pair_agrees, refl, said}
+use Rattle.tz_info.proofs.Words.{slice_index, subst, suc, sym, take, take-append-drop, time_of, transition_in, true, values_below, zero, ℕ, [], ◌&&◌, ◌*◌, ◌+◌}
+use Rattle.tz_info.proofs.Words.{◌<◌, ◌==◌, ◌∙◌, ◌∷◌, ◌≡◌, ◌≢◌}
+use Rattle.tz_info.proofs.RecordLaws.{behind_first, first_and_more, first_record, next_record, records}
 
 -- ---- transitions
 -- the first one and the others

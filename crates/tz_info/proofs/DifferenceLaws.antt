@@ -1,15 +1,7 @@
 -- The differences of two zones, from one pair of types to the next.
-use Rattle.std.proofs.Common.{◌≡◌, ◌≢◌, arith, sym, ◌∙◌, subst, List, [], ◌∷◌, get_or, ℤ, pos, ◌-ℤ◌, ◌≤ℤ◌, ◌<ℤ◌, inl, inr}
-use Rattle.std.specs.Prelude.{Contains}
-use Rattle.std.proofs.lemmas.Int.{ints, by_lt_z}
-use Rattle.std.proofs.lemmas.List.Elements.{Contains-get_or, Contains-push, Contains-push_cases, Contains-append_left}
-use Rattle.std.proofs.lemmas.List.Quantifiers.{all_pairs_push}
-use Rattle.tz_base.specs.LocalTypes.{LocalType}
-use Rattle.tz_info.specs.Differences.{IsDifference, IsInDifference, AreDifferences}
-use Rattle.tz_info.specs.Steps.Differences.{IsPairUntil, AreListedTo, IsListedIf}
-use Rattle.tz_info.specs.Steps.Runs.{IsRunUntil}
-use Rattle.tz_info.specs.Zones.{Zone, TypeAt}
-use Rattle.tz_info.specs.declared.zone.differences.Difference.{Difference}
+use Rattle.tz_info.proofs.Words.{AreDifferences, AreListedTo, Contains, Contains-append_left, Contains-get_or, Contains-push, Contains-push_cases, Difference}
+use Rattle.tz_info.proofs.Words.{IsDifference, IsInDifference, IsListedIf, IsPairUntil, IsRunUntil, List, LocalType, TypeAt, Zone, all_pairs_push, arith}
+use Rattle.tz_info.proofs.Words.{by_lt_z, get_or, inl, inr, ints, pos, subst, sym, ℤ, [], ◌-ℤ◌, ◌<ℤ◌, ◌∙◌, ◌∷◌, ◌≡◌, ◌≢◌, ◌≤ℤ◌}
 use Rattle.tz_info.proofs.ChangeSearch.{InForce}
 use Rattle.tz_info.proofs.ZoneLaws.{type_once}
 

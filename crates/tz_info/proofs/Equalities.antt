@@ -1,22 +1,14 @@
 -- Values are equal by `==` exactly where they are equal.
-use Rattle.std.proofs.Common.{rules, ◌≡◌, ◌↔◌, IsTrue, refl, sym, ap, ◌∙◌, Bool, ◌&&◌, List, [], ◌∷◌, Option, Some, None}
 use Rattle.std.specs.Cmp.Lexicographic.{pointwise}
-use Rattle.std.specs.Option.{option_eq}
-use Rattle.tz_base.specs.LocalTypes.{LocalType}
 use Rattle.tz_base.specs.contracts.local_time_type.LocalTimeTypePartialEq.TheImpl.{eq-value as type_eq}
-use Rattle.tz_info.specs.Rules.{Alternate as AlternateRule}
-use Rattle.tz_info.specs.ZoneEquality.{zone_eq}
-use Rattle.tz_info.specs.Zones.{Zone}
+use Rattle.tz_info.proofs.Words.{Alternate as AlternateRule, Bool, DayTime, IsExact, IsTrue, LeapSecond, List, LocalType, None, Option, Some, Transition}
+use Rattle.tz_info.proofs.Words.{TransitionRule, Zone, and_both, and_left, and_right, ap, option_eq, refl, rules, sym, type_exact, zone_eq, [], ◌&&◌, ◌↔◌, ◌∙◌}
+use Rattle.tz_info.proofs.Words.{◌∷◌, ◌≡◌}
 use Rattle.tz_info.specs.contracts.rule.day.DayTimePartialEq.TheImpl.{eq-value as day_time_eq}
 use Rattle.tz_info.specs.contracts.rule.transition_rule.TransitionRulePartialEq.TheImpl.{eq-value as rule_eq}
 use Rattle.tz_info.specs.contracts.zone.leap_second.LeapSecondPartialEq.TheImpl.{eq-value as leap_eq}
 use Rattle.tz_info.specs.contracts.zone.transition.TransitionPartialEq.TheImpl.{eq-value as transition_eq}
-use Rattle.tz_base.proofs.ForCallers.{IsExact, and_left, and_right, and_both, type_exact}
-use Rattle.tz_info.specs.declared.rule.day.DayTime.{DayTime}
-use Rattle.tz_info.specs.declared.rule.transition_rule.TransitionRule.{TransitionRule}
-use Rattle.tz_info.specs.declared.rule.transition_rule.TransitionRule.TheVariants.{Fixed, Alternate}
-use Rattle.tz_info.specs.declared.zone.leap_second.LeapSecond.{LeapSecond}
-use Rattle.tz_info.specs.declared.zone.transition.Transition.{Transition}
+use Rattle.tz_info.specs.declared.rule.transition_rule.TransitionRule.TheVariants.{Alternate, Fixed}
 
 self : {X : Type 0} (E : X → X → Bool) → IsExact E → (a : X) → IsTrue (E a a)
 self E exact a = (exact a a).1 refl

@@ -1,17 +1,10 @@
 -- The least and the greatest of some offsets.
-use Rattle.std.proofs.Common.{◌≡◌, ℕ, ◌+◌, ◌<◌, ◌≤◌, arith, refl, ap, ◌∙◌, sym, List, [], ◌∷◌, ◌++◌, append_assoc, length, get_or, ℤ, ◌≤ℤ◌, Contains, All, inl, inr, ◌⊎◌, Option, Some, None, slice_get}
-use Rattle.std.proofs.lemmas.Int.{ints}
-use Rattle.std.proofs.lemmas.Bool.{cases_lt}
-use Rattle.std.proofs.lemmas.List.{get_or-map, length-map, get_or_default, append-nil}
-use Rattle.std.proofs.lemmas.List.Elements.{All-append, All-contains, Contains-append_left, Contains-push, Contains-append_right}
-use Rattle.std.proofs.lemmas.Option.{slice_get-get_or}
-use Rattle.tz_base.specs.LocalTypes.{LocalType}
-use Rattle.tz_info.specs.Steps.Extremes.{offsets_of, AreExtremes, AreJoined, AreJoinedByRule, AreExtremesUntil}
-use Rattle.tz_info.specs.Windows.{rule_offsets, offsets, IsGreatest, IsLeast}
-use Rattle.tz_info.specs.Zones.{Zone, TypeAt, IsTypeOf}
-use Rattle.tz_info.specs.declared.zone.extremes.Extremes.{Extremes}
-use Rattle.tz_info.specs.declared.rule.transition_rule.TransitionRule.{TransitionRule}
-use Rattle.tz_info.specs.declared.rule.transition_rule.TransitionRule.TheVariants.{Fixed, Alternate}
+use Rattle.tz_info.proofs.Words.{All, All-append, All-contains, AreExtremes, AreExtremesUntil, AreJoined, AreJoinedByRule, Contains, Contains-append_left}
+use Rattle.tz_info.proofs.Words.{Contains-append_right, Contains-push, Extremes, IsGreatest, IsLeast, IsTypeOf, List, LocalType, None, Option, Some}
+use Rattle.tz_info.proofs.Words.{TransitionRule, TypeAt, Zone, ap, append-nil, append_assoc, arith, cases_lt, get_or, get_or-map, get_or_default, inl, inr}
+use Rattle.tz_info.proofs.Words.{ints, length, length-map, offsets, offsets_of, refl, rule_offsets, slice_get, slice_get-get_or, sym, ℕ, ℤ, [], ◌++◌, ◌+◌, ◌<◌}
+use Rattle.tz_info.proofs.Words.{◌∙◌, ◌∷◌, ◌≡◌, ◌≤ℤ◌, ◌≤◌, ◌⊎◌}
+use Rattle.tz_info.specs.declared.rule.transition_rule.TransitionRule.TheVariants.{Alternate, Fixed}
 use Rattle.tz_info.proofs.Candidates.{one_of_two}
 use Rattle.tz_info.proofs.ZoneLaws.{type_listed}
 

@@ -1,13 +1,8 @@
 -- The law of the pieces of a file.
-use Rattle.std.proofs.Common.{◌≡◌, ◌⊎◌, ◌∙◌, ℕ, refl, sym, subst, List, [], Bool, Option, inl, inr}
-use Rattle.tz_base.specs.Grammar.{Spells}
-use Rattle.tz_base.proofs.ForCallers.{Decided, said, made, lawful}
-use Rattle.tz_info.specs.FileBlocks.{Parts, block}
-use Rattle.tz_info.specs.FilePieces.{FilePieces, first_version, later_version, after_first_block, file, HasPieces, PieceFault}
-use Rattle.tz_info.specs.Steps.FileLists.{HasLengths, pieces_at}
-use Rattle.tz_info.specs.declared.file.header.Version.{Version}
-use Rattle.tz_info.specs.declared.file.header.Version.TheVariants.{One, Two, Three}
+use Rattle.tz_info.proofs.Words.{Bool, Decided, FilePieces, HasLengths, HasPieces, List, Option, Parts, PieceFault, Spells, Version, after_first_block, block}
+use Rattle.tz_info.proofs.Words.{file, first_version, inl, inr, later_version, lawful, made, pieces_at, refl, said, subst, sym, ℕ, [], ◌∙◌, ◌≡◌, ◌⊎◌}
 use Rattle.tz_info.specs.declared.file.header.Counts.{Counts}
+use Rattle.tz_info.specs.declared.file.header.Version.TheVariants.{One, Three, Two}
 
 -- nothing stands after a file
 after_ends : (v : Version) (c : Counts) (b : Parts) (bytes : List ℕ) (p : FilePieces) (rest : List ℕ) → Spells (after_first_block v c b) bytes p rest → rest ≡ []

@@ -1,9 +1,5 @@
 -- The numbers of a file's rule are in their limits.
-use Rattle.std.proofs.Common.{ℕ, List, Bool, Option, Some, None}
-use Rattle.tz_info.specs.Footers.{SaysRule}
-use Rattle.tz_info.specs.TzFiles.{HasRule, IsTzFile}
-use Rattle.tz_info.specs.Zones.{Zone, IsRuleOrNone}
-use Rattle.tz_info.specs.declared.rule.transition_rule.TransitionRule.{TransitionRule}
+use Rattle.tz_info.proofs.Words.{Bool, HasRule, IsRuleOrNone, IsTzFile, List, None, Option, SaysRule, Some, TransitionRule, Zone, ℕ}
 use Rattle.tz_info.proofs.TextFits.{text_rule_fits}
 
 said_rule_fits : (extended : Bool) (text : List ℕ) (rule : Option TransitionRule) → SaysRule extended text rule → IsRuleOrNone rule

@@ -1,29 +1,14 @@
 -- The law of footers.
-use Rattle.std.proofs.Common.{◌≡◌, ◌≢◌, ℕ, ◌-◌, ◌==◌, List, [], ◌∷◌, ◌++◌, length, slice_index, Result, Ok, Err, Option, Some, None, Bool, true, false, ◌&&◌, ◌||◌, refl, sym, ap, ◌∙◌, subst, arith, ◌⊎◌, inl, inr}
-use Rattle.std.proofs.lemmas.Bool.{and_parts}
-use Rattle.std.proofs.lemmas.Bool.Decides.{nat_tests, Decides-or, Decides-eqb}
-use Rattle.std.proofs.lemmas.List.{length-append}
-use Rattle.std.proofs.lemmas.Str.{is_utf8-from_IsUtf8, IsUtf8-from_is_utf8}
-use Rattle.std.specs.Bool.{nat_eq, Decides}
-use Rattle.std.specs.List.{list_any, starts_with, ends_with}
-use Rattle.std.specs.Str.{IsUtf8}
-use Rattle.tz_base.specs.Fronts.{Gives}
-use Rattle.tz_base.specs.declared.error.Error.{Error}
 use Rattle.tz_base.specs.declared.error.Error.TheVariants.{InvalidTzFile, Utf8}
-use Rattle.tz_base.specs.declared.error.Expected.TheVariants.{FooterInUtf8, FooterBetweenNewlines, TzTextInFooter}
-use Rattle.tz_info.specs.FileContents.{HasNoZero}
-use Rattle.tz_info.specs.Steps.ContentReading.{is_zero}
-use Rattle.tz_info.specs.TzGrammar.{IsTzText, IsTextFault}
-use Rattle.tz_base.specs.Grammar.{read}
-use Rattle.tz_info.specs.TzGrammar.{text as tz_text}
-use Rattle.tz_info.specs.Footers.{IsBetweenNewlines, SaysRule, HasText, IsFooter, FooterFault, Not_utf8, No_newlines, Colon, Zero, In_text}
-use Rattle.tz_info.specs.Steps.FooterReading.{trimmed, is_between_newlines, is_no_text, rule_in, rule_or_none, footer_at}
-use Rattle.tz_info.specs.declared.rule.transition_rule.TransitionRule.{TransitionRule}
-use Rattle.tz_base.proofs.ForCallers.{Decided, like, said, made, choice, done, refused}
-use Rattle.tz_base.proofs.ForCallers.{same_byte}
+use Rattle.tz_base.specs.declared.error.Expected.TheVariants.{FooterBetweenNewlines, FooterInUtf8, TzTextInFooter}
+use Rattle.tz_info.proofs.Words.{Bool, Colon, Decided, Decides, Decides-eqb, Decides-or, Err, Error, FooterFault, Gives, HasNoZero, HasText, In_text}
+use Rattle.tz_info.proofs.Words.{IsBetweenNewlines, IsFooter, IsTextFault, IsTzText, IsUtf8, IsUtf8-from_is_utf8, List, No_newlines, None, Not_utf8, Ok, Option}
+use Rattle.tz_info.proofs.Words.{Result, SaysRule, Some, TransitionRule, Zero, and_parts, ap, arith, choice, done, drop_front, ends_with, false, false_unless}
+use Rattle.tz_info.proofs.Words.{footer_at, inl, inr, is_between_newlines, is_no_text, is_utf8-from_IsUtf8, is_zero, length, length-append, like, list_any}
+use Rattle.tz_info.proofs.Words.{made, nat_eq, nat_tests, read, refl, refused, rule_in, rule_or_none, said, same_byte, slice_index, starts_with, subst, sym}
+use Rattle.tz_info.proofs.Words.{text as tz_text, trimmed, true, ℕ, [], ◌&&◌, ◌++◌, ◌-◌, ◌==◌, ◌||◌, ◌∙◌, ◌∷◌, ◌≡◌, ◌≢◌, ◌⊎◌}
 use Rattle.tz_info.proofs.TextLaws.{text_law}
 use Rattle.tz_info.proofs.TrimLaws.{trim_again, trim_is}
-use Rattle.tz_base.proofs.ForCallers.{false_unless, drop_front}
 
 -- ---- newlines
 last_of : (b : ℕ) (bs : List ℕ) → (front : List ℕ) × (last : ℕ) × (b ∷ bs ≡ front ++ (last ∷ []))

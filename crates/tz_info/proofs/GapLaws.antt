@@ -1,37 +1,19 @@
 -- Gaps: where the first second lies at which clocks show more than a local time that they never show.
-use Rattle.std.proofs.Common.{◌≡◌, ℕ, suc, ◌<◌, arith, refl, sym, ◌∙◌, subst, length, ℤ, pos, ◌+ℤ◌, ◌-ℤ◌, ◌≤ℤ◌, ◌<ℤ◌, inl, inr, ◌⊎◌, ◌↔◌, true, Option, Some, None, slice_get, w64}
-use Rattle.std.proofs.lemmas.Int.{ints, by_lt_z}
-use mir.Val.{SFits}
-use Rattle.naive_base.specs.Year.{floor_div}
-use Rattle.naive_base.specs.DateOf.{year_of}
-use Rattle.naive_base.proofs.ForCallers.{lies_in}
-use Rattle.offset_core.specs.WallAnswer.{IsNeverShown}
-use Rattle.tz_base.specs.LocalTypes.{LocalType}
-use Rattle.tz_base.specs.declared.change.Change.{Change}
-use Rattle.tz_info.specs.Changes.{HasNoChange}
-use Rattle.tz_info.specs.Gaps.{HasGap}
-use Rattle.tz_info.specs.Leaps.{IsNear}
-use Rattle.tz_info.specs.Moments.{AlternateAt}
-use Rattle.tz_info.specs.Rules.{Alternate as AlternateRule, IsAlternateRule}
-use Rattle.tz_info.specs.RuleTypes.{RuleAt}
-use Rattle.tz_info.specs.Segments.{segment_of, table_count}
-use Rattle.tz_info.specs.Steps.Segments.{index_of}
-use Rattle.tz_info.specs.Steps.Changes.{IsAhead, IsNearestChange}
-use Rattle.tz_info.specs.Steps.Gaps.{AreLess, IsReach, IsPassed, IsBehindTable, IsTurn}
-use Rattle.tz_info.specs.WallClocks.{Shows}
-use Rattle.tz_info.specs.WallPieces.{AreLessAmong, IsLastBefore, IsTypeBefore, Jumps, IsStart}
-use Rattle.tz_info.specs.Zones.{Zone, IsValid, IsTypeRefused, by_leap_time, by_rule, IsRefusedBy, IsRuleOrNone, RuleOrElse, HasType, TypeAt}
-use Rattle.tz_info.specs.declared.rule.transition_rule.TransitionRule.{TransitionRule}
-use Rattle.tz_info.specs.declared.rule.transition_rule.TransitionRule.TheVariants.{Fixed, Alternate}
-use Rattle.tz_info.specs.declared.zone.shown.Jump.{Jump}
+use Rattle.tz_info.proofs.Words.{Alternate as AlternateRule, AlternateAt, AreLess, AreLessAmong, Change, HasGap, HasNoChange, HasType, IsAhead, IsAlternateRule}
+use Rattle.tz_info.proofs.Words.{IsBehindTable, IsLastBefore, IsNear, IsNearestChange, IsNeverShown, IsPassed, IsReach, IsRefusedBy, IsRuleOrNone, IsStart}
+use Rattle.tz_info.proofs.Words.{IsTurn, IsTypeBefore, IsTypeRefused, IsValid, Jump, Jumps, LocalType, None, Option, RuleAt, RuleOrElse, SFits, Shows, Some}
+use Rattle.tz_info.proofs.Words.{TransitionRule, TypeAt, Zone, arith, by_leap_time, by_lt_z, by_rule, floor_div, index_of, inl, inr, ints, length, lies_in, pos}
+use Rattle.tz_info.proofs.Words.{refl, segment_of, slice_get, subst, suc, sym, table_count, true, w64, year_of, ℕ, ℤ, ◌+ℤ◌, ◌-ℤ◌, ◌<ℤ◌, ◌<◌, ◌↔◌, ◌∙◌, ◌≡◌}
+use Rattle.tz_info.proofs.Words.{◌≤ℤ◌, ◌⊎◌}
+use Rattle.tz_info.specs.declared.rule.transition_rule.TransitionRule.TheVariants.{Alternate, Fixed}
 use Rattle.tz_info.proofs.ChangeSearch.{stays}
-use Rattle.tz_info.proofs.ExtremeLaws.{at_most_greatest, at_least_least}
+use Rattle.tz_info.proofs.ExtremeLaws.{at_least_least, at_most_greatest}
 use Rattle.tz_info.proofs.LeapOrder.{leap_times_answer}
 use Rattle.tz_info.proofs.RuleLaws.{alternate_decided, rule_once, rule_year}
-use Rattle.tz_info.proofs.SegmentLaws.{segments_rise, segment_most, segment_at, type_before, type_from, type_in_from}
+use Rattle.tz_info.proofs.SegmentLaws.{segment_at, segment_most, segments_rise, type_before, type_from, type_in_from}
 use Rattle.tz_info.proofs.TableSearch.{Between}
-use Rattle.tz_info.proofs.WallSegments.{leap_time_of, begun, not_begun, type_here, listed_once, rule_begun}
-use Rattle.tz_info.proofs.ZoneLaws.{type_decided, type_once, some_once}
+use Rattle.tz_info.proofs.WallSegments.{begun, leap_time_of, listed_once, not_begun, rule_begun, type_here}
+use Rattle.tz_info.proofs.ZoneLaws.{some_once, type_decided, type_once}
 
 abbrev pub IsNever : Zone → ℤ → Type 0
 IsNever z l = IsNeverShown (Shows (TypeAt z) l)

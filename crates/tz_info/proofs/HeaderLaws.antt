@@ -1,12 +1,6 @@
 -- Four bytes that are not `TZif`.
-use Rattle.std.proofs.Common.{◌≡◌, ℕ, ◌∙◌, refl, List, true, Ok}
-use Rattle.std.proofs.lemmas.Bool.Decides.{Decides-eqb}
-use Rattle.std.proofs.lemmas.Slice.Eq.{slice_eq-Decides}
-use Rattle.std.specs.Bool.{Decides}
-use Rattle.tz_base.specs.Fronts.{exact_at}
-use Rattle.tz_base.specs.Grammar.{Exact}
-use Rattle.tz_base.proofs.ForCallers.{lawful, exact_cut}
-use Rattle.tz_info.specs.FileHeaders.{magic, is_magic, magic_test, HasOtherMagic}
+use Rattle.tz_info.proofs.Words.{Decides, Decides-eqb, Exact, HasOtherMagic, List, Ok, exact_at, exact_cut, is_magic, lawful, magic, magic_test, refl}
+use Rattle.tz_info.proofs.Words.{slice_eq-Decides, true, ℕ, ◌∙◌, ◌≡◌}
 
 -- four other bytes are at the front
 pub not_magic : (bytes : List ℕ) (x : List ℕ × List ℕ) → HasOtherMagic bytes → exact_at 4 bytes ≡ Ok x → is_magic x.0 ≡ true → ⊥

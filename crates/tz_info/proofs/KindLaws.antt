@@ -1,26 +1,13 @@
 -- A rule's moments, counted from the first second of their year, depend on the year's kind alone.
-use Rattle.std.proofs.lemmas.Bool.{and_parts}
-use Rattle.std.proofs.lemmas.Int.{by_lt_z, ints}
-use Rattle.std.proofs.Common.{◌⊎◌, inl, inr, int_le, int_lt, ◌&&◌, ◌<ℤ◌, ◌≡◌, ℕ, zero, suc, ◌+◌, ◌-◌, ◌%◌, ◌<◌, Bool, true, false, cond, arith, refl, sym, ap, ◌∙◌, ℤ, pos, ◌+ℤ◌, ◌-ℤ◌, ◌*ℤ◌, ◌≤ℤ◌, neg_ℤ, List, get_or}
-use Rattle.naive_base.specs.Year.{is_leap, year_start}
-use Rattle.naive_base.specs.Month.{days_in_month, days_of_months}
-use Rattle.naive_base.specs.Date.{day_number}
-use Rattle.naive_base.specs.Weekday.{weekday_of}
-use Rattle.naive_base.proofs.ForCallers.{floors, weekday_later, weekday_below}
-use Rattle.tz_timeline.proofs.ForCallers.{le_true, le_false}
-use Rattle.tz_info.specs.RuleDays.{IsRuleDay}
-use Rattle.tz_info.specs.RuleDayOf.{rule_day}
-use Rattle.tz_info.specs.Rules.{Alternate, IsAlternateRule}
-use Rattle.tz_info.specs.Moments.{moment, start_in, end_in}
-use Rattle.tz_info.specs.Steps.Kinds.{kind_place, second_in, seconds_by_kind, is_inside, is_calm, is_calm_kind, are_calm, margin_of, second_at}
-use Rattle.tz_info.specs.Steps.RuleDays.{weekday_place, closed_day}
-use Rattle.tz_info.specs.Steps.KindPlaces.{place_by}
-use Rattle.tz_info.specs.declared.rule.day.DayTime.{DayTime}
-use Rattle.tz_info.specs.declared.rule.day.DayForm.{DayForm}
-use Rattle.tz_info.specs.declared.rule.day.DayForm.TheVariants.{Julian1, Julian0, MonthWeekday}
-use Rattle.tz_info.proofs.RuleDays.{rule_day_closed}
+use Rattle.tz_info.proofs.Words.{Alternate, Bool, DayForm, DayTime, IsAlternateRule, IsRuleDay, List, and_parts, ap, are_calm, arith, by_lt_z, closed_day, cond}
+use Rattle.tz_info.proofs.Words.{day_number, days_in_month, days_of_months, end_in, false, floors, get_or, inl, inr, int_le, int_lt, ints, is_calm}
+use Rattle.tz_info.proofs.Words.{is_calm_kind, is_inside, is_leap, kind_place, le_false, le_true, margin_of, moment, neg_ℤ, place_by, pos, refl, rule_day}
+use Rattle.tz_info.proofs.Words.{second_at, second_in, seconds_by_kind, start_in, suc, sym, true, weekday_below, weekday_later, weekday_of, weekday_place}
+use Rattle.tz_info.proofs.Words.{year_start, zero, ℕ, ℤ, ◌%◌, ◌&&◌, ◌*ℤ◌, ◌+ℤ◌, ◌+◌, ◌-ℤ◌, ◌-◌, ◌<ℤ◌, ◌<◌, ◌∙◌, ◌≡◌, ◌≤ℤ◌, ◌⊎◌}
+use Rattle.tz_info.specs.declared.rule.day.DayForm.TheVariants.{Julian0, Julian1, MonthWeekday}
 use Rattle.tz_info.proofs.ListLaws.{one_true}
-use Rattle.tz_info.proofs.Neighbours.{IsNear, KeepsMargin, starts_near, ends_near, near_margin}
+use Rattle.tz_info.proofs.Neighbours.{IsNear, KeepsMargin, ends_near, near_margin, starts_near}
+use Rattle.tz_info.proofs.RuleDays.{rule_day_closed}
 
 first_of_month : (year : ℤ) (month : ℕ) → day_number year month 1 ≡ year_start year +ℤ pos (days_of_months (is_leap year) (month - 1))
 unfolding day_number

@@ -1,16 +1,9 @@
 -- The type in force at the last transition's second.
-use Rattle.std.proofs.Common.{◌≡◌, ◌+◌, ◌-◌, ◌<◌, arith, ap, ◌∙◌, sym, List, length, get_or, ℤ, ◌≤ℤ◌, inl, inr, Option, Some, None, IfSome, slice_get}
-use Rattle.std.proofs.lemmas.Bool.{cases_lt}
-use Rattle.std.proofs.lemmas.Option.{slice_get-get_or}
-use Rattle.tz_base.specs.LocalTypes.{LocalType}
-use Rattle.tz_info.specs.Leaps.{IsLeapTime, IsUnixTime}
-use Rattle.tz_info.specs.Steps.Segments.{index_of}
-use Rattle.tz_info.specs.Zones.{Zone, IsValid, HasType, TypeAt, RuleOrElse, Agrees, last_transition}
-use Rattle.tz_info.specs.declared.rule.transition_rule.TransitionRule.{TransitionRule}
-use Rattle.tz_info.specs.declared.zone.leap_second.LeapSecond.{LeapSecond}
-use Rattle.tz_info.specs.declared.zone.transition.Transition.{Transition}
+use Rattle.tz_info.proofs.Words.{Agrees, HasType, IfSome, IsLeapTime, IsUnixTime, IsValid, LeapSecond, List, LocalType, None, Option, RuleOrElse, Some}
+use Rattle.tz_info.proofs.Words.{Transition, TransitionRule, TypeAt, Zone, ap, arith, cases_lt, get_or, index_of, inl, inr, last_transition, length, slice_get}
+use Rattle.tz_info.proofs.Words.{slice_get-get_or, sym, ℤ, ◌+◌, ◌-◌, ◌<◌, ◌∙◌, ◌≡◌, ◌≤ℤ◌}
 use Rattle.tz_info.proofs.PassedTransitions.{no_items}
-use Rattle.tz_info.proofs.SegmentLaws.{split_at, split_count, come_by_time, index_next, type_in_from}
+use Rattle.tz_info.proofs.SegmentLaws.{come_by_time, index_next, split_at, split_count, type_in_from}
 use Rattle.tz_info.proofs.TableSearch.{Between}
 use Rattle.tz_info.proofs.ZoneLaws.{some_once}
 

@@ -1,15 +1,10 @@
 -- What follows for leap seconds from their being valid: the thresholds rise, so the passed entries are the first ones.
-use Rattle.std.proofs.Common.{◌≡◌, ℕ, zero, suc, ◌+◌, ◌<◌, ◌≤◌, arith, refl, sym, ap, add-one, List, [], ◌∷◌, length, get_or, take, ℤ, pos, ◌+ℤ◌, ◌-ℤ◌, ◌≤ℤ◌, ◌<ℤ◌, int_le, int_lt, inl, inr, w64}
-use Rattle.std.proofs.lemmas.Int.{ints}
-use Rattle.std.proofs.lemmas.List.{get_or_default}
-use borrow.Author.Count.{below_more}
-use mir.Val.{SFits}
-use Rattle.tz_timeline.proofs.ForCallers.{filter_first, count_first, count_least, mapped_at, rises, le_true, le_false, le_is, lt_true, lt_false}
-use Rattle.tz_base.proofs.ForCallers.{false_unless}
 use Rattle.tz_base.specs.declared.error.Expected.TheVariants.{UnixTimeOf64Bits}
-use Rattle.tz_info.specs.Lists.{last_else}
-use Rattle.tz_info.specs.Leaps.{IsOneStep, IsNextLeap, AreLeapSeconds, corrections, thresholds, passed_count, correction_before, IsLeapTime, IsLeapTimeRefused, least_time, expected_of_leap_time}
-use Rattle.tz_info.specs.declared.zone.leap_second.LeapSecond.{LeapSecond}
+use Rattle.tz_info.proofs.Words.{AreLeapSeconds, IsLeapTime, IsLeapTimeRefused, IsNextLeap, IsOneStep, LeapSecond, List, SFits, add-one, ap, arith, below_more}
+use Rattle.tz_info.proofs.Words.{correction_before, corrections, count_first, count_least, expected_of_leap_time, false_unless, filter_first, get_or}
+use Rattle.tz_info.proofs.Words.{get_or_default, inl, inr, int_le, int_lt, ints, last_else, le_false, le_is, le_true, least_time, length, lt_false, lt_true}
+use Rattle.tz_info.proofs.Words.{mapped_at, passed_count, pos, refl, rises, suc, sym, take, thresholds, w64, zero, ℕ, ℤ, [], ◌+ℤ◌, ◌+◌, ◌-ℤ◌, ◌<ℤ◌, ◌<◌, ◌∷◌}
+use Rattle.tz_info.proofs.Words.{◌≡◌, ◌≤ℤ◌, ◌≤◌}
 use Rattle.tz_info.proofs.Prefixes.{last_taken}
 
 -- the entries may follow an entry of correction p

@@ -1,15 +1,11 @@
 -- Leap times rise weakly with Unix times, none is refused near now, and where corrections count 1, 2, 3 and so on each Unix
 -- time is that of its leap time.
-use Rattle.std.proofs.Common.{◌≡◌, ℕ, zero, suc, ◌*◌, ◌<◌, ◌≤◌, arith, refl, ap, ◌∙◌, sym, add-one, List, [], ◌∷◌, length, get_or, take, cond, ℤ, pos, neg_ℤ, ◌+ℤ◌, ◌-ℤ◌, ◌≤ℤ◌, ◌<ℤ◌, int_le, int_lt, inl, inr}
-use Rattle.std.specs.List.{count_by, filter}
-use Rattle.std.proofs.lemmas.Int.{ints, by_lt_z}
-use Rattle.std.proofs.lemmas.List.Sums.{sum_by-cons, count_by-le-length}
-use Rattle.tz_timeline.proofs.ForCallers.{filter_first, mapped_at, le_true, le_false, lt_true, lt_false}
-use Rattle.tz_info.specs.Lists.{last_else}
-use Rattle.tz_info.specs.Leaps.{AreLeapSeconds, AreCounted, corrections, thresholds, passed_count, correction_at, correction_before, IsLeapTime, IsLeapTimeRefused, IsUnixTime}
-use Rattle.tz_info.specs.declared.zone.leap_second.LeapSecond.{LeapSecond}
+use Rattle.tz_info.proofs.Words.{AreCounted, AreLeapSeconds, IsLeapTime, IsLeapTimeRefused, IsUnixTime, LeapSecond, List, add-one, ap, arith, by_lt_z, cond}
+use Rattle.tz_info.proofs.Words.{correction_at, correction_before, corrections, count_by, count_by-le-length, filter, filter_first, get_or, inl, inr, int_le}
+use Rattle.tz_info.proofs.Words.{int_lt, ints, last_else, le_false, le_true, length, lt_false, lt_true, mapped_at, neg_ℤ, passed_count, pos, refl, suc}
+use Rattle.tz_info.proofs.Words.{sum_by-cons, sym, take, thresholds, zero, ℕ, ℤ, [], ◌*◌, ◌+ℤ◌, ◌-ℤ◌, ◌<ℤ◌, ◌<◌, ◌∙◌, ◌∷◌, ◌≡◌, ◌≤ℤ◌, ◌≤◌}
+use Rattle.tz_info.proofs.LeapEntries.{Follow, follow, follow_tail, threshold_apart, threshold_at, threshold_count}
 use Rattle.tz_info.proofs.Prefixes.{last_taken}
-use Rattle.tz_info.proofs.LeapEntries.{Follow, follow, follow_tail, threshold_apart, threshold_count, threshold_at}
 
 -- how many entries behind one of correction p are passed at u
 abbrev pub counted_from : ℤ → List LeapSecond → ℤ → ℕ

@@ -1,12 +1,7 @@
 -- The passed entries, by halves.
-use Rattle.std.proofs.Common.{◌≡◌, ℕ, ◌+◌, ◌-◌, ◌/◌, ◌==◌, ◌<◌, ◌≤◌, true, arith, List, length, get_or, ℤ, pos, int_lt, false, ◌+ℤ◌, ◌≤ℤ◌, ◌<ℤ◌, inl, inr}
 use Rattle.std.specs.List.Sorted.{IsPartitionedBy}
-use Rattle.std.proofs.lemmas.Int.{ints, by_lt_z}
-use Rattle.std.proofs.lemmas.Bool.{cases_lt}
-use Rattle.std.proofs.lemmas.Bool.Decides.{nat_tests}
-use Rattle.tz_info.specs.Leaps.{AreLeapSeconds, IsLeapTime, passed_count}
-use Rattle.tz_info.specs.declared.zone.leap_second.LeapSecond.{LeapSecond}
-use Rattle.tz_timeline.proofs.ForCallers.{lt_true}
+use Rattle.tz_info.proofs.Words.{AreLeapSeconds, IsLeapTime, LeapSecond, List, arith, by_lt_z, cases_lt, false, get_or, inl, inr, int_lt, ints, length, lt_true}
+use Rattle.tz_info.proofs.Words.{nat_tests, passed_count, pos, true, ℕ, ℤ, ◌+ℤ◌, ◌+◌, ◌-◌, ◌/◌, ◌<ℤ◌, ◌<◌, ◌==◌, ◌≡◌, ◌≤ℤ◌, ◌≤◌}
 use Rattle.tz_info.proofs.LeapEntries.{follow, threshold_at}
 use Rattle.tz_info.proofs.LeapOrder.{bounded, none_counted, split}
 use Rattle.tz_info.proofs.LeapStarts.{correction_behind, passed_at_most, times_rise}

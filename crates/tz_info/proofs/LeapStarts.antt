@@ -1,18 +1,11 @@
 -- The first second at which a leap time has come.
-use Rattle.std.proofs.Common.{◌≡◌, ℕ, zero, suc, ◌-◌, ◌<◌, ◌≤◌, arith, List, [], ◌∷◌, length, get_or, take, true, ℤ, pos, ◌+ℤ◌, ◌-ℤ◌, ◌≤ℤ◌, ◌<ℤ◌, int_le, inl, inr, ◌↔◌, w64}
-use Rattle.std.specs.Int.{saturate_signed}
 use Rattle.std.specs.List.Sorted.{IsPartitionedBy}
-use Rattle.std.proofs.lemmas.Int.{ints, by_lt_z}
-use Rattle.std.proofs.lemmas.Bool.{cases_lt}
-use Rattle.std.proofs.lemmas.List.Sums.{count_by-le-length}
-use Rattle.tz_timeline.proofs.ForCallers.{rises}
-use Rattle.tz_info.specs.Lists.{last_else}
-use Rattle.tz_info.specs.Leaps.{IsOneStep, AreLeapSeconds, corrections, thresholds, passed_count, IsLeapTime, IsNear}
-use Rattle.tz_info.specs.Steps.Starts.{HaveCome}
-use Rattle.tz_info.specs.declared.zone.leap_second.LeapSecond.{LeapSecond}
-use Rattle.tz_info.proofs.Prefixes.{last_taken}
+use Rattle.tz_info.proofs.Words.{AreLeapSeconds, HaveCome, IsLeapTime, IsNear, IsOneStep, LeapSecond, List, arith, by_lt_z, cases_lt, corrections}
+use Rattle.tz_info.proofs.Words.{count_by-le-length, get_or, inl, inr, int_le, ints, last_else, length, passed_count, pos, rises, saturate_signed, suc, take}
+use Rattle.tz_info.proofs.Words.{thresholds, true, w64, zero, ℕ, ℤ, [], ◌+ℤ◌, ◌-ℤ◌, ◌-◌, ◌<ℤ◌, ◌<◌, ◌↔◌, ◌∷◌, ◌≡◌, ◌≤ℤ◌, ◌≤◌}
 use Rattle.tz_info.proofs.LeapEntries.{follow, threshold, threshold_at, threshold_count}
 use Rattle.tz_info.proofs.LeapOrder.{split}
+use Rattle.tz_info.proofs.Prefixes.{last_taken}
 
 -- the correction that stands behind the first k entries
 abbrev pub correction_behind : List LeapSecond → ℕ → ℤ

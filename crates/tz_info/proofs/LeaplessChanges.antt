@@ -1,22 +1,11 @@
 -- Where a zone without leap seconds changes: at the times of its transitions, whose types are those before and behind.
-use Rattle.std.proofs.Common.{◌≡◌, ◌≢◌, ℕ, zero, suc, ◌+◌, ◌-◌, ◌<◌, arith, sym, ap, ◌∙◌, List, [], ◌∷◌, length, get_or, ℤ, pos, ◌-ℤ◌, ◌<ℤ◌, inl, inr, Option, Some, MatchOption, w64}
-use Rattle.std.proofs.lemmas.Int.{ints}
-use Rattle.std.proofs.lemmas.Bool.{cases_lt}
-use Rattle.std.proofs.lemmas.List.{get_or_default}
-use Rattle.std.proofs.lemmas.Option.{slice_get-get_or}
-use mir.Val.{SFits}
-use Rattle.tz_base.specs.LocalTypes.{LocalType}
-use Rattle.tz_info.specs.Changes.{IsChange}
-use Rattle.tz_info.specs.Leaps.{IsLeapTime, IsUnixTime, least_time}
-use Rattle.tz_info.specs.Steps.Changes.{ComesAt, HasNoneAt}
-use Rattle.tz_info.specs.Steps.Segments.{begin_of, index_of}
-use Rattle.tz_info.specs.Zones.{Zone, IsValid, HasType, TypeAt, last_transition}
-use Rattle.tz_base.specs.declared.change.Change.{Change}
-use Rattle.tz_info.specs.declared.zone.leap_second.LeapSecond.{LeapSecond}
-use Rattle.tz_info.specs.declared.zone.transition.Transition.{Transition}
+use Rattle.tz_info.proofs.Words.{Change, ComesAt, HasNoneAt, HasType, IsChange, IsLeapTime, IsUnixTime, IsValid, LeapSecond, List, LocalType, MatchOption}
+use Rattle.tz_info.proofs.Words.{Option, SFits, Some, Transition, TypeAt, Zone, ap, arith, begin_of, cases_lt, get_or, get_or_default, index_of, inl, inr, ints}
+use Rattle.tz_info.proofs.Words.{last_transition, least_time, length, pos, slice_get-get_or, suc, sym, w64, zero, ℕ, ℤ, [], ◌+◌, ◌-ℤ◌, ◌-◌, ◌<ℤ◌, ◌<◌, ◌∙◌, ◌∷◌}
+use Rattle.tz_info.proofs.Words.{◌≡◌, ◌≢◌}
 use Rattle.tz_info.proofs.ChangeSearch.{change_made, none_first}
 use Rattle.tz_info.proofs.LastType.{last_type}
-use Rattle.tz_info.proofs.SegmentLaws.{IsWithin, begin_first, begin_next, index_next, between_of, type_in_before}
+use Rattle.tz_info.proofs.SegmentLaws.{IsWithin, begin_first, begin_next, between_of, index_next, type_in_before}
 use Rattle.tz_info.proofs.ZoneChanges.{comes_at, none_there, with_start}
 use Rattle.tz_info.proofs.ZoneLaws.{type_once}
 

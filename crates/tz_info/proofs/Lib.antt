@@ -1,3 +1,4 @@
+pub mod Words
 pub mod RuleDays
 pub mod Neighbours
 pub mod RuleLaws

@@ -1,19 +1,11 @@
 -- Lists make a zone or have one first fault.
-use Rattle.std.proofs.Common.{◌≡◌, ℕ, zero, suc, ◌<◌, ◌≤◌, List, [], ◌∷◌, length, All, AllPairs, ℤ, pos, ◌+ℤ◌, ◌-ℤ◌, ◌≤ℤ◌, ◌<ℤ◌, int_le, int_eq, true, false, refl, add-one, arith, ◌⊎◌, inl, inr}
-use Rattle.std.proofs.lemmas.Bool.{cases_lt}
-use Rattle.std.proofs.lemmas.Bool.Decides.{Decides-int_eq}
-use Rattle.std.proofs.lemmas.Int.{ints, by_lt_z}
-use Rattle.std.proofs.lemmas.List.Kept.{AllPairs-cons}
-use Rattle.std.specs.List.{AllAdjacentBelow}
-use Rattle.tz_base.specs.Errors.{number_of}
-use Rattle.tz_base.specs.declared.error.Error.{Error}
 use Rattle.tz_base.specs.declared.error.Error.TheVariants.{TimeZone}
-use Rattle.tz_base.specs.declared.error.Expected.TheVariants.{AtLeastOneLocalTimeType, TypeIndexesWithinTypes, TransitionTimesThatRise, LeapSecondsInOrder, RuleThatAgreesWithLastTransition}
-use Rattle.tz_info.specs.Leaps.{IsOneStep, IsFirstLeap, IsNextLeap, AreLeapSeconds}
-use Rattle.tz_info.specs.Transitions.{AreTransitions}
-use Rattle.tz_info.specs.Zones.{Zone, IsValid, ListFault, No_type, Other_index, Not_rising, Other_leaps, Other_rule}
-use Rattle.tz_info.specs.declared.zone.leap_second.LeapSecond.{LeapSecond}
-use Rattle.tz_info.specs.declared.zone.transition.Transition.{Transition}
+use Rattle.tz_base.specs.declared.error.Expected.TheVariants.{AtLeastOneLocalTimeType, LeapSecondsInOrder, RuleThatAgreesWithLastTransition}
+use Rattle.tz_base.specs.declared.error.Expected.TheVariants.{TransitionTimesThatRise, TypeIndexesWithinTypes}
+use Rattle.tz_info.proofs.Words.{All, AllAdjacentBelow, AllPairs, AllPairs-cons, AreLeapSeconds, AreTransitions, Decides-int_eq, Error, IsFirstLeap, IsNextLeap}
+use Rattle.tz_info.proofs.Words.{IsOneStep, IsValid, LeapSecond, List, ListFault, No_type, Not_rising, Other_index, Other_leaps, Other_rule, Transition, Zone}
+use Rattle.tz_info.proofs.Words.{add-one, arith, by_lt_z, cases_lt, false, inl, inr, int_eq, int_le, ints, length, number_of, pos, refl, suc, true, zero, ℕ, ℤ}
+use Rattle.tz_info.proofs.Words.{[], ◌+ℤ◌, ◌-ℤ◌, ◌<ℤ◌, ◌<◌, ◌∷◌, ◌≡◌, ◌≤ℤ◌, ◌≤◌, ◌⊎◌}
 
 -- ---- what can be tested holds or does not
 abbrev Known : Type 0 → Type 0

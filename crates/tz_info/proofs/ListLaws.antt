@@ -1,9 +1,7 @@
 -- Values by places.
-use Rattle.std.proofs.Common.{◌≡◌, ℕ, zero, suc, ◌<◌, List, Result, Ok, Err, refl, sym, arith, inl, inr, Bool, true, false}
-use Rattle.std.proofs.lemmas.Bool.{and_parts, and_right, cases_lt}
-use Rattle.tz_base.specs.declared.error.Error.{Error}
-use Rattle.tz_info.specs.Steps.Below.{all_below}
-use Rattle.tz_info.specs.Steps.ContentReading.{values_below}
+use Rattle.std.proofs.lemmas.Bool.{and_right}
+use Rattle.tz_info.proofs.Words.{Bool, Err, Error, List, Ok, Result, all_below, and_parts, arith, cases_lt, false, inl, inr, refl, suc, sym, true, values_below}
+use Rattle.tz_info.proofs.Words.{zero, ℕ, ◌<◌, ◌≡◌}
 
 -- the first error is that of all
 pub first_refusal : {X : Type 0} (n i : ℕ) (read : ℕ → Result X Error) (xs : List X) (e : Error) → i < n → values_below i read ≡ Ok xs → read i ≡ Err e → values_below n read ≡ Err e

@@ -1,17 +1,8 @@
 -- The test of a name says whether a type can have it.
-use Rattle.std.proofs.Common.{◌≡◌, ℕ, ℤ, ◌<◌, arith, refl, zero, suc, List, [], ◌∷◌, length, get_or, Bool, true, Ok, Err, Result, nat_le, int_le, pos, neg_ℤ, MatchResult, Some}
-use Rattle.std.specs.List.{list_all}
-use Rattle.std.proofs.lemmas.Bool.Decides.{nat_tests}
-use Rattle.std.proofs.lemmas.Int.{ints}
-use Rattle.tz_base.specs.Names.{is_name, name_test, IsNameOrNone, expected_of_name}
-use Rattle.tz_base.specs.LocalTypes.{LocalType, IsUtOffset, expected_of_type}
 use Rattle.tz_base.specs.declared.error.Error.TheVariants.{LocalTimeType}
-use Rattle.tz_base.specs.Fronts.{Gives}
-use Rattle.tz_base.specs.declared.error.Error.{Error}
-use Rattle.tz_base.specs.Grammar.{checked}
-use Rattle.tz_base.specs.Refusals.{LocalTimeType as BadType}
-use Rattle.tz_base.proofs.ForCallers.{false_unless}
-use Rattle.tz_info.specs.TzGrammar.{named_type}
+use Rattle.tz_info.proofs.Words.{Bool, Err, Error, Gives, IsNameOrNone, IsUtOffset, List, LocalTimeType as BadType, LocalType, MatchResult, Ok, Result, Some}
+use Rattle.tz_info.proofs.Words.{arith, checked, expected_of_name, expected_of_type, false_unless, get_or, int_le, ints, is_name, length, list_all, name_test}
+use Rattle.tz_info.proofs.Words.{named_type, nat_le, nat_tests, neg_ℤ, pos, refl, suc, true, zero, ℕ, ℤ, [], ◌<◌, ◌∷◌, ◌≡◌}
 
 above_least : (offset : ℤ) → IsUtOffset offset → int_le (neg_ℤ (pos 2_147_483_647)) offset ≡ true
 above_least offset u = let a = u.0 in grind (arith, ints)

@@ -1,16 +1,8 @@
 -- Only a year's own moments and those of its two neighbours can enclose a second of the year.
-use Rattle.std.proofs.Common.{◌≡◌, arith, ℤ, pos, neg_ℤ, Bool, true, false, not, cond, ◌||◌, ◌+ℤ◌, ◌-ℤ◌, ◌≤ℤ◌, ◌<ℤ◌, ◌*ℤ◌, refl, inl, inr, ◌⊎◌, ⊎_elim, int_le, sym, ◌∙◌, ap}
-use Rattle.std.proofs.lemmas.Bool.{not-false, or_cases, or_left, or_right}
-use Rattle.std.proofs.lemmas.Int.{by_lt_z, ints}
-use Rattle.naive_base.specs.Year.{year_start}
-use Rattle.naive_base.proofs.ForCallers.{floors, year_step, days_at_least, starts_rise}
-use Rattle.tz_timeline.proofs.ForCallers.{le_false, le_is}
-use Rattle.tz_info.specs.RuleDays.{IsRuleDay}
-use Rattle.offset_core.specs.Offset.{IsWithinDay}
-use Rattle.tz_info.specs.Rules.{Alternate, IsAlternateRule, IsWithinWeek}
-use Rattle.tz_info.specs.Moments.{moment, IsYearOf, IsInSomeYear, IsDstAt, start_in, end_in}
-use Rattle.tz_info.specs.Steps.Turns.{is_between, is_dst_by_one, is_in_three}
-use Rattle.tz_info.specs.declared.rule.day.DayTime.{DayTime}
+use Rattle.tz_info.proofs.Words.{Alternate, Bool, DayTime, IsAlternateRule, IsDstAt, IsInSomeYear, IsRuleDay, IsWithinDay, IsWithinWeek, IsYearOf, ap, arith}
+use Rattle.tz_info.proofs.Words.{by_lt_z, cond, days_at_least, end_in, false, floors, inl, inr, int_le, ints, is_between, is_dst_by_one, is_in_three, le_false}
+use Rattle.tz_info.proofs.Words.{le_is, moment, neg_ℤ, not, not-false, or_cases, or_left, or_right, pos, refl, start_in, starts_rise, sym, true, year_start}
+use Rattle.tz_info.proofs.Words.{year_step, ℤ, ⊎_elim, ◌*ℤ◌, ◌+ℤ◌, ◌-ℤ◌, ◌<ℤ◌, ◌||◌, ◌∙◌, ◌≡◌, ◌≤ℤ◌, ◌⊎◌}
 use Rattle.tz_info.proofs.RuleDays.{day_within}
 
 -- the moments of each year lie less than eight days outside of it

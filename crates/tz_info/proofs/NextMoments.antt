@@ -1,15 +1,9 @@
 -- A rule has one type from a second on, until the next moment of three years or the year's end; and the nearest of two moments.
-use Rattle.std.proofs.Common.{◌≡◌, arith, ℤ, pos, ◌+ℤ◌, ◌-ℤ◌, ◌*ℤ◌, ◌≤ℤ◌, ◌<ℤ◌, ◌⊎◌, ⊎_elim, inl, inr, subst, sym, Bool, true, false}
-use Rattle.std.proofs.lemmas.Int.{ints, by_lt_z}
-use Rattle.naive_base.specs.Year.{floor_div, year_start}
-use Rattle.naive_base.proofs.ForCallers.{floors, one_year}
-use Rattle.tz_timeline.proofs.ForCallers.{le_true, le_false, lt_true, lt_false}
-use Rattle.tz_base.specs.LocalTypes.{LocalType}
-use Rattle.tz_info.specs.Moments.{AlternateAt, IsYearOf, IsInSomeYear, IsDstAt, IsRuleYear, start_in, end_in}
-use Rattle.tz_info.specs.Rules.{Alternate, IsAlternateRule}
-use Rattle.tz_info.specs.Steps.Changes.{IsAhead, Precedes}
-use Rattle.tz_info.specs.Steps.NextMoments.{IsNearestMoment, IsOutside, nearer_moment}
-use Rattle.tz_info.proofs.Neighbours.{IsNear, starts_near, ends_near, second_low, place, not_earlier, not_later}
+use Rattle.tz_info.proofs.Words.{Alternate, AlternateAt, Bool, IsAhead, IsAlternateRule, IsDstAt, IsInSomeYear, IsNearestMoment, IsOutside, IsRuleYear}
+use Rattle.tz_info.proofs.Words.{IsYearOf, LocalType, Precedes, arith, by_lt_z, end_in, false, floor_div, floors, inl, inr, ints, le_false, le_true, lt_false}
+use Rattle.tz_info.proofs.Words.{lt_true, nearer_moment, one_year, pos, start_in, subst, sym, true, year_start, ℤ, ⊎_elim, ◌*ℤ◌, ◌+ℤ◌, ◌-ℤ◌, ◌<ℤ◌, ◌≡◌, ◌≤ℤ◌}
+use Rattle.tz_info.proofs.Words.{◌⊎◌}
+use Rattle.tz_info.proofs.Neighbours.{IsNear, ends_near, not_earlier, not_later, place, second_low, starts_near}
 
 -- in the year and in its neighbours no moment comes after u and before `next`
 abbrev pub AreOutside : (ℤ → ℤ) → ℤ → ℤ → ℤ → Type 0

@@ -1,11 +1,7 @@
 -- The type in force between two transitions, and behind the last, of a zone without leap seconds.
-use Rattle.std.proofs.Common.{◌≡◌, ℕ, ◌<◌, ◌≤◌, None, Some, arith, length, refl, get_or, ℤ, ◌≤ℤ◌, ◌<ℤ◌}
-use Rattle.std.proofs.lemmas.Int.{ints}
-use Rattle.tz_base.specs.LocalTypes.{LocalType}
-use Rattle.tz_info.specs.Steps.Segments.{begin_of, index_of}
-use Rattle.tz_info.specs.Zones.{Zone, IsValid, HasType, RuleOrType, TypeAt}
+use Rattle.tz_info.proofs.Words.{HasType, IsValid, LocalType, None, RuleOrType, Some, Transition, TypeAt, Zone, arith, begin_of, get_or, index_of, ints, length}
+use Rattle.tz_info.proofs.Words.{refl, ℕ, ℤ, ◌<ℤ◌, ◌<◌, ◌≡◌, ◌≤ℤ◌, ◌≤◌}
 use Rattle.tz_info.specs.declared.rule.transition_rule.TransitionRule.TheVariants.{Fixed}
-use Rattle.tz_info.specs.declared.zone.transition.Transition.{Transition}
 use Rattle.tz_info.proofs.LeaplessChanges.{own_leap_time}
 use Rattle.tz_info.proofs.SegmentLaws.{between_of, type_in_before, type_in_from}
 

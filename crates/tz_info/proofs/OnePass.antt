@@ -1,32 +1,15 @@
 -- The pieces of the first segments, as long as the last of them has no end, and one segment more.
-use Rattle.std.proofs.Common.{◌≡◌, ℕ, zero, suc, ◌-◌, ◌<◌, ◌≤◌, arith, refl, sym, ap, ◌∙◌, List, [], ◌∷◌, ◌++◌, length, get_or, w64, true, int_le, IsTrue, ℤ, pos, neg_ℤ, ◌+ℤ◌, ◌≤ℤ◌, ◌<ℤ◌, inl, inr, ◌⊎◌, ⊎_elim, Option, Some as some, None as none}
-use Rattle.std.specs.Int.{saturate_signed}
-use Rattle.std.proofs.lemmas.Bool.{cases_lt}
-use Rattle.std.proofs.lemmas.Int.{ints, by_lt_z}
-use Rattle.std.proofs.lemmas.List.{length_push, get_or_default}
-use Rattle.std.proofs.lemmas.List.Quantifiers.{all_pairs_push}
-use Rattle.tz_base.specs.LocalTypes.{LocalType, IsUtOffset}
-use Rattle.tz_timeline.proofs.ForCallers.{le_true, le_false}
-use Rattle.tz_info.specs.Leaps.{AreLeapSeconds}
-use Rattle.tz_info.specs.Segments.{table_count, table_count_by}
-use Rattle.tz_info.specs.Steps.Segments.{index_of}
-use Rattle.tz_info.specs.Steps.Shown.{together}
-use Rattle.tz_info.specs.Steps.Merging.{IsMerged}
-use Rattle.tz_info.specs.Steps.Pieces.{ArePieces, ArePiecesAt, IsGap, IsFold, IsCutAt, IsCutFrom, AreCutsCrossed, IsSegment}
-use Rattle.tz_info.specs.Steps.Starts.{IsLeapless}
-use Rattle.tz_info.specs.Transitions.{AreRising}
-use Rattle.tz_info.specs.WallPieces.{answer_before, answer_at, AreInOrder, IsStart, IsTypeBefore}
-use Rattle.tz_info.specs.Zones.{Zone, IsValid, HasType}
-use Rattle.tz_info.specs.declared.rule.transition_rule.TransitionRule.{TransitionRule}
-use Rattle.tz_info.specs.declared.zone.leap_second.LeapSecond.{LeapSecond}
-use Rattle.tz_info.specs.declared.zone.segments.Segment.{Segment}
-use Rattle.tz_info.specs.declared.zone.pieces.Piece.{Piece}
-use Rattle.tz_info.specs.declared.zone.shown.Jump.{Jump}
-use Rattle.tz_info.specs.declared.zone.shown.Shown.TheVariants.{Less, Skipped, Once}
-use Rattle.tz_info.specs.declared.zone.transition.Transition.{Transition}
+use Rattle.tz_info.proofs.Words.{AreCutsCrossed, AreInOrder, AreLeapSeconds, ArePieces, ArePiecesAt, AreRising, HasType, IsCutAt, IsCutFrom, IsFold, IsGap}
+use Rattle.tz_info.proofs.Words.{IsLeapless, IsMerged, IsSegment, IsStart, IsTrue, IsTypeBefore, IsUtOffset, IsValid, Jump, LeapSecond, List, LocalType}
+use Rattle.tz_info.proofs.Words.{None as none, Option, Piece, Segment, Some as some, Transition, TransitionRule, Zone, all_pairs_push, answer_at, answer_before}
+use Rattle.tz_info.proofs.Words.{ap, arith, by_lt_z, cases_lt, get_or, get_or_default, index_of, inl, inr, int_le, ints, le_false, le_true, length, length_push}
+use Rattle.tz_info.proofs.Words.{neg_ℤ, pos, refl, saturate_signed, suc, sym, table_count, table_count_by, together, true, w64, zero, ℕ, ℤ, [], ⊎_elim, ◌++◌}
+use Rattle.tz_info.proofs.Words.{◌+ℤ◌, ◌-◌, ◌<ℤ◌, ◌<◌, ◌∙◌, ◌∷◌, ◌≡◌, ◌≤ℤ◌, ◌≤◌, ◌⊎◌}
+use Rattle.tz_info.specs.declared.zone.shown.Shown.TheVariants.{Less, Once, Skipped}
 use Rattle.tz_info.proofs.LeapStarts.{reached_first}
-use Rattle.tz_info.proofs.WallPieces.{Answer, StartBy, before_pushed, at_later, at_earlier, at_all, start_by_push}
-use Rattle.tz_info.proofs.WallSegments.{start_found, cut_from, cuts_rise, piece, own_segment, listed_once, pieces_joined, first_pieces, inner_pieces, last_pieces, type_own}
+use Rattle.tz_info.proofs.WallPieces.{Answer, StartBy, at_all, at_earlier, at_later, before_pushed, start_by_push}
+use Rattle.tz_info.proofs.WallSegments.{cut_from, cuts_rise, first_pieces, inner_pieces, last_pieces, listed_once, own_segment, piece, pieces_joined}
+use Rattle.tz_info.proofs.WallSegments.{start_found, type_own}
 
 -- ---- the pieces at a transition
 

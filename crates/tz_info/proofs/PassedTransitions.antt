@@ -1,15 +1,9 @@
 -- The transitions at or before a leap time, and the type in force there.
-use Rattle.std.proofs.Common.{◌≡◌, ℕ, suc, ◌-◌, ◌<◌, ◌≤◌, arith, refl, ap, ◌∙◌, List, [], ◌∷◌, length, get_or, take, ℤ, length-take, Result, Ok, Err, MatchResult, None, Some, inl, inr}
-use Rattle.std.proofs.lemmas.Bool.{cases_lt}
-use Rattle.tz_base.specs.LocalTypes.{LocalType}
-use Rattle.tz_timeline.specs.Search.{IsLastOf}
-use Rattle.tz_base.specs.declared.error.Error.{Error}
 use Rattle.tz_base.specs.declared.error.Error.TheVariants.{FindLocalTimeType}
 use Rattle.tz_base.specs.declared.error.Expected.TheVariants.{YearThatRuleAnswersIn}
-use Rattle.tz_info.specs.Leaps.{IsLeapTime}
-use Rattle.tz_info.specs.Transitions.{passed}
-use Rattle.tz_info.specs.Zones.{Zone, HasType, RuleOrType, IsRefusedBy, IsFromLast, index_at, TypeAtLeapTime, TypeAt, IsTypeError, by_rule}
-use Rattle.tz_info.specs.declared.zone.transition.Transition.{Transition}
+use Rattle.tz_info.proofs.Words.{Err, Error, HasType, IsFromLast, IsLastOf, IsLeapTime, IsRefusedBy, IsTypeError, List, LocalType, MatchResult, None, Ok}
+use Rattle.tz_info.proofs.Words.{Result, RuleOrType, Some, Transition, TypeAt, TypeAtLeapTime, Zone, ap, arith, by_rule, cases_lt, get_or, index_at, inl, inr}
+use Rattle.tz_info.proofs.Words.{length, length-take, passed, refl, suc, take, ℕ, ℤ, [], ◌-◌, ◌<◌, ◌∙◌, ◌∷◌, ◌≡◌, ◌≤◌}
 use Rattle.tz_info.proofs.Prefixes.{last_taken}
 
 -- n transitions come at or before the leap time x: the first ones

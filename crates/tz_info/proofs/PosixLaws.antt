@@ -1,18 +1,10 @@
 -- The zone of a TZ text.
-use Rattle.std.proofs.Common.{◌≡◌, ◌≤◌, arith, refl, true, ℕ, pos, ◌∙◌, sym, List, [], length, Bool, false, ◌∷◌, ◌==◌, Ok, Err, Result, inl, inr, ◌≢◌, IfOk, IfErr, MatchResult}
-use Rattle.std.proofs.lemmas.Bool.Decides.{nat_tests}
-use Rattle.std.specs.Str.{IsTrimAscii}
-use Rattle.tz_base.specs.Errors.{number_of}
-use Rattle.tz_base.specs.Fronts.{◌>>=◌}
-use Rattle.tz_base.specs.declared.error.Error.{Error}
-use Rattle.tz_info.specs.Zones.{Zone, plain_zone}
-use Rattle.tz_info.specs.TzGrammar.{IsTzText, IsTextFault}
-use Rattle.tz_info.specs.PosixZones.{IsPosixZone, IsPosixFault, posix_zone}
-use Rattle.tz_info.specs.Steps.FooterReading.{trimmed, rule_in}
-use Rattle.tz_info.specs.declared.rule.transition_rule.TransitionRule.{TransitionRule}
-use Rattle.tz_base.proofs.ForCallers.{Decided, like, made, done, value_once, fault_once, fault_low, apart}
+use Rattle.tz_info.proofs.Words.{Bool, Decided, Err, Error, IfErr, IfOk, IsPosixFault, IsPosixZone, IsTextFault, IsTrimAscii, IsTzText, List, MatchResult, Ok}
+use Rattle.tz_info.proofs.Words.{Result, TransitionRule, Zone, apart, arith, done, false, fault_low, fault_once, inl, inr, length, like, made, nat_tests}
+use Rattle.tz_info.proofs.Words.{number_of, plain_zone, pos, posix_zone, refl, rule_in, sym, trimmed, true, value_once, ℕ, [], ◌==◌, ◌>>=◌, ◌∙◌, ◌∷◌, ◌≡◌, ◌≢◌}
+use Rattle.tz_info.proofs.Words.{◌≤◌}
 use Rattle.tz_info.proofs.FooterLaws.{spelled_law}
-use Rattle.tz_info.proofs.TrimLaws.{trim_is, trim_again, trims_both}
+use Rattle.tz_info.proofs.TrimLaws.{trim_again, trim_is, trims_both}
 
 zone_in : List ℕ → Result Zone Error
 zone_in [] = Ok (plain_zone (pos 0))

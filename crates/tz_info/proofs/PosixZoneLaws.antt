@@ -1,8 +1,6 @@
 -- What a TZ text gives is a zone whose rule's numbers are in their limits.
-use Rattle.std.proofs.Common.{ℕ, ◌<◌, sym, subst, List, length, false, Some, None, inl, inr, arith}
-use Rattle.tz_info.specs.Zones.{Zone, IsValid, IsRuleOrNone}
-use Rattle.tz_info.specs.PosixZones.{IsPosixZone, types_of}
-use Rattle.tz_info.specs.declared.rule.transition_rule.TransitionRule.{TransitionRule}
+use Rattle.tz_info.proofs.Words.{IsPosixZone, IsRuleOrNone, IsValid, List, None, Some, TransitionRule, Zone, arith, false, inl, inr, length, subst, sym}
+use Rattle.tz_info.proofs.Words.{types_of, ℕ, ◌<◌}
 use Rattle.tz_info.specs.declared.rule.transition_rule.TransitionRule.TheVariants as rules
 use Rattle.tz_info.proofs.TextFits.{text_rule_fits}
 use Rattle.tz_info.proofs.ZoneLaws.{zone_of_rule_valid}

@@ -1,6 +1,5 @@
 -- The last of the first items of a list.
-use Rattle.std.proofs.Common.{◌≡◌, ℕ, zero, suc, ◌<◌, arith, refl, List, [], ◌∷◌, length, get_or, take, map}
-use Rattle.tz_info.specs.Lists.{last_else}
+use Rattle.tz_info.proofs.Words.{List, arith, get_or, last_else, length, map, refl, suc, take, zero, ℕ, [], ◌<◌, ◌∷◌, ◌≡◌}
 
 -- the last of the first i + 1 items
 pub last_taken : {X Y : Type 0} (f : X → Y) (d : Y) (xs : List X) (i : ℕ) (e : X) → i < length xs → last_else d (map f (take (suc i) xs)) ≡ f (get_or xs i e)

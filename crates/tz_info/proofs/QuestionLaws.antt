@@ -1,24 +1,11 @@
 -- Questions to a zone's rule: at which seconds it is asked, and how often for a local time.
-use Rattle.std.proofs.Common.{◌≡◌, ◌≢◌, ℕ, zero, suc, ◌+◌, ◌<◌, arith, refl, ap, ◌∙◌, sym, subst, [], ◌∷◌, length, get_or, ℤ, ◌-ℤ◌, ◌≤ℤ◌, ◌<ℤ◌, ◌↔◌, inl, inr, ◌⊎◌, AllPairs, Contains, Option, Some, None}
-use Rattle.std.proofs.lemmas.Int.{ints}
-use Rattle.std.proofs.lemmas.Bool.{cases_lt}
-use Rattle.std.proofs.lemmas.Option.{none-some}
-use Rattle.std.proofs.lemmas.List.Elements.{All-contains, Contains-append_right}
-use Rattle.naive_base.specs.Range.{IsWide}
-use Rattle.tz_base.specs.LocalTypes.{LocalType}
-use Rattle.tz_info.specs.Leaps.{IsLeapTime, IsNear}
-use Rattle.tz_info.specs.Questions.{IsByRule, IsAskedAt, IsByRuleFor, IsAskedAtEach, IsAskedFor}
-use Rattle.tz_info.specs.Rules.{Alternate as AlternateRule}
-use Rattle.tz_info.specs.Segments.{segment_of}
-use Rattle.tz_info.specs.Steps.Extremes.{offsets_of}
-use Rattle.tz_info.specs.Steps.Asked.{IsAskedAtLeapTime}
-use Rattle.tz_info.specs.Steps.RuleSeconds.{AreUtOffsets, IsAskedFrom, IsAskedSince, IsSecondFrom}
-use Rattle.tz_info.specs.WallPieces.{IsStart}
-use Rattle.tz_info.specs.Windows.{rule_offsets, offsets, IsWindow}
-use Rattle.tz_info.specs.Zones.{Zone, IsValid, IsFromLast}
-use Rattle.tz_info.specs.declared.rule.transition_rule.TransitionRule.{TransitionRule}
-use Rattle.tz_info.specs.declared.rule.transition_rule.TransitionRule.TheVariants.{Fixed, Alternate}
-use Rattle.tz_info.specs.declared.zone.transition.Transition.{Transition}
+use Rattle.tz_info.proofs.Words.{All-contains, AllPairs, Alternate as AlternateRule, AreUtOffsets, Contains, Contains-append_right, IsAskedAt, IsAskedAtEach}
+use Rattle.tz_info.proofs.Words.{IsAskedAtLeapTime, IsAskedFor, IsAskedFrom, IsAskedSince, IsByRuleFor, IsFromLast, IsLeapTime, IsNear, IsSecondFrom, IsStart}
+use Rattle.tz_info.proofs.Words.{IsValid, IsWide, IsWindow, LocalType, None, Option, Some, Transition, TransitionRule, Zone, ap, arith, cases_lt, get_or, inl}
+use Rattle.tz_info.proofs.Words.{inr, ints, length, none-some, offsets, offsets_of, refl, rule_offsets, segment_of, subst, suc, sym, zero, ℕ, ℤ, [], ◌+◌, ◌-ℤ◌}
+use Rattle.tz_info.proofs.Words.{◌<ℤ◌, ◌<◌, ◌↔◌, ◌∙◌, ◌∷◌, ◌≡◌, ◌≢◌, ◌≤ℤ◌, ◌⊎◌}
+use Rattle.tz_info.specs.Questions.{IsByRule}
+use Rattle.tz_info.specs.declared.rule.transition_rule.TransitionRule.TheVariants.{Alternate, Fixed}
 use Rattle.tz_info.proofs.PassedTransitions.{no_items}
 use Rattle.tz_info.proofs.SegmentLaws.{come_at_time, segment_here, segment_most, segments_rise}
 use Rattle.tz_info.proofs.WallSegments.{leap_time_of, near_of, rule_begun}

@@ -1,12 +1,7 @@
 -- Values read at places, and the records that spell them.
-use Rattle.std.proofs.Common.{◌≡◌, ℕ, zero, suc, ◌+◌, ◌*◌, ◌<◌, List, [], ◌∷◌, ◌++◌, append_assoc, length, take, drop, Result, Ok, Err, refl, sym, ap, ◌∙◌, subst, arith, inl, inr, ◌⊎◌}
-use Rattle.std.proofs.lemmas.List.{length-append, nil_from_length, length-take, length-drop, drop-drop, take-append-drop}
-use Rattle.tz_base.specs.Fronts.{◌>>=◌}
-use Rattle.tz_base.specs.declared.error.Error.{Error}
-use Rattle.tz_info.specs.FileContents.{AreRecords, HasRecordFault}
-use Rattle.tz_info.specs.Steps.ContentReading.{record_at, values_below}
-use Rattle.tz_base.proofs.ForCallers.{Decided, like, bind, made, done}
-use Rattle.tz_base.proofs.ForCallers.{exact_cut}
+use Rattle.tz_info.proofs.Words.{AreRecords, Decided, Err, Error, HasRecordFault, List, Ok, Result, ap, append_assoc, arith, bind, done, drop, drop-drop}
+use Rattle.tz_info.proofs.Words.{exact_cut, inl, inr, length, length-append, length-drop, length-take, like, made, nil_from_length, record_at, refl, subst, suc}
+use Rattle.tz_info.proofs.Words.{sym, take, take-append-drop, values_below, zero, ℕ, [], ◌*◌, ◌++◌, ◌+◌, ◌<◌, ◌>>=◌, ◌∙◌, ◌∷◌, ◌≡◌, ◌⊎◌}
 
 -- ---- values at places, from the first one on
 front_step : {X : Type 0} (r : Result X Error) (s : Result (List X) Error) (t : Result X Error) → ((r >>= λ x. s >>= λ xs. Ok (x ∷ xs)) >>= λ xs. t >>= λ y. Ok (xs ++ y ∷ [])) ≡ (r >>= λ x. (s >>= λ xs. t >>= λ y. Ok (xs ++ y ∷ [])) >>= λ xs. Ok (x ∷ xs))

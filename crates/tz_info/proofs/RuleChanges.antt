@@ -1,24 +1,16 @@
 -- Where a rule's types give way to each other: at its moments and at turns of the year, and every 400 years alike.
-use Rattle.std.proofs.Common.{◌≡◌, ℕ, zero, suc, ◌*ℤ◌, Option, ◌+◌, ◌<◌, arith, refl, sym, ap, ◌∙◌, Bool, true, false, ℤ, pos, ◌+ℤ◌, ◌-ℤ◌, ◌≤ℤ◌, ◌<ℤ◌, ◌⊎◌, inl, inr, List, [], ◌∷◌, length, get_or}
-use Rattle.std.proofs.lemmas.Int.{ints, by_lt_z}
-use Rattle.naive_base.specs.Year.{floor_div, floor_mod, is_leap, year_start}
-use Rattle.naive_base.specs.Weekday.{weekday_of}
-use Rattle.naive_base.proofs.ForCallers.{floors, starts_rise, floor_mod_parts}
-use Rattle.tz_base.specs.LocalTypes.{LocalType}
-use Rattle.tz_info.specs.RuleDays.{IsRuleDay}
-use Rattle.tz_info.specs.Rules.{Alternate, IsAlternateRule}
-use Rattle.tz_info.specs.Moments.{IsYearOf, IsInSomeYear, IsDstAt, IsRuleYear, IsRuleTime, AlternateAt, moment, start_in, end_in}
-use Rattle.tz_info.specs.Changes.{IsChange, HasNoChange}
-use Rattle.tz_info.specs.Steps.Changes.{AreIn, IsEarlierOf, IsInStretch, IsLaterOf, IsNearest, IsNearestChange, IsNearRuleTime, IsOfYear, IsOneOf, Precedes, moments_near, near_end, new_year, year_at}
-use Rattle.tz_base.specs.declared.change.Change.{Change}
+use Rattle.tz_info.proofs.Words.{Alternate, AlternateAt, AreIn, Bool, Change, DayTime, HasNoChange, IsAlternateRule, IsChange, IsDstAt, IsEarlierOf}
+use Rattle.tz_info.proofs.Words.{IsInSomeYear, IsInStretch, IsLaterOf, IsNearRuleTime, IsNearest, IsNearestChange, IsOfYear, IsOneOf, IsRuleDay, IsRuleTime}
+use Rattle.tz_info.proofs.Words.{IsRuleYear, IsYearOf, List, LocalType, Option, Precedes, ap, arith, by_lt_z, end_in, false, floor_div, floor_mod}
+use Rattle.tz_info.proofs.Words.{floor_mod_parts, floors, get_or, inl, inr, ints, is_leap, kind_place, length, moment, moments_near, near_end, new_year, pos}
+use Rattle.tz_info.proofs.Words.{refl, second_in, start_in, starts_rise, suc, sym, true, weekday_of, year_at, year_start, zero, ℕ, ℤ, [], ◌*ℤ◌, ◌+ℤ◌, ◌+◌, ◌-ℤ◌}
+use Rattle.tz_info.proofs.Words.{◌<ℤ◌, ◌<◌, ◌∙◌, ◌∷◌, ◌≡◌, ◌≤ℤ◌, ◌⊎◌}
 use Rattle.tz_info.specs.declared.rule.transition_rule.TransitionRule.TheVariants.{Alternate as AlternateRule}
-use Rattle.tz_info.specs.Steps.Kinds.{kind_place, second_in}
-use Rattle.tz_info.specs.declared.rule.day.DayTime.{DayTime}
 use Rattle.tz_info.proofs.ChangeSearch.{nearest_moved}
 use Rattle.tz_info.proofs.KindLaws.{kind_found}
-use Rattle.tz_info.proofs.RuleLaws.{rule_time, rule_once}
-use Rattle.tz_info.proofs.Neighbours.{year_after, second_low, second_high}
+use Rattle.tz_info.proofs.Neighbours.{second_high, second_low, year_after}
 use Rattle.tz_info.proofs.NextMoments.{outside, steady_until}
+use Rattle.tz_info.proofs.RuleLaws.{rule_once, rule_time}
 
 -- ---- the calendar repeats every 400 years: k times as many years later, or earlier where k is below 0
 leap_again : (y k : ℤ) → is_leap (y +ℤ pos 400 *ℤ k) ≡ is_leap y

@@ -1,17 +1,10 @@
 -- Each year has one day that is the rule's, and the closed form finds it.
-use Rattle.std.proofs.Common.{◌≡◌, ℕ, ◌+◌, ◌-◌, ◌*◌, ◌%◌, ◌<◌, ◌≤◌, inl, inr, Bool, nat_le, ◌&&◌, arith, sym, ap, ◌∙◌, ℤ, pos, ◌+ℤ◌, ◌≤ℤ◌, ◌<ℤ◌}
-use Rattle.std.proofs.lemmas.Bool.{cases_lt}
-use Rattle.std.proofs.lemmas.Bool.Decides.{nat_tests}
-use Rattle.naive_base.specs.Year.{is_leap, days_in_year, year_start, LiesIn}
-use Rattle.naive_base.specs.Month.{days_in_month}
-use Rattle.naive_base.specs.Date.{day_number}
-use Rattle.naive_base.specs.Weekday.{weekday_of}
-use Rattle.naive_base.proofs.ForCallers.{floors, year_step, starts_rise, days_at_least, days_at_most, leap_at_most, months_step, months_all, date_lies, weekday_below}
-use Rattle.tz_info.specs.RuleDays.{IsRuleDay, IsWeekdayOfMonth, IsDayOf}
-use Rattle.tz_info.specs.RuleDayOf.{rule_day_with, rule_day}
-use Rattle.tz_info.specs.Steps.RuleDays.{julian_place, weekday_place, closed_day, closed_day_is, julian_is, weekday_is, weekday_at, number_after}
-use Rattle.tz_info.specs.declared.rule.day.DayForm.{DayForm}
-use Rattle.tz_info.specs.declared.rule.day.DayForm.TheVariants.{Julian1, Julian0, MonthWeekday}
+use Rattle.tz_info.proofs.Words.{Bool, DayForm, IsDayOf, IsRuleDay, IsWeekdayOfMonth, LiesIn, ap, arith, cases_lt, closed_day, closed_day_is, date_lies}
+use Rattle.tz_info.proofs.Words.{day_number, days_at_least, days_at_most, days_in_month, days_in_year, floors, inl, inr, is_leap, julian_is, julian_place}
+use Rattle.tz_info.proofs.Words.{leap_at_most, months_all, months_step, nat_le, nat_tests, number_after, pos, rule_day, rule_day_with, starts_rise, sym}
+use Rattle.tz_info.proofs.Words.{weekday_at, weekday_below, weekday_is, weekday_of, weekday_place, year_start, year_step, ℕ, ℤ, ◌%◌, ◌&&◌, ◌*◌, ◌+ℤ◌, ◌+◌, ◌-◌}
+use Rattle.tz_info.proofs.Words.{◌<ℤ◌, ◌<◌, ◌∙◌, ◌≡◌, ◌≤ℤ◌, ◌≤◌}
+use Rattle.tz_info.specs.declared.rule.day.DayForm.TheVariants.{Julian0, Julian1, MonthWeekday}
 
 -- the day behind 31 December
 pub behind_december : (year : ℤ) → day_number year 12 32 ≡ year_start year +ℤ pos (days_in_year year)

@@ -1,17 +1,10 @@
 -- A rule has one type at a second, or is refused there, and never both.
-use Rattle.std.proofs.Common.{◌≡◌, arith, ℤ, pos, neg_ℤ, Bool, not, ◌+ℤ◌, ◌≤ℤ◌, refl, sym, ◌∙◌, ap, subst, inl, inr, ◌⊎◌}
-use Rattle.std.proofs.lemmas.Int.{by_lt_z}
-use Rattle.naive_base.specs.Year.{floor_div, year_start, LiesIn}
-use Rattle.naive_base.specs.DateOf.{year_of}
-use Rattle.naive_base.proofs.ForCallers.{floors, lies_in, one_year, starts_rise}
-use Rattle.tz_base.specs.LocalTypes.{LocalType}
-use Rattle.tz_info.specs.Rules.{Alternate as AlternateRule, IsAlternateRule}
-use Rattle.tz_info.specs.Moments.{IsYearOf, IsDstAt, IsRuleYear, IsRuleTime, AlternateAt, IsAlternateRefused, start_in, end_in, type_when}
-use Rattle.tz_info.specs.Steps.Turns.{is_in_three}
-use Rattle.tz_info.specs.RuleTypes.{RuleAt, IsRuleRefused, IsRule}
-use Rattle.tz_info.specs.declared.rule.transition_rule.TransitionRule.{TransitionRule}
-use Rattle.tz_info.specs.declared.rule.transition_rule.TransitionRule.TheVariants.{Fixed, Alternate}
-use Rattle.tz_info.proofs.Neighbours.{IsNear, starts_near, ends_near, start_first_by_three, end_first_by_three, one_answer, second_low, second_high}
+use Rattle.tz_info.proofs.Words.{Alternate as AlternateRule, AlternateAt, Bool, IsAlternateRefused, IsAlternateRule, IsDstAt, IsRule, IsRuleRefused, IsRuleTime}
+use Rattle.tz_info.proofs.Words.{IsRuleYear, IsYearOf, LiesIn, LocalType, RuleAt, TransitionRule, ap, arith, by_lt_z, end_in, floor_div, floors, inl, inr}
+use Rattle.tz_info.proofs.Words.{is_in_three, lies_in, neg_ℤ, not, one_year, pos, refl, start_in, starts_rise, subst, sym, type_when, year_of, year_start, ℤ}
+use Rattle.tz_info.proofs.Words.{◌+ℤ◌, ◌∙◌, ◌≡◌, ◌≤ℤ◌, ◌⊎◌}
+use Rattle.tz_info.specs.declared.rule.transition_rule.TransitionRule.TheVariants.{Alternate, Fixed}
+use Rattle.tz_info.proofs.Neighbours.{IsNear, end_first_by_three, ends_near, one_answer, second_high, second_low, start_first_by_three, starts_near}
 
 alternate_once : (a : AlternateRule) (u : ℤ) (s t : LocalType) → AlternateAt a u s → AlternateAt a u t → s ≡ t
 alternate_once a u s t h k =

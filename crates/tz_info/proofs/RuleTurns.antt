@@ -1,14 +1,9 @@
 -- A rule's types beside its moments: from which second on a type is in force, and which one a second before.
-use Rattle.std.proofs.Common.{◌≡◌, arith, refl, ap, Bool, inl, inr, ℤ, pos, ◌+ℤ◌, ◌-ℤ◌, ◌*ℤ◌, ◌≤ℤ◌, ◌<ℤ◌, true, false}
-use Rattle.std.proofs.lemmas.Int.{ints, by_lt_z}
-use Rattle.naive_base.proofs.ForCallers.{floors}
-use Rattle.tz_info.specs.Moments.{IsYearOf, IsInSomeYear, IsDstAt, type_when, IsRuleYear, AlternateAt, IsBetween, moment, start_in, end_in}
-use Rattle.tz_info.specs.RuleDays.{IsRuleDay, IsDayOf}
-use Rattle.tz_info.specs.RuleDayOf.{rule_day}
-use Rattle.tz_info.specs.Rules.{Alternate, IsAlternateRule}
-use Rattle.tz_info.specs.declared.rule.day.DayTime.{DayTime}
-use Rattle.tz_info.proofs.Neighbours.{by_start, by_end}
-use Rattle.tz_info.proofs.RuleDays.{rule_day_is, one_rule_day, day_rises}
+use Rattle.tz_info.proofs.Words.{Alternate, AlternateAt, Bool, DayTime, IsAlternateRule, IsBetween, IsDayOf, IsDstAt, IsInSomeYear, IsRuleDay, IsRuleYear}
+use Rattle.tz_info.proofs.Words.{IsYearOf, ap, arith, by_lt_z, end_in, false, floors, inl, inr, ints, moment, pos, refl, rule_day, start_in, true, type_when, ℤ}
+use Rattle.tz_info.proofs.Words.{◌*ℤ◌, ◌+ℤ◌, ◌-ℤ◌, ◌<ℤ◌, ◌≡◌, ◌≤ℤ◌}
+use Rattle.tz_info.proofs.Neighbours.{by_end, by_start}
+use Rattle.tz_info.proofs.RuleDays.{day_rises, one_rule_day, rule_day_is}
 
 abbrev Rise : (ℤ → ℤ) → Type 0
 Rise f = (x y : ℤ) → x ≤ℤ y → f x ≤ℤ f y

@@ -1,12 +1,6 @@
 -- Runs: where no change comes the type stays.
-use Rattle.std.proofs.Common.{arith, sym, ◌∙◌, subst, ℤ, pos, ◌-ℤ◌, ◌≤ℤ◌, ◌<ℤ◌}
-use Rattle.std.proofs.lemmas.Int.{ints}
-use Rattle.tz_base.specs.LocalTypes.{LocalType}
-use Rattle.tz_base.specs.declared.change.Change.{Change}
-use Rattle.tz_info.specs.Changes.{IsChange, HasNoChange, IsFirstChange}
-use Rattle.tz_info.specs.Leaps.{IsNear}
-use Rattle.tz_info.specs.Steps.Runs.{IsRunUntil, IsRunSince}
-use Rattle.tz_info.specs.Zones.{Zone, IsValid, IsRuleOrNone, TypeAt}
+use Rattle.tz_info.proofs.Words.{Change, HasNoChange, IsChange, IsFirstChange, IsNear, IsRuleOrNone, IsRunSince, IsRunUntil, IsValid, LocalType, TypeAt, Zone}
+use Rattle.tz_info.proofs.Words.{arith, ints, pos, subst, sym, ℤ, ◌-ℤ◌, ◌<ℤ◌, ◌∙◌, ◌≤ℤ◌}
 use Rattle.tz_info.proofs.GapLaws.{near_type}
 use Rattle.tz_info.proofs.SpanLaws.{no_change}
 use Rattle.tz_info.proofs.ZoneLaws.{type_once}

@@ -1,24 +1,9 @@
 -- The answer of two seconds at which a season's moments decide.
-use Rattle.std.proofs.Common.{arith, ◌⊎◌, int_le, int_lt, ◌&&◌, IsTrue, ◌↔◌, ◌≤ℤ◌, ◌≡◌, refl, Bool, true, false, cond, not, ℤ, ◌-ℤ◌, ◌<ℤ◌, FitsSigned}
-use Rattle.std.specs.Int.{w64}
-use Rattle.std.proofs.lemmas.Int.{ints}
-use Rattle.std.proofs.lemmas.Bool.{and_parts}
-use Rattle.offset_core.specs.WallAnswer.{IsWallAnswer}
-use Rattle.offset_core.specs.declared.local_result.LocalResult.{LocalResult}
-use Rattle.offset_core.specs.declared.local_result.LocalResult.TheVariants.{None, Single, Ambiguous}
-use Rattle.tz_base.specs.LocalTypes.{LocalType}
-use Rattle.tz_timeline.proofs.ForCallers.{le_is, le_true, lt_is, lt_true}
-use Rattle.tz_info.specs.Moments.{AlternateAt, type_when}
-use Rattle.tz_info.specs.Rules.{Alternate as AlternateRule}
-use Rattle.tz_info.specs.RuleTypes.{RuleAt}
-use Rattle.tz_info.specs.Steps.Answers.{joined, shown_if}
-use Rattle.tz_info.specs.Steps.RuleSeconds.{TypeFrom, IsAmidFrom}
-use Rattle.tz_info.specs.Steps.Seasons.{IsDecidedIn}
-use Rattle.tz_info.specs.Steps.Walk.{IsAskedLast}
-use Rattle.tz_info.specs.WallClocks.{Shows}
-use Rattle.tz_info.specs.declared.rule.alternate.Season.{Season}
-use Rattle.tz_info.specs.declared.rule.transition_rule.TransitionRule.{TransitionRule}
-use Rattle.tz_base.proofs.ForCallers.{and_both}
+use Rattle.offset_core.specs.declared.local_result.LocalResult.TheVariants.{Ambiguous, None, Single}
+use Rattle.tz_info.proofs.Words.{Alternate as AlternateRule, AlternateAt, Bool, FitsSigned, IsAmidFrom, IsAskedLast, IsDecidedIn, IsTrue, IsWallAnswer}
+use Rattle.tz_info.proofs.Words.{LocalResult, LocalType, RuleAt, Season, Shows, TransitionRule, TypeFrom, and_both, and_parts, arith, cond, false, int_le}
+use Rattle.tz_info.proofs.Words.{int_lt, ints, joined, le_is, le_true, lt_is, lt_true, not, refl, shown_if, true, type_when, w64, ℤ, ◌&&◌, ◌-ℤ◌, ◌<ℤ◌, ◌↔◌, ◌≡◌}
+use Rattle.tz_info.proofs.Words.{◌≤ℤ◌, ◌⊎◌}
 use Rattle.tz_info.proofs.Candidates.{asked_both, asked_found, asked_other}
 
 joined_none : (a : LocalResult LocalType) → joined a None ≡ a

@@ -1,15 +1,8 @@
 -- Changes of a rule where the moments of one season decide: only these come with one.
-use Rattle.std.proofs.Common.{◌≡◌, arith, refl, sym, ap, ◌∙◌, Bool, true, false, ℤ, pos, neg_ℤ, ◌+ℤ◌, ◌-ℤ◌, ◌≤ℤ◌, ◌<ℤ◌, ◌⊎◌, ⊎_elim, inl, inr, int_le, int_lt, Option}
-use Rattle.std.proofs.lemmas.Int.{ints, by_lt_z}
-use Rattle.tz_info.specs.Changes.{IsChange, HasNoChange}
-use Rattle.tz_info.specs.Moments.{AlternateAt, IsRuleTime, type_when}
-use Rattle.tz_info.specs.Rules.{Alternate}
-use Rattle.tz_info.specs.Steps.Changes.{IsAhead, IsIdleTo, IsNearest, IsNearestChange, IsUpTo, Precedes, far_side, near_side}
-use Rattle.tz_info.specs.Steps.NextMoments.{IsNearestMoment, nearer_moment}
-use Rattle.tz_info.specs.Steps.Seasons.{IsAmid, IsDecidedIn, IsLimit, IsSeason}
-use Rattle.tz_info.specs.Steps.Turns.{is_dst_by_one}
-use Rattle.tz_base.specs.declared.change.Change.{Change}
-use Rattle.tz_info.specs.declared.rule.alternate.Season.{Season}
+use Rattle.tz_info.proofs.Words.{Alternate, AlternateAt, Bool, Change, HasNoChange, IsAhead, IsAmid, IsChange, IsDecidedIn, IsIdleTo, IsLimit, IsNearest}
+use Rattle.tz_info.proofs.Words.{IsNearestChange, IsNearestMoment, IsRuleTime, IsSeason, IsUpTo, Option, Precedes, Season, ap, arith, by_lt_z, false, far_side}
+use Rattle.tz_info.proofs.Words.{inl, inr, int_le, int_lt, ints, is_dst_by_one, near_side, nearer_moment, neg_ℤ, pos, refl, sym, true, type_when, ℤ, ⊎_elim}
+use Rattle.tz_info.proofs.Words.{◌+ℤ◌, ◌-ℤ◌, ◌<ℤ◌, ◌∙◌, ◌≡◌, ◌≤ℤ◌, ◌⊎◌}
 use Rattle.tz_info.proofs.ChangeSearch.{InForce, nearest_moved}
 use Rattle.tz_info.proofs.NextMoments.{nearest_moment}
 use Rattle.tz_info.proofs.RuleChanges.{rule_second, rule_type_once}

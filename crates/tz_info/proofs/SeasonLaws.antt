@@ -1,16 +1,9 @@
 -- What a season's moments decide.
-use Rattle.std.proofs.Common.{◌≡◌, refl, ap, arith, ℤ, pos, neg_ℤ, ◌+ℤ◌, ◌-ℤ◌, ◌*ℤ◌, ◌⊎◌, inl, inr, int_le}
-use Rattle.naive_base.specs.Year.{floor_div, year_start, LiesIn}
-use Rattle.naive_base.specs.DateOf.{year_of}
-use Rattle.naive_base.proofs.ForCallers.{floors, year_step, days_at_least, lies_in, one_year}
-use Rattle.tz_info.specs.Moments.{IsYearOf, start_in, end_in}
-use Rattle.tz_info.specs.Rules.{Alternate}
-use Rattle.tz_info.specs.Steps.Seasons.{IsSeason}
-use Rattle.tz_info.specs.Steps.Turns.{is_dst_by_one}
-use Rattle.tz_info.specs.declared.rule.alternate.Season.{Season}
+use Rattle.tz_info.proofs.Words.{Alternate, IsSeason, IsYearOf, LiesIn, Season, ap, arith, days_at_least, end_in, floor_div, floors, inl, inr, int_le}
+use Rattle.tz_info.proofs.Words.{is_dst_by_one, lies_in, neg_ℤ, one_year, pos, refl, start_in, year_of, year_start, year_step, ℤ, ◌*ℤ◌, ◌+ℤ◌, ◌-ℤ◌, ◌≡◌, ◌⊎◌}
 use Rattle.tz_info.proofs.KindLaws.{IsMargin}
 use Rattle.tz_info.proofs.Neighbours.{IsBeside, dst_by_one}
-use Rattle.tz_info.proofs.RuleLaws.{year_found, alternate_at}
+use Rattle.tz_info.proofs.RuleLaws.{alternate_at, year_found}
 
 -- a second eight days or more from the neighbouring years lies in the year
 amid_lies : (u year : ℤ) → IsBeside (neg_ℤ (pos 691_200)) year u → IsYearOf u year

@@ -1,31 +1,18 @@
 -- The type in force at a second, as it is asked for the list of changes, and the change there.
-use Rattle.std.proofs.Common.{◌≡◌, ◌≢◌, ℕ, zero, suc, ◌<◌, ◌==◌, Bool, true, false, arith, refl, sym, ap, subst, List, [], ◌∷◌, length, get_or, slice_get, nat_lt, ℤ, pos, ◌+ℤ◌, ◌-ℤ◌, ◌⊎◌, inl, inr, Option, Some, None, MatchOption, w64}
-use Rattle.std.proofs.lemmas.Int.{ints}
-use Rattle.std.proofs.lemmas.Bool.{cases_lt}
-use Rattle.std.proofs.lemmas.Bool.Decides.{nat_tests}
-use mir.Val.{SFits}
-use Rattle.naive_base.specs.DateOf.{year_of}
-use Rattle.naive_base.specs.Year.{floor_div}
-use Rattle.naive_base.proofs.ForCallers.{one_year, lies_in}
-use Rattle.tz_base.specs.LocalTypes.{LocalType}
 use Rattle.tz_base.specs.contracts.local_time_type.LocalTimeTypePartialEq.TheImpl.{eq-value as type_eq}
-use Rattle.tz_info.specs.Changes.{IsChange, HasNoChange}
-use Rattle.tz_info.specs.Leaps.{IsLeapTime, corrections, passed_count}
-use Rattle.tz_info.specs.Moments.{AlternateAt, IsAlternateRefused, IsRuleYear, start_in, end_in, type_when}
-use Rattle.tz_info.specs.RuleTypes.{RuleAt, IsRule, IsRuleRefused}
-use Rattle.tz_info.specs.Rules.{Alternate as AlternateRule, IsAlternateRule}
-use Rattle.tz_info.specs.Steps.ChangeLists.{is_second, all_fit, is_rule_year, is_dst_by_three, alternate_type, rule_type, rule_type_or, type_at_leap_time, type_or_none, change_between, change_here}
-use Rattle.tz_info.specs.Transitions.{passed}
-use Rattle.tz_info.specs.Zones.{Zone, IsValid, IsRuleOrNone, RuleOrElse, HasType, IsRefusedBy, TypeAt, IsTypeRefused, by_leap_time, by_rule, index_at}
-use Rattle.tz_base.specs.declared.change.Change.{Change}
-use Rattle.tz_info.specs.declared.rule.transition_rule.TransitionRule.{TransitionRule}
-use Rattle.tz_info.specs.declared.rule.transition_rule.TransitionRule.TheVariants.{Fixed, Alternate}
+use Rattle.tz_info.proofs.Words.{Alternate as AlternateRule, AlternateAt, Bool, Change, HasNoChange, HasType, IsAlternateRefused, IsAlternateRule, IsChange}
+use Rattle.tz_info.proofs.Words.{IsLeapTime, IsRefusedBy, IsRule, IsRuleOrNone, IsRuleRefused, IsRuleYear, IsTypeRefused, IsValid, List, LocalType, MatchOption}
+use Rattle.tz_info.proofs.Words.{None, Option, RuleAt, RuleOrElse, SFits, Some, TransitionRule, TypeAt, Zone, all_fit, alternate_type, ap, arith, by_leap_time}
+use Rattle.tz_info.proofs.Words.{by_rule, cases_lt, change_between, change_here, corrections, end_in, false, floor_div, get_or, index_at, inl, inr, ints}
+use Rattle.tz_info.proofs.Words.{is_dst_by_three, is_rule_year, is_second, length, lies_in, nat_lt, nat_tests, one_year, passed, passed_count, pos, refl}
+use Rattle.tz_info.proofs.Words.{rule_type, rule_type_or, slice_get, start_in, subst, suc, sym, true, type_at_leap_time, type_exact, type_or_none, type_when}
+use Rattle.tz_info.proofs.Words.{w64, year_of, zero, ℕ, ℤ, [], ◌+ℤ◌, ◌-ℤ◌, ◌<◌, ◌==◌, ◌∷◌, ◌≡◌, ◌≢◌, ◌⊎◌}
+use Rattle.tz_info.specs.declared.rule.transition_rule.TransitionRule.TheVariants.{Alternate, Fixed}
 use Rattle.tz_info.proofs.ChangeSearch.{InForce, IsOnce, change_made, none_before, none_here}
-use Rattle.tz_base.proofs.ForCallers.{type_exact}
-use Rattle.tz_info.proofs.Neighbours.{starts_near, ends_near, dst_by_three}
+use Rattle.tz_info.proofs.Neighbours.{dst_by_three, ends_near, starts_near}
 use Rattle.tz_info.proofs.PassedTransitions.{no_items}
 use Rattle.tz_info.proofs.RuleLaws.{rule_once}
-use Rattle.tz_info.proofs.ZoneLaws.{fits_or_not, before_or_from_last, type_decided, type_not_refused}
+use Rattle.tz_info.proofs.ZoneLaws.{before_or_from_last, fits_or_not, type_decided, type_not_refused}
 
 -- ---- tests
 second_true : (u : ℤ) → SFits w64 u → is_second u ≡ true

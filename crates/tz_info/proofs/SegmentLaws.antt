@@ -1,15 +1,8 @@
 -- Segments: which one a second lies in, and the type in force there.
-use Rattle.std.proofs.Common.{◌≡◌, ℕ, zero, suc, ◌+◌, ◌<◌, ◌≤◌, ◌↔◌, arith, refl, ap, ◌∙◌, sym, List, [], ◌∷◌, length, get_or, take, length-take, ℤ, ◌+ℤ◌, ◌≤ℤ◌, ◌<ℤ◌, inl, inr}
-use Rattle.std.proofs.lemmas.Int.{ints, by_lt_z}
-use Rattle.std.proofs.lemmas.Bool.{cases_lt}
-use Rattle.tz_base.specs.LocalTypes.{LocalType}
-use Rattle.tz_info.specs.Leaps.{AreLeapSeconds, IsLeapTime, correction_at, least_time}
-use Rattle.tz_info.specs.Segments.{segment_of}
-use Rattle.tz_info.specs.Steps.Segments.{begin_of, index_of}
-use Rattle.tz_info.specs.Steps.Walk.{TypeIn}
-use Rattle.tz_info.specs.Transitions.{AreRising, passed}
-use Rattle.tz_info.specs.Zones.{Zone, HasType, RuleOrType, IsBeforeLast, IsFromLast, IsValid, TypeAt}
-use Rattle.tz_info.specs.declared.zone.transition.Transition.{Transition}
+use Rattle.tz_info.proofs.Words.{AreLeapSeconds, AreRising, HasType, IsBeforeLast, IsFromLast, IsLeapTime, IsValid, List, LocalType, RuleOrType, Transition}
+use Rattle.tz_info.proofs.Words.{TypeAt, TypeIn, Zone, ap, arith, begin_of, by_lt_z, cases_lt, correction_at, get_or, index_of, inl, inr, ints, least_time}
+use Rattle.tz_info.proofs.Words.{length, length-take, passed, refl, segment_of, suc, sym, take, zero, ℕ, ℤ, [], ◌+ℤ◌, ◌+◌, ◌<ℤ◌, ◌<◌, ◌↔◌, ◌∙◌, ◌∷◌, ◌≡◌, ◌≤ℤ◌}
+use Rattle.tz_info.proofs.Words.{◌≤◌}
 use Rattle.tz_info.proofs.LeapOrder.{leap_sums_rise}
 use Rattle.tz_info.proofs.PassedTransitions.{no_items}
 use Rattle.tz_info.proofs.Prefixes.{last_taken}

@@ -1,14 +1,7 @@
 -- What neighbouring segments show of a local time, put together.
-use Rattle.std.proofs.Common.{◌≡◌, ℕ, ◌<◌, ◌≤◌, arith, refl, ℤ, inl, inr}
-use Rattle.std.proofs.lemmas.Bool.{cases_lt}
-use Rattle.tz_info.specs.Segments.{segment_of}
-use Rattle.tz_info.specs.Steps.Answers.{joined}
-use Rattle.tz_info.specs.Steps.Shown.{together}
-use Rattle.tz_info.specs.WallPieces.{wall_of, AreLessAmong, Jumps, IsSideAmong}
-use Rattle.tz_info.specs.Zones.{Zone}
-use Rattle.tz_info.specs.declared.zone.shown.Jump.{Jump}
-use Rattle.tz_info.specs.declared.zone.shown.Shown.{Shown}
-use Rattle.tz_info.specs.declared.zone.shown.Shown.TheVariants.{Less, Skipped, Once, Several}
+use Rattle.tz_info.proofs.Words.{AreLessAmong, IsSideAmong, Jump, Jumps, Shown, Zone, arith, cases_lt, inl, inr, joined, refl, segment_of, together, wall_of, ℕ}
+use Rattle.tz_info.proofs.Words.{ℤ, ◌<◌, ◌≡◌, ◌≤◌}
+use Rattle.tz_info.specs.declared.zone.shown.Shown.TheVariants.{Less, Once, Several, Skipped}
 
 -- the wall clock's answers are joined
 pub wall_together : (a b : Shown) → wall_of (together a b) ≡ joined (wall_of a) (wall_of b)

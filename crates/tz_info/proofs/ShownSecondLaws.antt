@@ -1,16 +1,9 @@
 -- When clocks show the local times of a stretch: its first and its last second, from run to run, and the first second at or after a local time.
-use Rattle.std.proofs.Common.{◌≡◌, ◌↔◌, arith, refl, subst, ℤ, pos, ◌+ℤ◌, ◌-ℤ◌, ◌≤ℤ◌, ◌<ℤ◌, Option, Some, None, w64}
-use Rattle.std.proofs.lemmas.Int.{ints, by_lt_z}
-use mir.Val.{SFits}
-use Rattle.tz_base.specs.LocalTypes.{LocalType}
-use Rattle.tz_info.specs.Leaps.{IsNear}
-use Rattle.tz_info.specs.Steps.Runs.{IsRunUntil, IsRunSince, IsWithinRun, IsWindowOf, IsBeyondJumps, AreNoneBefore, AreNoneFrom}
-use Rattle.tz_info.specs.ShownSeconds.{ShowsWithin, IsFirstWithin, IsLastWithin, IsNeverWithin, AreEndsWithin, AreShownWithin, ShowsAtOrAfter, IsFirstAtOrAfter}
-use Rattle.tz_info.specs.WallClocks.{Shows}
-use Rattle.tz_info.specs.Windows.{IsGreatest, IsLeast, offsets}
-use Rattle.tz_info.specs.Zones.{Zone, IsValid, IsRuleOrNone, TypeAt}
-use Rattle.tz_info.specs.declared.zone.shown_seconds.ShownSeconds.{ShownSeconds}
-use Rattle.tz_info.proofs.ExtremeLaws.{at_most_greatest, at_least_least}
+use Rattle.tz_info.proofs.Words.{AreEndsWithin, AreNoneBefore, AreNoneFrom, AreShownWithin, IsBeyondJumps, IsFirstAtOrAfter, IsFirstWithin, IsGreatest}
+use Rattle.tz_info.proofs.Words.{IsLastWithin, IsLeast, IsNear, IsNeverWithin, IsRuleOrNone, IsRunSince, IsRunUntil, IsValid, IsWindowOf, IsWithinRun}
+use Rattle.tz_info.proofs.Words.{LocalType, None, Option, SFits, ShownSeconds, Shows, ShowsAtOrAfter, ShowsWithin, Some, TypeAt, Zone, arith, by_lt_z, ints}
+use Rattle.tz_info.proofs.Words.{offsets, pos, refl, subst, w64, ℤ, ◌+ℤ◌, ◌-ℤ◌, ◌<ℤ◌, ◌↔◌, ◌≡◌, ◌≤ℤ◌}
+use Rattle.tz_info.proofs.ExtremeLaws.{at_least_least, at_most_greatest}
 use Rattle.tz_info.proofs.GapLaws.{near_type}
 use Rattle.tz_info.proofs.ZoneLaws.{type_once}
 

@@ -1,34 +1,20 @@
 -- Spans: at each second between two that have a type there is one, and from the last change to the next one it is the same.
-use Rattle.std.proofs.Common.{◌≡◌, ◌⊎◌, ℕ, zero, suc, ◌<◌, arith, refl, sym, subst, ap, ◌∙◌, ◌-◌, List, [], ◌∷◌, length, slice_get, ℤ, pos, neg_ℤ, ◌-ℤ◌, ◌≤ℤ◌, ◌<ℤ◌, inl, inr, Option, Some, None, IfSome, option_map, w64}
-use Rattle.std.proofs.lemmas.Int.{ints, by_lt_z}
-use Rattle.std.proofs.lemmas.Bool.{cases_lt}
-use mir.Val.{SFits}
-use Rattle.tz_base.specs.LocalTypes.{LocalType}
-use Rattle.tz_base.specs.declared.change.Change.{Change}
-use Rattle.naive_base.specs.Year.{floor_div}
-use Rattle.naive_base.specs.DateOf.{year_of}
-use Rattle.naive_base.proofs.ForCallers.{lies_in}
-use Rattle.tz_info.specs.Changes.{IsChange, HasNoChange, IsFirst, IsLast, IsLastChange}
-use Rattle.tz_info.specs.Leaps.{AreLeapSeconds, IsLeapTime, IsUnixTime, correction_before, passed_count}
-use Rattle.tz_info.specs.Moments.{IsAlternateRefused, IsRuleTime}
-use Rattle.tz_info.specs.Rules.{Alternate as AlternateRule}
-use Rattle.tz_info.specs.Segments.{segment_of}
-use Rattle.tz_info.specs.Spans.{IsSince, IsUntil, IsInSpan, IsSpan, IsSpanAt}
-use Rattle.tz_info.specs.Zones.{Zone, IsValid, IsRuleOrNone, IsTypeRefused, by_leap_time, by_rule, IsRefusedBy, TypeAt, Agrees, IsFromLast, last_transition}
-use Rattle.tz_info.specs.declared.rule.transition_rule.TransitionRule.{TransitionRule}
-use Rattle.tz_info.specs.declared.rule.transition_rule.TransitionRule.TheVariants.{Fixed, Alternate}
-use Rattle.tz_info.specs.declared.zone.leap_second.LeapSecond.{LeapSecond}
-use Rattle.tz_base.specs.declared.span.Span.{Span}
-use Rattle.tz_info.specs.declared.zone.transition.Transition.{Transition}
+use Rattle.tz_info.proofs.Words.{Agrees, Alternate as AlternateRule, AreLeapSeconds, Change, HasNoChange, IfSome, IsAlternateRefused, IsChange, IsFirst}
+use Rattle.tz_info.proofs.Words.{IsFromLast, IsInSpan, IsLast, IsLastChange, IsLeapTime, IsRefusedBy, IsRuleOrNone, IsRuleTime, IsSince, IsSpan, IsSpanAt}
+use Rattle.tz_info.proofs.Words.{IsTypeRefused, IsUnixTime, IsUntil, IsValid, LeapSecond, List, LocalType, None, Option, SFits, Some, Span, Transition}
+use Rattle.tz_info.proofs.Words.{TransitionRule, TypeAt, Zone, ap, arith, by_leap_time, by_lt_z, by_rule, cases_lt, correction_before, floor_div, inl, inr}
+use Rattle.tz_info.proofs.Words.{ints, last_transition, length, lies_in, neg_ℤ, option_map, passed_count, pos, refl, segment_of, slice_get, subst, suc, sym}
+use Rattle.tz_info.proofs.Words.{w64, year_of, zero, ℕ, ℤ, [], ◌-ℤ◌, ◌-◌, ◌<ℤ◌, ◌<◌, ◌∙◌, ◌∷◌, ◌≡◌, ◌≤ℤ◌, ◌⊎◌}
+use Rattle.tz_info.specs.declared.rule.transition_rule.TransitionRule.TheVariants.{Alternate, Fixed}
 use Rattle.tz_info.proofs.ChangeSearch.{InForce, Typed, stays}
 use Rattle.tz_info.proofs.LastType.{last_is}
-use Rattle.tz_info.proofs.LeapEntries.{follow, before_found}
+use Rattle.tz_info.proofs.LeapEntries.{before_found, follow}
 use Rattle.tz_info.proofs.LeapOrder.{none_counted}
 use Rattle.tz_info.proofs.RuleChanges.{rule_second}
 use Rattle.tz_info.proofs.RuleLaws.{rule_year}
-use Rattle.tz_info.proofs.SegmentLaws.{segments_rise, segment_most, come_at_time, come_by_time}
+use Rattle.tz_info.proofs.SegmentLaws.{come_at_time, come_by_time, segment_most, segments_rise}
 use Rattle.tz_info.proofs.ZoneChanges.{refused_on, time_of, to_rule}
-use Rattle.tz_info.proofs.ZoneLaws.{type_once, type_decided}
+use Rattle.tz_info.proofs.ZoneLaws.{type_decided, type_once}
 
 -- ---- between two seconds that have a type each has one
 -- before 1970 no entry has come

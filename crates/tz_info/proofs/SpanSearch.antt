@@ -1,32 +1,18 @@
 -- Spans by the transitions on both sides of a second, and by the moments of a rule near it.
-use Rattle.std.proofs.Common.{◌≡◌, ◌≢◌, ℕ, ◌+◌, ◌-◌, ◌<◌, ◌≤◌, arith, refl, sym, ap, ◌∙◌, subst, length, get_or, option_map, true, false, ℤ, pos, ◌-ℤ◌, ◌≤ℤ◌, ◌<ℤ◌, inl, inr, Option, Some, None, w64}
-use Rattle.std.proofs.lemmas.Int.{ints}
-use mir.Val.{SFits}
-use Rattle.naive_base.specs.Year.{floor_div}
-use Rattle.naive_base.specs.DateOf.{year_of}
-use Rattle.naive_base.proofs.ForCallers.{lies_in}
-use Rattle.tz_base.specs.LocalTypes.{LocalType}
-use Rattle.tz_base.specs.declared.change.Change.{Change}
-use Rattle.tz_info.specs.Changes.{IsChange, HasNoChange, IsFirstChange, IsLastChange}
-use Rattle.tz_info.specs.Leaps.{least_time}
-use Rattle.tz_info.specs.Moments.{AlternateAt, IsRuleTime}
-use Rattle.tz_info.specs.Rules.{Alternate as AlternateRule}
-use Rattle.tz_info.specs.Segments.{segment_of}
-use Rattle.tz_info.specs.Spans.{IsSpanAt}
-use Rattle.tz_info.specs.Steps.Changes.{AreComeAt, ComesAt, IsAhead, IsBegin, IsByRule, IsInTable, IsLaterOf, IsNearest, IsNearestChange}
-use Rattle.tz_info.specs.Steps.Segments.{index_of}
-use Rattle.tz_info.specs.Steps.Spans.{ChangesWith}
-use Rattle.tz_info.specs.Zones.{Zone, IsValid, IsRuleOrNone, TypeAt, HasType, RuleOrElse}
-use Rattle.tz_info.specs.declared.rule.transition_rule.TransitionRule.{TransitionRule}
-use Rattle.tz_info.specs.declared.rule.transition_rule.TransitionRule.TheVariants.{Fixed, Alternate}
-use Rattle.tz_info.specs.declared.zone.transition.Transition.{Transition}
+use Rattle.tz_info.proofs.Words.{Alternate as AlternateRule, AlternateAt, AreComeAt, Change, ChangesWith, ComesAt, HasNoChange, HasType, IsAhead, IsBegin}
+use Rattle.tz_info.proofs.Words.{IsByRule, IsChange, IsFirstChange, IsInTable, IsLastChange, IsLaterOf, IsNearest, IsNearestChange, IsRuleOrNone, IsRuleTime}
+use Rattle.tz_info.proofs.Words.{IsSpanAt, IsValid, LocalType, None, Option, RuleOrElse, SFits, Some, Transition, TransitionRule, TypeAt, Zone, ap, arith}
+use Rattle.tz_info.proofs.Words.{false, floor_div, get_or, index_of, inl, inr, ints, least_time, length, lies_in, option_map, pos, refl, segment_of, subst, sym}
+use Rattle.tz_info.proofs.Words.{true, w64, year_of, ℕ, ℤ, ◌+◌, ◌-ℤ◌, ◌-◌, ◌<ℤ◌, ◌<◌, ◌∙◌, ◌≡◌, ◌≢◌, ◌≤ℤ◌, ◌≤◌}
+use Rattle.tz_info.specs.declared.rule.transition_rule.TransitionRule.TheVariants.{Alternate, Fixed}
 use Rattle.tz_info.proofs.ChangeSearch.{first_nearest, last_after, last_nearest}
 use Rattle.tz_info.proofs.GapLaws.{IsSteady}
 use Rattle.tz_info.proofs.LeaplessChanges.{made}
 use Rattle.tz_info.proofs.RuleLaws.{alternate_decided, rule_year}
-use Rattle.tz_info.proofs.SegmentLaws.{index_next, segments_rise, segment_most, segment_at, type_from, type_in_before, type_in_from}
+use Rattle.tz_info.proofs.SegmentLaws.{index_next, segment_at, segment_most, segments_rise, type_from, type_in_before, type_in_from}
 use Rattle.tz_info.proofs.SpanLaws.{last_type, span_between}
-use Rattle.tz_info.proofs.ZoneChanges.{behind_first, table_found, table_first, ahead_first, ahead_none, table_last, table_is_last, steady, time_of, from_rule, not_alternate, rule_found, rule_first, rule_until, rule_is_last}
+use Rattle.tz_info.proofs.ZoneChanges.{ahead_first, ahead_none, behind_first, from_rule, not_alternate, rule_first, rule_found, rule_is_last, rule_until}
+use Rattle.tz_info.proofs.ZoneChanges.{steady, table_first, table_found, table_is_last, table_last, time_of}
 use Rattle.tz_info.proofs.ZoneLaws.{some_once}
 
 -- ---- beside a second at which k transitions have come

@@ -1,12 +1,6 @@
 -- Where a search in transitions whose times rise comes to an end.
-use Rattle.std.proofs.Common.{◌≡◌, ℕ, ℤ, ◌+◌, ◌-◌, ◌<◌, ◌≤◌, arith, List, length, get_or, map, pos, take, ◌≤ℤ◌, ◌<ℤ◌, inl, inr, int_le}
-use Rattle.std.proofs.lemmas.Bool.{cases_lt}
-use Rattle.std.proofs.lemmas.Int.{ints}
-use Rattle.tz_timeline.specs.Search.{AreOrdered, ArePassed}
-use Rattle.tz_timeline.proofs.ForCallers.{filter_first, le_true, le_false, first_come, times_ordered}
-use Rattle.tz_info.specs.Transitions.{passed, AreRising}
-use Rattle.tz_info.specs.Steps.Validity.{Stands}
-use Rattle.tz_info.specs.declared.zone.transition.Transition.{Transition}
+use Rattle.tz_info.proofs.Words.{AreOrdered, ArePassed, AreRising, List, Stands, Transition, arith, cases_lt, filter_first, first_come, get_or, inl, inr}
+use Rattle.tz_info.proofs.Words.{int_le, ints, le_false, le_true, length, map, passed, pos, take, times_ordered, ℕ, ℤ, ◌+◌, ◌-◌, ◌<ℤ◌, ◌<◌, ◌≡◌, ◌≤ℤ◌, ◌≤◌}
 
 -- the transitions below `low` come at or before v, those from `high` on after it
 pub record Between (xs : List Transition) (v : ℤ) (low high : ℕ) : Type 0 where

@@ -1,18 +1,10 @@
 -- The numbers of a rule that a TZ text spells are in their limits.
-use Rattle.std.proofs.Common.{◌≡◌, ℕ, ℤ, pos, ◌+ℤ◌, ◌≤ℤ◌, ◌≤◌, arith, sym, subst, List, Bool, true, false, not, inl, inr, int_le}
-use Rattle.std.proofs.lemmas.Bool.Decides.{nat_tests}
-use Rattle.std.proofs.lemmas.Int.{ints}
-use Rattle.offset_core.specs.Offset.{IsWithinDay}
-use Rattle.tz_base.specs.Grammar.{Spells}
-use Rattle.tz_base.specs.LocalTypes.{LocalType}
-use Rattle.tz_info.specs.Rules.{IsWithinWeek, IsAlternateRule}
-use Rattle.tz_info.specs.RuleDays.{IsRuleDay}
-use Rattle.tz_info.specs.RuleTypes.{IsRule}
-use Rattle.tz_info.specs.TzGrammar.{seconds_of, duration, offset, time_limit, time, optional_time, rule_day, month_date, julian_date, day_number, date, day, days, next_hour, given_offset, dst_offset, named_type, named, fixed, alternate, rule, text, IsTzText}
-use Rattle.tz_info.specs.declared.rule.day.DayForm.{DayForm}
-use Rattle.tz_info.specs.declared.rule.day.DayForm.TheVariants.{Julian1, Julian0, MonthWeekday}
-use Rattle.tz_info.specs.declared.rule.day.DayTime.{DayTime}
-use Rattle.tz_info.specs.declared.rule.transition_rule.TransitionRule.{TransitionRule}
+use Rattle.tz_info.proofs.Words.{Bool, DayForm, DayTime, IsAlternateRule, IsRule, IsRuleDay, IsTzText, IsWithinDay, IsWithinWeek, List, LocalType, Spells}
+use Rattle.tz_info.proofs.Words.{TransitionRule, alternate, arith, date, day, days, dst_offset, duration, false, fixed, given_offset, inl, inr, int_le, ints}
+use Rattle.tz_info.proofs.Words.{julian_date, month_date, named, named_type, nat_tests, next_hour, not, offset, optional_time, pos, rule, seconds_of, subst}
+use Rattle.tz_info.proofs.Words.{sym, text, time, time_limit, true, ℕ, ℤ, ◌+ℤ◌, ◌≡◌, ◌≤ℤ◌, ◌≤◌}
+use Rattle.tz_info.specs.TzGrammar.{day_number, rule_day}
+use Rattle.tz_info.specs.declared.rule.day.DayForm.TheVariants.{Julian0, Julian1, MonthWeekday}
 
 -- ---- offsets and times
 within_day : (negative : Bool) (h m s : ℕ) → (h ≤ 23) × (m ≤ 59) × (s ≤ 59) → IsWithinDay (seconds_of negative h m s)

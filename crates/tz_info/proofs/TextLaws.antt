@@ -1,13 +1,7 @@
 -- The law of a whole TZ text, and what it says of a reader.
-use Rattle.std.proofs.Common.{◌≡◌, ◌≤◌, ℕ, ℤ, ap, ◌∙◌, sym, subst, List, [], Bool, Ok, Err, Result, inl, inr, IfOk, IfErr}
-use Rattle.std.specs.Result.{IsOkAnd}
-use Rattle.tz_base.specs.Errors.{number_of}
-use Rattle.tz_base.specs.Fronts.{Gives}
-use Rattle.tz_base.specs.Grammar.{Spells, read}
-use Rattle.tz_base.specs.declared.error.Error.{Error}
-use Rattle.tz_base.proofs.ForCallers.{Decided, said, lawful, apart, value_once, fault_once, fault_low}
-use Rattle.tz_info.specs.TzGrammar.{named, end, fixed, alternate, rule, text, IsTzText, IsTextFault}
-use Rattle.tz_info.specs.declared.rule.transition_rule.TransitionRule.{TransitionRule}
+use Rattle.tz_info.proofs.Words.{Bool, Decided, Err, Error, Gives, IfErr, IfOk, IsOkAnd, IsTextFault, IsTzText, List, Ok, Result, Spells, TransitionRule}
+use Rattle.tz_info.proofs.Words.{alternate, ap, apart, end, fault_low, fault_once, fixed, inl, inr, lawful, named, number_of, read, rule, said, subst, sym}
+use Rattle.tz_info.proofs.Words.{text, value_once, ℕ, ℤ, [], ◌∙◌, ◌≡◌, ◌≤◌}
 
 -- nothing stands after a text
 rule_ends : (extended : Bool) (name : List ℕ) (east : ℤ) (bytes : List ℕ) (r : TransitionRule) (rest : List ℕ) → Spells (rule extended name east) bytes r rest → rest ≡ []

@@ -1,11 +1,8 @@
 -- White space at both ends of bytes.
-use Rattle.std.proofs.Common.{◌≡◌, ℕ, zero, suc, ◌-◌, ◌<◌, ◌≤◌, List, [], ◌∷◌, ◌++◌, length, drop, take, min, slice_index, true, false, cond, arith, refl, sym, ap, ◌∙◌, subst, inl, inr}
-use Rattle.std.proofs.lemmas.Bool.{cases_lt, true≢false}
-use Rattle.std.proofs.lemmas.List.{length-take}
-use Rattle.std.specs.Char.{is_ascii_whitespace}
-use Rattle.std.specs.Str.{IsAsciiWhitespaceBelow, IsAsciiWhitespaceFrom, IsTrimAsciiStart, IsTrimAsciiEnd, IsTrimAscii}
-use Rattle.tz_info.specs.Trims.{IsSpace, BeginsBare, EndsBare, IsTrimmed}
-use Rattle.tz_info.specs.Steps.FooterReading.{trimmed_front, unless_space, trimmed_back, trimmed}
+use Rattle.tz_info.proofs.Words.{BeginsBare, EndsBare, IsAsciiWhitespaceBelow, IsAsciiWhitespaceFrom, IsSpace, IsTrimAscii, IsTrimAsciiEnd, IsTrimAsciiStart}
+use Rattle.tz_info.proofs.Words.{IsTrimmed, List, ap, arith, cases_lt, cond, drop, false, inl, inr, is_ascii_whitespace, length, length-take, min, refl}
+use Rattle.tz_info.proofs.Words.{slice_index, subst, suc, sym, take, trimmed, trimmed_back, trimmed_front, true, true≢false, unless_space, zero, ℕ, [], ◌++◌}
+use Rattle.tz_info.proofs.Words.{◌-◌, ◌<◌, ◌∙◌, ◌∷◌, ◌≡◌, ◌≤◌}
 
 -- ---- what is trimmed, and how it is found
 space_front : (before rest : List ℕ) → IsSpace before → trimmed_front (before ++ rest) ≡ trimmed_front rest

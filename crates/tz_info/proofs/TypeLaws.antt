@@ -1,23 +1,16 @@
 -- Local time types: what is read is spelled, what is spelled is read, and an error is that of the fault.
-use Rattle.std.proofs.Common.{◌≡◌, ℕ, ℤ, pos, suc, ◌+◌, ◌*◌, ◌<◌, ◌<ℤ◌, ◌≤ℤ◌, List, [], ◌∷◌, ◌++◌, length, drop, take, Bool, true, false, cond, int_lt, nat_lt, ◌==◌, ◌&&◌, arith, refl, sym, ap, ◌∙◌, subst, Result, Ok, Err, Option, Some, None, ◌⊎◌, inl, inr, MatchResult}
-use Rattle.std.proofs.lemmas.Bool.{and_parts}
-use Rattle.std.proofs.lemmas.Bool.Decides.{nat_tests, Decides-and, Decides-eqb, Decides-ltb}
-use Rattle.std.proofs.lemmas.Int.{ints}
-use Rattle.std.proofs.lemmas.List.{take-append-drop, length-take, length-append}
-use Rattle.std.proofs.Math.Seq.{take-append_seam}
-use Rattle.std.specs.List.{position_from}
-use Rattle.tz_base.specs.LocalTypes.{LocalType, IsUtOffset, expected_of_type}
-use Rattle.tz_base.specs.Names.{IsNameOrNone, name_test}
-use Rattle.tz_base.specs.Fronts.{Gives}
-use Rattle.tz_base.specs.declared.error.Error.{Error}
 use Rattle.tz_base.specs.declared.error.Error.TheVariants.{InvalidTzFile, LocalTimeType, OutOfMemory}
-use Rattle.tz_base.specs.declared.error.Expected.TheVariants.{ZeroOrOneAsIsDst, NameWithinDesignations, ZeroByteAfterName}
-use Rattle.tz_info.specs.FileContents.{HasNoZero, StandsAt, designation_of, IsMark, offset_in, mark_in, place_in, least_offset, SpellsType, SpellTypes, expected_of_place, TypeFault, Other_mark, No_text, Other_type, HasTypeFault}
-use Rattle.tz_info.specs.Steps.ContentReading.{record_at, values_below, is_name_or_none, type_of, mark_of, front_of, text_before_zero, designation_at, type_of_record, with_next_type, type_in, is_zero}
-use Rattle.tz_base.proofs.ForCallers.{bind_err, drop_front, false_unless}
+use Rattle.tz_base.specs.declared.error.Expected.TheVariants.{NameWithinDesignations, ZeroByteAfterName, ZeroOrOneAsIsDst}
+use Rattle.tz_info.proofs.Words.{Bool, Decided, Decides-and, Decides-eqb, Decides-ltb, Err, Error, Gives, HasNoZero, HasTypeFault, IsMark, IsNameOrNone}
+use Rattle.tz_info.proofs.Words.{IsUtOffset, List, LocalType, MatchResult, No_text, None, Ok, Option, Other_mark, Other_type, Result, Some, SpellTypes}
+use Rattle.tz_info.proofs.Words.{SpellsType, StandsAt, TypeFault, and_parts, ap, arith, bind, bind_err, by_error, choice, cond, designation_at, designation_of}
+use Rattle.tz_info.proofs.Words.{done, drop, drop_front, expected_of_place, expected_of_type, false, false_unless, front_of, guard, inl, inr, int_lt, ints}
+use Rattle.tz_info.proofs.Words.{is_name_or_none, is_zero, least_offset, length, length-append, length-take, like, mark_in, mark_of, name_test, nat_lt}
+use Rattle.tz_info.proofs.Words.{nat_tests, offset_in, place_in, pos, position_from, record_at, refl, refused, subst, suc, sym, take, take-append-drop}
+use Rattle.tz_info.proofs.Words.{take-append_seam, text_before_zero, true, type_in, type_of, type_of_record, values_below, with_next_type, ℕ, ℤ, [], ◌&&◌, ◌*◌}
+use Rattle.tz_info.proofs.Words.{◌++◌, ◌+◌, ◌<ℤ◌, ◌<◌, ◌==◌, ◌∙◌, ◌∷◌, ◌≡◌, ◌≤ℤ◌, ◌⊎◌}
 use Rattle.tz_info.proofs.ListLaws.{first_refusal}
 use Rattle.tz_info.proofs.RecordLaws.{records}
-use Rattle.tz_base.proofs.ForCallers.{Decided, like, bind, choice, done, refused, guard, by_error}
 
 -- ---- the next 0 byte
 zero_takes : (text : List ℕ) (i n : ℕ) → position_from is_zero i text ≡ Some n → (m : ℕ) × (n ≡ i + m) × (after : List ℕ) × (text ≡ take m text ++ (0 ∷ after)) × HasNoZero (take m text)

@@ -1,31 +1,18 @@
 -- The law of a whole file, and what it says of a reader: a file is a zone's or has one first fault.
-use Rattle.std.proofs.Common.{◌≡◌, ◌⊎◌, ℕ, ◌≤◌, arith, refl, sym, ap, subst, List, Result, Ok, Err, Option, Some, None, Bool, IfOk, IfErr, MatchResult, inl, inr}
-use Rattle.std.specs.Result.{IsErrAnd}
-use Rattle.tz_base.specs.Errors.{number_of, IsOutOfMemory}
-use Rattle.tz_base.specs.LocalTypes.{LocalType}
-use Rattle.tz_base.specs.declared.error.Error.{Error}
 use Rattle.tz_base.specs.declared.error.Error.TheVariants.{InvalidTzFile, OutOfMemory}
 use Rattle.tz_base.specs.declared.error.Expected.TheVariants.{StandardTimeWhereTimeIsUt}
-use Rattle.tz_info.specs.Zones.{Zone, IsValid, ListFault}
-use Rattle.tz_info.specs.FileContents.{HasTypeFault, SpellTypes, SpellTransitions, IndicatorsAgree}
-use Rattle.tz_info.specs.declared.zone.transition.Transition.{Transition}
-use Rattle.tz_info.specs.declared.zone.leap_second.LeapSecond.{LeapSecond}
-use Rattle.tz_info.specs.Footers.{FooterFault}
-use Rattle.tz_info.specs.FilePieces.{FilePieces, HasPieces, PieceFault}
-use Rattle.tz_info.specs.Steps.ContentReading.{GivesInMemory}
-use Rattle.tz_info.specs.Steps.FooterReading.{footer_of}
-use Rattle.tz_info.specs.Steps.FileLists.{zone_of, HasLengths, with_rule, with_types, lists_in, pieces_at, file_at, Reads}
-use Rattle.tz_info.specs.TzFiles.{HasRule, SayZone, IsTzFile, ContentFault, In_type, In_indicators, In_footer, IsFileFault, In_piece, In_contents, Not_valid, IsZoneFault, In_file, No_memory}
-use Rattle.tz_info.specs.declared.file.reader.Lists.{Lists}
-use Rattle.tz_info.specs.declared.rule.transition_rule.TransitionRule.{TransitionRule}
-use Rattle.tz_info.specs.declared.zone.time_zone.TimeZone.{TimeZone}
-use Rattle.tz_info.proofs.ContentLaws.{transitions_law, leap_seconds_law, indicators_law}
-use Rattle.tz_base.proofs.ForCallers.{Decided, like, bind, made, done, value_once, fault_once as one_fault, fault_low as low, apart, either}
-use Rattle.tz_info.proofs.FilePieceLaws.{pieces_law, has_lengths}
+use Rattle.tz_info.proofs.Words.{Bool, ContentFault, Decided, Err, Error, FilePieces, FooterFault, GivesInMemory, HasLengths, HasPieces, HasRule, HasTypeFault}
+use Rattle.tz_info.proofs.Words.{IfErr, IfOk, In_contents, In_file, In_footer, In_indicators, In_piece, In_type, IndicatorsAgree, IsErrAnd, IsFileFault}
+use Rattle.tz_info.proofs.Words.{IsOutOfMemory, IsTzFile, IsValid, IsZoneFault, LeapSecond, List, ListFault, Lists, LocalType, MatchResult, No_memory, None}
+use Rattle.tz_info.proofs.Words.{Not_valid, Ok, Option, PieceFault, Reads, Result, SayZone, Some, SpellTransitions, SpellTypes, TimeZone, Transition}
+use Rattle.tz_info.proofs.Words.{TransitionRule, Zone, ap, apart, arith, bind, done, either, fault_low as low, fault_once as one_fault, file_at, footer_of, inl}
+use Rattle.tz_info.proofs.Words.{inr, like, lists_in, made, number_of, ok_same, pieces_at, refl, subst, sym, value_once, with_rule, with_types, zone_of, ℕ, ◌≡◌}
+use Rattle.tz_info.proofs.Words.{◌≤◌, ◌⊎◌}
+use Rattle.tz_info.proofs.ContentLaws.{indicators_law, leap_seconds_law, transitions_law}
+use Rattle.tz_info.proofs.FilePieceLaws.{has_lengths, pieces_law}
 use Rattle.tz_info.proofs.FooterLaws.{footer_law as footer_bytes_law}
-use Rattle.tz_base.proofs.ForCallers.{ok_same}
+use Rattle.tz_info.proofs.ListFaults.{has_list_fault, list_fault_low, list_fault_once, list_fault_or_valid}
 use Rattle.tz_info.proofs.TypeLaws.{types_law}
-use Rattle.tz_info.proofs.ListFaults.{list_fault_once, list_fault_or_valid, has_list_fault, list_fault_low}
 
 -- ---- what whole pieces say
 abbrev RuleFault : Bool → Option (List ℕ) → Error → Type 0

@@ -1,13 +1,7 @@
 -- Whether a rule agrees with the last transition.
-use Rattle.std.proofs.Common.{◌≡◌, sym, ◌∙◌, List, slice_get, ℤ, Some, inl, inr, Bool, IsTrue, ◌↔◌}
-use Rattle.tz_base.specs.LocalTypes.{LocalType}
-use Rattle.tz_info.specs.Leaps.{IsUnixTime, IsUnixTimeRefused}
-use Rattle.tz_info.specs.RuleTypes.{RuleAt, IsRuleRefused}
-use Rattle.tz_info.specs.Zones.{Agrees}
-use Rattle.tz_info.specs.declared.rule.transition_rule.TransitionRule.{TransitionRule}
-use Rattle.tz_info.specs.declared.zone.leap_second.LeapSecond.{LeapSecond}
-use Rattle.tz_info.specs.declared.zone.transition.Transition.{Transition}
-use Rattle.tz_info.proofs.RuleLaws.{rule_once, rule_not_refused}
+use Rattle.tz_info.proofs.Words.{Agrees, Bool, IsRuleRefused, IsTrue, IsUnixTime, IsUnixTimeRefused, LeapSecond, List, LocalType, RuleAt, Some, Transition}
+use Rattle.tz_info.proofs.Words.{TransitionRule, inl, inr, slice_get, sym, ℤ, ◌↔◌, ◌∙◌, ◌≡◌}
+use Rattle.tz_info.proofs.RuleLaws.{rule_not_refused, rule_once}
 
 unix_time_once : (leaps : List LeapSecond) (x u v : ℤ) → IsUnixTime leaps x u → IsUnixTime leaps x v → u ≡ v
 unix_time_once leaps x u v a b = a.difference ∙ sym b.difference

@@ -1,38 +1,18 @@
 -- A walk from segment to segment: which seconds it adds, why none lies outside it, and how many transitions it reads.
-use Rattle.std.proofs.Common.{◌≡◌, ℕ, zero, suc, ◌+◌, ◌<◌, ◌≤◌, arith, refl, ap, ◌∙◌, sym, Bool, true, false, cond, ◌&&◌, List, [], ◌∷◌, length, get_or, ℤ, ◌+ℤ◌, ◌-ℤ◌, ◌≤ℤ◌, ◌<ℤ◌, int_le, int_lt, inl, inr, Some, None}
-use Rattle.std.specs.List.{filter}
-use Rattle.std.proofs.lemmas.Int.{ints}
-use Rattle.std.proofs.lemmas.Bool.{cases_lt}
-use Rattle.std.proofs.lemmas.List.{get_or_default}
-use Rattle.naive_base.specs.Range.{IsWide}
-use Rattle.offset_core.specs.WallAnswer.{IsWallAnswer}
-use Rattle.offset_core.specs.declared.local_result.LocalResult.{LocalResult}
 use Rattle.offset_core.specs.declared.local_result.LocalResult.TheVariants.{None as Never}
-use Rattle.tz_base.specs.LocalTypes.{LocalType}
-use Rattle.tz_timeline.specs.Counts.{Counts, RoseWithin, reads_more}
-use Rattle.tz_timeline.specs.Digits.{digits}
-use Rattle.tz_timeline.proofs.ForCallers.{le_true, lt_true}
-use Rattle.tz_info.specs.Leaps.{IsNear, least_time}
-use Rattle.tz_info.specs.RuleTypes.{RuleAt}
-use Rattle.tz_info.specs.Segments.{segment_of, table_count}
-use Rattle.tz_info.specs.Steps.Segments.{begin_of, index_of}
-use Rattle.tz_info.specs.Steps.RuleSeconds.{AreUtOffsets, TypeFrom}
-use Rattle.tz_info.specs.Steps.Walk.{TypeIn, IsShownIn, IsTried, IsAskedLast}
-use Rattle.tz_info.specs.Transitions.{AreRising}
-use Rattle.tz_info.specs.WallClocks.{Shows}
-use Rattle.tz_info.specs.WallPieces.{IsStart}
-use Rattle.tz_info.specs.Windows.{between, IsWindow}
-use Rattle.tz_info.specs.Looks.{RoseByWalk}
-use Rattle.tz_info.specs.Zones.{Zone, HasType, IsValid, TypeAt}
-use Rattle.tz_info.specs.declared.rule.transition_rule.TransitionRule.{TransitionRule}
-use Rattle.tz_info.specs.declared.zone.transition.Transition.{Transition}
+use Rattle.tz_info.proofs.Words.{AreRising, AreUtOffsets, Bool, Counts, HasType, IsAskedLast, IsNear, IsShownIn, IsStart, IsTried, IsValid, IsWallAnswer}
+use Rattle.tz_info.proofs.Words.{IsWide, IsWindow, List, LocalResult, LocalType, None, RoseByWalk, RoseWithin, RuleAt, Shows, Some, Transition, TransitionRule}
+use Rattle.tz_info.proofs.Words.{TypeAt, TypeFrom, TypeIn, Zone, ap, arith, begin_of, between, cases_lt, cond, digits, false, filter, get_or, get_or_default}
+use Rattle.tz_info.proofs.Words.{index_of, inl, inr, int_le, int_lt, ints, le_true, least_time, length, lt_true, reads_more, refl, segment_of, suc, sym}
+use Rattle.tz_info.proofs.Words.{table_count, true, zero, ℕ, ℤ, [], ◌&&◌, ◌+ℤ◌, ◌+◌, ◌-ℤ◌, ◌<ℤ◌, ◌<◌, ◌∙◌, ◌∷◌, ◌≡◌, ◌≤ℤ◌, ◌≤◌}
 use Rattle.tz_info.proofs.AnswerLaws.{Parts, same_answer}
 use Rattle.tz_info.proofs.Candidates.{Gains, gained, offset_of_rule}
-use Rattle.tz_info.proofs.ExtremeLaws.{at_most_greatest, at_least_least}
+use Rattle.tz_info.proofs.ExtremeLaws.{at_least_least, at_most_greatest}
 use Rattle.tz_info.proofs.OnePass.{table_most}
-use Rattle.tz_info.proofs.SegmentLaws.{segment_is, segment_at, segment_here, segment_most, segments_rise, later_segment, within_of, between_of, type_from, type_in_from}
+use Rattle.tz_info.proofs.SegmentLaws.{between_of, later_segment, segment_at, segment_here, segment_is, segment_most, segments_rise, type_from, type_in_from}
+use Rattle.tz_info.proofs.SegmentLaws.{within_of}
 use Rattle.tz_info.proofs.TableSearch.{Between}
-use Rattle.tz_info.proofs.WallSegments.{leap_time_of, near_of, rule_begun, offset_here, type_of_table}
+use Rattle.tz_info.proofs.WallSegments.{leap_time_of, near_of, offset_here, rule_begun, type_of_table}
 
 -- ---- segments
 -- one segment more of the table, of whose seconds at most one shows the local time

@@ -1,13 +1,7 @@
 -- What follows from a wall clock's answer.
-use Rattle.std.proofs.Common.{◌≡◌, ℤ, ◌-ℤ◌, subst, arith}
-use Rattle.std.proofs.lemmas.Int.{ints}
-use Rattle.offset_core.specs.WallAnswer.{IsWallAnswer}
-use Rattle.offset_core.specs.declared.local_result.LocalResult.{LocalResult}
-use Rattle.offset_core.specs.declared.local_result.LocalResult.TheVariants.{None, Single, Ambiguous}
-use Rattle.offset_core.proofs.ForCallers.{one_wall_answer}
-use Rattle.tz_base.specs.LocalTypes.{LocalType}
-use Rattle.tz_info.specs.WallClocks.{Shows, AreShown, IsAmongShown}
-use Rattle.tz_info.specs.Zones.{Zone, TypeAt}
+use Rattle.offset_core.specs.declared.local_result.LocalResult.TheVariants.{Ambiguous, None, Single}
+use Rattle.tz_info.proofs.Words.{AreShown, IsAmongShown, IsWallAnswer, LocalResult, LocalType, Shows, TypeAt, Zone, arith, ints, one_wall_answer, subst, ℤ}
+use Rattle.tz_info.proofs.Words.{◌-ℤ◌, ◌≡◌}
 use Rattle.tz_info.proofs.ZoneLaws.{type_once}
 
 -- a second shows the local time by one type

@@ -1,19 +1,8 @@
 -- Pieces of the wall-clock axis: one piece more, and two runs of pieces together.
-use Rattle.std.proofs.Common.{◌≡◌, ℕ, zero, suc, ◌+◌, ◌-◌, ◌<◌, ◌≤◌, arith, refl, sym, ap, ◌∙◌, List, [], ◌∷◌, ◌++◌, length, get_or, map, take, pos, ℤ, ◌≤ℤ◌, ◌<ℤ◌, inl, inr}
-use Rattle.std.proofs.lemmas.Int.{ints, by_lt_z}
-use Rattle.std.proofs.lemmas.Bool.{cases_lt}
-use Rattle.std.proofs.lemmas.List.{take_more, length_push, length-map}
-use Rattle.std.proofs.lemmas.List.Elements.{All-push}
-use Rattle.std.proofs.lemmas.List.Quantifiers.{all_pairs_push}
-use Rattle.tz_timeline.specs.Search.{AreOrdered, ArePassed, IsLastOf}
-use Rattle.tz_timeline.proofs.ForCallers.{le_true, le_false, first_come, times_ordered}
-use Rattle.tz_info.specs.Steps.Merging.{IsNext, IsStep}
-use Rattle.std.proofs.lemmas.Option.{none-some}
-use Rattle.std.specs.Prelude.{Option, Some as some, None as none, unwrap_or}
-use Rattle.tz_info.specs.Steps.Shown.{together}
-use Rattle.tz_info.specs.WallPieces.{answer_before, answer_at, AreInOrder}
-use Rattle.tz_info.specs.declared.zone.pieces.Piece.{Piece}
-use Rattle.tz_info.specs.declared.zone.shown.Shown.{Shown}
+use Rattle.tz_info.proofs.Words.{All-push, AreInOrder, AreOrdered, ArePassed, IsLastOf, IsNext, IsStep, List, None as none, Option, Piece, Shown, Some as some}
+use Rattle.tz_info.proofs.Words.{all_pairs_push, answer_at, answer_before, ap, arith, by_lt_z, cases_lt, first_come, get_or, inl, inr, ints, le_false, le_true}
+use Rattle.tz_info.proofs.Words.{length, length-map, length_push, map, none-some, pos, refl, suc, sym, take, take_more, times_ordered, together, unwrap_or}
+use Rattle.tz_info.proofs.Words.{zero, ℕ, ℤ, [], ◌++◌, ◌+◌, ◌-◌, ◌<ℤ◌, ◌<◌, ◌∙◌, ◌∷◌, ◌≡◌, ◌≤ℤ◌, ◌≤◌}
 use Rattle.tz_info.specs.declared.zone.shown.Shown.TheVariants.{Once}
 use Rattle.tz_info.proofs.Prefixes.{last_taken}
 

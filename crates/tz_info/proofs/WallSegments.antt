@@ -1,37 +1,18 @@
 -- The pieces of a zone's segments: what one segment answers, and how neighbours' pieces make those of both.
-use Rattle.std.proofs.Common.{◌≡◌, ℕ, zero, suc, ◌-◌, ◌<◌, ◌≤◌, arith, refl, sym, ap, List, [], ◌∷◌, length, get_or, true, false, ℤ, pos, neg_ℤ, ◌+ℤ◌, ◌-ℤ◌, ◌≤ℤ◌, ◌<ℤ◌, inl, inr, ◌⊎◌, ⊎_elim, ◌↔◌, Option, Some as some, None as none, nat_lt, subst}
-use Rattle.std.proofs.lemmas.Int.{ints, by_lt_z}
-use Rattle.std.proofs.lemmas.Bool.{cases_lt}
-use Rattle.std.proofs.lemmas.Bool.Decides.{nat_tests}
-use Rattle.naive_base.specs.Range.{IsWide}
-use Rattle.offset_core.specs.WallAnswer.{IsWallAnswer}
-use Rattle.offset_core.specs.declared.local_result.LocalResult.{LocalResult}
-use Rattle.offset_core.specs.declared.local_result.LocalResult.TheVariants.{None, Single, Ambiguous}
-use Rattle.tz_base.specs.LocalTypes.{LocalType, IsUtOffset}
-use Rattle.tz_timeline.proofs.ForCallers.{le_true, le_false}
-use Rattle.tz_info.specs.Leaps.{IsLeapTime, IsNear}
-use Rattle.tz_info.specs.Segments.{segment_of, table_count, table_count_by}
-use Rattle.tz_info.specs.Steps.Segments.{index_of}
-use Rattle.tz_info.specs.Steps.Shown.{together}
-use Rattle.tz_info.specs.Steps.Merging.{IsMerged}
-use Rattle.tz_info.specs.Steps.Pieces.{AreBelow, AreListed, closing, ArePieces, IsCutFrom}
-use Rattle.tz_info.specs.Steps.Starts.{IsReachedFrom, IsCut}
-use Rattle.tz_info.specs.Steps.Walk.{TypeIn, IsShownIn}
-use Rattle.tz_info.specs.Transitions.{AreRising}
-use Rattle.tz_info.specs.WallClocks.{Shows}
-use Rattle.tz_info.specs.WallPieces.{AreInOrder, ShownAmong, ListedAmong, IsLastBefore, IsTypeBefore, IsShownAmong, IsStart, IsIndex, wall_of}
-use Rattle.tz_info.specs.Zones.{Zone, IsValid, HasType, TypeAt}
-use Rattle.tz_info.specs.declared.rule.transition_rule.TransitionRule.{TransitionRule}
-use Rattle.tz_info.specs.declared.zone.leap_second.LeapSecond.{LeapSecond}
-use Rattle.tz_info.specs.declared.zone.pieces.Piece.{Piece}
-use Rattle.tz_info.specs.declared.zone.shown.Shown.{Shown}
-use Rattle.tz_info.specs.declared.zone.shown.Shown.TheVariants.{Less, Skipped, Once}
-use Rattle.tz_info.specs.declared.zone.transition.Transition.{Transition}
+use Rattle.offset_core.specs.declared.local_result.LocalResult.TheVariants.{Ambiguous, None, Single}
+use Rattle.tz_info.proofs.Words.{AreBelow, AreInOrder, AreListed, ArePieces, AreRising, HasType, IsCut, IsCutFrom, IsIndex, IsLastBefore, IsLeapTime, IsMerged}
+use Rattle.tz_info.proofs.Words.{IsNear, IsReachedFrom, IsShownAmong, IsShownIn, IsStart, IsTypeBefore, IsUtOffset, IsValid, IsWallAnswer, IsWide, LeapSecond}
+use Rattle.tz_info.proofs.Words.{List, ListedAmong, LocalResult, LocalType, None as none, Option, Piece, Shown, ShownAmong, Shows, Some as some, Transition}
+use Rattle.tz_info.proofs.Words.{TransitionRule, TypeAt, TypeIn, Zone, ap, arith, by_lt_z, cases_lt, closing, false, get_or, index_of, inl, inr, ints, le_false}
+use Rattle.tz_info.proofs.Words.{le_true, length, nat_lt, nat_tests, neg_ℤ, pos, refl, segment_of, subst, suc, sym, table_count, table_count_by, together, true}
+use Rattle.tz_info.proofs.Words.{wall_of, zero, ℕ, ℤ, [], ⊎_elim, ◌+ℤ◌, ◌-ℤ◌, ◌-◌, ◌<ℤ◌, ◌<◌, ◌↔◌, ◌∷◌, ◌≡◌, ◌≤ℤ◌, ◌≤◌, ◌⊎◌}
+use Rattle.tz_info.specs.declared.zone.shown.Shown.TheVariants.{Less, Once, Skipped}
 use Rattle.tz_info.proofs.AnswerLaws.{Parts, joined_answer, same_answer}
 use Rattle.tz_info.proofs.LeapOrder.{leap_times_answer}
 use Rattle.tz_info.proofs.LeapStarts.{saturated, saturated_rise}
-use Rattle.tz_info.proofs.ShownLaws.{wall_together, side_together}
-use Rattle.tz_info.proofs.SegmentLaws.{segment_at, segments_rise, segment_most, come_at_time, come_by_time, later_segment, type_before, type_from, type_in_before, type_in_from}
+use Rattle.tz_info.proofs.SegmentLaws.{come_at_time, come_by_time, later_segment, segment_at, segment_most, segments_rise, type_before, type_from}
+use Rattle.tz_info.proofs.SegmentLaws.{type_in_before, type_in_from}
+use Rattle.tz_info.proofs.ShownLaws.{side_together, wall_together}
 use Rattle.tz_info.proofs.TableSearch.{Between}
 use Rattle.tz_info.proofs.ZoneLaws.{leap_time_decided, listed_inside}
 

@@ -1,17 +1,9 @@
 -- Every wall clock has an answer.
-use Rattle.std.proofs.Common.{◌≡◌, ℕ, zero, suc, ℤ, pos, neg_ℤ, ◌+ℤ◌, ◌≤ℤ◌, ◌<ℤ◌, ◌⊎◌, inl, inr, subst, arith}
-use Rattle.std.specs.Prelude.{FitsSigned}
-use Rattle.std.specs.Int.{w64}
-use Rattle.std.proofs.lemmas.Int.{ints, by_lt_z}
-use Rattle.offset_core.specs.WallAnswer.{IsWallAnswer}
-use Rattle.offset_core.specs.declared.local_result.LocalResult.{LocalResult}
 use Rattle.offset_core.specs.declared.local_result.LocalResult.TheVariants.{None, Single}
-use Rattle.tz_base.specs.LocalTypes.{LocalType}
-use Rattle.tz_info.specs.Steps.Answers.{joined}
-use Rattle.tz_info.specs.WallClocks.{Shows}
-use Rattle.tz_info.specs.Zones.{Zone, IsValid, IsRuleOrNone, TypeAt}
+use Rattle.tz_info.proofs.Words.{FitsSigned, IsRuleOrNone, IsValid, IsWallAnswer, LocalResult, LocalType, Shows, TypeAt, Zone, arith, by_lt_z, inl, inr, ints}
+use Rattle.tz_info.proofs.Words.{joined, neg_ℤ, pos, subst, suc, w64, zero, ℕ, ℤ, ◌+ℤ◌, ◌<ℤ◌, ◌≡◌, ◌≤ℤ◌, ◌⊎◌}
 use Rattle.tz_info.proofs.AnswerLaws.{behind_answer, same_answer}
-use Rattle.tz_info.proofs.ZoneLaws.{fits_or_not, type_once, type_not_refused, type_decided}
+use Rattle.tz_info.proofs.ZoneLaws.{fits_or_not, type_decided, type_not_refused, type_once}
 
 -- each second shows a type, or shows none
 abbrev IsDecided : (ℤ → LocalType → Type 0) → Type 0

@@ -1,10 +1,6 @@
 -- A local time has one window, and one count of the transitions in it.
-use Rattle.std.proofs.Common.{◌≡◌, ℕ, ◌∙◌, sym, ap, arith, List, length, ℤ, ◌+ℤ◌, ◌-ℤ◌, ◌≤ℤ◌}
-use Rattle.std.proofs.lemmas.Int.{ints}
-use Rattle.std.proofs.lemmas.List.Elements.{All-contains}
-use Rattle.tz_info.specs.Leaps.{correction_at}
-use Rattle.tz_info.specs.Windows.{IsGreatest, IsLeast, between, IsWindowCount}
-use Rattle.tz_info.specs.Zones.{Zone}
+use Rattle.tz_info.proofs.Words.{All-contains, IsGreatest, IsLeast, IsWindowCount, List, Zone, ap, arith, between, correction_at, ints, length, sym, ℕ, ℤ, ◌+ℤ◌}
+use Rattle.tz_info.proofs.Words.{◌-ℤ◌, ◌∙◌, ◌≡◌, ◌≤ℤ◌}
 
 greatest_once : (xs : List ℤ) (g h : ℤ) → IsGreatest xs g → IsGreatest xs h → g ≡ h
 greatest_once xs g h a b =

@@ -1,34 +1,19 @@
 -- Where a zone's types change: at its transitions, and behind them where the rule's types do.
-use Rattle.std.proofs.Common.{◌≡◌, ◌⊎◌, ℕ, zero, suc, ◌+◌, ◌-◌, ◌<◌, ◌≤◌, ◌↔◌, arith, refl, sym, ap, ◌∙◌, List, [], ◌∷◌, length, take, length-take, get_or, cond, int_le, ℤ, pos, ◌-ℤ◌, ◌≤ℤ◌, ◌<ℤ◌, inl, inr, Option, Some, None, MatchOption, w64}
-use Rattle.std.proofs.lemmas.Int.{ints, by_lt_z}
-use Rattle.std.proofs.lemmas.Bool.{cases_lt}
-use Rattle.std.proofs.lemmas.Bool.Decides.{nat_tests}
-use Rattle.std.proofs.lemmas.List.Sums.{sum_by-cons}
-use Rattle.std.specs.List.{count_by}
-use mir.Val.{SFits}
-use Rattle.tz_base.specs.LocalTypes.{LocalType}
-use Rattle.tz_info.specs.Changes.{IsChange, HasNoChange, IsFirstChange, IsLastChange, IsFirst, IsLast}
-use Rattle.tz_info.specs.Leaps.{AreLeapSeconds, IsLeapTime, IsLeapTimeRefused, thresholds, passed_count}
-use Rattle.tz_info.specs.Moments.{AlternateAt, IsRuleTime}
-use Rattle.tz_info.specs.Rules.{Alternate as AlternateRule}
-use Rattle.tz_info.specs.Segments.{segment_of}
-use Rattle.tz_info.specs.Steps.Changes.{ComesAt, HasNoneAt, AreComeOrAll, IsBegin, IsByRule, IsInTable, AreAhead, AreComeAt, IsLaterOf}
-use Rattle.tz_info.specs.Transitions.{passed}
-use Rattle.tz_info.specs.Steps.Starts.{HaveCome}
-use Rattle.tz_info.specs.Zones.{Zone, IsValid, TypeAt, RuleOrType}
-use Rattle.tz_base.specs.declared.change.Change.{Change}
-use Rattle.tz_info.specs.declared.rule.transition_rule.TransitionRule.{TransitionRule}
-use Rattle.tz_info.specs.declared.rule.transition_rule.TransitionRule.TheVariants.{Fixed, Alternate}
-use Rattle.tz_info.specs.declared.zone.leap_second.LeapSecond.{LeapSecond}
-use Rattle.tz_info.specs.declared.zone.transition.Transition.{Transition}
+use Rattle.tz_info.proofs.Words.{Alternate as AlternateRule, AlternateAt, AreAhead, AreComeAt, AreComeOrAll, AreLeapSeconds, Change, ComesAt, HasNoChange}
+use Rattle.tz_info.proofs.Words.{HasNoneAt, HaveCome, IsBegin, IsByRule, IsChange, IsFirst, IsFirstChange, IsInTable, IsLast, IsLastChange, IsLaterOf}
+use Rattle.tz_info.proofs.Words.{IsLeapTime, IsLeapTimeRefused, IsRuleTime, IsValid, LeapSecond, List, LocalType, MatchOption, None, Option, RuleOrType, SFits}
+use Rattle.tz_info.proofs.Words.{Some, Transition, TransitionRule, TypeAt, Zone, ap, arith, by_lt_z, cases_lt, cond, count_by, get_or, inl, inr, int_le, ints}
+use Rattle.tz_info.proofs.Words.{length, length-take, nat_tests, passed, passed_count, pos, refl, segment_of, suc, sum_by-cons, sym, take, thresholds, w64}
+use Rattle.tz_info.proofs.Words.{zero, ℕ, ℤ, [], ◌+◌, ◌-ℤ◌, ◌-◌, ◌<ℤ◌, ◌<◌, ◌↔◌, ◌∙◌, ◌∷◌, ◌≡◌, ◌≤ℤ◌, ◌≤◌, ◌⊎◌}
+use Rattle.tz_info.specs.declared.rule.transition_rule.TransitionRule.TheVariants.{Alternate, Fixed}
 use Rattle.tz_info.proofs.ChangeSearch.{first_moved, last_moved}
-use Rattle.tz_info.proofs.GapLaws.{IsSteady, HasOneType, one_type}
+use Rattle.tz_info.proofs.GapLaws.{HasOneType, IsSteady, one_type}
 use Rattle.tz_info.proofs.LeapEntries.{follow, threshold_at}
-use Rattle.tz_info.proofs.LeapStarts.{correction_behind, reached_later, times_rise}
 use Rattle.tz_info.proofs.LeapOrder.{bounded}
+use Rattle.tz_info.proofs.LeapStarts.{correction_behind, reached_later, times_rise}
 use Rattle.tz_info.proofs.PassedTransitions.{no_items}
 use Rattle.tz_info.proofs.RuleChanges.{rule_second}
-use Rattle.tz_info.proofs.SegmentLaws.{segments_rise, segment_most, segment_at, later_segment, type_from, type_in_from, come_by_time, come_at_time}
+use Rattle.tz_info.proofs.SegmentLaws.{come_at_time, come_by_time, later_segment, segment_at, segment_most, segments_rise, type_from, type_in_from}
 use Rattle.tz_info.proofs.ZoneLaws.{leap_time_decided}
 
 -- ---- which seconds have a leap time

@@ -1,11 +1,7 @@
 -- The zone of a file: of the lists that are read, those that make a valid zone.
-use Rattle.std.proofs.Common.{◌≡◌, ℕ, ◌∙◌, sym, subst, List, Result, Ok, Err, IfOk, IfErr, MatchResult, ◌⊎◌, inl, inr}
-use Rattle.tz_base.specs.declared.error.Error.{Error}
 use Rattle.tz_base.specs.declared.error.Error.TheVariants.{OutOfMemory}
-use Rattle.tz_info.specs.Zones.{Zone, IsValid, ListFault}
-use Rattle.tz_info.specs.FilePieces.{FilePieces, HasPieces}
-use Rattle.tz_info.specs.TzFiles.{IsTzFile, IsZoneFault, Not_valid, In_file, No_memory}
-use Rattle.tz_info.specs.declared.zone.time_zone.TimeZone.{TimeZone}
+use Rattle.tz_info.proofs.Words.{Err, Error, FilePieces, HasPieces, IfErr, IfOk, In_file, IsTzFile, IsValid, IsZoneFault, List, ListFault, MatchResult}
+use Rattle.tz_info.proofs.Words.{No_memory, Not_valid, Ok, Result, TimeZone, Zone, inl, inr, subst, sym, ℕ, ◌∙◌, ◌≡◌, ◌⊎◌}
 use Rattle.tz_info.proofs.TzFileLaws.{one_zone}
 
 -- what making a zone of lists answers

@@ -1,21 +1,12 @@
 -- At each second a zone has one type, of its list or of its rule, or it is refused, and never both.
-use Rattle.std.proofs.Common.{◌≡◌, ℕ, zero, suc, ◌<◌, ◌≤◌, ℤ, pos, neg_ℤ, ◌+ℤ◌, Option, Some, None, List, [], ◌∷◌, length, map, get_or, int_le, ◌⊎◌, inl, inr, ⊎_elim, arith, refl, sym, ◌∙◌, ap, slice_get, w64}
-use Rattle.std.proofs.lemmas.Int.{ints, by_lt_z}
-use Rattle.std.proofs.lemmas.Bool.{cases_lt}
-use Rattle.std.proofs.lemmas.List.Sums.{length-filter, count_by-le-length}
-use mir.Val.{SFits}
-use Rattle.tz_base.specs.LocalTypes.{LocalType}
-use Rattle.tz_timeline.proofs.ForCallers.{le_true, le_false}
-use Rattle.tz_base.specs.Errors.{number_of}
-use Rattle.tz_info.specs.Leaps.{AreLeapSeconds, corrections, passed_count, correction_at, IsLeapTime, IsLeapTimeRefused}
-use Rattle.tz_info.specs.Lists.{last_else}
-use Rattle.tz_info.specs.Transitions.{passed, AreTransitions}
-use Rattle.tz_info.specs.Zones.{Zone, HasType, IsValid, RuleOrElse, IsRefusedBy, index_at, IsBeforeLast, IsFromLast, TypeAt, IsTypeRefused, type_error, by_leap_time, by_rule, IsRuleOrNone, IsTypeOf, zone_of_rule}
-use Rattle.tz_info.specs.declared.rule.transition_rule.TransitionRule.{TransitionRule}
-use Rattle.tz_info.specs.declared.zone.leap_second.LeapSecond.{LeapSecond}
-use Rattle.tz_info.specs.declared.zone.transition.Transition.{Transition}
+use Rattle.tz_info.proofs.Words.{AreLeapSeconds, AreTransitions, HasType, IsBeforeLast, IsFromLast, IsLeapTime, IsLeapTimeRefused, IsRefusedBy, IsRuleOrNone}
+use Rattle.tz_info.proofs.Words.{IsTypeOf, IsTypeRefused, IsValid, LeapSecond, List, LocalType, None, Option, RuleOrElse, SFits, Some, Transition}
+use Rattle.tz_info.proofs.Words.{TransitionRule, TypeAt, Zone, ap, arith, by_leap_time, by_lt_z, by_rule, cases_lt, correction_at, corrections}
+use Rattle.tz_info.proofs.Words.{count_by-le-length, get_or, index_at, inl, inr, int_le, ints, last_else, le_false, le_true, length, length-filter, map, neg_ℤ}
+use Rattle.tz_info.proofs.Words.{number_of, passed, passed_count, pos, refl, slice_get, suc, sym, type_error, w64, zero, zone_of_rule, ℕ, ℤ, [], ⊎_elim, ◌+ℤ◌}
+use Rattle.tz_info.proofs.Words.{◌<◌, ◌∙◌, ◌∷◌, ◌≡◌, ◌≤◌, ◌⊎◌}
 use Rattle.tz_info.proofs.PassedTransitions.{no_items}
-use Rattle.tz_info.proofs.RuleLaws.{rule_once, rule_not_refused, rule_decided}
+use Rattle.tz_info.proofs.RuleLaws.{rule_decided, rule_not_refused, rule_once}
 
 passed_at_most : (z : Zone) (x : ℤ) → length (passed z.transitions x) ≤ length z.transitions
 passed_at_most z x = omega (arith, length-filter (λ (t : Transition). int_le t.unix_leap_time x) z.transitions, count_by-le-length (λ (t : Transition). int_le t.unix_leap_time x) z.transitions)

@@ -1,6 +1,7 @@
 -- Leap seconds (RFC 8536 section 3.2, "leap-second records"). A Unix time counts seconds from 1970-01-01 00:00:00 UTC
 -- without the leap seconds, a leap time counts them too; an entry's correction is the difference from its leap time on.
-use Rattle.std.specs.Prelude.{ℕ, ◌≡◌, ◌+◌, ◌<◌, List, [], ◌∷◌, length, slice_index_or, take, map, filter, count_by, ℤ, pos, neg_ℤ, ◌+ℤ◌, ◌-ℤ◌, ◌≤ℤ◌, int_le, int_lt, if◌then◌else◌, ◌⊎◌, FitsSigned}
+use Rattle.std.specs.Prelude.{ℕ, ◌≡◌, ◌+◌, ◌<◌, List, [], ◌∷◌, length, slice_index_or, take, map, filter, count_by, ℤ, pos, neg_ℤ, ◌+ℤ◌, ◌-ℤ◌, ◌≤ℤ◌, int_le}
+use Rattle.std.specs.Prelude.{int_lt, if◌then◌else◌, ◌⊎◌, FitsSigned}
 use Rattle.std.specs.Int.{w64}
 use Rattle.std.specs.List.{AllAdjacentBelow}
 use Rattle.tz_base.specs.declared.error.Expected.{Expected}

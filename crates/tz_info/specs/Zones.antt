@@ -3,7 +3,8 @@ use Rattle.std.specs.Prelude.{ℕ, ℤ, ◌≡◌, ◌<◌, ◌-◌, List, [], �
 use Rattle.tz_base.specs.LocalTypes.{LocalType, plain_type}
 use Rattle.tz_base.specs.declared.error.Error.{Error}
 use Rattle.tz_base.specs.declared.error.Error.TheVariants.{FindLocalTimeType, TimeZone}
-use Rattle.tz_base.specs.declared.error.Expected.TheVariants.{AtLeastOneLocalTimeType, LeapSecondsInOrder, LeapTimeOf64Bits, RuleThatAgreesWithLastTransition, TransitionTimesThatRise, TypeIndexesWithinTypes, YearThatRuleAnswersIn}
+use Rattle.tz_base.specs.declared.error.Expected.TheVariants.{AtLeastOneLocalTimeType, LeapSecondsInOrder, LeapTimeOf64Bits, RuleThatAgreesWithLastTransition}
+use Rattle.tz_base.specs.declared.error.Expected.TheVariants.{TransitionTimesThatRise, TypeIndexesWithinTypes, YearThatRuleAnswersIn}
 use Rattle.tz_info.specs.Leaps.{AreLeapSeconds, IsLeapTime, IsLeapTimeRefused, IsUnixTime}
 use Rattle.tz_info.specs.Lists.{last_else}
 use Rattle.tz_info.specs.RuleTypes.{RuleAt, IsRuleRefused, IsRule}

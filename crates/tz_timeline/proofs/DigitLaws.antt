@@ -1,6 +1,5 @@
 -- A number has one binary digit more than its half.
-use Rattle.std.proofs.Common.{◌≡◌, ℕ, zero, suc, ◌+◌, ◌/◌, ◌<◌, ◌≤◌, arith, refl, ap}
-use Rattle.tz_timeline.specs.Digits.{digits, digits_within}
+use Rattle.tz_timeline.proofs.Words.{ap, arith, digits, digits_within, refl, suc, zero, ℕ, ◌+◌, ◌/◌, ◌<◌, ◌≡◌, ◌≤◌}
 
 -- more fuel than enough changes nothing
 enough : (f g m : ℕ) → m ≤ f → m ≤ g → digits_within f m ≡ digits_within g m

@@ -1,19 +1,9 @@
 -- What hints say of a search.
-use Rattle.std.proofs.Common.{◌≡◌, ℕ, zero, suc, ℤ, ◌+◌, ◌-◌, ◌*◌, ◌/◌, ◌^◌, ◌<◌, ◌≤◌, arith, refl, ap, ◌∙◌, sym, pos, nat_abs, List, length, ◌+ℤ◌, ◌-ℤ◌, ◌≤ℤ◌, ◌<ℤ◌, inl, inr, negsuc, set, max, replicate, ◌≢◌, ◌⊎◌, div-mul-le_self, div-lt_iff_lt-mul, lt-suc_self, mul-le-mul_right}
-use Rattle.std.specs.Prelude.{slice_index}
-use Rattle.std.specs.Ordering.{ord_max, nat_cmp}
-use Rattle.std.proofs.Math.Pow.{shr_mono}
-use Rattle.std.proofs.lemmas.Bool.{cases_eq, cases_lt}
-use Rattle.std.proofs.lemmas.Grind.{get_or-set_at}
-use Rattle.std.proofs.lemmas.List.{get_or-set_other, length-set}
-use Rattle.std.proofs.lemmas.Nat.{pow_pos}
-use Rattle.std.proofs.lemmas.Int.{ints}
-use Rattle.tz_timeline.specs.Steps.Hints.{AreFilled, AreHints, AreMarked, AreRaised, AreRaisedUntil, IsHinted, IsLastBefore, stretch_of}
-use Rattle.tz_timeline.specs.Search.{AreOrdered, time_at}
-use Rattle.tz_timeline.specs.Steps.Search.{AreEnds, IsNear}
-use Rattle.tz_timeline.specs.declared.hints.Hints.{Hints}
-use Rattle.tz_timeline.specs.declared.hints.Near.{Near}
-use Rattle.tz_timeline.specs.declared.timeline.Ends.{Ends}
+use Rattle.tz_timeline.proofs.Words.{AreEnds, AreFilled, AreHints, AreMarked, AreOrdered, AreRaised, AreRaisedUntil, Ends, Hints, IsHinted, IsLastBefore}
+use Rattle.tz_timeline.proofs.Words.{IsNear, List, Near, ap, arith, cases_eq, cases_lt, div-lt_iff_lt-mul, div-mul-le_self, get_or-set_at, get_or-set_other}
+use Rattle.tz_timeline.proofs.Words.{inl, inr, ints, length, length-set, lt-suc_self, max, mul-le-mul_right, nat_abs, nat_cmp, negsuc, ord_max, pos, pow_pos}
+use Rattle.tz_timeline.proofs.Words.{refl, replicate, set, shr_mono, slice_index, stretch_of, suc, sym, time_at, zero, ℕ, ℤ, ◌*◌, ◌+ℤ◌, ◌+◌, ◌-ℤ◌, ◌-◌, ◌/◌}
+use Rattle.tz_timeline.proofs.Words.{◌<ℤ◌, ◌<◌, ◌^◌, ◌∙◌, ◌≡◌, ◌≢◌, ◌≤ℤ◌, ◌≤◌, ◌⊎◌}
 use Rattle.tz_timeline.proofs.SearchSteps.{not_before}
 
 -- the seconds of a stretch

@@ -1,8 +1,6 @@
 -- Lists whose first n items pass a test and whose others do not, and functions that rise from place to place.
-use Rattle.std.proofs.Common.{◌≡◌, ℕ, zero, suc, ◌+◌, ◌-◌, ◌<◌, ◌≤◌, arith, refl, ap, ◌∙◌, add-zero, add-suc, List, [], ◌∷◌, length, get_or, take, map, Bool, true, false, cond, ℤ, ◌≤ℤ◌, ◌<ℤ◌, int_le, int_lt}
-use Rattle.std.specs.List.{count_by, filter}
-use Rattle.std.proofs.lemmas.Int.{ints}
-use Rattle.std.proofs.lemmas.List.Sums.{sum_by-cons}
+use Rattle.tz_timeline.proofs.Words.{Bool, List, add-suc, add-zero, ap, arith, cond, count_by, false, filter, get_or, int_le, int_lt, ints, length, map, refl}
+use Rattle.tz_timeline.proofs.Words.{suc, sum_by-cons, take, true, zero, ℕ, ℤ, [], ◌+◌, ◌-◌, ◌<ℤ◌, ◌<◌, ◌∙◌, ◌∷◌, ◌≡◌, ◌≤ℤ◌, ◌≤◌}
 
 -- the first n items pass
 abbrev pub PassFirst : {X : Type 0} → (X → Bool) → List X → ℕ → Type 0

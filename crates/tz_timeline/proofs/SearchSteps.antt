@@ -1,16 +1,9 @@
 -- What each step of a search among items in order of time keeps.
-use Rattle.std.proofs.Common.{◌≡◌, ℕ, zero, suc, ℤ, ◌+◌, ◌-◌, ◌*◌, ◌/◌, ◌^◌, ◌<◌, ◌≤◌, arith, refl, ap, ◌∙◌, sym, pos, List, length, get_or, map, take, ◌≤ℤ◌, ◌<ℤ◌, int_le, inl, inr}
-use Rattle.std.specs.List.{filter}
-use Rattle.std.proofs.lemmas.Bool.{cases_lt}
-use Rattle.std.proofs.lemmas.Int.{ints}
-use Rattle.std.proofs.lemmas.List.{length-map}
-use Rattle.tz_timeline.specs.Digits.{digits}
-use Rattle.tz_timeline.specs.Search.{AreOrdered, ArePassed, time_at}
-use Rattle.tz_timeline.specs.Steps.Search.{AreEnds, IsLeft, IsNear}
-use Rattle.tz_timeline.specs.declared.hints.Near.{Near}
-use Rattle.tz_timeline.specs.declared.timeline.Ends.{Ends}
+use Rattle.tz_timeline.proofs.Words.{AreEnds, AreOrdered, ArePassed, Ends, IsLeft, IsNear, List, Near, ap, arith, cases_lt, digits, filter, get_or, inl, inr}
+use Rattle.tz_timeline.proofs.Words.{int_le, ints, length, length-map, map, pos, refl, suc, sym, take, time_at, zero, ℕ, ℤ, ◌*◌, ◌+◌, ◌-◌, ◌/◌, ◌<ℤ◌, ◌<◌, ◌^◌}
+use Rattle.tz_timeline.proofs.Words.{◌∙◌, ◌≡◌, ◌≤ℤ◌, ◌≤◌}
 use Rattle.tz_timeline.proofs.DigitLaws.{digits-half, digits-less, digits-more}
-use Rattle.tz_timeline.proofs.Prefixes.{filter_first, le_true, le_false, mapped_at}
+use Rattle.tz_timeline.proofs.Prefixes.{filter_first, le_false, le_true, mapped_at}
 
 -- the time of an item that was read
 pub time_read : {A : Type 0} (time : A → ℤ) (items : List A) (place : ℕ) (x : A) → place < length items → x ≡ get_or items place x → time x ≡ time_at (map time items) place

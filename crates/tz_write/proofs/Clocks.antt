@@ -1,19 +1,12 @@
 -- The texts of offsets and of times of day.
-use Rattle.std.proofs.Common.{◌≡◌, ℕ, zero, suc, ℤ, pos, negsuc, neg_ℤ, ◌+◌, ◌*◌, ◌/◌, ◌%◌, ◌<◌, ◌≤◌, arith, refl, ap, ◌∙◌, sym, subst, List, [], ◌∷◌, ◌++◌, append_assoc, Bool, true, false, not, ◌&&◌, ◌==◌, inl, inr, ◌⊎◌, cond, unsigned_abs}
-use Rattle.std.specs.Fmt.{decimal}
-use Rattle.std.proofs.lemmas.Int.{ints}
-use Rattle.std.proofs.lemmas.Bool.{both_ways, false≢true}
-use Rattle.std.proofs.lemmas.Bool.Decides.{nat_tests}
-use Rattle.offset_core.specs.Offset.{IsWithinDay}
-use Rattle.tz_base.specs.Fronts.{is_digit, NoneFirst}
-use Rattle.tz_base.specs.Grammar.{Spells, Without}
 use Rattle.tz_info.specs.TzGrammar as tz
-use Rattle.tz_info.specs.TzGrammar.{seconds_of, time_limit, clock_max, colon, plus, minus}
-use Rattle.tz_info.specs.Rules.{IsWithinWeek}
-use Rattle.tz_write.specs.WrittenTexts.{AreInPairs, IsPlainTime, IsTimeOf}
-use Rattle.tz_write.specs.Steps.TextPieces.{pair_text, seconds_text, minutes_text, clock_text_of, clock_text, signed_text, offset_text, time_text, is_positive, is_negative}
-use Rattle.tz_write.proofs.Shortest.{Front, front_then, front_cons, front_longer, front_nothing, front_any, pairs_after}
-use Rattle.tz_write.proofs.Decimals.{number_spelled, pair_spelled, number_front, pair_front, pairs_number, pairs_pair, first_digit, digit_least, digit_most}
+use Rattle.tz_write.proofs.Words.{AreInPairs, Bool, IsPlainTime, IsTimeOf, IsWithinDay, IsWithinWeek, List, NoneFirst, Spells, Without, ap, append_assoc, arith}
+use Rattle.tz_write.proofs.Words.{both_ways, clock_max, clock_text, clock_text_of, colon, cond, decimal, false, false≢true, inl, inr, ints, is_digit}
+use Rattle.tz_write.proofs.Words.{is_negative, is_positive, minus, minutes_text, nat_tests, neg_ℤ, negsuc, not, offset_text, pair_text, plus, pos, refl}
+use Rattle.tz_write.proofs.Words.{seconds_of, seconds_text, signed_text, subst, suc, sym, time_limit, time_text, true, unsigned_abs, zero, ℕ, ℤ, [], ◌%◌, ◌&&◌}
+use Rattle.tz_write.proofs.Words.{◌*◌, ◌++◌, ◌+◌, ◌/◌, ◌<◌, ◌==◌, ◌∙◌, ◌∷◌, ◌≡◌, ◌≤◌, ◌⊎◌}
+use Rattle.tz_write.proofs.Decimals.{digit_least, digit_most, first_digit, number_front, number_spelled, pair_front, pair_spelled, pairs_number, pairs_pair}
+use Rattle.tz_write.proofs.Shortest.{Front, front_any, front_cons, front_longer, front_nothing, front_then, pairs_after}
 
 -- nothing that goes on with an offset or a time: no digit and no colon
 abbrev pub Stops : List ℕ → Type 0

@@ -1,25 +1,14 @@
 -- The texts of days and of the times after them, and of the offset of daylight saving time.
-use Rattle.std.proofs.Common.{◌≡◌, ℕ, zero, suc, ℤ, pos, negsuc, ◌+ℤ◌, ◌≤ℤ◌, ◌<◌, ◌≤◌, arith, refl, ap, ◌∙◌, sym, subst, List, [], ◌∷◌, ◌++◌, append_assoc, Bool, true, false, inl, inr, ◌⊎◌, ◌≢◌, cond}
-use Rattle.std.specs.Fmt.{decimal}
-use Rattle.std.specs.Ordering.{int_eq}
-use Rattle.std.proofs.lemmas.Int.{ints}
-use Rattle.std.proofs.lemmas.Bool.{both_ways}
-use Rattle.std.proofs.lemmas.Bool.Decides.{Decides-int_eq}
-use Rattle.offset_core.specs.Offset.{IsWithinDay}
-use Rattle.tz_base.specs.Fronts.{is_digit, NoneFirst}
-use Rattle.tz_base.specs.Grammar.{Spells, Without, IsNumber}
 use Rattle.tz_info.specs.TzGrammar as tz
-use Rattle.tz_info.specs.TzGrammar.{date_max, day_max, comma, dot, slash, letter_J, letter_M}
-use Rattle.tz_info.specs.RuleDays.{IsRuleDay}
-use Rattle.tz_info.specs.Rules.{IsWithinWeek}
-use Rattle.tz_info.specs.declared.rule.day.DayForm.{DayForm}
-use Rattle.tz_info.specs.declared.rule.day.DayForm.TheVariants.{Julian1, Julian0, MonthWeekday}
-use Rattle.tz_info.specs.declared.rule.day.DayTime.{DayTime}
-use Rattle.tz_write.specs.WrittenTexts.{AreInPairs, IsPlainTime, IsTimeOf}
-use Rattle.tz_write.specs.Steps.TextPieces.{offset_text, time_text, time_after, date_text, day_text, dst_offset_text}
-use Rattle.tz_write.proofs.Shortest.{Front, front_then, front_cons, front_nothing, front_any, pairs_after}
-use Rattle.tz_write.proofs.Decimals.{number_spelled, number_front, pairs_number, first_digit, digit_most}
-use Rattle.tz_write.proofs.Clocks.{Stops, time_spelled, time_plain, time_front, time_pairs, offset_spelled, offset_front, offset_pairs, offset_first, clock_without}
+use Rattle.tz_info.specs.declared.rule.day.DayForm.TheVariants.{Julian0, Julian1, MonthWeekday}
+use Rattle.tz_write.proofs.Words.{AreInPairs, Bool, DayForm, DayTime, Decides-int_eq, IsNumber, IsPlainTime, IsRuleDay, IsTimeOf, IsWithinDay, IsWithinWeek}
+use Rattle.tz_write.proofs.Words.{List, NoneFirst, Spells, Without, ap, append_assoc, arith, both_ways, comma, cond, date_max, date_text, day_max, day_text}
+use Rattle.tz_write.proofs.Words.{decimal, dot, dst_offset_text, false, inl, inr, int_eq, ints, is_digit, letter_J, letter_M, negsuc, offset_text, pos, refl}
+use Rattle.tz_write.proofs.Words.{slash, subst, suc, sym, time_after, time_text, true, zero, ℕ, ℤ, [], ◌++◌, ◌+ℤ◌, ◌<◌, ◌∙◌, ◌∷◌, ◌≡◌, ◌≢◌, ◌≤ℤ◌, ◌≤◌, ◌⊎◌}
+use Rattle.tz_write.proofs.Clocks.{Stops, clock_without, offset_first, offset_front, offset_pairs, offset_spelled, time_front, time_pairs, time_plain}
+use Rattle.tz_write.proofs.Clocks.{time_spelled}
+use Rattle.tz_write.proofs.Decimals.{digit_most, first_digit, number_front, number_spelled, pairs_number}
+use Rattle.tz_write.proofs.Shortest.{Front, front_any, front_cons, front_nothing, front_then, pairs_after}
 
 -- what may stand after an offset or a day: nothing, or a comma
 abbrev pub IsEndOrComma : List ℕ → Type 0

@@ -1,14 +1,7 @@
 -- Decimal digits without zeros in front are the shortest that spell a number.
-use Rattle.std.proofs.Common.{◌≡◌, ℕ, ◌+◌, ◌/◌, ◌%◌, ◌<◌, ◌≤◌, arith, refl, subst, List, [], ◌∷◌, ◌++◌, length, true, inl, inr}
-use Rattle.std.specs.Fmt.{decimal}
-use Rattle.std.proofs.lemmas.Fmt.{decimal_digit, decimal_step}
-use Rattle.std.proofs.lemmas.Bool.{cases_lt, both_ways}
-use Rattle.std.proofs.lemmas.Bool.Decides.{nat_tests}
-use Rattle.tz_base.specs.Fronts.{is_digit, value_from, AllDigits, NoneFirst}
-use Rattle.tz_base.specs.Grammar.{IsNumber}
-use Rattle.tz_info.specs.TzGrammar.{colon}
-use Rattle.tz_write.specs.WrittenTexts.{AreInPairs, TwoDigits}
-use Rattle.tz_write.specs.Steps.TextPieces.{pair_text}
+use Rattle.tz_write.proofs.Words.{AllDigits, AreInPairs, IsNumber, List, NoneFirst, TwoDigits, arith, both_ways, cases_lt, colon, decimal, decimal_digit}
+use Rattle.tz_write.proofs.Words.{decimal_step, inl, inr, is_digit, length, nat_tests, pair_text, refl, subst, true, value_from, ℕ, [], ◌%◌, ◌++◌, ◌+◌, ◌/◌}
+use Rattle.tz_write.proofs.Words.{◌<◌, ◌∷◌, ◌≡◌, ◌≤◌}
 use Rattle.tz_write.proofs.Shortest.{Best, Front, front_cons}
 
 is_digit_of : (d : ℕ) → d < 10 → is_digit (48 + d) ≡ true

@@ -1,12 +1,7 @@
 -- Headers that are written are headers.
-use Rattle.std.proofs.Common.{ℕ, ◌<◌, ◌^◌, Bool, true, false, List, ◌∷◌, ◌++◌, refl, arith, inl, inr}
-use Rattle.tz_base.specs.Grammar.{Spells}
-use Rattle.tz_info.specs.FileHeaders.{magic, tzif, version, six_counts, CountsAgree, header}
-use Rattle.tz_info.specs.declared.file.header.Place.{Place}
-use Rattle.tz_info.specs.declared.file.header.Version.{Version}
-use Rattle.tz_info.specs.declared.file.header.Version.TheVariants.{Two, Three}
-use Rattle.tz_info.specs.declared.file.header.Counts.{Counts}
-use Rattle.tz_write.specs.FileBytes.{number_bytes, counts_bytes, version_byte, unused, header_bytes}
+use Rattle.tz_info.specs.declared.file.header.Version.TheVariants.{Three, Two}
+use Rattle.tz_write.proofs.Words.{Bool, Counts, CountsAgree, List, Place, Spells, Version, arith, counts_bytes, false, header, header_bytes, inl, inr, magic}
+use Rattle.tz_write.proofs.Words.{number_bytes, refl, six_counts, true, tzif, unused, version, version_byte, ℕ, ◌++◌, ◌<◌, ◌^◌, ◌∷◌}
 use Rattle.tz_write.proofs.FileNumbers.{number_is}
 
 -- counts of four bytes

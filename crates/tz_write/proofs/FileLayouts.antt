@@ -1,20 +1,15 @@
 -- Where any designations have the names of the types at places that a byte can name, those that are laid have them.
-use Rattle.std.proofs.Common.{◌≡◌, ◌≢◌, ℕ, zero, suc, ◌+◌, ◌*◌, ◌<◌, ◌≤◌, Bool, true, false, cond, nat_lt, ◌==◌, List, [], ◌∷◌, ◌++◌, length, get_or, drop, append_assoc, Option, Some, None, refl, sym, ap, ◌∙◌, subst, arith, ◌⊎◌, inl, inr}
-use Rattle.std.proofs.Math.Seq.{drop-append_seam}
-use Rattle.std.proofs.lemmas.Bool.{cases_lt}
-use Rattle.std.proofs.lemmas.Bool.Decides.{nat_tests}
-use Rattle.std.proofs.lemmas.List.{append-nil, length-append}
-use Rattle.std.proofs.lemmas.List.Elements.{All-nil, All-cons, All-head, All-tail, All-weaker}
-use Rattle.std.specs.Prelude.{All, MatchOption}
-use Rattle.tz_base.specs.LocalTypes.{LocalType}
-use Rattle.tz_base.specs.Names.{IsNameOrNone}
-use Rattle.tz_info.specs.FileContents.{HasNoZero, StandsAt}
-use Rattle.tz_write.specs.FileDesignations.{text_or_none, text_of, place_of, IsNamedIn, AreNamesIn, AreShortest}
-use Rattle.tz_write.specs.FileLayouts.{HasPlace, HavePlaces, with_text, ends, before_last, laid, before_zero, text_at, laid_from, ArePlaced, IsPlacedFrom, AreNotPlacedBefore, IsFirstPlaced, IsLaid, In_order, Otherwise}
-use Rattle.tz_write.proofs.FileMeetings.{Stands, Ends, Meeting, In_front, Behind, Is_end, Has_end, meet}
-use Rattle.tz_write.proofs.FileNames.{not_less, less_again, ends_of, ends_again, place_behind, place_kept, place_of_put, In, put_in, end_in, in_stands}
-use Rattle.tz_write.proofs.FileRecords.{less, has_text, no_zero}
-use Rattle.tz_write.proofs.FileRoom.{Room, Given, room_of, no_front, before_room, before_in, before_keeps, before_filled, kept, put}
+use Rattle.tz_write.proofs.Words.{All, All-cons, All-head, All-nil, All-tail, All-weaker, AreNamesIn, AreNotPlacedBefore, ArePlaced, AreShortest, Bool}
+use Rattle.tz_write.proofs.Words.{HasNoZero, HasPlace, HavePlaces, In_order, IsFirstPlaced, IsLaid, IsNameOrNone, IsNamedIn, IsPlacedFrom, List, LocalType}
+use Rattle.tz_write.proofs.Words.{MatchOption, None, Option, Otherwise, Some, StandsAt, ap, append-nil, append_assoc, arith, before_last, before_zero, cases_lt}
+use Rattle.tz_write.proofs.Words.{cond, drop, drop-append_seam, ends, false, get_or, inl, inr, laid, laid_from, length, length-append, nat_lt, nat_tests}
+use Rattle.tz_write.proofs.Words.{place_of, refl, subst, suc, sym, text_at, text_or_none, true, with_text, zero, ℕ, [], ◌*◌, ◌++◌, ◌+◌, ◌<◌, ◌==◌, ◌∙◌, ◌∷◌}
+use Rattle.tz_write.proofs.Words.{◌≡◌, ◌≢◌, ◌≤◌, ◌⊎◌}
+use Rattle.tz_write.specs.FileDesignations.{text_of}
+use Rattle.tz_write.proofs.FileMeetings.{Behind, Ends, Has_end, In_front, Is_end, Meeting, Stands, meet}
+use Rattle.tz_write.proofs.FileNames.{In, end_in, ends_again, ends_of, in_stands, less_again, not_less, place_behind, place_kept, place_of_put, put_in}
+use Rattle.tz_write.proofs.FileRecords.{has_text, less, no_zero}
+use Rattle.tz_write.proofs.FileRoom.{Given, Room, before_filled, before_in, before_keeps, before_room, kept, no_front, put, room_of}
 
 -- ---- texts
 name_size : (name : Option (List ℕ)) → IsNameOrNone name → (length (text_or_none name) ≤ 7) × ((length (text_or_none name) ≡ 0) ⊎ (3 ≤ length (text_or_none name)))

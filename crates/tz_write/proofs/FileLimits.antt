@@ -1,26 +1,12 @@
 -- What every file's zone has room for.
-use Rattle.std.proofs.Common.{◌≡◌, ℕ, zero, suc, ◌+◌, ◌*◌, ◌<◌, ◌^◌, Bool, List, [], ◌∷◌, ◌++◌, length, map, inl, inr, Option, Some, None, refl, sym, ap, ◌∙◌, subst, arith}
-use Rattle.std.proofs.lemmas.List.{length-append, length-map, get_or_append_left}
-use Rattle.std.proofs.lemmas.List.Elements.{All-nil, All-cons, All-head, All-tail}
-use Rattle.std.specs.Prelude.{All}
-use Rattle.tz_base.specs.LocalTypes.{LocalType}
-use Rattle.tz_base.specs.Grammar.{Spells, be_u32}
-use Rattle.tz_info.specs.FileBlocks.{Parts, block}
-use Rattle.tz_info.specs.FileContents.{AreRecords, SpellsLeapSecond, StandsAt, designation_of, place_in, SpellsType, SpellTypes}
-use Rattle.tz_info.specs.FileHeaders.{tzif, version, version_1, six_counts, header}
-use Rattle.tz_info.specs.FilePieces.{FilePieces, HasPieces, first_version, later_version, after_first_block, file}
-use Rattle.tz_info.specs.TzFiles.{IsTzFile, HasRule}
-use Rattle.tz_info.specs.Zones.{Zone}
-use Rattle.tz_info.specs.declared.file.header.Counts.{Counts}
-use Rattle.tz_info.specs.declared.file.header.Header.{Header}
-use Rattle.tz_info.specs.declared.file.header.Place.{Place}
 use Rattle.tz_info.specs.declared.file.header.Place.TheVariants.{First, Second}
-use Rattle.tz_info.specs.declared.file.header.Version.{Version}
-use Rattle.tz_info.specs.declared.file.header.Version.TheVariants.{One, Two, Three}
-use Rattle.tz_info.specs.declared.rule.transition_rule.TransitionRule.{TransitionRule}
-use Rattle.tz_info.specs.declared.zone.transition.Transition.{Transition}
-use Rattle.tz_write.specs.FileDesignations.{text_or_none, IsNamedIn, AreNamesIn}
-use Rattle.tz_write.specs.WrittenFiles.{HasIndex, HasText, IsWritable}
+use Rattle.tz_info.specs.declared.file.header.Version.TheVariants.{One, Three, Two}
+use Rattle.tz_write.proofs.Words.{All, All-cons, All-head, All-nil, All-tail, AreNamesIn, AreRecords, Bool, Counts, FilePieces, HasIndex, HasPieces, HasRule}
+use Rattle.tz_write.proofs.Words.{HasText, Header, IsNamedIn, IsTzFile, IsWritable, List, LocalType, None, Option, Parts, Place, Some, SpellTypes, Spells}
+use Rattle.tz_write.proofs.Words.{SpellsLeapSecond, SpellsType, StandsAt, Transition, TransitionRule, Version, Zone, after_first_block, ap, arith, be_u32}
+use Rattle.tz_write.proofs.Words.{block, designation_of, file, first_version, get_or_append_left, header, inl, inr, later_version, length, length-append}
+use Rattle.tz_write.proofs.Words.{length-map, map, place_in, refl, six_counts, subst, suc, sym, text_or_none, tzif, version, version_1, zero, ℕ, [], ◌*◌, ◌++◌}
+use Rattle.tz_write.proofs.Words.{◌+◌, ◌<◌, ◌^◌, ◌∙◌, ◌∷◌, ◌≡◌}
 use Rattle.tz_write.proofs.RuleTexts.{rule_named}
 
 abbrev pub IsByte : ℕ → Type 0

@@ -1,6 +1,5 @@
 -- Two texts that stand in the same bytes: one of them stands wholly in front of the other, or one ends the other.
-use Rattle.std.proofs.Common.{◌≡◌, ℕ, List, [], ◌∷◌, ◌++◌, get_or, refl, sym, ap, ◌∙◌}
-use Rattle.tz_info.specs.FileContents.{HasNoZero}
+use Rattle.tz_write.proofs.Words.{HasNoZero, List, ap, get_or, refl, sym, ℕ, [], ◌++◌, ◌∙◌, ◌∷◌, ◌≡◌}
 
 -- a text and its 0 byte stand in the bytes
 pub record Stands (bytes text : List ℕ) : Type 0 where

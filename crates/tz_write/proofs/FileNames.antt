@@ -1,14 +1,8 @@
 -- Texts that stand in designations.
-use Rattle.std.proofs.Common.{◌≡◌, ℕ, suc, ◌+◌, ◌<◌, ◌≤◌, Bool, true, false, cond, nat_lt, ◌==◌, ◌&&◌, List, [], ◌∷◌, ◌++◌, length, get_or, drop, append_assoc, refl, sym, ap, ◌∙◌, subst, arith}
-use Rattle.std.proofs.lemmas.Bool.Decides.{Decides-eqb, nat_tests}
-use Rattle.std.proofs.lemmas.List.{length-append, get_or_at}
-use Rattle.std.proofs.lemmas.Slice.Eq.{starts_is, ends_is}
-use Rattle.std.specs.Bool.{nat_eq}
-use Rattle.std.specs.List.{starts_with}
-use Rattle.tz_info.specs.FileContents.{HasNoZero}
-use Rattle.tz_write.specs.FileDesignations.{begins, place_of}
-use Rattle.tz_write.specs.FileLayouts.{ends}
-use Rattle.tz_write.proofs.FileMeetings.{Stands, Ends}
+use Rattle.tz_write.proofs.Words.{Bool, Decides-eqb, HasNoZero, List, ap, append_assoc, arith, begins, cond, drop, ends, ends_is, false, get_or, get_or_at}
+use Rattle.tz_write.proofs.Words.{length, length-append, nat_eq, nat_lt, nat_tests, place_of, refl, starts_is, starts_with, subst, suc, sym, true, ℕ, [], ◌&&◌}
+use Rattle.tz_write.proofs.Words.{◌++◌, ◌+◌, ◌<◌, ◌==◌, ◌∙◌, ◌∷◌, ◌≡◌, ◌≤◌}
+use Rattle.tz_write.proofs.FileMeetings.{Ends, Stands}
 use Rattle.tz_write.proofs.FileRecords.{begins_is, has_text}
 
 -- ---- tests

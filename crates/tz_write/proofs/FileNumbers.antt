@@ -1,13 +1,7 @@
 -- Numbers that are written spell themselves.
-use Rattle.std.proofs.Common.{◌≡◌, ℕ, ℤ, ◌<◌, ◌^◌, List, ◌++◌, length, refl, ap, sym, ◌∙◌, arith}
-use Rattle.std.proofs.Math.Facts.{Fits-of_z}
 use Rattle.std.proofs.lemmas.Int.{to_z-of_z}
-use Rattle.std.proofs.lemmas.Nat.{from_be_bytes-to_be_bytes_4, from_be_bytes-to_be_bytes_8}
-use Rattle.std.specs.Int.{w32, w64, cast_signed, cast_unsigned}
-use Rattle.std.specs.Prelude.{FitsSigned}
-use Rattle.tz_info.specs.FileContents.{signed}
-use Rattle.tz_base.specs.Grammar.{Spells, be_u32}
-use Rattle.tz_write.specs.FileBytes.{number_bytes, signed_bytes}
+use Rattle.tz_write.proofs.Words.{Fits-of_z, FitsSigned, List, Spells, ap, arith, be_u32, cast_signed, cast_unsigned, from_be_bytes-to_be_bytes_4}
+use Rattle.tz_write.proofs.Words.{from_be_bytes-to_be_bytes_8, length, number_bytes, refl, signed, signed_bytes, sym, w32, w64, ℕ, ℤ, ◌++◌, ◌<◌, ◌^◌, ◌∙◌, ◌≡◌}
 
 -- a count
 pub number_is : (n : ℕ) (rest : List ℕ) → n < 2 ^ 32 → Spells be_u32 (number_bytes n ++ rest) n rest

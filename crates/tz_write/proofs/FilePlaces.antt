@@ -1,7 +1,5 @@
 -- The place of a text in the designations.
-use Rattle.std.proofs.Common.{◌≡◌, ℕ, ◌+◌, ◌<◌, true, false, List, ◌∷◌, length, get_or, drop, refl, arith}
-use Rattle.std.proofs.lemmas.List.{drop_more}
-use Rattle.tz_write.specs.FileDesignations.{begins, place_of}
+use Rattle.tz_write.proofs.Words.{List, arith, begins, drop, drop_more, false, get_or, length, place_of, refl, true, ℕ, ◌+◌, ◌<◌, ◌∷◌, ◌≡◌}
 
 -- it stands here
 pub place_here : (text bs : List ℕ) (i : ℕ) → i < length bs → begins text (drop i bs) ≡ true → place_of text (drop i bs) ≡ 0

@@ -1,26 +1,13 @@
 -- Records that are written spell their items.
-use Rattle.std.proofs.Common.{◌≡◌, ◌≢◌, ℕ, ℤ, suc, ◌+◌, ◌*◌, ◌<◌, ◌<ℤ◌, Bool, true, false, cond, nat_lt, ◌==◌, ◌&&◌, List, [], ◌∷◌, ◌++◌, length, get_or, drop, Option, Some, None, refl, ap, ◌∙◌, subst, arith}
-use Rattle.std.proofs.lemmas.Bool.{and_parts, false≢true}
-use Rattle.std.proofs.lemmas.Bool.Decides.{Decides-eqb, nat_tests}
-use Rattle.std.proofs.lemmas.Int.{ints}
-use Rattle.std.proofs.lemmas.List.{length-append, drop_more}
-use Rattle.std.proofs.lemmas.List.Concat.{flat_map_single}
-use Rattle.std.proofs.lemmas.List.Elements.{All-head, All-tail}
-use Rattle.std.proofs.lemmas.Slice.Eq.{starts_is}
-use Rattle.std.specs.Bool.{nat_eq}
-use Rattle.std.specs.Int.{w32, w64}
-use Rattle.std.specs.List.{flat_map, starts_with}
-use Rattle.std.specs.Prelude.{All, FitsSigned}
-use Rattle.tz_base.specs.LocalTypes.{LocalType, IsUtOffset}
-use Rattle.tz_base.specs.Names.{IsNameOrNone, is_name_byte}
-use Rattle.tz_info.specs.FileContents.{time_of, AreRecords, SpellTransitions, SpellsLeapSecond, SpellLeapSeconds, HasNoZero, StandsAt, designation_of, IsMark, SpellsType, SpellTypes, least_offset}
-use Rattle.tz_info.specs.declared.zone.leap_second.LeapSecond.{LeapSecond}
-use Rattle.tz_info.specs.declared.zone.transition.Transition.{Transition}
-use Rattle.tz_write.specs.FileBytes.{signed_bytes, time_bytes, index_bytes, mark_byte, type_bytes, leap_bytes}
-use Rattle.tz_write.specs.FileDesignations.{text_or_none, text_of, begins, place_of}
-use Rattle.tz_write.specs.FileLayouts.{HasPlace}
-use Rattle.tz_write.specs.WrittenFiles.{IsTime, IsEntry, IsType}
-use Rattle.tz_write.proofs.FileNumbers.{size_32, size_64, signed_32, signed_64}
+use Rattle.tz_write.proofs.Words.{All, All-head, All-tail, AreRecords, Bool, Decides-eqb, FitsSigned, HasNoZero, HasPlace, IsEntry, IsMark, IsNameOrNone}
+use Rattle.tz_write.proofs.Words.{IsTime, IsType, IsUtOffset, LeapSecond, List, LocalType, None, Option, Some, SpellLeapSeconds, SpellTransitions, SpellTypes}
+use Rattle.tz_write.proofs.Words.{SpellsLeapSecond, SpellsType, StandsAt, Transition, and_parts, ap, arith, begins, cond, designation_of, drop, drop_more}
+use Rattle.tz_write.proofs.Words.{false, false≢true, flat_map, flat_map_single, get_or, index_bytes, ints, is_name_byte, leap_bytes, least_offset, length}
+use Rattle.tz_write.proofs.Words.{length-append, mark_byte, nat_eq, nat_lt, nat_tests, place_of, refl, signed_bytes, starts_is, starts_with, subst, suc}
+use Rattle.tz_write.proofs.Words.{text_or_none, time_bytes, time_of, true, type_bytes, w32, w64, ℕ, ℤ, [], ◌&&◌, ◌*◌, ◌++◌, ◌+◌, ◌<ℤ◌, ◌<◌, ◌==◌, ◌∙◌, ◌∷◌, ◌≡◌}
+use Rattle.tz_write.proofs.Words.{◌≢◌}
+use Rattle.tz_write.specs.FileDesignations.{text_of}
+use Rattle.tz_write.proofs.FileNumbers.{signed_32, signed_64, size_32, size_64}
 
 -- ---- records laid end to end
 pub record Spelled {X : Type 0} (size : ℕ) (Spells : List ℕ → X → Type 0) (f : X → List ℕ) (x : X) : Type 0 where

@@ -1,18 +1,11 @@
 -- How much room designations take: each text that is put in has bytes of its own in any others that have the texts.
-use Rattle.std.proofs.Common.{◌≡◌, ℕ, ◌+◌, ◌<◌, ◌≤◌, Bool, true, false, cond, nat_lt, not, ◌==◌, ◌&&◌, List, [], ◌∷◌, ◌++◌, length, get_or, append_assoc, refl, sym, ap, ◌∙◌, arith, ◌⊎◌, inl, inr}
-use Rattle.std.proofs.lemmas.Bool.{cases_lt}
-use Rattle.std.proofs.lemmas.Bool.Decides.{nat_tests}
-use Rattle.std.proofs.lemmas.List.{append-nil, length-append}
-use Rattle.std.proofs.lemmas.List.Elements.{All-nil, All-cons, All-head, All-tail}
-use Rattle.std.specs.List.{fold}
-use Rattle.std.specs.Prelude.{All}
-use Rattle.tz_base.specs.LocalTypes.{LocalType}
-use Rattle.tz_info.specs.FileContents.{HasNoZero}
-use Rattle.tz_write.specs.FileDesignations.{text_of, place_of}
-use Rattle.tz_write.specs.FileLayouts.{with_text, ends, with_text_of, with_texts, before_last}
-use Rattle.tz_write.proofs.FileMeetings.{Stands, Ends, Meeting, In_front, Behind, Is_end, Has_end, meet}
+use Rattle.tz_write.proofs.Words.{All, All-cons, All-head, All-nil, All-tail, Bool, HasNoZero, List, LocalType, ap, append-nil, append_assoc, arith}
+use Rattle.tz_write.proofs.Words.{before_last, cases_lt, cond, ends, false, fold, get_or, inl, inr, length, length-append, nat_lt, nat_tests, not, place_of}
+use Rattle.tz_write.proofs.Words.{refl, sym, true, with_text, with_text_of, with_texts, ℕ, [], ◌&&◌, ◌++◌, ◌+◌, ◌<◌, ◌==◌, ◌∙◌, ◌∷◌, ◌≡◌, ◌≤◌, ◌⊎◌}
+use Rattle.tz_write.specs.FileDesignations.{text_of}
+use Rattle.tz_write.proofs.FileMeetings.{Behind, Ends, Has_end, In_front, Is_end, Meeting, Stands, meet}
+use Rattle.tz_write.proofs.FileNames.{In, ends_again, ends_of, in_longer, not_less, put_in, same_again}
 use Rattle.tz_write.proofs.FileRecords.{less}
-use Rattle.tz_write.proofs.FileNames.{not_less, same_again, ends_of, ends_again, In, in_longer, put_in}
 
 -- what is left of other bytes when the texts that stand in the designations are cut out of them: the texts that are to come, of
 -- at most that size or at the end of the last one, still stand there

@@ -1,30 +1,15 @@
 -- The file that is written spells the zone.
-use Rattle.std.proofs.Common.{◌≡◌, ◌≢◌, ℕ, ◌<◌, ◌≤◌, Bool, true, false, List, [], ◌∷◌, ◌++◌, length, get_or, refl, ◌∙◌, subst, inl, arith, ◌+◌, ◌*◌}
-use Rattle.std.proofs.lemmas.Bool.{false≢true}
-use Rattle.std.proofs.lemmas.Bool.Decides.{nat_tests}
-use Rattle.std.proofs.lemmas.Str.{IsUtf8-from_ascii}
-use Rattle.std.proofs.lemmas.Str.Ascii.{IsAscii-from_all}
-use Rattle.std.proofs.lemmas.List.Elements.{All-cons, All-nil}
-use Rattle.std.specs.Prelude.{All, Option}
-use Rattle.tz_base.specs.LocalTypes.{LocalType}
-use Rattle.tz_base.specs.Grammar.{Spells}
-use Rattle.tz_info.specs.FileBlocks.{Parts, block}
-use Rattle.tz_info.specs.FileContents.{HasNoZero}
-use Rattle.tz_info.specs.FileHeaders.{CountsAgree, counts_test}
-use Rattle.tz_info.specs.FilePieces.{FilePieces, later_pieces, is_extended, later_version, after_first_block, file, HasPieces}
-use Rattle.tz_info.specs.Footers.{IsFooter, SaysRule}
-use Rattle.tz_info.specs.TzFiles.{IsTzFile, SayZone}
-use Rattle.tz_info.specs.Zones.{Zone}
-use Rattle.tz_info.specs.declared.file.header.Counts.{Counts}
 use Rattle.tz_info.specs.declared.file.header.Place.TheVariants.{First, Second}
-use Rattle.tz_info.specs.declared.rule.transition_rule.TransitionRule.{TransitionRule}
-use Rattle.tz_write.specs.FileBytes.{number_bytes, counts_bytes, header_bytes, first_half, second_half, file_bytes, least_counts, least_block, zone_counts, zone_parts, block_bytes, footer_bytes, time_bytes, index_bytes, type_bytes, leap_bytes}
-use Rattle.tz_write.specs.FileLayouts.{HavePlaces}
-use Rattle.tz_write.specs.WrittenFiles.{HasCounts, IsSound}
-use Rattle.tz_write.proofs.FileHeads.{CountsFit, version_of, header_is}
+use Rattle.tz_write.proofs.Words.{All, All-cons, All-nil, Bool, Counts, CountsAgree, FilePieces, HasCounts, HasNoZero, HasPieces, HavePlaces, IsAscii-from_all}
+use Rattle.tz_write.proofs.Words.{IsFooter, IsSound, IsTzFile, IsUtf8-from_ascii, List, LocalType, Option, Parts, SayZone, SaysRule, Spells, TransitionRule}
+use Rattle.tz_write.proofs.Words.{Zone, after_first_block, arith, block, block_bytes, counts_bytes, counts_test, false, false≢true, file, file_bytes}
+use Rattle.tz_write.proofs.Words.{first_half, footer_bytes, get_or, header_bytes, index_bytes, inl, is_extended, later_pieces, later_version, leap_bytes}
+use Rattle.tz_write.proofs.Words.{least_block, least_counts, length, nat_tests, number_bytes, refl, second_half, subst, time_bytes, true, type_bytes}
+use Rattle.tz_write.proofs.Words.{zone_counts, zone_parts, ℕ, [], ◌*◌, ◌++◌, ◌+◌, ◌<◌, ◌∙◌, ◌∷◌, ◌≡◌, ◌≢◌, ◌≤◌}
+use Rattle.tz_write.proofs.FileHeads.{CountsFit, header_is, version_of}
 use Rattle.tz_write.proofs.FileNumbers.{size_64}
-use Rattle.tz_write.proofs.TextBytes.{is_text_byte, AreTextBytes, begins_bare, ends_bare}
-use Rattle.tz_write.proofs.FileRecords.{size_of_records, transitions_are, leap_size, leaps_are, type_size, types_are}
+use Rattle.tz_write.proofs.FileRecords.{leap_size, leaps_are, size_of_records, transitions_are, type_size, types_are}
+use Rattle.tz_write.proofs.TextBytes.{AreTextBytes, begins_bare, ends_bare, is_text_byte}
 
 -- ---- footers
 -- letters, digits and signs of ASCII, and no colon in front

@@ -1,25 +1,15 @@
 -- What is written of a zone.
-use Rattle.std.proofs.Common.{◌≡◌, ℕ, ◌<◌, Bool, true, false, List, [], length, get_or, Option, Some, None, Result, Ok, Err, refl, sym, ap, ◌∙◌, subst, arith, inl, inr}
-use Rattle.std.proofs.lemmas.Bool.{cases_lt}
-use Rattle.std.proofs.lemmas.List.Elements.{All-weaker}
-use Rattle.tz_base.specs.LocalTypes.{LocalType}
-use Rattle.tz_base.specs.Names.{IsNameOrNone}
-use Rattle.tz_info.specs.Footers.{SaysRule}
-use Rattle.tz_info.specs.Zones.{Zone, IsRuleOrNone}
-use Rattle.tz_info.specs.declared.rule.transition_rule.TransitionRule.{TransitionRule}
-use Rattle.tz_write.specs.FileBytes.{header_bytes, counts_bytes, number_bytes, first_half, second_half, file_bytes}
-use Rattle.tz_write.specs.FileLayouts.{HavePlaces, laid_from, IsFirstPlaced, IsLaid, In_order, Otherwise}
-use Rattle.tz_write.specs.Steps.FileParts.{HasRoom}
-use Rattle.tz_write.specs.declared.file.writer.Room.{Room}
-use Rattle.tz_write.specs.WrittenFiles.{HasText, IsFooterText, IsInNoFile, IsWritable, HaveVersion, IsWrittenFile, NeedsExtensions, IsType, IsSound}
-use Rattle.tz_info.specs.TzFiles.{IsTzFile}
-use Rattle.std.specs.Result.{IfOk, OnOk}
+use Rattle.tz_write.proofs.Words.{All-weaker, Bool, Err, HasRoom, HasText, HavePlaces, HaveVersion, IfOk, In_order, IsFirstPlaced, IsFooterText, IsInNoFile}
+use Rattle.tz_write.proofs.Words.{IsLaid, IsNameOrNone, IsRuleOrNone, IsSound, IsType, IsTzFile, IsWritable, IsWrittenFile, List, LocalType, NeedsExtensions}
+use Rattle.tz_write.proofs.Words.{None, Ok, OnOk, Option, Otherwise, Result, Room, SaysRule, Some, TransitionRule, Zone, ap, arith, cases_lt, counts_bytes}
+use Rattle.tz_write.proofs.Words.{false, file_bytes, first_half, get_or, header_bytes, inl, inr, laid_from, length, number_bytes, refl, second_half, subst, sym}
+use Rattle.tz_write.proofs.Words.{true, ℕ, [], ◌<◌, ◌∙◌, ◌≡◌}
 use Rattle.tz_write.proofs.FileLayouts.{laid_of, laid_size}
 use Rattle.tz_write.proofs.FileLimits.{writable}
 use Rattle.tz_write.proofs.FileSpelled.{IsPlain, file_is}
 use Rattle.tz_write.proofs.RuleTexts.{rule_named}
 use Rattle.tz_write.proofs.TextBytes.{AreTextBytes, text_are, text_first}
-use Rattle.tz_write.proofs.WrittenLaws.{text_once, text_some, rule_text, extensions}
+use Rattle.tz_write.proofs.WrittenLaws.{extensions, rule_text, text_once, text_some}
 use Rattle.tz_write.proofs.ZoneTexts.{not_empty}
 
 text_is : (rule : Option TransitionRule) (text : List ℕ) (extended : Bool) → IsRuleOrNone rule → IsFooterText rule text extended → IsPlain text × SaysRule extended text rule

@@ -1,3 +1,4 @@
+pub mod Words
 mod Shortest
 mod Decimals
 mod Clocks

@@ -1,15 +1,8 @@
 -- The texts of names.
-use Rattle.std.proofs.Common.{◌≡◌, ℕ, suc, ◌<◌, ◌≤◌, ◌≢◌, arith, refl, ap, ◌∙◌, sym, subst, List, [], ◌∷◌, ◌++◌, length, length-append, append_assoc, get_or, Bool, true, false, inl, inr, cond}
-use Rattle.std.specs.List.{list_all}
-use Rattle.std.proofs.lemmas.Bool.{and_parts, and_from, both_ways}
-use Rattle.std.proofs.lemmas.Bool.Decides.{nat_tests}
-use Rattle.tz_base.specs.Names.{is_name_byte, IsName}
-use Rattle.tz_base.specs.Fronts.{AllOf, NoneFirst}
-use Rattle.tz_base.specs.Grammar.{Spells, Without}
 use Rattle.tz_info.specs.TzGrammar as tz
-use Rattle.tz_info.specs.TzGrammar.{is_letter, is_not_greater, less, greater, colon}
-use Rattle.tz_write.specs.WrittenTexts.{AreInPairs}
-use Rattle.tz_write.specs.Steps.TextPieces.{name_text}
+use Rattle.tz_write.proofs.Words.{AllOf, AreInPairs, Bool, IsName, List, NoneFirst, Spells, Without, and_from, and_parts, ap, append_assoc, arith, both_ways}
+use Rattle.tz_write.proofs.Words.{colon, cond, false, get_or, greater, inl, inr, is_letter, is_name_byte, is_not_greater, length, length-append, less, list_all}
+use Rattle.tz_write.proofs.Words.{name_text, nat_tests, refl, subst, suc, sym, true, ℕ, [], ◌++◌, ◌<◌, ◌∙◌, ◌∷◌, ◌≡◌, ◌≢◌, ◌≤◌}
 use Rattle.tz_write.proofs.Shortest.{Front, front_cons}
 
 all_from : (p : ℕ → Bool) (bs : List ℕ) → list_all p bs ≡ true → AllOf p bs

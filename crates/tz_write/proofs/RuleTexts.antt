@@ -1,28 +1,16 @@
 -- The text of a rule: it spells the rule, and each other one is longer.
-use Rattle.std.proofs.Common.{◌≡◌, ℕ, ℤ, pos, ◌+ℤ◌, ◌<◌, ◌≤◌, arith, refl, ap, ◌∙◌, sym, subst, List, [], ◌∷◌, ◌++◌, append_assoc, Bool, true, false, not, inl, inr, cond, Some}
-use Rattle.std.proofs.lemmas.List.{append-nil}
-use Rattle.std.proofs.lemmas.Bool.Decides.{nat_tests}
-use Rattle.std.proofs.lemmas.Bool.{both_ways}
-use Rattle.std.specs.Ordering.{int_eq}
-use Rattle.offset_core.specs.Offset.{IsWithinDay}
-use Rattle.tz_base.specs.Fronts.{is_digit, NoneFirst}
-use Rattle.tz_base.specs.LocalTypes.{LocalType}
-use Rattle.tz_base.specs.Names.{IsName}
-use Rattle.tz_base.specs.Grammar.{Spells}
 use Rattle.tz_info.specs.TzGrammar as tz
-use Rattle.tz_info.specs.TzGrammar.{comma, is_letter, IsTzText}
-use Rattle.tz_info.proofs.ForCallers.{offset_fits}
-use Rattle.tz_info.specs.Rules.{Alternate, IsAlternateRule}
-use Rattle.tz_info.specs.RuleTypes.{IsRule}
-use Rattle.tz_info.specs.declared.rule.transition_rule.TransitionRule.{TransitionRule}
 use Rattle.tz_info.specs.declared.rule.transition_rule.TransitionRule.TheVariants as rules
-use Rattle.tz_write.specs.WrittenTexts.{AreInPairs, IsUnspelled, IsWrittenText, IsTimeOf, IsNamedType, CanBeSpelled, AreTimesOf}
-use Rattle.tz_write.specs.Steps.TextPieces.{offset_text, name_text, day_text, dst_offset_text, name_or_none, name_of, type_text, alternate_text, text_of}
-use Rattle.tz_write.proofs.Shortest.{Best, Front, front_then, front_cons, pairs_after}
-use Rattle.tz_write.proofs.Clocks.{Stops, offset_spelled, offset_front, offset_pairs, offset_first}
-use Rattle.tz_write.proofs.TextParts.{IsFixedText, IsAlternateText, parts_of, fixed_text, alternate_text_is}
-use Rattle.tz_write.proofs.NameTexts.{name_spelled, name_front, name_pairs, name_first}
-use Rattle.tz_write.proofs.DayTexts.{IsEndOrComma, stops, day_spelled, day_front, day_pairs, day_plain, dst_offset_spelled, dst_offset_front, dst_offset_pairs}
+use Rattle.tz_write.proofs.Words.{Alternate, AreInPairs, AreTimesOf, Bool, CanBeSpelled, IsAlternateRule, IsName, IsNamedType, IsRule, IsTimeOf, IsTzText}
+use Rattle.tz_write.proofs.Words.{IsUnspelled, IsWithinDay, IsWrittenText, List, LocalType, NoneFirst, Some, Spells, TransitionRule, alternate_text, ap}
+use Rattle.tz_write.proofs.Words.{append-nil, append_assoc, arith, both_ways, comma, cond, day_text, dst_offset_text, false, inl, inr, int_eq, is_digit}
+use Rattle.tz_write.proofs.Words.{is_letter, name_of, name_or_none, name_text, nat_tests, not, offset_fits, offset_text, pos, refl, subst, sym, text_of, true}
+use Rattle.tz_write.proofs.Words.{type_text, ℕ, ℤ, [], ◌++◌, ◌+ℤ◌, ◌<◌, ◌∙◌, ◌∷◌, ◌≡◌, ◌≤◌}
+use Rattle.tz_write.proofs.Clocks.{Stops, offset_first, offset_front, offset_pairs, offset_spelled}
+use Rattle.tz_write.proofs.DayTexts.{IsEndOrComma, day_front, day_pairs, day_plain, day_spelled, dst_offset_front, dst_offset_pairs, dst_offset_spelled, stops}
+use Rattle.tz_write.proofs.NameTexts.{name_first, name_front, name_pairs, name_spelled}
+use Rattle.tz_write.proofs.Shortest.{Best, Front, front_cons, front_then, pairs_after}
+use Rattle.tz_write.proofs.TextParts.{IsAlternateText, IsFixedText, alternate_text_is, fixed_text, parts_of}
 
 -- ---- what stands after a name or an offset
 not_letter : (b : ℕ) → b ≤ 57 → is_letter b ≡ false

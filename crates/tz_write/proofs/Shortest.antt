@@ -1,6 +1,6 @@
 -- What is not longer than what spells the same: the front of bytes beside a text.
-use Rattle.std.proofs.Common.{◌≡◌, ℕ, ◌<◌, ◌≤◌, arith, refl, ap, ◌∙◌, sym, subst, List, [], ◌∷◌, ◌++◌, length, length-append, append_assoc, inl, inr, ◌⊎◌}
-use Rattle.tz_write.specs.WrittenTexts.{AreInPairs}
+use Rattle.tz_write.proofs.Words.{AreInPairs, List, ap, append_assoc, arith, inl, inr, length, length-append, refl, subst, sym, ℕ, [], ◌++◌, ◌<◌, ◌∙◌, ◌∷◌, ◌≡◌}
+use Rattle.tz_write.proofs.Words.{◌≤◌, ◌⊎◌}
 
 -- the front is the text, or longer
 abbrev pub Best : List ℕ → List ℕ → Type 0

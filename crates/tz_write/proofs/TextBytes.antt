@@ -1,29 +1,15 @@
 -- The bytes of a rule's text: letters, digits, and those of `+ - , . / : < >`. So it is ASCII, and has no white space.
-use Rattle.std.proofs.Common.{◌≡◌, ℕ, ℤ, pos, ◌+ℤ◌, ◌+◌, ◌/◌, ◌%◌, ◌<◌, ◌≤◌, arith, refl, ap, sym, List, [], ◌∷◌, ◌++◌, append_assoc, Bool, true, false, ◌==◌, ◌&&◌, ◌||◌, cond, unsigned_abs}
-use Rattle.std.specs.Fmt.{decimal}
-use Rattle.std.specs.List.{list_all}
-use Rattle.std.specs.Char.{is_ascii_whitespace}
-use Rattle.std.specs.Ordering.{int_eq}
-use Rattle.std.proofs.lemmas.List.{append-nil}
-use Rattle.std.proofs.lemmas.Bool.Decides.{nat_tests}
-use Rattle.offset_core.specs.Offset.{IsWithinDay}
-use Rattle.tz_base.specs.Fronts.{is_digit, AllOf, AllDigits}
-use Rattle.tz_base.specs.LocalTypes.{LocalType}
-use Rattle.tz_base.specs.Names.{is_name_byte, IsName}
-use Rattle.tz_info.specs.TzGrammar.{comma, dot, slash, colon, less, greater, is_letter}
-use Rattle.tz_info.specs.RuleDays.{IsRuleDay}
-use Rattle.tz_info.specs.Rules.{Alternate, IsAlternateRule, IsWithinWeek}
-use Rattle.tz_info.specs.RuleTypes.{IsRule}
-use Rattle.tz_info.specs.Trims.{BeginsBare, EndsBare, IsTrimmed}
-use Rattle.tz_info.specs.declared.rule.day.DayForm.{DayForm}
-use Rattle.tz_info.specs.declared.rule.day.DayForm.TheVariants.{Julian1, Julian0, MonthWeekday}
-use Rattle.tz_info.specs.declared.rule.day.DayTime.{DayTime}
-use Rattle.tz_info.specs.declared.rule.transition_rule.TransitionRule.{TransitionRule}
+use Rattle.tz_info.specs.declared.rule.day.DayForm.TheVariants.{Julian0, Julian1, MonthWeekday}
 use Rattle.tz_info.specs.declared.rule.transition_rule.TransitionRule.TheVariants as rules
-use Rattle.tz_write.specs.WrittenTexts.{IsNamedType, CanBeSpelled}
-use Rattle.tz_write.specs.Steps.TextPieces.{pair_text, seconds_text, minutes_text, clock_text, signed_text, is_positive, is_negative, offset_text, time_text, time_after, name_text, date_text, day_text, days_text, dst_offset_text, name_or_none, name_of, type_text, alternate_text, text_of}
-use Rattle.tz_write.proofs.Decimals.{digits_of, pair_digits}
+use Rattle.tz_write.proofs.Words.{AllDigits, AllOf, Alternate, BeginsBare, Bool, CanBeSpelled, DayForm, DayTime, EndsBare, IsAlternateRule, IsName, IsNamedType}
+use Rattle.tz_write.proofs.Words.{IsRule, IsRuleDay, IsTrimmed, IsWithinDay, IsWithinWeek, List, LocalType, TransitionRule, alternate_text, ap, append-nil}
+use Rattle.tz_write.proofs.Words.{append_assoc, arith, clock_text, colon, comma, cond, date_text, day_text, days_text, decimal, dot, dst_offset_text, false}
+use Rattle.tz_write.proofs.Words.{greater, int_eq, is_ascii_whitespace, is_digit, is_letter, is_name_byte, is_negative, is_positive, less, list_all}
+use Rattle.tz_write.proofs.Words.{minutes_text, name_of, name_or_none, name_text, nat_tests, offset_text, pair_text, pos, refl, seconds_text, signed_text}
+use Rattle.tz_write.proofs.Words.{slash, sym, text_of, time_after, time_text, true, type_text, unsigned_abs, ℕ, ℤ, [], ◌%◌, ◌&&◌, ◌++◌, ◌+ℤ◌, ◌+◌, ◌/◌, ◌<◌}
+use Rattle.tz_write.proofs.Words.{◌==◌, ◌||◌, ◌∷◌, ◌≡◌, ◌≤◌}
 use Rattle.tz_write.proofs.Clocks.{offset_hours, time_hours}
+use Rattle.tz_write.proofs.Decimals.{digits_of, pair_digits}
 use Rattle.tz_write.proofs.NameTexts.{name_bytes, name_first}
 
 -- a letter, a digit or one of the signs

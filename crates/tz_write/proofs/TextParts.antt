@@ -1,15 +1,8 @@
 -- The parts of a whole TZ text by their names.
-use Rattle.std.proofs.Common.{◌≡◌, ◌≢◌, ◌≤◌, ℕ, ℤ, arith, refl, sym, ap, ◌∙◌, subst, Bool, true, false, List, [], ◌∷◌, ◌++◌, length, Option, Some, inl, inr}
-use Rattle.tz_base.specs.Grammar.{Spells}
-use Rattle.tz_base.specs.LocalTypes.{LocalType}
-use Rattle.tz_base.specs.Names.{IsName}
-use Rattle.tz_info.specs.Rules.{Alternate}
 use Rattle.tz_info.specs.TzGrammar as tz
-use Rattle.tz_info.specs.TzGrammar.{comma, less, greater, named_type, IsTzText}
-use Rattle.tz_info.specs.declared.rule.day.DayTime.{DayTime}
-use Rattle.tz_info.specs.declared.rule.transition_rule.TransitionRule.{TransitionRule}
 use Rattle.tz_info.specs.declared.rule.transition_rule.TransitionRule.TheVariants as rules
-use Rattle.tz_write.specs.WrittenTexts.{IsNamed}
+use Rattle.tz_write.proofs.Words.{Alternate, Bool, DayTime, IsName, IsNamed, IsTzText, List, LocalType, Option, Some, Spells, TransitionRule, ap, arith, comma}
+use Rattle.tz_write.proofs.Words.{false, greater, inl, inr, length, less, named_type, refl, subst, sym, true, ℕ, ℤ, [], ◌++◌, ◌∙◌, ◌∷◌, ◌≡◌, ◌≢◌, ◌≤◌}
 
 pub record IsFixedText (bytes : List ℕ) (t : LocalType) : Type 0 where
   pub name : List ℕ

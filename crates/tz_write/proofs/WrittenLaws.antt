@@ -1,13 +1,8 @@
 -- A rule has one text that is written.
-use Rattle.std.proofs.Common.{◌≡◌, ℕ, ◌<◌, arith, refl, sym, ℤ, pos, negsuc, List, length, Bool, true, false, inl, inr, ◌⊎◌, ◌↔◌}
-use Rattle.std.proofs.lemmas.Int.{ints}
-use Rattle.std.proofs.lemmas.Bool.{cases_lt, both_ways}
-use Rattle.tz_info.specs.RuleTypes.{IsRule}
-use Rattle.tz_info.specs.declared.rule.transition_rule.TransitionRule.{TransitionRule}
 use Rattle.tz_info.specs.declared.rule.transition_rule.TransitionRule.TheVariants as rules
-use Rattle.tz_write.specs.WrittenTexts.{CanBeSpelled, IsPlainTime, AreTimesOf, IsWrittenText}
-use Rattle.tz_write.specs.Steps.TextPieces.{text_of}
-use Rattle.tz_write.proofs.RuleTexts.{rule_spelled, rule_plain, rule_named, written}
+use Rattle.tz_write.proofs.Words.{AreTimesOf, Bool, CanBeSpelled, IsPlainTime, IsRule, IsWrittenText, List, TransitionRule, arith, both_ways, cases_lt, false}
+use Rattle.tz_write.proofs.Words.{inl, inr, ints, length, negsuc, pos, refl, sym, text_of, true, ℕ, ℤ, ◌<◌, ◌↔◌, ◌≡◌, ◌⊎◌}
+use Rattle.tz_write.proofs.RuleTexts.{rule_named, rule_plain, rule_spelled, written}
 
 -- each of two is the shortest
 pub both_shortest : (s t : List ℕ) → (t ≡ s) ⊎ (length s < length t) → (s ≡ t) ⊎ (length t < length s) → s ≡ t

@@ -1,24 +1,12 @@
 -- The text of a zone: it gives the zone, and each other one is longer.
-use Rattle.std.proofs.Common.{◌≡◌, ◌≢◌, ℕ, ◌<◌, arith, ap, ◌∙◌, sym, subst, List, [], ◌∷◌, ◌++◌, length, length-append, true, false, refl, inl, inr, ◌⊎◌, Option, Some, None, Result, Ok, Err, OnErr}
-use Rattle.std.specs.Char.{is_ascii_whitespace}
-use Rattle.std.proofs.lemmas.List.{append-nil}
-use Rattle.std.proofs.lemmas.Bool.Decides.{nat_tests}
-use Rattle.tz_base.specs.Fronts.{is_digit, NoneFirst}
-use Rattle.tz_base.specs.LocalTypes.{LocalType}
-use Rattle.tz_info.specs.PosixZones.{types_of, posix_zone, IsPosixZone}
-use Rattle.tz_info.specs.RuleTypes.{IsRule}
-use Rattle.tz_info.specs.Trims.{IsSpace, IsTrimmed}
-use Rattle.tz_info.specs.TzGrammar.{IsTzText}
-use Rattle.tz_info.specs.Zones.{Zone, zone_of_rule, IsRuleOrNone}
-use Rattle.tz_info.specs.declared.rule.transition_rule.TransitionRule.{TransitionRule}
-use Rattle.tz_info.specs.declared.zone.leap_second.LeapSecond.{LeapSecond}
-use Rattle.tz_info.specs.declared.zone.transition.Transition.{Transition}
-use Rattle.tz_write.specs.WrittenTexts.{TwoDigits, AreInPairs, CanBeSpelled, HasZoneText, IsOfText, IsNoPosixZone, IsWrittenZone}
-use Rattle.tz_write.specs.Steps.TextPieces.{text_of}
+use Rattle.tz_write.proofs.Words.{AreInPairs, CanBeSpelled, Err, HasZoneText, IsNoPosixZone, IsOfText, IsPosixZone, IsRule, IsRuleOrNone, IsSpace, IsTrimmed}
+use Rattle.tz_write.proofs.Words.{IsTzText, IsWrittenZone, LeapSecond, List, LocalType, None, NoneFirst, Ok, OnErr, Option, Result, Some, Transition}
+use Rattle.tz_write.proofs.Words.{TransitionRule, TwoDigits, Zone, ap, append-nil, arith, false, inl, inr, is_ascii_whitespace, is_digit, length, length-append}
+use Rattle.tz_write.proofs.Words.{nat_tests, posix_zone, refl, subst, sym, text_of, true, types_of, zone_of_rule, ℕ, [], ◌++◌, ◌<◌, ◌∙◌, ◌∷◌, ◌≡◌, ◌≢◌, ◌⊎◌}
+use Rattle.tz_write.proofs.RuleTexts.{rule_best, rule_named, rule_pairs, rule_plain, rule_spelled}
 use Rattle.tz_write.proofs.Shortest.{Best, pairs_rest}
-use Rattle.tz_write.proofs.RuleTexts.{rule_spelled, rule_best, rule_pairs, rule_named, rule_plain}
-use Rattle.tz_write.proofs.WrittenLaws.{both_shortest}
 use Rattle.tz_write.proofs.TextBytes.{text_are, text_first, trimmed_text}
+use Rattle.tz_write.proofs.WrittenLaws.{both_shortest}
 
 -- ---- white space at the ends
 not_both : (b : ℕ) → is_digit b ≡ true → is_ascii_whitespace b ≡ true → ⊥

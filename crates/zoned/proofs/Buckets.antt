@@ -1,12 +1,8 @@
 -- Instants that went back.
-use Rattle.std.proofs.Common.{◌≡◌, ◌∙◌, sym, subst, refl, ap, inl, inr, ℕ, zero, suc, ◌<◌, arith, ℤ, pos, negsuc, ◌+ℤ◌, ◌-ℤ◌, ◌*ℤ◌, ◌≤ℤ◌, ◌<ℤ◌, unsigned_abs}
-use Rattle.std.proofs.lemmas.Bool.{cases_lt}
-use Rattle.std.proofs.lemmas.Int.{ints, by_lt_z}
-use Rattle.naive_base.specs.Reading.{Reading, total, of_total, moved, moved_leap, ahead}
-use Rattle.naive_base.proofs.ForCallers.{floors, floor_mod_parts, moved-leap, moved_leap-within, total-moved}
 use Rattle.naive_base.proofs.Moves.{moved_leap-before}
-use Rattle.zoned_round.specs.Durations.{IsGone}
-use Rattle.zoned_round.specs.Multiples.{multiple_below, IsItselfOr}
+use Rattle.zoned.proofs.Words.{IsGone, IsItselfOr, Reading, ahead, ap, arith, by_lt_z, cases_lt, floor_mod_parts, floors, inl, inr, ints, moved, moved-leap}
+use Rattle.zoned.proofs.Words.{moved_leap, moved_leap-within, multiple_below, negsuc, of_total, pos, refl, subst, suc, sym, total, total-moved, unsigned_abs}
+use Rattle.zoned.proofs.Words.{zero, ℕ, ℤ, ◌*ℤ◌, ◌+ℤ◌, ◌-ℤ◌, ◌<ℤ◌, ◌<◌, ◌∙◌, ◌≡◌, ◌≤ℤ◌}
 
 total-of : (n : ℤ) → total (of_total n) ≡ n
 total-of n = let parts = floor_mod_parts n 1_000_000_000 (omega arith) in omega (arith, floors)

@@ -1,12 +1,6 @@
 -- The first of the changes of a stretch is the first change from its first second on.
-use Rattle.std.proofs.Common.{◌≡◌, ap, subst, refl, ℕ, zero, suc, ◌<◌, ℤ, pos, ◌+ℤ◌, ◌-ℤ◌, ◌≤ℤ◌, ◌<ℤ◌, List, [], ◌∷◌, length, get_or, Option, Some, None, arith}
-use Rattle.std.specs.Prelude.{Contains, MatchOption}
-use Rattle.std.proofs.lemmas.Int.{ints}
-use Rattle.naive_base.specs.Range.{last_second}
-use Rattle.tz_base.specs.declared.change.Change.{Change}
-use Rattle.tz_info.specs.Changes.{AreChanges, IsFirst}
-use Rattle.tz_info.specs.Zones.{Zone, TypeAt}
-use Rattle.zoned_ref.specs.ZoneChange.{IsAfter}
+use Rattle.zoned.proofs.Words.{AreChanges, Change, Contains, IsAfter, IsFirst, List, MatchOption, None, Option, Some, TypeAt, Zone, ap, arith, get_or, ints}
+use Rattle.zoned.proofs.Words.{last_second, length, pos, refl, subst, suc, zero, ℕ, ℤ, [], ◌+ℤ◌, ◌-ℤ◌, ◌<ℤ◌, ◌<◌, ◌∷◌, ◌≡◌, ◌≤ℤ◌}
 
 -- the list begins with c
 abbrev pub BeginsWith : Change → List Change → Type 0

@@ -1,3 +1,4 @@
+pub mod Words
 mod Buckets
 pub mod ForCallers
 mod Shown

@@ -1,17 +1,8 @@
 -- The instants at which the clocks of a zone show a local time, told by their seconds.
-use Rattle.std.proofs.Common.{◌≡◌, ◌∙◌, ◌⊎◌, inl, inr, ap, sym, subst, refl, ℤ, ◌-ℤ◌, Option, Some, None, arith}
-use Rattle.std.specs.Prelude.{◌≢◌, SomeIff}
-use Rattle.std.proofs.lemmas.Int.{ints}
-use Rattle.offset_core.specs.declared.local_result.LocalResult.{LocalResult}
-use Rattle.offset_core.specs.declared.local_result.LocalResult.TheVariants.{Single, Ambiguous, None as none}
-use Rattle.offset_core.specs.LocalResult.{map_of, all_or_none}
-use Rattle.offset_core.specs.WallAnswer.{IsWallAnswer, IsNeverShown, IsShownOnce, IsShownBetween}
-use Rattle.naive_base.specs.Range.{IsInRange}
-use Rattle.naive_base.specs.Reading.{Reading}
-use Rattle.zoned_time.specs.Relocal.{IsRelocal, AreInstantsOf, HasInstant, instant_of}
-use Rattle.zoned_time.specs.Zone.{Meaning, Law, Each, Shows}
-use Rattle.zoned_time.specs.Zoned.{Zoned}
-use Rattle.zoned.specs.Within.{IsWithin}
+use Rattle.offset_core.specs.declared.local_result.LocalResult.TheVariants.{Ambiguous, None as none, Single}
+use Rattle.zoned.proofs.Words.{AreInstantsOf, Each, HasInstant, IsInRange, IsNeverShown, IsRelocal, IsShownBetween, IsShownOnce, IsWallAnswer, IsWithin, Law}
+use Rattle.zoned.proofs.Words.{LocalResult, Meaning, None, Option, Reading, Shows, Some, SomeIff, Zoned, all_or_none, ap, arith, inl, inr, instant_of, ints}
+use Rattle.zoned.proofs.Words.{map_of, refl, subst, sym, ℤ, ◌-ℤ◌, ◌∙◌, ◌≡◌, ◌≢◌, ◌⊎◌}
 
 -- the second u shows l, and is s
 abbrev pub IsSecond : (ℤ → ℤ) → ℤ → ℤ → ℤ → Type 0

@@ -1,14 +1,8 @@
 -- The changes of a stretch: how many there can be, and how they are written into a room.
-use Rattle.std.proofs.Common.{◌≡◌, ℕ, ℤ, zero, suc, pos, ◌+◌, ◌<◌, ◌+ℤ◌, ◌≤ℤ◌, ◌<ℤ◌, ◌∙◌, List, [], ◌∷◌, ◌++◌, ◌≤◌, ◌⊎◌, Fits, FitsSigned, ap, append-nil, arith, get_or, inl, inr, length, map, refl, slice_set, subst, sym, take, take_all, w64}
-use Rattle.std.proofs.Math.Seq.{take-append_seam}
-use Rattle.std.proofs.lemmas.Int.{ints}
-use Rattle.std.proofs.lemmas.List.{length-map, map-append}
-use Rattle.std.proofs.lemmas.List.Elements.{Contains-get_or}
-use Rattle.tz_info.specs.Changes.{AreChanges}
-use Rattle.tz_info.specs.Zones.{Zone, TypeAt}
-use Rattle.tz_base.specs.declared.change.Change.{Change}
-use Rattle.zoned_ffi.specs.WrittenChanges.{AreFirstWritten, AreWrittenChanges, written_change, written_into}
-use Rattle.zoned_ffi.specs.declared.changes.WrittenChange.{WrittenChange}
+use Rattle.zoned_ffi.proofs.Words.{AreChanges, AreFirstWritten, AreWrittenChanges, Change, Contains-get_or, Fits, FitsSigned, List, TypeAt, WrittenChange, Zone}
+use Rattle.zoned_ffi.proofs.Words.{ap, append-nil, arith, get_or, inl, inr, ints, length, length-map, map, map-append, pos, refl, slice_set, subst, suc, sym}
+use Rattle.zoned_ffi.proofs.Words.{take, take-append_seam, take_all, w64, written_change, written_into, zero, ℕ, ℤ, [], ◌++◌, ◌+ℤ◌, ◌+◌, ◌<ℤ◌, ◌<◌, ◌∙◌, ◌∷◌}
+use Rattle.zoned_ffi.proofs.Words.{◌≡◌, ◌≤ℤ◌, ◌≤◌, ◌⊎◌}
 
 take_none : {A : Type 0} (n : ℕ) → take {A = A} n [] ≡ []
 take_none zero = refl

@@ -1,22 +1,10 @@
 -- Local times of a column: by a lookup, and by what is kept of a stretch.
-use Rattle.std.proofs.Common.{◌≡◌, ◌∙◌, ℤ, pos, neg_ℤ, ◌+ℤ◌, ◌-ℤ◌, ◌*ℤ◌, ◌≤ℤ◌, ◌<ℤ◌, ℕ, ap, arith, refl, sym, subst, Option, None, Some, MatchOption}
-use Rattle.std.proofs.lemmas.Int.{ints}
-use Rattle.gregorian.specs.Year.{floor_div}
-use Rattle.gregorian.proofs.ForCallers.{floors}
-use Rattle.naive_base.specs.Range.{IsInRange}
-use Rattle.tz_base.specs.LocalTypes.{LocalType}
-use Rattle.tz_info.specs.Zones.{Zone, TypeAt}
-use Rattle.tz_info.specs.declared.zone.offset_stretch.OffsetStretch.{OffsetStretch}
-use Rattle.zoned_ffi.specs.Columns.{IsInstantOf, IsInstantTaken, IsKept, IsNoInstant, IsRowNumber, second_of}
-use Rattle.zoned_ffi.specs.Resolved.{IsNoneTaken}
-use Rattle.zoned_ffi.specs.Steps.ResolvedInstants.{IsTakenAs, taken_instant}
-use Rattle.zoned_ffi.specs.Units.{IsCounted, IsLocal, IsOffsetStretch, IsWithout, uncounted, per_second}
-use Rattle.zoned_ffi.specs.declared.choice.Choice.{Choice}
-use Rattle.zoned_ffi.specs.declared.column.kept.Kept.{Kept}
+use Rattle.zoned_ffi.proofs.Words.{Choice, IsCounted, IsInRange, IsInstantOf, IsInstantTaken, IsKept, IsLocal, IsNoInstant, IsNoneTaken, IsOffsetStretch}
+use Rattle.zoned_ffi.proofs.Words.{IsRowNumber, IsTakenAs, IsWithout, Kept, LocalType, MatchOption, None, OffsetStretch, Option, Some, Taken, TypeAt, Unit}
+use Rattle.zoned_ffi.proofs.Words.{Zone, ap, arith, floor_div, floors, ints, neg_ℤ, per_second, pos, refl, second_of, subst, sym, taken_instant, uncounted, ℕ}
+use Rattle.zoned_ffi.proofs.Words.{ℤ, ◌*ℤ◌, ◌+ℤ◌, ◌-ℤ◌, ◌<ℤ◌, ◌∙◌, ◌≡◌, ◌≤ℤ◌}
 use Rattle.zoned_ffi.specs.declared.column.Way.TheVariants.{ToLocal}
-use Rattle.zoned_ffi.specs.declared.resolved.Taken.{Taken}
-use Rattle.zoned_ffi.specs.declared.resolved.Taken.TheVariants.{InForce, BeforeGap, GapEnd}
-use Rattle.zoned_ffi.specs.declared.unit.Unit.{Unit}
+use Rattle.zoned_ffi.specs.declared.resolved.Taken.TheVariants.{BeforeGap, GapEnd, InForce}
 use Rattle.zoned_ffi.specs.declared.unit.Unit.TheVariants as units
 
 -- the second that an instant lies in, of one that comes with a second or behind it

@@ -1,35 +1,19 @@
 -- A handle by value: what it owns taken out of it, and put into one. Assumes `Logic`.
-use Rattle.std.proofs.Common.{◌≡◌, ℕ, List, [], ◌∷◌, ◌++◌, refl, subst, lit<}
-use mathlib.Core.Bool.{true, ◌&&◌}
-use lib.Dec.{T}
-use seplogic.Ra.Ura.{Ura}
-use mir.Raw.{raw as bare}
-use mir.Val.{Val, vstruct, of_list, has_ty, WT}
-use base.Fraction.{full_share}
-use base.Logic.{SProp, ent, guard, guard_i, never, fst∗, snd∗, via}
-use types.Logic.{Logic, sem}
-use types.Kit.{Item, Goal, Seq, Step, step, ‵, given, ◌$◌, move, drop, fsplit, fjoin, fpick, fpack, feq_i, feq_l, use1, learn}
-use contract.Monad.{fact_use}
-use denote.RattleType.{RattleType, Valss}
-use denote.Builtin.{RawPtr}
-use denote.Memory.{lone}
-use denote.RawPtr.{Ptr, block_ptr, null_ptr, ptr_val, in_a_block, lies_at, Testable}
-use denote.Steps.{nothing}
-use denote.Param.{layout}
-use denote.Param.Laws.{Laws}
-use denote.Struct.Struct.{within}
-use denote.Struct.Owning.{shape, to}
 use Rattle.core.proofs.alloc.Calls.{handle_tells}
 use Rattle.core.proofs.cell.Inside.{Good}
-use Rattle.std.proofs.GlobalToken.{dealloc_token-Testable}
 use Rattle.std.proofs.alloc.Global.TheLaws as heap_laws
-use Rattle.std_alloc.proofs.ResultValues.{and_tt}
 use Rattle.std.specs.contracts.alloc.Global as heap
 use Rattle.std.specs.contracts.impls.GlobalAllocator.TheImpl.{ghosts}
 use Rattle.std.specs.declared.alloc.Global.{Global}
 use Rattle.std.specs.declared.option.Option.{Option}
 use Rattle.std.specs.declared.option.Option.TheVariants.{None, Some}
-use Rattle.zoned_ffi.specs.Owned.{boxed, held, shared_row}
+use Rattle.std_alloc.proofs.ResultValues.{and_tt}
+use mir.Raw.{raw as bare}
+use types.Kit.{drop}
+use Rattle.zoned_ffi.proofs.Words.{Goal, Item, Laws, List, Logic, Ptr, RattleType, RawPtr, SProp, Seq, Step, T, Testable, Ura, Val, Valss, WT, block_ptr, boxed}
+use Rattle.zoned_ffi.proofs.Words.{dealloc_token-Testable, ent, fact_use, feq_i, feq_l, fjoin, fpack, fpick, fsplit, fst∗, full_share, given, guard, guard_i}
+use Rattle.zoned_ffi.proofs.Words.{has_ty, held, in_a_block, layout, learn, lies_at, lit<, lone, move, never, nothing, null_ptr, of_list, ptr_val, refl, sem}
+use Rattle.zoned_ffi.proofs.Words.{shape, shared_row, snd∗, step, subst, to, true, use1, via, vstruct, within, ℕ, [], ‵, ◌$◌, ◌&&◌, ◌++◌, ◌∷◌, ◌≡◌}
 use Rattle.zoned_ffi.specs.contracts.handle.Handle as handle
 use Rattle.zoned_ffi.proofs.Slots.{allocator, two}
 

@@ -1,37 +1,23 @@
 -- A handle that is only read: what it holds is had twice, and a `&` to it lends the value at its pointer. Assumes `Logic`.
-use Rattle.std.proofs.Common.{◌≡◌, ℕ, List, [], ◌∷◌, ◌++◌, refl, subst}
-use seplogic.Ra.Ura.{Ura}
-use mir.Val.{Val, vstruct, vcons, vnil, of_list}
-use base.Share as half
-use base.Logic.{ent, sep, upd_i, id⊢, never, fst∗}
-use base.Fml.{Lft, Share, Fml, Incl-refl, ftrue, fsep, fex, fseps, fwand, fupd, fdead, fbor, flft, fshr_bor}
-use contract.BorrowLft.{meet_⊑_left}
-use ghost.Rules.{Halves}
-use types.Logic.{Logic, sem}
-use types.Kit.{Item, Goal, Soaks, Seq, Step, step, ‵, ◌⊛◌, some, later, ◌$◌, ◌∵◌, !, qed, by, move, keep, drop, use1, use2, split, fsplit, fsplit3, fjoin, fpick, fpack, feq_i, feq_l, pick, assume, suffices, await, rewrite, updating, now, done}
-use types.Tokens.{bor_open, obor_alter, bor_fracture}
-use denote.RattleType.{RattleType, RowLaws, Valss}
-use denote.Builtin.{RawPtr}
-use denote.RawPtr.{Ptr, block_ptr, null_ptr, ptr_val, in_a_block, Testable}
-use denote.Memory.{part_of, part_at, shared_of, hidden_shr, cell_at, cell_cut, cell_join}
-use denote.Opens.{Cuts, Cuts-both, Cuts-map, Cuts-Halves, Opens, Opened-one, Shut, unhide, twice_dup}
-use denote.Sharing.{ShrLaws}
-use denote.SharingLaws.{contraction}
-use denote.Moves.{moves_from}
-use denote.Steps.{nothing, looks, shuts}
-use denote.Struct.Lending.{lent_at, lent_at_shr_laws}
-use denote.Struct.Struct.{within}
-use denote.Struct.Owning.{shape, to}
-use Rattle.std.specs.declared.option.Option.{Option}
-use Rattle.std.specs.declared.option.Option.TheVariants.{None, Some}
-use Rattle.zoned_ffi.specs.Owned.{lent, loan, shared_row}
-use Rattle.zoned_ffi.specs.contracts.lent.Lent as lent_handle
 use Rattle.std.proofs.alloc.Global.TheLaws as heap_laws
 use Rattle.std.specs.contracts.alloc.Global as heap
 use Rattle.std.specs.contracts.impls.GlobalAllocator.TheImpl.{ghosts}
+use Rattle.std.specs.declared.option.Option.{Option}
+use Rattle.std.specs.declared.option.Option.TheVariants.{None, Some}
 use Rattle.std_alloc.proofs.arc.Arc.TheLaws as arc_laws
+use base.Share as half
+use types.Kit.{drop}
 use Rattle.tz_info.proofs.zone.time_zone.TimeZone.TheLaws as zone_laws
 use Rattle.tz_info.specs.contracts.zone.time_zone.TimeZone as zone
+use Rattle.zoned_ffi.proofs.Words.{Cuts, Cuts-Halves, Cuts-both, Cuts-map, Fml, Goal, Halves, Incl-refl, Item, Lft, List, Logic, Opened-one, Opens, Ptr}
+use Rattle.zoned_ffi.proofs.Words.{RattleType, RawPtr, RowLaws, Seq, Share, ShrLaws, Shut, Soaks, Step, Testable, Ura, Val, Valss, assume, await, block_ptr}
+use Rattle.zoned_ffi.proofs.Words.{bor_fracture, bor_open, by, cell_at, cell_cut, cell_join, contraction, done, ent, fbor, fdead, feq_i, feq_l, fex, fjoin}
+use Rattle.zoned_ffi.proofs.Words.{flft, fpack, fpick, fsep, fseps, fshr_bor, fsplit, fsplit3, fst∗, ftrue, fupd, fwand, hidden_shr, id⊢, in_a_block, keep}
+use Rattle.zoned_ffi.proofs.Words.{later, lent, lent_at, lent_at_shr_laws, loan, looks, meet_⊑_left, move, moves_from, never, nothing, now, null_ptr}
+use Rattle.zoned_ffi.proofs.Words.{obor_alter, of_list, part_at, part_of, pick, ptr_val, qed, refl, rewrite, sem, sep, shape, shared_of, shared_row, shuts}
+use Rattle.zoned_ffi.proofs.Words.{some, split, step, subst, suffices, to, twice_dup, unhide, upd_i, updating, use1, use2, vcons, vnil, vstruct, within, ℕ, ! }
+use Rattle.zoned_ffi.proofs.Words.{[], ‵, ◌$◌, ◌++◌, ◌∵◌, ◌∷◌, ◌≡◌, ◌⊛◌}
+use Rattle.zoned_ffi.specs.contracts.lent.Lent as lent_handle
 
 abbrev pub R : RattleType
 R = shared_row

@@ -1,3 +1,4 @@
+pub mod Words
 pub mod ChangesWritten
 pub mod Columns
 pub mod Handles

@@ -1,16 +1,13 @@
 -- A call that is rejected has one number, unless memory runs out.
-use Rattle.std.proofs.Common.{◌≡◌, ◌⊎◌, ℕ, List, ap, refl, true, sym, ◌∙◌, inl, inr, arith}
-use Rattle.tz_base.specs.Errors.{number_of}
-use Rattle.tz_info.proofs.ForCallers.{file_fault_once, text_fault_once}
 use Rattle.tz_info.proofs.TextLaws.{one_fault as string_fault_once}
 use Rattle.tz_info.specs.TzFiles.IsZoneFault.{In_file as Of_file, No_memory as Of_memory}
+use Rattle.zoned_ffi.proofs.Words.{IsExtendedFault, IsFault, IsFileError, IsRefusal, IsTextFault, Kind, List, ap, arith, file_fault_once, inl, inr, number_of}
+use Rattle.zoned_ffi.proofs.Words.{refl, sym, text_fault_once, true, ℕ, ◌∙◌, ◌≡◌, ◌⊎◌}
 use Rattle.zoned_ffi.specs.Kinds.{number_of as kind_number}
-use Rattle.zoned_ffi.specs.Refusals.{IsExtendedFault, IsFault, IsFileError, IsRefusal, IsTextFault}
 use Rattle.zoned_ffi.specs.Refusals.IsExtendedFault.{In_string, No_memory as Without_memory}
 use Rattle.zoned_ffi.specs.Refusals.IsFileError.{In_file}
-use Rattle.zoned_ffi.specs.Refusals.IsTextFault.{Not_utf8, In_text, No_memory}
-use Rattle.zoned_ffi.specs.Refusals.IsRefusal.{Unknown_kind, Other_size, Not_read}
-use Rattle.zoned_ffi.specs.declared.kind.Kind.{Kind}
+use Rattle.zoned_ffi.specs.Refusals.IsRefusal.{Not_read, Other_size, Unknown_kind}
+use Rattle.zoned_ffi.specs.Refusals.IsTextFault.{In_text, No_memory, Not_utf8}
 use Rattle.zoned_ffi.specs.declared.kind.Kind.TheVariants as kinds
 
 abbrev Alike : ℕ → ℕ → Type 0

@@ -1,19 +1,11 @@
 -- What comes of reading, as a call tells it.
-use Rattle.std.proofs.Common.{◌≡◌, ◌≢◌, ◌⊎◌, ◌↔◌, Bool, IsTrue, IsFalse, ℕ, List, IfErr, MatchResult, Result, true, Ok, Err, subst, sym, inl, inr, arith, refl}
-use Rattle.std.specs.Str.{IsUtf8}
-use Rattle.tz_base.specs.Errors.{number_of, IsOutOfMemory}
-use Rattle.tz_base.specs.declared.error.Error.{Error}
 use Rattle.tz_base.specs.declared.error.Error.TheVariants as errors
-use Rattle.tz_info.specs.PosixZones.{IsPosixZone, IsPosixFault, posix_zone}
-use Rattle.tz_info.specs.TzFiles.{IsZoneFault}
-use Rattle.tz_info.specs.TzGrammar.{IsTzText}
-use Rattle.tz_info.specs.Zones.{Zone}
-use Rattle.tz_info.specs.declared.rule.transition_rule.TransitionRule.{TransitionRule}
-use Rattle.zoned_ffi.specs.Kinds.{number_of as kind_number, IsZoneOf, Spells}
-use Rattle.zoned_ffi.specs.Refusals.{IsExtendedFault, IsFault, IsFileError, IsReaderNumber, IsRefusal, IsTextFault, refusal_number}
-use Rattle.zoned_ffi.specs.declared.kind.Kind.{Kind}
+use Rattle.zoned_ffi.proofs.Words.{Bool, Err, Error, IfErr, IsExtendedFault, IsFalse, IsFault, IsFileError, IsOutOfMemory, IsPosixFault, IsPosixZone}
+use Rattle.zoned_ffi.proofs.Words.{IsReaderNumber, IsRefusal, IsTextFault, IsTrue, IsTzText, IsUtf8, IsZoneFault, IsZoneOf, Kind, List, MatchResult, Ok}
+use Rattle.zoned_ffi.proofs.Words.{Refusal, Result, Spells, TransitionRule, Zone, arith, inl, inr, number_of, posix_zone, refl, refusal_number, subst, sym}
+use Rattle.zoned_ffi.proofs.Words.{true, ℕ, ◌↔◌, ◌≡◌, ◌≢◌, ◌⊎◌}
+use Rattle.zoned_ffi.specs.Kinds.{number_of as kind_number}
 use Rattle.zoned_ffi.specs.declared.kind.Kind.TheVariants as kinds
-use Rattle.zoned_ffi.specs.declared.refusal.Refusal.{Refusal}
 
 -- the number of a text's error is that of its fault
 pub text_refused : (bytes : List ℕ) (e : Error) → IsUtf8 bytes → IsOutOfMemory e ⊎ IsPosixFault bytes e → (IsOutOfMemory e → (z : Zone) × IsPosixZone bytes z) → IsTextFault bytes (number_of e)

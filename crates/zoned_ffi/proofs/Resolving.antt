@@ -1,17 +1,7 @@
 -- What a choice takes, told by instants.
-use Rattle.std.proofs.Common.{ℤ, ◌-ℤ◌, ◌≡◌, ◌∙◌, ap, inl, inr, subst, sym}
-use Rattle.std.proofs.Math.IntN.{+ℤ-neg_ℤ_cancel}
-use Rattle.naive_base.specs.Range.{IsInRange}
-use Rattle.tz_base.specs.LocalTypes.{IsUtOffset, LocalType}
-use Rattle.tz_info.specs.Gaps.{HasGap, IsBeforeGap}
-use Rattle.tz_info.specs.ShownSeconds.{IsFirstAtOrAfter}
-use Rattle.tz_info.specs.WallClocks.{Shows}
-use Rattle.tz_info.specs.Zones.{Zone, TypeAt}
-use Rattle.zoned_ffi.specs.Instants.{IsOffsetAt}
-use Rattle.zoned_ffi.specs.Resolved.{IsGapEnd, IsReachedAt, IsResolvedAt, IsTaken}
-use Rattle.zoned_ffi.specs.Steps.ResolvedInstants.{IsStamp, IsTakenAs}
-use Rattle.zoned_ffi.specs.declared.choice.Choice.{Choice}
-use Rattle.zoned_ffi.specs.declared.resolved.Resolved.{Resolved}
+use Rattle.zoned_ffi.proofs.Words.{Choice, HasGap, IsBeforeGap, IsFirstAtOrAfter, IsGapEnd, IsInRange, IsOffsetAt, IsReachedAt, IsResolvedAt, IsStamp, IsTaken}
+use Rattle.zoned_ffi.proofs.Words.{IsTakenAs, IsUtOffset, LocalType, Resolved, Shows, TypeAt, Zone, ap, inl, inr, subst, sym, ℤ, +ℤ-neg_ℤ_cancel, ◌-ℤ◌, ◌∙◌}
+use Rattle.zoned_ffi.proofs.Words.{◌≡◌}
 use Rattle.zoned_ffi.specs.declared.resolved.Taken.TheVariants.{InForce}
 
 -- the instant by the offset that is taken, and the offset in force there

@@ -1,11 +1,6 @@
 -- Slices that are written one place after the other.
-use Rattle.std.proofs.Common.{◌≡◌, ℕ, zero, suc, ◌+◌, ◌*◌, ◌<◌, List, [], ◌∷◌, length, take, get_or, slice_set, ◌∙◌, subst, arith, ℤ, pos, inl, inr}
-use Rattle.std.specs.List.{AllZip}
-use Rattle.std.proofs.lemmas.Bool.{cases_lt}
-use Rattle.std.proofs.lemmas.List.{get_or-set_other, get_or-set_same, length-set}
-use Rattle.tz_info.specs.Zones.{Zone}
-use Rattle.zoned_ffi.specs.WallClocks.{IsTripleAt, IsWallClockAt}
-use Rattle.zoned_ffi.specs.declared.wall_clock.WallClock.{WallClock}
+use Rattle.zoned_ffi.proofs.Words.{AllZip, IsTripleAt, IsWallClockAt, List, WallClock, Zone, arith, cases_lt, get_or, get_or-set_other, get_or-set_same, inl}
+use Rattle.zoned_ffi.proofs.Words.{inr, length, length-set, pos, slice_set, subst, suc, take, zero, ℕ, ℤ, [], ◌*◌, ◌+◌, ◌<◌, ◌∙◌, ◌∷◌, ◌≡◌}
 
 zip_step : {A B : Type 0} (R : A → B → Type 0) (xs : List A) (ys : List B) (i : ℕ) (d : A) (y : B) → length ys ≡ length xs → i < length xs → AllZip R (take i xs) (take i ys) → R (get_or xs i d) y → AllZip R (take (suc i) xs) (take (suc i) (slice_set ys i y))
 zip_step R [] ys i d y as_many within before this = absurd (omega (arith, within))

@@ -1,29 +1,13 @@
 -- A slot by value: what it owns taken out of it, and put into one. Assumes `Logic`.
-use Rattle.std.proofs.Common.{◌≡◌, ℕ, List, [], ◌∷◌, ◌++◌, refl, subst}
-use mathlib.Core.Bool.{true, ◌&&◌}
-use lib.Dec.{T}
-use seplogic.Ra.Ura.{Ura}
-use mir.Syntax.{impl, tnil, dnil}
-use mir.Raw.{raw as bare}
-use mir.Val.{Val, vptr, vstruct, vcons, vnil, of_list, has_ty, WT}
-use base.Fml.{Fml}
-use base.Logic.{never, fst∗}
-use types.Logic.{Logic, sem}
-use types.Kit.{Item, Goal, Seq, Step, step, ‵, ◌$◌, move, drop, fsplit, fjoin, fpick, fpack, feq_i, feq_l}
-use denote.RattleType.{RattleType, Valss}
-use denote.Builtin.{RawPtr}
-use denote.Memory.{lone}
-use denote.RawPtr.{Ptr, block_ptr, null_ptr, ptr_val, in_a_block}
-use denote.Steps.{nothing}
-use denote.Param.{layout}
-use denote.Param.Laws.{Laws}
-use denote.Struct.Struct.{within}
-use denote.Struct.Owning.{shape}
-use Rattle.core.specs.declared.alloc.Allocator.{Ghosts}
 use Rattle.core.proofs.alloc.Calls.{Al, handle_tells}
 use Rattle.core.proofs.cell.Inside.{Good}
-use Rattle.std_alloc.specs.Box.Ownership.{box_owns}
 use Rattle.std_alloc.proofs.ResultValues.{and_tt}
+use mir.Raw.{raw as bare}
+use types.Kit.{drop}
+use Rattle.zoned_ffi.proofs.Words.{Fml, Ghosts, Goal, Item, Laws, List, Logic, Ptr, RattleType, RawPtr, Seq, Step, T, Ura, Val, Valss, WT, block_ptr, box_owns}
+use Rattle.zoned_ffi.proofs.Words.{dnil, feq_i, feq_l, fjoin, fpack, fpick, fsplit, fst∗, has_ty, impl, in_a_block, layout, lone, move, never, nothing}
+use Rattle.zoned_ffi.proofs.Words.{null_ptr, of_list, ptr_val, refl, sem, shape, step, subst, tnil, true, vcons, vnil, vptr, vstruct, within, ℕ, [], ‵, ◌$◌}
+use Rattle.zoned_ffi.proofs.Words.{◌&&◌, ◌++◌, ◌∷◌, ◌≡◌}
 use Rattle.zoned_ffi.specs.contracts.slot.Slot as slot
 
 -- the value of a struct of two fields

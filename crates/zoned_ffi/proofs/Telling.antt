@@ -1,14 +1,6 @@
 -- An answer of types, told by seconds and offsets.
-use Rattle.std.proofs.Common.{◌≡◌, ℤ, ◌+ℤ◌, ◌-ℤ◌, refl, arith}
-use Rattle.std.proofs.lemmas.Int.{ints}
-use Rattle.offset_core.specs.WallAnswer.{IsWallAnswer}
-use Rattle.offset_core.specs.declared.local_result.LocalResult.{LocalResult}
-use Rattle.offset_core.specs.declared.local_result.LocalResult.TheVariants.{None, Single, Ambiguous}
-use Rattle.tz_base.specs.LocalTypes.{LocalType}
-use Rattle.tz_info.specs.WallClocks.{Shows}
-use Rattle.tz_info.specs.Zones.{Zone, TypeAt}
-use Rattle.zoned_ffi.specs.Steps.Told.{told_of}
-use Rattle.zoned_ffi.specs.WallClocks.{ShowsAt}
+use Rattle.offset_core.specs.declared.local_result.LocalResult.TheVariants.{Ambiguous, None, Single}
+use Rattle.zoned_ffi.proofs.Words.{IsWallAnswer, LocalResult, LocalType, Shows, ShowsAt, TypeAt, Zone, arith, ints, refl, told_of, ℤ, ◌+ℤ◌, ◌-ℤ◌, ◌≡◌}
 
 -- the second at which a clock of the type shows the local time is that time less the offset
 second_of : (z : Zone) (local u : ℤ) (t : LocalType) → Shows (TypeAt z) local u t → ShowsAt z local u (local -ℤ t.offset, t.offset)

@@ -1,19 +1,8 @@
 -- The changes of a zone's types as instants, and that clocks stand between them.
-use Rattle.std.proofs.Common.{◌≡◌, ◌↔◌, ◌⊎◌, ℕ, zero, suc, ℤ, pos, ◌+ℤ◌, ◌-ℤ◌, ◌<ℤ◌, ◌≤ℤ◌, Bool, true, false, IsTrue, Option, Some, None, arith, refl, sym, subst, ◌∙◌, ap, inl, inr}
-use Rattle.std.specs.Prelude.{◌≢◌, IfSome, MatchOption, option_map, unsigned_abs}
-use Rattle.std.proofs.lemmas.Int.{ints}
-use Rattle.naive_base.specs.Range.{IsInRange}
-use Rattle.naive_base.specs.Stamp.{of_secs}
-use Rattle.naive_base.proofs.ForCallers.{gap_of}
-use Rattle.tz_base.specs.LocalTypes.{LocalType}
-use Rattle.tz_info.specs.Changes.{IsChange, HasNoChange, IsFirst, IsFirstChange, IsLast, IsLastChange}
-use Rattle.tz_info.specs.Zones.{Zone, TypeAt}
-use Rattle.tz_base.specs.declared.change.Change.{Change}
-use Rattle.tz_info.proofs.ForCallers.{type_once}
-use Rattle.zoned_time.specs.Zone.{Meaning, Law}
-use Rattle.zoned_time.specs.Zoned.{Zoned, IsAt}
-use Rattle.zoned_ref.specs.Offsets.{AreOffsetsOf}
-use Rattle.zoned_ref.specs.ZoneChange.{IsAfter, IsUpTo, AreAround, change_between, StandAlike, StandWithin}
+use Rattle.zoned_ref.proofs.Words.{AreAround, AreOffsetsOf, Bool, Change, HasNoChange, IfSome, IsAfter, IsAt, IsChange, IsFirst, IsFirstChange, IsInRange}
+use Rattle.zoned_ref.proofs.Words.{IsLast, IsLastChange, IsTrue, IsUpTo, Law, LocalType, MatchOption, Meaning, None, Option, Some, StandAlike, StandWithin}
+use Rattle.zoned_ref.proofs.Words.{TypeAt, Zone, Zoned, ap, arith, change_between, false, gap_of, inl, inr, ints, of_secs, option_map, pos, refl, subst, suc}
+use Rattle.zoned_ref.proofs.Words.{sym, true, type_once, unsigned_abs, zero, ℕ, ℤ, ◌+ℤ◌, ◌-ℤ◌, ◌<ℤ◌, ◌↔◌, ◌∙◌, ◌≡◌, ◌≢◌, ◌≤ℤ◌, ◌⊎◌}
 
 -- types of local time are equal or not
 abbrev pub AreDecided : Type 0

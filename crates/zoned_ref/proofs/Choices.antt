@@ -1,16 +1,7 @@
 -- Each choice has an answer for each reading, by the offsets of a narrow zone.
-use Rattle.std.proofs.Common.{ℤ, ◌-ℤ◌, ◌⊎◌}
-use Rattle.offset_core.specs.declared.choice.Choice.{Choice}
-use Rattle.offset_core.specs.LocalResult.{map_of}
-use Rattle.naive_base.specs.Range.{IsInRange, IsWide}
-use Rattle.tz_info.specs.Zones.{Zone, IsValid, IsRuleOrNone}
-use Rattle.tz_info.proofs.ForCallers.{wall_decided}
-use Rattle.zoned_time.specs.Choice.{IsTaken, IsUnresolved}
-use Rattle.zoned_time.specs.declared.resolve_error.ResolveError.{ResolveError}
-use Rattle.zoned_time.proofs.ForCallers.{choice_decided}
-use Rattle.zoned_ref.specs.Offsets.{IsNarrow, AreOffsetsOf}
-use Rattle.zoned_ref.specs.OffsetAt.{offset_at}
-use Rattle.zoned_ref.proofs.Offsets.{zone_has_offsets, are_offsets, offsets_within}
+use Rattle.zoned_ref.proofs.Words.{AreOffsetsOf, Choice, IsInRange, IsNarrow, IsRuleOrNone, IsTaken, IsUnresolved, IsValid, IsWide, ResolveError, Zone}
+use Rattle.zoned_ref.proofs.Words.{choice_decided, map_of, offset_at, wall_decided, ℤ, ◌-ℤ◌, ◌⊎◌}
+use Rattle.zoned_ref.proofs.Offsets.{are_offsets, offsets_within, zone_has_offsets}
 use Rattle.zoned_ref.proofs.Walls.{zone_wall}
 
 pub choice_covered : (z : Zone) (l : ℤ) (choice : Choice) → IsValid z → IsRuleOrNone z.rule → IsNarrow z → IsWide l

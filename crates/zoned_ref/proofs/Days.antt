@@ -1,15 +1,7 @@
 -- When clocks show certain local times: by the types in force as by their offsets.
-use Rattle.std.proofs.Common.{◌≡◌, ℤ, pos, ◌+ℤ◌, ◌*ℤ◌, ◌≤ℤ◌, ◌<ℤ◌, arith, ap, ◌∙◌}
-use Rattle.std.proofs.lemmas.Int.{ints}
-use Rattle.naive_base.specs.Range.{IsWide, IsWideDay}
-use Rattle.tz_base.specs.LocalTypes.{LocalType}
-use Rattle.tz_info.specs.ShownSeconds.{ShowsWithin, AreEndsWithin, IsNeverWithin, ShowsAtOrAfter, IsFirstAtOrAfter}
-use Rattle.tz_info.specs.Zones.{Zone, TypeAt}
-use Rattle.tz_info.specs.declared.zone.shown_seconds.ShownSeconds.{ShownSeconds}
-use Rattle.tz_info.proofs.ForCallers.{type_once}
-use Rattle.zoned_time.specs.Days.{IsOnDay, AreEndsOfDay, IsNeverOnDay, HasReached, IsFirstToReach}
-use Rattle.zoned_time.specs.Zone.{IsZoneSecond}
-use Rattle.zoned_ref.specs.Offsets.{IsNarrow, AreOffsetsOf}
+use Rattle.zoned_ref.proofs.Words.{AreEndsOfDay, AreEndsWithin, AreOffsetsOf, HasReached, IsFirstAtOrAfter, IsFirstToReach, IsNarrow, IsNeverOnDay}
+use Rattle.zoned_ref.proofs.Words.{IsNeverWithin, IsOnDay, IsWide, IsWideDay, IsZoneSecond, LocalType, ShownSeconds, ShowsAtOrAfter, ShowsWithin, TypeAt, Zone}
+use Rattle.zoned_ref.proofs.Words.{ap, arith, ints, pos, type_once, ℤ, ◌*ℤ◌, ◌+ℤ◌, ◌<ℤ◌, ◌∙◌, ◌≡◌, ◌≤ℤ◌}
 use Rattle.zoned_ref.proofs.Offsets.{type_within}
 
 abbrev OnDayByType : Zone → ℤ → ℤ → LocalType → Type 0

@@ -1,17 +1,9 @@
 -- The type before a gap tells the offset before it.
-use Rattle.std.proofs.Common.{◌≡◌, ℤ, pos, ◌+ℤ◌, ◌-ℤ◌, arith, sym, ap, subst, ◌∙◌, Some, None}
-use Rattle.std.proofs.lemmas.Int.{ints}
-use Rattle.offset_core.specs.Offset.{IsWithinDay}
-use Rattle.naive_base.specs.Range.{IsWide}
-use Rattle.tz_base.specs.LocalTypes.{LocalType}
 use Rattle.tz_info.specs.Gaps as types
-use Rattle.tz_info.specs.Zones.{Zone, TypeAt}
-use Rattle.tz_info.proofs.ForCallers.{type_once}
-use Rattle.zoned_time.specs.Choice.{IsBeforeGap, IsOffsetBeforeGap}
-use Rattle.zoned_time.specs.Zone.{Meaning, Law, home_law, SameLaw, IsZoneSecond}
-use Rattle.zoned_ref.specs.Offsets.{IsNarrow, AreOffsetsOf}
+use Rattle.zoned_ref.proofs.Words.{AreOffsetsOf, IsBeforeGap, IsNarrow, IsOffsetBeforeGap, IsWide, IsWithinDay, IsZoneSecond, Law, LocalType, Meaning, None}
+use Rattle.zoned_ref.proofs.Words.{SameLaw, Some, TypeAt, Zone, ap, arith, home_law, ints, pos, subst, sym, type_once, ℤ, ◌+ℤ◌, ◌-ℤ◌, ◌∙◌, ◌≡◌}
 use Rattle.zoned_ref.proofs.Offsets.{type_within}
-use Rattle.zoned_ref.proofs.Walls.{shown_by_type, shown_by_offset}
+use Rattle.zoned_ref.proofs.Walls.{shown_by_offset, shown_by_type}
 
 -- the offset at a second is that of the type in force
 offset_is : (z : Zone) (off : ℤ → ℤ) (u : ℤ) (t : LocalType) → AreOffsetsOf z off → IsZoneSecond u → TypeAt z u t → off u ≡ t.offset

@@ -1,18 +1,7 @@
 -- The instants that a zone gives are those of the types in force.
-use Rattle.std.proofs.Common.{◌≡◌, ℤ, refl, subst, Option}
-use Rattle.std.specs.Prelude.{SomeIff}
-use Rattle.offset_core.specs.declared.local_result.LocalResult.{LocalResult}
-use Rattle.offset_core.specs.declared.local_result.LocalResult.TheVariants.{Single, Ambiguous}
-use Rattle.offset_core.specs.LocalResult.{all_or_none}
-use Rattle.offset_core.proofs.ForCallers.{one_wall_answer}
-use Rattle.naive_base.specs.Reading.{Reading}
-use Rattle.tz_base.specs.LocalTypes.{LocalType}
-use Rattle.tz_info.specs.WallClocks.{Shows}
-use Rattle.tz_info.specs.Zones.{Zone, TypeAt}
-use Rattle.tz_info.proofs.ForCallers.{type_once}
-use Rattle.zoned_time.specs.Relocal.{HasInstant, instant_of}
-use Rattle.zoned_time.specs.Zoned.{Zoned}
-use Rattle.zoned_ref.specs.Instants.{AreTypesFor, AreInstantsAt}
+use Rattle.offset_core.specs.declared.local_result.LocalResult.TheVariants.{Ambiguous, Single}
+use Rattle.zoned_ref.proofs.Words.{AreInstantsAt, AreTypesFor, HasInstant, LocalResult, LocalType, Option, Reading, Shows, SomeIff, TypeAt, Zone, Zoned}
+use Rattle.zoned_ref.proofs.Words.{all_or_none, instant_of, one_wall_answer, refl, subst, type_once, ℤ, ◌≡◌}
 
 -- the instants of the types in force, where there is but one answer
 pub instants_for : (z : Zone) (l : Reading) (types : LocalResult LocalType) (instants : LocalResult (Zoned ℤ))

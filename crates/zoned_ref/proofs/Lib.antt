@@ -1,3 +1,4 @@
+pub mod Words
 pub mod ForCallers
 mod Homes
 mod Narrow

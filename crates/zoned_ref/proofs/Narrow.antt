@@ -1,16 +1,8 @@
 -- A zone is narrow if its least and its greatest offset are less than a day away from UTC.
-use Rattle.std.proofs.Common.{◌≡◌, ◌<◌, ℤ, arith, refl, subst, sym, List, ◌++◌, length, map, get_or, All, Option, Some, None}
-use Rattle.std.proofs.Math.ListN.{get_or-map}
-use Rattle.std.proofs.lemmas.Int.{ints}
-use Rattle.std.proofs.lemmas.List.{length-map}
-use Rattle.std.proofs.lemmas.List.Elements.{All-append, All-contains, All-contains_itself, All-map, Contains-append_left, Contains-append_right}
-use Rattle.offset_core.specs.Offset.{IsWithinDay}
-use Rattle.tz_base.specs.LocalTypes.{LocalType}
-use Rattle.tz_info.specs.Windows.{IsGreatest, IsLeast, offsets, rule_offsets}
-use Rattle.tz_info.specs.Zones.{Zone}
-use Rattle.tz_info.specs.declared.rule.transition_rule.TransitionRule.{TransitionRule}
-use Rattle.tz_info.specs.declared.rule.transition_rule.TransitionRule.TheVariants.{Fixed, Alternate}
-use Rattle.zoned_ref.specs.Offsets.{IsNarrow, rule_types}
+use Rattle.tz_info.specs.declared.rule.transition_rule.TransitionRule.TheVariants.{Alternate, Fixed}
+use Rattle.zoned_ref.proofs.Words.{All, All-append, All-contains, All-contains_itself, All-map, Contains-append_left, Contains-append_right, IsGreatest}
+use Rattle.zoned_ref.proofs.Words.{IsLeast, IsNarrow, IsWithinDay, List, LocalType, None, Option, Some, TransitionRule, Zone, arith, get_or, get_or-map, ints}
+use Rattle.zoned_ref.proofs.Words.{length, length-map, map, offsets, refl, rule_offsets, rule_types, subst, sym, ℤ, ◌++◌, ◌<◌, ◌≡◌}
 
 abbrev of_types : List LocalType → List ℤ
 of_types types = map (λ t. t.offset) types

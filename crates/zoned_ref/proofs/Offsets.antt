@@ -1,23 +1,11 @@
 -- A valid zone has one offset at each second that zones answer in.
-use Rattle.std.proofs.Common.{◌≡◌, ℕ, zero, suc, ℤ, Bool, true, false, List, [], ◌∷◌, All, slice_get, Option, Some, None, refl, ◌∙◌, sym, subst, arith, inl, inr}
 use Rattle.std.proofs.Math.Logic.{∥∥₁_elim}
-use Rattle.std.proofs.lemmas.Int.{ints}
-use Rattle.std.specs.Coded.{Coded-set, coded_ℤ}
-use Rattle.offset_core.specs.Offset.{IsWithinDay}
-use Rattle.naive_base.specs.Year.{floor_div}
-use Rattle.naive_base.specs.DateOf.{year_of}
-use Rattle.naive_base.proofs.ForCallers.{lies_in}
-use Rattle.tz_base.specs.LocalTypes.{LocalType}
-use Rattle.tz_info.specs.Moments.{type_when}
-use Rattle.tz_info.specs.Rules.{Alternate as AlternateRule}
-use Rattle.tz_info.specs.Zones.{Zone, TypeAt, IsValid, IsTypeRefused, by_leap_time, by_rule, IsRefusedBy, IsRuleOrNone, IsTypeOf}
-use Rattle.tz_info.specs.declared.rule.transition_rule.TransitionRule.{TransitionRule}
-use Rattle.tz_info.specs.declared.rule.transition_rule.TransitionRule.TheVariants.{Fixed, Alternate}
-use Rattle.tz_info.proofs.ForCallers.{leap_times_answer, rule_year, type_decided, type_listed}
-use Rattle.zoned_time.specs.Zone.{IsZoneSecond}
-use Rattle.zoned_ref.specs.Offsets.{rule_types, IsNarrow, HasOneOffset, HasOffset, HasOffsets, AreOffsetsOf}
-use Rattle.zoned_ref.specs.OffsetAt.{offset_with, offset_at}
-use Rattle.zoned_ref.specs.Steps.OffsetAt.{one_offset}
+use Rattle.tz_info.specs.declared.rule.transition_rule.TransitionRule.TheVariants.{Alternate, Fixed}
+use Rattle.zoned_ref.proofs.Words.{All, Alternate as AlternateRule, AreOffsetsOf, Bool, Coded-set, HasOffset, HasOffsets, HasOneOffset, IsNarrow, IsRefusedBy}
+use Rattle.zoned_ref.proofs.Words.{IsRuleOrNone, IsTypeOf, IsTypeRefused, IsValid, IsWithinDay, IsZoneSecond, List, LocalType, None, Option, Some}
+use Rattle.zoned_ref.proofs.Words.{TransitionRule, TypeAt, Zone, arith, by_leap_time, by_rule, coded_ℤ, false, floor_div, inl, inr, ints, leap_times_answer}
+use Rattle.zoned_ref.proofs.Words.{lies_in, offset_at, offset_with, one_offset, refl, rule_types, rule_year, slice_get, subst, suc, sym, true, type_decided}
+use Rattle.zoned_ref.proofs.Words.{type_listed, type_when, year_of, zero, ℕ, ℤ, [], ◌∙◌, ◌∷◌, ◌≡◌}
 
 -- a rule answers in the years of the range
 rule_not_refused : (rule : Option TransitionRule) (u : ℤ) → IsZoneSecond u → IsRefusedBy rule u → ⊥

@@ -1,20 +1,10 @@
 -- The wall clock's answer over all seconds of 64 bits is the one over the range that zones answer in: whoever shows a
 -- reading is less than a day away from it.
-use Rattle.std.proofs.Common.{◌≡◌, ℤ, ◌+ℤ◌, ◌-ℤ◌, arith, sym, ap, ◌∙◌}
-use Rattle.std.proofs.lemmas.Int.{ints}
-use Rattle.offset_core.specs.declared.local_result.LocalResult.{LocalResult}
-use Rattle.offset_core.specs.declared.local_result.LocalResult.TheVariants.{Single, Ambiguous, None}
-use Rattle.offset_core.specs.LocalResult.{map_of}
-use Rattle.offset_core.specs.Offset.{IsWithinDay}
-use Rattle.offset_core.specs.WallAnswer.{IsWallAnswer}
-use Rattle.offset_core.proofs.ForCallers.{IsWallAnswer-map_of}
-use Rattle.naive_base.specs.Range.{IsWide}
-use Rattle.tz_base.specs.LocalTypes.{LocalType}
+use Rattle.offset_core.specs.declared.local_result.LocalResult.TheVariants.{Ambiguous, None, Single}
 use Rattle.tz_info.specs.WallClocks as types
-use Rattle.tz_info.specs.Zones.{Zone, TypeAt}
-use Rattle.tz_info.proofs.ForCallers.{type_once}
 use Rattle.zoned_time.specs.Zone as offsets
-use Rattle.zoned_ref.specs.Offsets.{IsNarrow, AreOffsetsOf}
+use Rattle.zoned_ref.proofs.Words.{AreOffsetsOf, IsNarrow, IsWallAnswer, IsWallAnswer-map_of, IsWide, IsWithinDay, LocalResult, LocalType, TypeAt, Zone, ap}
+use Rattle.zoned_ref.proofs.Words.{arith, ints, map_of, sym, type_once, ℤ, ◌+ℤ◌, ◌-ℤ◌, ◌∙◌, ◌≡◌}
 use Rattle.zoned_ref.proofs.Offsets.{type_within}
 
 pub shown_by_type : (z : Zone) (off : ℤ → ℤ) (l : ℤ) → IsNarrow z → AreOffsetsOf z off → IsWide l → (u : ℤ) (t : LocalType) → types.Shows (TypeAt z) l u t → offsets.Shows off l u t.offset

@@ -1,12 +1,7 @@
 -- Values that went some way, as instants.
-use Rattle.std.proofs.Common.{◌≡◌, ◌∙◌, ap, sym, refl, ◌<◌, arith, ℤ, pos, ◌+ℤ◌}
-use Rattle.std.proofs.lemmas.Int.{by_lt_z}
-use Rattle.naive_base.specs.Reading.{Reading, total, moved}
-use Rattle.naive_base.proofs.ForCallers.{floors, total-moved}
-use Rattle.zoned_round.specs.declared.error.RoundingError.{RoundingError}
-use Rattle.zoned_round.specs.declared.error.RoundingError.TheVariants.{DurationExceedsTimestamp, DurationExceedsLimit, TimestampExceedsLimit}
-use Rattle.zoned_round.specs.Durations.{IsGone}
-use Rattle.zoned_round.specs.Errors.{IsRefusal}
+use Rattle.zoned_round.proofs.Words.{IsGone, IsRefusal, Reading, RoundingError, ap, arith, by_lt_z, floors, moved, pos, refl, sym, total, total-moved, ℤ, ◌+ℤ◌}
+use Rattle.zoned_round.proofs.Words.{◌<◌, ◌∙◌, ◌≡◌}
+use Rattle.zoned_round.specs.declared.error.RoundingError.TheVariants.{DurationExceedsLimit, DurationExceedsTimestamp, TimestampExceedsLimit}
 
 -- outside leap seconds a value is that much later
 pub total-gone : {T : Type 0} (instant : T → Reading) (IsMoved : ℤ → T → Type 0) (value answer : T) (way : ℤ)

@@ -1,3 +1,4 @@
+pub mod Words
 mod Ways
 mod Moves
 mod Multiples

@@ -1,9 +1,6 @@
 -- Readings moved within their second, and by how much.
-use Rattle.std.proofs.Common.{◌≡◌, ◌∙◌, ap, ℕ, ◌<◌, ◌≤◌, ◌-◌, arith, ℤ, pos, neg_ℤ, ◌+ℤ◌, ◌*ℤ◌, refl, unsigned_abs}
-use Rattle.std.proofs.lemmas.Int.{by_lt_z}
-use Rattle.naive_base.specs.Reading.{Reading, moved, of_total}
-use Rattle.naive_base.specs.Year.{floor_div, floor_mod}
-use Rattle.naive_base.proofs.ForCallers.{floors, moved-plain, moved-leap, moved_leap-within, floor_mod_parts}
+use Rattle.zoned_round.proofs.Words.{Reading, ap, arith, by_lt_z, floor_div, floor_mod, floor_mod_parts, floors, moved, moved-leap, moved-plain}
+use Rattle.zoned_round.proofs.Words.{moved_leap-within, neg_ℤ, of_total, pos, refl, unsigned_abs, ℕ, ℤ, ◌*ℤ◌, ◌+ℤ◌, ◌-◌, ◌<◌, ◌∙◌, ◌≡◌, ◌≤◌}
 
 of_total-second : (s : ℤ) (f : ℕ) (n : ℤ) → f < 1_000_000_000 → n ≡ s *ℤ pos 1_000_000_000 +ℤ pos f
     → of_total n ≡ record { s = s; f = f }

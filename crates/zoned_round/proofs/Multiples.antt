@@ -1,8 +1,6 @@
 -- How far the multiples of a span are from a number.
-use Rattle.std.proofs.Common.{◌≡◌, ◌∙◌, ◌⊎◌, inl, inr, ℕ, ◌<◌, arith, ℤ, pos, neg_ℤ, negsuc, ◌+ℤ◌, ◌-ℤ◌, ◌≤ℤ◌, ◌<ℤ◌, refl, unsigned_abs}
-use Rattle.std.proofs.lemmas.Int.{ints, by_lt_z}
-use Rattle.naive_base.proofs.ForCallers.{floors, floor_mod_parts}
-use Rattle.zoned_round.specs.Multiples.{multiple_below, multiple_above, nearest_multiple}
+use Rattle.zoned_round.proofs.Words.{arith, by_lt_z, floor_mod_parts, floors, inl, inr, ints, multiple_above, multiple_below, nearest_multiple, neg_ℤ, negsuc}
+use Rattle.zoned_round.proofs.Words.{pos, refl, unsigned_abs, ℕ, ℤ, ◌+ℤ◌, ◌-ℤ◌, ◌<ℤ◌, ◌<◌, ◌∙◌, ◌≡◌, ◌≤ℤ◌, ◌⊎◌}
 
 -- the one below is less than a span away
 pub below-near : (n : ℤ) (span : ℕ) → 0 < span

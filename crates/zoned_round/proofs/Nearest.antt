@@ -1,13 +1,9 @@
 -- The multiples about a number are the greatest, the least and the nearest of all multiples.
-use Rattle.std.proofs.Common.{◌≡◌, inl, inr, ◌∙◌, ap, ℕ, ◌+◌, ◌*◌, ◌<◌, ◌≤◌, arith, ℤ, pos, neg_ℤ, negsuc, ◌+ℤ◌, ◌-ℤ◌, ◌*ℤ◌, ◌≤ℤ◌, ◌<ℤ◌, refl, unsigned_abs}
-use Rattle.std.proofs.lemmas.Int.{by_lt_z}
-use Rattle.std.proofs.Math.Nat.{mul-le-mul_right, add-mul}
-use borrow.Author.Differences.{up, down}
-use Rattle.naive_base.specs.Year.{floor_div}
-use Rattle.naive_base.proofs.ForCallers.{floors}
-use Rattle.zoned_round.specs.Laws.{IsMultiple, IsGreatest, IsLeast, apart}
-use Rattle.zoned_round.specs.Multiples.{multiple_below, multiple_above, nearest_multiple}
-use Rattle.zoned_round.proofs.Multiples.{below-near, above-near, above-is, nearest-is}
+use Rattle.std.proofs.Math.Nat.{add-mul, mul-le-mul_right}
+use Rattle.zoned_round.proofs.Words.{IsGreatest, IsLeast, IsMultiple, ap, apart, arith, by_lt_z, down, floor_div, floors, inl, inr, multiple_above}
+use Rattle.zoned_round.proofs.Words.{multiple_below, nearest_multiple, neg_ℤ, negsuc, pos, refl, unsigned_abs, up, ℕ, ℤ, ◌*ℤ◌, ◌*◌, ◌+ℤ◌, ◌+◌, ◌-ℤ◌, ◌<ℤ◌, ◌<◌}
+use Rattle.zoned_round.proofs.Words.{◌∙◌, ◌≡◌, ◌≤ℤ◌, ◌≤◌}
+use Rattle.zoned_round.proofs.Multiples.{above-is, above-near, below-near, nearest-is}
 
 -- products by a span, in the order of their factors
 scaled : (a b : ℤ) (span : ℕ) → a ≤ℤ b → (a *ℤ pos span) ≤ℤ (b *ℤ pos span)

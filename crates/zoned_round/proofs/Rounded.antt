@@ -1,13 +1,9 @@
 -- Readings rounded to digits of a second.
-use Rattle.std.proofs.Common.{inl, inr, ℕ, ◌<◌, ◌≤◌, ◌-◌, arith, ℤ, pos, neg_ℤ, ◌+ℤ◌, ◌-ℤ◌, ◌*ℤ◌, ◌≤ℤ◌, ◌<ℤ◌}
-use Rattle.std.proofs.lemmas.Int.{by_lt_z}
-use Rattle.std.proofs.Math.Nat.{pow-le-pow_right, one-le-pow}
-use Rattle.naive_base.specs.Range.{IsInRange}
-use Rattle.naive_base.specs.Reading.{Reading, moved, of_total, moved_leap}
-use Rattle.naive_base.proofs.ForCallers.{floors, moved-plain, moved-leap, moved_leap-within, moved_leap-behind, floor_mod_parts}
-use Rattle.zoned_round.specs.Multiples.{nearest_multiple, multiple_below}
-use Rattle.zoned_round.specs.Subseconds.{rounded, nanos_per_digit}
-use Rattle.zoned_round.proofs.Multiples.{below-near, above-near, nearest-is}
+use Rattle.std.proofs.Math.Nat.{one-le-pow, pow-le-pow_right}
+use Rattle.zoned_round.proofs.Words.{IsInRange, Reading, arith, by_lt_z, floor_mod_parts, floors, inl, inr, moved, moved-leap, moved-plain, moved_leap}
+use Rattle.zoned_round.proofs.Words.{moved_leap-behind, moved_leap-within, multiple_below, nanos_per_digit, nearest_multiple, neg_ℤ, of_total, pos, rounded, ℕ}
+use Rattle.zoned_round.proofs.Words.{ℤ, ◌*ℤ◌, ◌+ℤ◌, ◌-ℤ◌, ◌-◌, ◌<ℤ◌, ◌<◌, ◌≤ℤ◌, ◌≤◌}
+use Rattle.zoned_round.proofs.Multiples.{above-near, below-near, nearest-is}
 
 -- from this second's start to less than two seconds later
 of_total-next : (s n : ℤ) → neg_ℤ (pos 8_334_601_228_800) ≤ℤ s → (s +ℤ pos 1) ≤ℤ pos 8_210_266_876_799

@@ -1,6 +1,5 @@
 -- Ways from a stamp, by equal numbers.
-use Rattle.std.proofs.Common.{◌≡◌, ℕ, ℤ, ◌-ℤ◌, unsigned_abs}
-use Rattle.zoned_round.specs.Durations.{IsGone}
+use Rattle.zoned_round.proofs.Words.{IsGone, unsigned_abs, ℕ, ℤ, ◌-ℤ◌, ◌≡◌}
 
 -- the way that was gone is the one from this stamp
 pub gone : {T : Type 0} (IsMoved : ℤ → T → Type 0) (choose : ℤ → ℕ → ℤ) (value answer : T) (n span way stamp length : ℤ)

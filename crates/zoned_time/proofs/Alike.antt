@@ -1,8 +1,6 @@
 -- What a zone gives around a local time, kind by kind.
-use Rattle.std.proofs.Common.{◌↔◌}
-use Rattle.zoned_time.specs.declared.around.OffsetsAround.{OffsetsAround}
-use Rattle.zoned_time.specs.declared.around.OffsetsAround.TheVariants.{Single, Ambiguous, BeforeGap}
-use Rattle.zoned_time.specs.Alike.{AreAlike}
+use Rattle.zoned_time.proofs.Words.{AreAlike, OffsetsAround, ◌↔◌}
+use Rattle.zoned_time.specs.declared.around.OffsetsAround.TheVariants.{Ambiguous, BeforeGap, Single}
 
 -- a relation that holds of two of one kind as R does of their offsets, and never of two kinds
 pub alike_by : {O : Type 0} (R : O → O → Type 0) (E : OffsetsAround O → OffsetsAround O → Type 0)

@@ -1,21 +1,12 @@
 -- Each choice has an answer for each reading that the wall clock has one for.
-use Rattle.std.proofs.Common.{◌≡◌, ℕ, zero, suc, ℤ, pos, ◌+ℤ◌, ◌-ℤ◌, ◌<ℤ◌, ◌≤ℤ◌, ◌⊎◌, inl, inr, refl, arith}
-use Rattle.std.proofs.lemmas.Int.{ints, by_lt_z}
-use Rattle.offset_core.specs.Offset.{IsWithinDay}
-use Rattle.offset_core.specs.WallAnswer.{IsWallAnswer, IsNeverShown}
-use Rattle.offset_core.specs.declared.choice.Choice.{Choice}
-use Rattle.offset_core.specs.declared.choice.GapChoice.{GapChoice}
+use Rattle.offset_core.specs.declared.choice.FoldChoice.TheVariants.{Earliest, Latest, Refuse as RefuseFold}
 use Rattle.offset_core.specs.declared.choice.GapChoice.TheVariants.{Refuse as RefuseGap, ShiftForward}
-use Rattle.offset_core.specs.declared.choice.FoldChoice.{FoldChoice}
-use Rattle.offset_core.specs.declared.choice.FoldChoice.TheVariants.{Refuse as RefuseFold, Earliest, Latest}
-use Rattle.offset_core.specs.declared.local_result.LocalResult.{LocalResult}
-use Rattle.offset_core.specs.declared.local_result.LocalResult.TheVariants.{Single, Ambiguous, None}
-use Rattle.naive_base.specs.Range.{IsInRange, IsWide}
-use Rattle.naive_base.proofs.ForCallers.{in_range_or_not}
-use Rattle.zoned_time.specs.Choice.{IsBeforeGap, IsTaken, once, earliest, latest, shifted, IsUnresolved, gap, fold, out_of_range}
-use Rattle.zoned_time.specs.Zone.{IsZoneSecond, Shows}
-use Rattle.zoned_time.specs.declared.resolve_error.ResolveError.{ResolveError}
-use Rattle.zoned_time.specs.declared.resolve_error.ResolveError.TheVariants.{Gap, Fold, OutOfRange}
+use Rattle.offset_core.specs.declared.local_result.LocalResult.TheVariants.{Ambiguous, None, Single}
+use Rattle.zoned_time.proofs.Words.{Choice, FoldChoice, GapChoice, IsBeforeGap, IsInRange, IsNeverShown, IsTaken, IsUnresolved, IsWallAnswer, IsWide}
+use Rattle.zoned_time.proofs.Words.{IsWithinDay, IsZoneSecond, LocalResult, ResolveError, Shows, arith, by_lt_z, earliest, gap, in_range_or_not, inl, inr, ints}
+use Rattle.zoned_time.proofs.Words.{latest, once, out_of_range, pos, refl, shifted, suc, zero, ℕ, ℤ, ◌+ℤ◌, ◌-ℤ◌, ◌<ℤ◌, ◌≡◌, ◌≤ℤ◌, ◌⊎◌}
+use Rattle.zoned_time.specs.Choice.{fold}
+use Rattle.zoned_time.specs.declared.resolve_error.ResolveError.TheVariants.{Fold, Gap, OutOfRange}
 
 -- the first second from a start on of which p holds, where p is decided and holds of some later second
 first_from : (p : ℤ → Type 0) → ((u : ℤ) → p u ⊎ (p u → ⊥)) → (n : ℕ) (start end : ℤ) → end ≡ start +ℤ pos n → p end

@@ -1,16 +1,9 @@
 -- What a choice takes for a wall clock.
-use Rattle.std.proofs.Common.{◌≡◌, ℤ, ◌-ℤ◌, refl, sym, subst, Result, Ok, Err, MatchResult}
-use Rattle.offset_core.specs.declared.choice.Choice.{Choice}
 use Rattle.offset_core.specs.declared.choice.GapChoice.TheVariants.{ShiftForward}
-use Rattle.naive_base.specs.Range.{IsInRange}
-use Rattle.naive_base.specs.Reading.{Reading, behind}
-use Rattle.zoned_time.specs.declared.resolve_error.ResolveError.{ResolveError}
+use Rattle.zoned_time.proofs.Words.{Choice, Err, HasInstant, IsAt, IsInRange, IsResolved, IsShiftOutOfRange, IsShifted, IsTaken, IsUnresolved, Law, MatchResult}
+use Rattle.zoned_time.proofs.Words.{Meaning, Ok, Reading, ResolveError, Result, SameLaw, Shows, Zoned, behind, home_law, instant_of, out_of_range, refl}
+use Rattle.zoned_time.proofs.Words.{shifted, subst, sym, ℤ, ◌-ℤ◌, ◌≡◌}
 use Rattle.zoned_time.specs.declared.resolve_error.ResolveError.TheVariants.{OutOfRange}
-use Rattle.zoned_time.specs.Choice.{IsTaken, shifted, IsResolved, IsUnresolved, out_of_range}
-use Rattle.zoned_time.specs.Steps.Shifts.{IsShifted, IsShiftOutOfRange}
-use Rattle.zoned_time.specs.Relocal.{HasInstant, instant_of}
-use Rattle.zoned_time.specs.Zone.{Meaning, Law, home_law, SameLaw, Shows}
-use Rattle.zoned_time.specs.Zoned.{Zoned, IsAt}
 use Rattle.zoned_time.proofs.Relocals.{at_shown}
 
 -- by an offset that clocks show

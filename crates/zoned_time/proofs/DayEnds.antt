@@ -1,20 +1,11 @@
 -- Days from their starts: the last instant, and first days before the range.
-use Rattle.std.proofs.Common.{◌≡◌, ◌∙◌, ℕ, ℤ, pos, neg_ℤ, ◌+ℤ◌, ◌-ℤ◌, ◌*ℤ◌, ◌≤ℤ◌, ◌<ℤ◌, inl, inr, arith, refl, sym, subst, ap, Option, Some, None}
-use Rattle.std.specs.Prelude.{MatchOption, SomeIff}
-use Rattle.std.proofs.lemmas.Int.{ints, by_lt_z}
-use Rattle.offset_core.specs.WallAnswer.{IsNeverShown, IsShownOnce, IsShownBetween}
-use Rattle.naive_base.specs.declared.date.NaiveDate.{NaiveDate}
-use Rattle.naive_base.specs.Fields.{IsDaysLater, MayShowDay}
-use Rattle.naive_base.specs.NaiveDate.{day_of, IsDateOn}
-use Rattle.naive_base.specs.Range.{IsInRange, IsWideDay, first_day, last_day}
-use Rattle.naive_base.specs.Reading.{Reading, ahead, behind, IsEarlier}
-use Rattle.naive_base.specs.Stamp.{of_secs}
-use Rattle.zoned_time.specs.Days.{IsFirstToReach, ShowsAtOrAfter, IsFirstAtOrAfter, IsFirstOutOfRange, IsZonedAtOrAfter, IsInDay, midnight}
-use Rattle.zoned_time.specs.DayEnds.{AreStartsOfDays, IsEndOfDay, HasNoEnd, IsZonedEnd, IsGapEnd, NonePassed}
-use Rattle.zoned_time.specs.Zone.{Meaning, Law, IsZoneSecond, SameOffsets, SameLaw, Shows}
-use Rattle.zoned_time.specs.Zoned.{Zoned, IsAt}
-use Rattle.zoned_time.proofs.Days.{to_reached, first_exact, out_of_range, first_whole}
-use Rattle.zoned_time.proofs.DayStarts.{StayWithinDay, one_first, first_until, same_reading, in_day}
+use Rattle.zoned_time.proofs.Words.{AreStartsOfDays, HasNoEnd, IsAt, IsDateOn, IsDaysLater, IsEarlier, IsEndOfDay, IsFirstAtOrAfter, IsFirstOutOfRange}
+use Rattle.zoned_time.proofs.Words.{IsFirstToReach, IsGapEnd, IsInDay, IsInRange, IsNeverShown, IsShownBetween, IsShownOnce, IsWideDay, IsZoneSecond}
+use Rattle.zoned_time.proofs.Words.{IsZonedAtOrAfter, IsZonedEnd, Law, MatchOption, MayShowDay, Meaning, NaiveDate, None, NonePassed, Option, Reading, SameLaw}
+use Rattle.zoned_time.proofs.Words.{SameOffsets, Shows, ShowsAtOrAfter, Some, SomeIff, Zoned, ahead, ap, arith, behind, by_lt_z, day_of, first_day, inl, inr}
+use Rattle.zoned_time.proofs.Words.{ints, last_day, midnight, neg_ℤ, of_secs, pos, refl, subst, sym, ℕ, ℤ, ◌*ℤ◌, ◌+ℤ◌, ◌-ℤ◌, ◌<ℤ◌, ◌∙◌, ◌≡◌, ◌≤ℤ◌}
+use Rattle.zoned_time.proofs.DayStarts.{StayWithinDay, first_until, in_day, one_first, same_reading}
+use Rattle.zoned_time.proofs.Days.{first_exact, first_whole, out_of_range, to_reached}
 use Rattle.zoned_time.proofs.Homes.{offset_home_at}
 
 -- an instant of a day, by the seconds at which it and the next day start

@@ -1,15 +1,8 @@
 -- The starts of days divide time: each instant lies in one day.
-use Rattle.std.proofs.Common.{◌≡◌, ◌⊎◌, ℕ, zero, suc, ℤ, pos, neg_ℤ, negsuc, ◌+ℤ◌, ◌-ℤ◌, ◌*ℤ◌, ◌≤ℤ◌, ◌<ℤ◌, inl, inr, arith, refl, subst}
-use Rattle.std.proofs.lemmas.Int.{ints, by_lt_z}
-use Rattle.offset_core.specs.Offset.{IsWithinDay}
-use Rattle.naive_base.specs.Range.{IsInRange}
-use Rattle.naive_base.specs.Reading.{Reading, ahead, IsEarlier}
-use Rattle.naive_base.specs.Stamp.{of_secs}
-use Rattle.naive_base.specs.Year.{floor_div}
-use Rattle.naive_base.proofs.ForCallers.{floors}
-use Rattle.zoned_time.specs.Days.{IsOnDay, AreEndsOfDay, IsNeverOnDay, HasReached, IsFirstToReach, ShowsAtOrAfter, IsFirstAtOrAfter, IsInDay, midnight}
-use Rattle.zoned_time.specs.Zone.{IsZoneSecond}
-use Rattle.zoned_time.proofs.Days.{to_reached, first_whole}
+use Rattle.zoned_time.proofs.Words.{AreEndsOfDay, HasReached, IsEarlier, IsFirstAtOrAfter, IsFirstToReach, IsInDay, IsInRange, IsNeverOnDay, IsOnDay}
+use Rattle.zoned_time.proofs.Words.{IsWithinDay, IsZoneSecond, Reading, ShowsAtOrAfter, ahead, arith, by_lt_z, floor_div, floors, inl, inr, ints, midnight}
+use Rattle.zoned_time.proofs.Words.{neg_ℤ, negsuc, of_secs, pos, refl, subst, suc, zero, ℕ, ℤ, ◌*ℤ◌, ◌+ℤ◌, ◌-ℤ◌, ◌<ℤ◌, ◌≡◌, ◌≤ℤ◌, ◌⊎◌}
+use Rattle.zoned_time.proofs.Days.{first_whole, to_reached}
 
 -- ---- the order of instants
 through : (x y z : Reading) → ¬ (IsEarlier x y) → ¬ (IsEarlier y z) → ¬ (IsEarlier x z)

@@ -1,16 +1,8 @@
 -- Days of zones: from seconds to instants.
-use Rattle.std.proofs.Common.{◌≡◌, ℤ, pos, ◌+ℤ◌, ◌*ℤ◌, ◌≤ℤ◌, ◌<ℤ◌, inl, inr, arith, refl, sym, subst, ap, ◌∙◌, Option, Some, None, option_map}
-use Rattle.std.specs.Prelude.{◌-ℤ◌, MatchOption, SomeIff}
-use Rattle.std.proofs.lemmas.Int.{ints, by_lt_z}
-use Rattle.naive_base.specs.Range.{IsInRange}
-use Rattle.naive_base.specs.Reading.{Reading}
-use Rattle.naive_base.specs.Stamp.{of_secs}
-use Rattle.naive_base.specs.Year.{floor_div}
-use Rattle.naive_base.proofs.ForCallers.{floors}
-use Rattle.zoned_time.specs.Days.{IsOnDay, AreEndsOfDay, AreInstantsOfDay, IsNoDay, HasReached, IsFirstToReach, ShowsAtOrAfter, IsFirstAtOrAfter, IsFirstOutOfRange, IsZonedAtOrAfter}
-use Rattle.zoned_time.specs.Relocal.{HasInstant, instant_of}
-use Rattle.zoned_time.specs.Zone.{Meaning, Law, IsZoneSecond, IsFixed, IsOffsetAt}
-use Rattle.zoned_time.specs.Zoned.{Zoned, IsAt}
+use Rattle.zoned_time.proofs.Words.{AreEndsOfDay, AreInstantsOfDay, HasInstant, HasReached, IsAt, IsFirstAtOrAfter, IsFirstOutOfRange, IsFirstToReach, IsFixed}
+use Rattle.zoned_time.proofs.Words.{IsInRange, IsNoDay, IsOffsetAt, IsOnDay, IsZoneSecond, IsZonedAtOrAfter, Law, MatchOption, Meaning, None, Option, Reading}
+use Rattle.zoned_time.proofs.Words.{ShowsAtOrAfter, Some, SomeIff, Zoned, ap, arith, by_lt_z, floor_div, floors, inl, inr, instant_of, ints, of_secs}
+use Rattle.zoned_time.proofs.Words.{option_map, pos, refl, subst, sym, ℤ, ◌*ℤ◌, ◌+ℤ◌, ◌-ℤ◌, ◌<ℤ◌, ◌∙◌, ◌≡◌, ◌≤ℤ◌}
 
 -- ---- days
 pub instants_of_day : {O : Type 0} {m : Meaning O} (law : Law m) (day u v : ℤ) (d e : Zoned O) → AreEndsOfDay law.off day u v → IsAt law (of_secs u 0) d → IsAt law (of_secs v 0) e → AreInstantsOfDay law day d e

@@ -1,15 +1,7 @@
 -- What zones of the same law give, and zones of the same offsets in seconds.
-use Rattle.std.proofs.Common.{◌≡◌, ◌∙◌, sym, subst, ℤ, ◌+ℤ◌, ◌-ℤ◌, arith, refl}
-use Rattle.std.proofs.lemmas.Int.{ints}
-use Rattle.offset_core.specs.declared.local_result.LocalResult.{LocalResult}
-use Rattle.offset_core.specs.declared.local_result.LocalResult.TheVariants.{Single, Ambiguous, None}
-use Rattle.offset_core.specs.LocalResult.{map_of}
-use Rattle.offset_core.specs.WallAnswer.{IsWallAnswer}
-use Rattle.naive_base.specs.Range.{IsInRange}
-use Rattle.naive_base.specs.Reading.{Reading}
-use Rattle.zoned_time.specs.Relocal.{IsRelocal}
-use Rattle.zoned_time.specs.Zone.{Meaning, Law, home_law, seconds_alone, IsZoneSecond, SameOffsets, SameLaw, Shows, Each, IsOffsetAt, AreOffsetsFor}
-use Rattle.zoned_time.specs.Zoned.{Zoned, IsAt}
+use Rattle.offset_core.specs.declared.local_result.LocalResult.TheVariants.{Ambiguous, None, Single}
+use Rattle.zoned_time.proofs.Words.{AreOffsetsFor, Each, IsAt, IsInRange, IsOffsetAt, IsRelocal, IsWallAnswer, IsZoneSecond, Law, LocalResult, Meaning, Reading}
+use Rattle.zoned_time.proofs.Words.{SameLaw, SameOffsets, Shows, Zoned, arith, home_law, ints, map_of, refl, seconds_alone, subst, sym, ℤ, ◌+ℤ◌, ◌-ℤ◌, ◌∙◌, ◌≡◌}
 
 -- a law is the same as itself, and as what is the same as the same
 pub same_itself : {O : Type 0} {m : Meaning O} (law : Law m) → SameLaw law law

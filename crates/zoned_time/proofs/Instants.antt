@@ -1,18 +1,9 @@
 -- The instants for a wall clock, their offsets in plain seconds: there is one right answer.
-use Rattle.std.proofs.Common.{◌≡◌, ◌∙◌, sym, ap, subst, ℤ, refl, Option, Some, None, option_map}
-use Rattle.std.specs.Prelude.{SomeIff}
-use Rattle.std.specs.Option.{IsSome}
-use Rattle.offset_core.specs.declared.local_result.LocalResult.{LocalResult}
-use Rattle.offset_core.specs.declared.local_result.LocalResult.TheVariants.{Single, Ambiguous, None as none}
-use Rattle.offset_core.specs.LocalResult.{map_of, single_of, all_or_none}
-use Rattle.offset_core.proofs.ForCallers.{HasOneValue, map_all, one_wall_answer}
-use Rattle.naive_base.specs.Fields.{IsGiven, IsMonthsLater}
-use Rattle.naive_base.specs.NaiveDateTime.{day_shown_by, IsReadingOnDay}
-use Rattle.naive_base.specs.Reading.{Reading, reading_at, day_at, second_at}
-use Rattle.zoned_time.specs.Fields.{IsOnly, IsOnlyWhere}
-use Rattle.zoned_time.specs.Relocal.{AreInstantsOf, IsRelocal}
-use Rattle.zoned_time.specs.Zone.{Meaning, Law, Shows}
-use Rattle.zoned_time.specs.Zoned.{Zoned, in_seconds}
+use Rattle.offset_core.specs.declared.local_result.LocalResult.TheVariants.{Ambiguous, None as none, Single}
+use Rattle.naive_base.specs.NaiveDateTime.{day_shown_by}
+use Rattle.zoned_time.proofs.Words.{AreInstantsOf, HasOneValue, IsGiven, IsMonthsLater, IsOnly, IsOnlyWhere, IsReadingOnDay, IsRelocal, IsSome, Law}
+use Rattle.zoned_time.proofs.Words.{LocalResult, Meaning, None, Option, Reading, Shows, Some, SomeIff, Zoned, all_or_none, ap, day_at, in_seconds, map_all}
+use Rattle.zoned_time.proofs.Words.{map_of, one_wall_answer, option_map, reading_at, refl, second_at, single_of, subst, sym, ℤ, ◌∙◌, ◌≡◌}
 
 -- one value at most is given where p holds
 given_once : {T : Type 0} (a b : Option T) (p : Type 0) (v : T) → SomeIff a p v → SomeIff b p v → a ≡ b

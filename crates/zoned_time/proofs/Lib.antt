@@ -1,3 +1,4 @@
+pub mod Words
 pub mod Answered
 pub mod Days
 pub mod DayStarts

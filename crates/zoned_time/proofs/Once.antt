@@ -1,22 +1,12 @@
 -- What a zone gives for a wall clock, and what a choice takes, is determined.
-use Rattle.std.proofs.Common.{◌≡◌, ◌∙◌, ◌⊎◌, inl, inr, sym, ap, subst, refl, ℤ, pos, ◌-ℤ◌, arith}
-use Rattle.std.proofs.lemmas.Int.{ints}
-use Rattle.offset_core.specs.declared.choice.Choice.{Choice}
+use Rattle.offset_core.specs.declared.choice.FoldChoice.TheVariants.{Earliest, Latest, Refuse as RefuseFold}
 use Rattle.offset_core.specs.declared.choice.GapChoice.TheVariants.{Refuse as RefuseGap, ShiftForward}
-use Rattle.offset_core.specs.declared.choice.FoldChoice.TheVariants.{Refuse as RefuseFold, Earliest, Latest}
-use Rattle.offset_core.specs.declared.local_result.LocalResult.{LocalResult}
-use Rattle.offset_core.specs.declared.local_result.LocalResult.TheVariants.{Single, Ambiguous, None}
-use Rattle.offset_core.specs.LocalResult.{map_of}
-use Rattle.offset_core.specs.WallAnswer.{IsWallAnswer}
-use Rattle.offset_core.proofs.ForCallers.{one_wall_answer}
-use Rattle.naive_base.specs.Range.{IsInRange}
-use Rattle.naive_base.specs.Reading.{Reading, behind}
-use Rattle.zoned_time.specs.declared.resolve_error.ResolveError.{ResolveError}
-use Rattle.zoned_time.specs.declared.resolve_error.ResolveError.TheVariants.{Gap, Fold, OutOfRange}
-use Rattle.zoned_time.specs.Choice.{IsBeforeGap, IsTaken, once, earliest, latest, shifted, IsResolved, IsUnresolved, gap, fold, out_of_range}
-use Rattle.zoned_time.specs.Relocal.{IsRelocal}
-use Rattle.zoned_time.specs.Zone.{Meaning, Law, Shows}
-use Rattle.zoned_time.specs.Zoned.{Zoned, in_seconds, IsAt}
+use Rattle.offset_core.specs.declared.local_result.LocalResult.TheVariants.{Ambiguous, None, Single}
+use Rattle.zoned_time.proofs.Words.{Choice, IsAt, IsBeforeGap, IsInRange, IsRelocal, IsResolved, IsTaken, IsUnresolved, IsWallAnswer, Law, LocalResult, Meaning}
+use Rattle.zoned_time.proofs.Words.{Reading, ResolveError, Shows, Zoned, ap, arith, behind, earliest, gap, in_seconds, inl, inr, ints, latest, map_of, once}
+use Rattle.zoned_time.proofs.Words.{one_wall_answer, out_of_range, pos, refl, shifted, subst, sym, ℤ, ◌-ℤ◌, ◌∙◌, ◌≡◌, ◌⊎◌}
+use Rattle.zoned_time.specs.Choice.{fold}
+use Rattle.zoned_time.specs.declared.resolve_error.ResolveError.TheVariants.{Fold, Gap, OutOfRange}
 use Rattle.zoned_time.proofs.Instants.{offsets_once, relocal_once}
 
 -- by seconds that agree

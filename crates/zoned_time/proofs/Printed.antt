@@ -1,10 +1,6 @@
 -- What is put together in a buffer and written at once.
-use Rattle.std.proofs.Common.{◌≡◌, ◌∙◌, refl, ap, subst, List, [], ◌∷◌, ◌++◌, ℕ, Option, Some, None, option_map}
-use Rattle.std.specs.Prelude.{Result}
-use Rattle.std.specs.Fmt.{DisplaysOnOk, WritesText, WritesOnOk, ◌++?◌}
-use Rattle.std.specs.declared.fmt.Error.{Error}
-use Rattle.std.specs.declared.fmt.Formatter.{Formatter}
-use Rattle.std.proofs.lemmas.Fmt.{contents_after_writes}
+use Rattle.zoned_time.proofs.Words.{DisplaysOnOk, Error, Formatter, List, None, Option, Result, Some, WritesOnOk, WritesText, ap, contents_after_writes}
+use Rattle.zoned_time.proofs.Words.{option_map, refl, subst, ℕ, [], ◌++?◌, ◌++◌, ◌∙◌, ◌∷◌, ◌≡◌}
 
 -- a buffer that takes each piece
 abbrev pub Appends : List ℕ → List ℕ → List ℕ → Type 0

@@ -1,20 +1,9 @@
 -- Readings brought back to UTC by clocks whose offset never changes.
-use Rattle.std.proofs.Common.{◌≡◌, ◌∙◌, ◌⊎◌, inl, inr, ℤ, pos, ◌+ℤ◌, ◌-ℤ◌, arith, refl, sym, ap, subst, Option, Some, None}
-use Rattle.std.specs.Option.{IsSome}
-use Rattle.std.specs.Prelude.{SomeIff, option_map}
-use Rattle.std.proofs.lemmas.Int.{ints}
-use Rattle.offset_core.specs.declared.local_result.LocalResult.{LocalResult}
-use Rattle.offset_core.specs.declared.local_result.LocalResult.TheVariants.{Single, Ambiguous, None as none}
-use Rattle.offset_core.specs.LocalResult.{single_of, map_of, all_or_none, IsAndThen}
-use Rattle.offset_core.specs.WallAnswer.{IsWallAnswer, IsShownBetween}
-use Rattle.offset_core.proofs.ForCallers.{and_then_told}
-use Rattle.naive_base.specs.Range.{IsInRange}
-use Rattle.naive_base.specs.Reading.{Reading}
-use Rattle.zoned_time.specs.declared.utc.Utc.{Utc}
-use Rattle.zoned_time.specs.Relocal.{IsRelocal, AreInstantsOf, HasInstant, instant_of, SingleIff}
-use Rattle.zoned_time.specs.Stamps.{in_utc}
-use Rattle.zoned_time.specs.Zone.{Meaning, Law, home_law, IsFixed, IsZoneSecond, Shows, SameLaw, IsOffsetAt, AreOffsetsFor, Each}
-use Rattle.zoned_time.specs.Zoned.{Zoned, local_of, IsAt}
+use Rattle.offset_core.specs.declared.local_result.LocalResult.TheVariants.{Ambiguous, None as none, Single}
+use Rattle.zoned_time.proofs.Words.{AreInstantsOf, AreOffsetsFor, Each, HasInstant, IsAndThen, IsAt, IsFixed, IsInRange, IsOffsetAt, IsRelocal, IsShownBetween}
+use Rattle.zoned_time.proofs.Words.{IsSome, IsWallAnswer, IsZoneSecond, Law, LocalResult, Meaning, None, Option, Reading, SameLaw, Shows, SingleIff, Some}
+use Rattle.zoned_time.proofs.Words.{SomeIff, Utc, Zoned, all_or_none, and_then_told, ap, arith, home_law, in_utc, inl, inr, instant_of, ints, local_of, map_of}
+use Rattle.zoned_time.proofs.Words.{option_map, pos, refl, single_of, subst, sym, ℤ, ◌+ℤ◌, ◌-ℤ◌, ◌∙◌, ◌≡◌, ◌⊎◌}
 
 -- one offset gives one instant, or none
 single_kept : {T : Type 0} (a : Option T) (p : Type 0) (v : T) → SomeIff a p v → SingleIff (all_or_none (Single a)) p v

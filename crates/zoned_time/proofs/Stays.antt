@@ -1,13 +1,7 @@
 -- An instant that is made of one of a zone is one of that zone.
-use Rattle.std.proofs.Common.{◌≡◌, subst, ℤ, Option, Some, None}
-use Rattle.offset_core.specs.declared.local_result.LocalResult.{LocalResult}
-use Rattle.offset_core.specs.declared.local_result.LocalResult.TheVariants.{Single, Ambiguous, None as none}
-use Rattle.offset_core.specs.LocalResult.{single_of}
-use Rattle.naive_base.specs.Range.{IsInRange}
-use Rattle.naive_base.specs.Reading.{Reading}
-use Rattle.zoned_time.specs.Fields.{IsOnly, IsOnlyWhere}
-use Rattle.zoned_time.specs.Zone.{Meaning, Law, home_law, IsOffsetAt, Each}
-use Rattle.zoned_time.specs.Zoned.{Zoned}
+use Rattle.offset_core.specs.declared.local_result.LocalResult.TheVariants.{Ambiguous, None as none, Single}
+use Rattle.zoned_time.proofs.Words.{Each, IsInRange, IsOffsetAt, IsOnly, IsOnlyWhere, Law, LocalResult, Meaning, None, Option, Reading, Some, Zoned, home_law}
+use Rattle.zoned_time.proofs.Words.{single_of, subst, ℤ, ◌≡◌}
 use Rattle.zoned_time.proofs.Homes.{offset_home}
 use Rattle.zoned_time.proofs.Relocals.{relocal_shown}
 

@@ -1,15 +1,7 @@
 -- Wall clocks of a zone whose offsets are told by their seconds, and of one whose offset never changes.
-use Rattle.std.proofs.Common.{◌≡◌, ℤ, ◌+ℤ◌, ◌-ℤ◌, arith, refl}
-use Rattle.std.proofs.lemmas.Int.{ints}
-use Rattle.offset_core.specs.declared.local_result.LocalResult.{LocalResult}
-use Rattle.offset_core.specs.declared.local_result.LocalResult.TheVariants.{Single, Ambiguous, None}
-use Rattle.offset_core.specs.LocalResult.{map_of}
-use Rattle.offset_core.specs.Offset.{IsWithinDay}
-use Rattle.offset_core.specs.WallAnswer.{IsWallAnswer, IsShownOnce}
-use Rattle.naive_base.specs.Range.{IsWide}
-use Rattle.std.specs.Prelude.{Some, None as none}
-use Rattle.zoned_time.specs.Choice.{IsBeforeGap, IsOffsetBeforeGap}
-use Rattle.zoned_time.specs.Zone.{Meaning, home_law, law_by_seconds, Shows, Each, SameLaw, AreOffsetsFor}
+use Rattle.offset_core.specs.declared.local_result.LocalResult.TheVariants.{Ambiguous, None, Single}
+use Rattle.zoned_time.proofs.Words.{AreOffsetsFor, Each, IsBeforeGap, IsOffsetBeforeGap, IsShownOnce, IsWallAnswer, IsWide, IsWithinDay, LocalResult, Meaning}
+use Rattle.zoned_time.proofs.Words.{None as none, SameLaw, Shows, Some, arith, home_law, ints, law_by_seconds, map_of, refl, ℤ, ◌+ℤ◌, ◌-ℤ◌, ◌≡◌}
 
 -- the offsets of the seconds that show a wall clock are in force then, where seconds are all that is told of them
 shown_in_force : (off : ℤ → ℤ) (l u k : ℤ) → Shows off l u k → k ≡ off (l -ℤ k)

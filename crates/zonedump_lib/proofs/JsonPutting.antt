@@ -1,24 +1,11 @@
 -- Tokens that are read back as the value of a zone, and how deep it nests.
-use Rattle.std.proofs.Common.{◌≡◌, ℕ, ◌≤◌, arith, ap, sym, ◌∙◌, List, [], append-nil, Option, Some, None, option_and_then, ℤ}
-use Rattle.json.specs.Json.{Json, document, value, if_last, max_depth}
-use Rattle.json.specs.Lex.{tokens}
-use Rattle.json.specs.Print.{print}
-use Rattle.json.specs.Token.{Token}
-use Rattle.json.specs.Tree.{json_tokens, depth}
 use Rattle.json.proofs.Printed.Trees.{value-json_tokens}
-use Rattle.tz_info.specs.Zones.{Zone}
-use Rattle.tz_base.specs.declared.change.Change.{Change}
-use Rattle.tz_info.specs.declared.rule.day.DayForm.{DayForm}
 use Rattle.tz_info.specs.declared.rule.day.DayForm.TheVariants as days
-use Rattle.tz_info.specs.declared.rule.day.DayTime.{DayTime}
-use Rattle.tz_info.specs.declared.rule.transition_rule.TransitionRule.{TransitionRule}
 use Rattle.tz_info.specs.declared.rule.transition_rule.TransitionRule.TheVariants as rules
-use Rattle.tz_info.specs.declared.zone.differences.Difference.{Difference}
-use Rattle.tz_info.specs.declared.zone.leap_second.LeapSecond.{LeapSecond}
-use Rattle.change_views.specs.ChangeValues.{change_value}
-use Rattle.change_views.proofs.ForCallers.{change_shallow, items_shallow, type_shallow}
-use Rattle.zonedump_lib.specs.DifferenceForms.{difference_value, differences_value, lone_value}
-use Rattle.zonedump_lib.specs.JsonValues.{day_value, leap_value, moment_value, rule_value, zone_value}
+use Rattle.zonedump_lib.proofs.Words.{Change, DayForm, DayTime, Difference, Json, LeapSecond, List, None, Option, Some, Token, TransitionRule, Zone, ap}
+use Rattle.zonedump_lib.proofs.Words.{append-nil, arith, change_shallow, change_value, day_value, depth, difference_value, differences_value, document, if_last}
+use Rattle.zonedump_lib.proofs.Words.{items_shallow, json_tokens, leap_value, lone_value, max_depth, moment_value, option_and_then, print, rule_value, sym}
+use Rattle.zonedump_lib.proofs.Words.{tokens, type_shallow, value, zone_value, ℕ, ℤ, [], ◌∙◌, ◌≡◌, ◌≤◌}
 
 -- the printed tokens of a value are a text of that value
 pub read_back : (text : List ℕ) (j : Json) (ts : List Token) → text ≡ print ts → ts ≡ json_tokens j → tokens (print ts) ≡ ts → depth j ≤ max_depth

@@ -1,12 +1,6 @@
 -- Lines one after the other, and the seconds of the changes in some years.
-use Rattle.std.proofs.Common.{◌≡◌, ap, ◌∙◌, arith, ℕ, ℤ, List, ◌++◌, append_assoc, get_or, pos, ◌+ℤ◌, All}
-use Rattle.std.proofs.lemmas.List.Elements.{Contains-get_or}
-use Rattle.naive_base.proofs.ForCallers.{floors}
-use Rattle.tz_base.specs.LocalTypes.{LocalType}
-use Rattle.tz_base.specs.declared.change.Change.{Change}
-use Rattle.tz_info.specs.Changes.{AreChanges}
-use Rattle.change_views.specs.Spans.{AreYears, IsInYears, IsNearYears, year_second, year_until}
-use Rattle.change_views.proofs.ForCallers.{from_first, until_last}
+use Rattle.zonedump_lib.proofs.Words.{All, AreChanges, AreYears, Change, Contains-get_or, IsInYears, IsNearYears, List, LocalType, ap, append_assoc, arith}
+use Rattle.zonedump_lib.proofs.Words.{floors, from_first, get_or, pos, until_last, year_second, year_until, ℕ, ℤ, ◌++◌, ◌+ℤ◌, ◌∙◌, ◌≡◌}
 
 -- four pieces are appended, one by one
 pub four_pieces : (start one two three four a b d e : List ℕ) → one ≡ start ++ a → two ≡ one ++ b → three ≡ two ++ d → four ≡ three ++ e

@@ -1,9 +1,6 @@
 -- The bytes that an end has taken or given, over several calls.
-use Rattle.std.proofs.Common.{◌≡◌, ℕ, ◌+◌, refl, ap, sym, ◌∙◌, List, [], ◌++◌, append_assoc, Bool, false, Option, Some, None, take, drop, ◌||◌, ◌&&◌, ◌==◌, arith}
-use Rattle.std.specs.Io.KnownBytes.{Appends, Consumes, Keeps}
-use Rattle.std.proofs.lemmas.List.{append-nil}
-use Rattle.std.proofs.lemmas.Bool.Decides.{nat_tests}
-use Rattle.std.proofs.Math.Seq.{take-add}
+use Rattle.zoneq_lib.proofs.CitedWords.{Appends, Bool, Consumes, Keeps, List, None, Option, Some, ap, append-nil, append_assoc, arith, drop, false, nat_tests}
+use Rattle.zoneq_lib.proofs.CitedWords.{refl, sym, take, take-add, ℕ, [], ◌&&◌, ◌++◌, ◌+◌, ◌==◌, ◌||◌, ◌∙◌, ◌≡◌}
 
 pub appends_join : (a b c : Option (List ℕ)) (xs ys : List ℕ) → Appends a b xs → Appends b c ys → Appends a c (xs ++ ys)
 appends_join None b c xs ys h k = tt

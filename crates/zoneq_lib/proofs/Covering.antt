@@ -1,23 +1,14 @@
 -- Every line has an answer, so that answers to a front of an input can be carried on to its end.
-use Rattle.std.proofs.Common.{◌≡◌, ◌≢◌, ℕ, ◌<◌, inl, inr, refl, ap, sym, ◌∙◌, subst, List, [], ◌∷◌, ◌++◌, append_assoc, Option, Some, None, length, codes, arith}
-use Rattle.std.specs.List.{flat_map}
-use Rattle.std.proofs.lemmas.Bool.{cases_eq}
-use Rattle.std.proofs.lemmas.List.{append-nil, length-append}
-use Rattle.std.proofs.lemmas.List.Elements.{All-nil, All-cons, All-head, All-tail}
 use Rattle.tz_base.specs.declared.error.Error.TheVariants as errors
-use Rattle.tz_info.specs.Zones.{Zone, IsValid, IsRuleOrNone}
-use Rattle.tz_info.proofs.ForCallers.{type_decided, file_rule_fits, posix_zone_valid, wall_decided}
-use Rattle.zoneq_lib.specs.Answers.{AnswersLine, AnswersLines, type_text, wall_text, refusal_text}
-use Rattle.zoneq_lib.specs.Lines.{HasNoNewline, IsCut, ended_lines}
-use Rattle.zoneq_lib.specs.Questions.{Query, Text, Data, At, Wall, Resolve, Show, Asks}
-use Rattle.zoneq_lib.specs.Runs.{AnswersBefore, BeginsAnswers}
-use Rattle.zoneq_lib.specs.Steps.Blocks.{Answered}
-use Rattle.zoneq_lib.specs.Steps.Hopeless.{IsKeptFor}
-use Rattle.zoneq_lib.specs.Steps.LastLine.{AnswersLast}
+use Rattle.zoneq_lib.proofs.CitedWords.{All-cons, All-head, All-nil, All-tail, Answered, AnswersBefore, AnswersLast, AnswersLine, AnswersLines, Asks, At}
+use Rattle.zoneq_lib.proofs.CitedWords.{BeginsAnswers, Data, HasNoNewline, IsCut, IsKeptFor, IsRuleOrNone, IsValid, List, None, Option, Query, Resolve, Show}
+use Rattle.zoneq_lib.proofs.CitedWords.{Some, Text, Wall, Zone, ap, append-nil, append_assoc, arith, cases_eq, codes, ended_lines, file_rule_fits, flat_map}
+use Rattle.zoneq_lib.proofs.CitedWords.{inl, inr, length, length-append, posix_zone_valid, refl, refusal_text, subst, sym, type_decided, type_text}
+use Rattle.zoneq_lib.proofs.CitedWords.{wall_decided, wall_text, ℕ, [], ◌++◌, ◌<◌, ◌∙◌, ◌∷◌, ◌≡◌, ◌≢◌}
+use Rattle.zoneq_lib.proofs.Joining.{answered_join, answers_all}
 use Rattle.zoneq_lib.proofs.LineLaws.{asks_or_bad, resolved_in_range}
 use Rattle.zoneq_lib.proofs.Resolving.{resolve_covered}
 use Rattle.zoneq_lib.proofs.Showing.{show_covered}
-use Rattle.zoneq_lib.proofs.Joining.{answered_join, answers_all}
 
 -- the zone, if there is one, is valid, and the numbers of its rule are in their limits
 abbrev pub IsGiven : Option Zone → Type 0

@@ -1,17 +1,11 @@
 -- What stands written where a run ends.
-use Rattle.std.proofs.Common.{◌≡◌, ◌==◌, ◌&&◌, ◌||◌, ℕ, ◌<◌, inl, inr, refl, sym, ◌∙◌, subst, Bool, true, false, List, [], ◌++◌, append_assoc, Option, None, Result, Ok, Err, OnOk, IfErr, IsErrAnd, MatchResult, length, take, nat_lt, arith}
-use Rattle.std.specs.Io.KnownBytes.{Appends, Consumes, IsAtEnd}
-use Rattle.std.proofs.lemmas.Bool.Decides.{nat_tests}
-use Rattle.std.proofs.lemmas.List.{append-nil, length-append}
-use Rattle.tz_info.specs.Zones.{Zone}
-use Rattle.zoneq_lib.specs.Runs.{Answers, StopsWith}
-use Rattle.zoneq_lib.specs.Steps.Blocks.{Answered, StopsIn}
-use Rattle.zoneq_lib.specs.Steps.LastLine.{AnswersAtEnd, StopsAtEnd}
-use Rattle.zoneq_lib.specs.declared.run_error.RunError.{RunError}
+use Rattle.zoneq_lib.proofs.CitedWords.{Answered, Answers, AnswersAtEnd, Appends, Bool, Consumes, Err, IfErr, IsAtEnd, IsErrAnd, List, MatchResult, None, Ok}
+use Rattle.zoneq_lib.proofs.CitedWords.{OnOk, Option, Result, RunError, StopsAtEnd, StopsIn, StopsWith, Zone, append-nil, append_assoc, arith, false, inl, inr}
+use Rattle.zoneq_lib.proofs.CitedWords.{length, length-append, nat_lt, nat_tests, refl, subst, sym, take, true, ℕ, [], ◌&&◌, ◌++◌, ◌<◌, ◌==◌, ◌||◌, ◌∙◌, ◌≡◌}
 use Rattle.zoneq_lib.specs.declared.run_error.RunError.TheVariants as errors
 use Rattle.zoneq_lib.proofs.Bytes.{appends_join, consumes_join}
+use Rattle.zoneq_lib.proofs.Covering.{answers_before, begins_answers}
 use Rattle.zoneq_lib.proofs.Joining.{answered_join, answers_all}
-use Rattle.zoneq_lib.proofs.Covering.{begins_answers, answers_before}
 
 pub not_failed : (f g : Bool) → f ≡ (g || false) → g ≡ false → f ≡ false
 not_failed f g e h = e ∙ rw h refl

@@ -1,16 +1,11 @@
 -- Which digits spell bytes, and that what the crate `hex` decodes are those bytes.
-use Rattle.std.proofs.Common.{◌≡◌, ℕ, zero, suc, ◌+◌, ◌-◌, ◌*◌, ◌%◌, ◌<◌, ◌≤◌, ◌&&◌, nat_le, inl, inr, refl, ap, sym, ◌∙◌, List, [], ◌∷◌, length, get_or, Bool, true, false, Some, Ok, arith}
-use Rattle.std.specs.Bool.{Decides}
-use Rattle.std.specs.Char.{digit_value, IsNotAsciiHexdigit}
-use Rattle.std.specs.List.{AllPass}
-use Rattle.std.specs.Str.Parse.{AllDigits}
-use Rattle.std.proofs.lemmas.Bool.{cases_lt}
-use Rattle.std.proofs.lemmas.Bool.Decides.{nat_tests, Decides-and, Decides-eqb, Decides-ltb}
-use Rattle.std.proofs.lemmas.List.Elements.{All-head, All-tail}
-use Rattle.hex.specs.Hex.{decode_of, decode_pairs, hex_digit_value, is_hex_digit, pair_value}
 use Rattle.hex.proofs.HexLemmas.{decode_of-even, decode_of-ok, decode_of-same}
 use Rattle.hex.proofs.Pairs.{cons_byte, decode_pairs-ok_pair}
-use Rattle.zoneq_lib.specs.Hex.{are_hex, spells_bytes, bytes_of}
+use Rattle.std.specs.Str.Parse.{AllDigits}
+use Rattle.zoneq_lib.proofs.CitedWords.{All-head, All-tail, AllPass, Bool, Decides, Decides-and, Decides-eqb, Decides-ltb, IsNotAsciiHexdigit, List, Ok, Some}
+use Rattle.zoneq_lib.proofs.CitedWords.{ap, are_hex, arith, bytes_of, cases_lt, decode_of, decode_pairs, digit_value, false, get_or, hex_digit_value, inl, inr}
+use Rattle.zoneq_lib.proofs.CitedWords.{is_hex_digit, length, nat_le, nat_tests, pair_value, refl, spells_bytes, suc, sym, true, zero, ℕ, [], ◌%◌, ◌&&◌, ◌*◌}
+use Rattle.zoneq_lib.proofs.CitedWords.{◌+◌, ◌-◌, ◌<◌, ◌∙◌, ◌∷◌, ◌≡◌, ◌≤◌}
 
 pub refuted : {P : Type 0} (t : Bool) → Decides t P → (P → ⊥) → t ≡ false
 refuted true d never = absurd (never (d.0 refl))

@@ -1,16 +1,10 @@
 -- Which beginnings of a line let no line ask anything.
-use Rattle.std.proofs.Common.{◌≡◌, ◌==◌, true, false, ℕ, ◌+◌, ◌-◌, ◌<◌, ◌⊎◌, inl, inr, refl, ap, sym, ◌∙◌, subst, List, [], ◌∷◌, ◌++◌, append_assoc, length, take, drop, slice_index, Err, codes, arith}
-use Rattle.std.proofs.lemmas.Bool.{cases_eq}
-use Rattle.std.proofs.lemmas.Bool.Decides.{nat_tests}
-use Rattle.std.proofs.lemmas.List.{append-nil, take-append-drop, length-append}
-use Rattle.std.proofs.Math.Seq.{take-append-add}
-use Rattle.tz_base.specs.Grammar.{Spells}
-use Rattle.zoneq_lib.specs.Lines.{without_return}
-use Rattle.zoneq_lib.specs.Questions.{Begins, question, line, IsBadLine}
-use Rattle.zoneq_lib.specs.Steps.Hopeless.{IsHopeless}
-use Rattle.zoneq_lib.specs.Steps.LineReading.{after_byte, scan}
+use Rattle.zoneq_lib.proofs.CitedWords.{Begins, Err, IsBadLine, IsHopeless, List, Spells, after_byte, ap, append-nil, append_assoc, arith, cases_eq, codes}
+use Rattle.zoneq_lib.proofs.CitedWords.{drop, false, inl, inr, length, length-append, line, nat_tests, question, refl, slice_index, subst, sym, take}
+use Rattle.zoneq_lib.proofs.CitedWords.{take-append-add, take-append-drop, true, without_return, ℕ, [], ◌++◌, ◌+◌, ◌-◌, ◌<◌, ◌==◌, ◌∙◌, ◌∷◌, ◌≡◌, ◌⊎◌}
+use Rattle.zoneq_lib.specs.Steps.LineReading.{scan}
 use Rattle.zoneq_lib.specs.declared.bad_line.BadLine.TheVariants.{Hopeless}
-use Rattle.zoneq_lib.proofs.ScanLaws.{stops, never}
+use Rattle.zoneq_lib.proofs.ScanLaws.{never, stops}
 
 cut_or_whole : (bytes : List ℕ) → (without_return bytes ≡ take (length bytes - 1) bytes) ⊎ (without_return bytes ≡ bytes)
 cut_or_whole bytes = elim (cases_eq (slice_index bytes (length bytes - 1)) 13) [

@@ -1,17 +1,8 @@
 -- How the answers to the parts of an input make the answers to the whole.
-use Rattle.std.proofs.Common.{◌≡◌, ◌≢◌, ℕ, inl, inr, refl, ap, sym, ◌∙◌, subst, List, [], ◌∷◌, ◌++◌, append_assoc, Option, None, codes, arith}
-use Rattle.std.specs.List.{flat_map}
-use Rattle.std.proofs.lemmas.List.{append-nil, map-append}
-use Rattle.std.proofs.lemmas.List.Concat.{flat_map-append}
-use Rattle.std.proofs.lemmas.List.Elements.{All-nil, All-cons, All-head, All-tail, All-append}
-use Rattle.tz_info.specs.Zones.{Zone}
-use Rattle.zoneq_lib.specs.Answers.{AnswersLine, AnswersLines}
-use Rattle.zoneq_lib.specs.Lines.{HasNoNewline, IsCut, ended_lines, without_return}
-use Rattle.zoneq_lib.specs.Questions.{IsBadLine}
-use Rattle.zoneq_lib.specs.Steps.Blocks.{Answered}
-use Rattle.zoneq_lib.specs.Steps.Hopeless.{IsHopeless, IsKeptFor}
-use Rattle.zoneq_lib.specs.Steps.LastLine.{AnswersLast}
-use Rattle.zoneq_lib.specs.Runs.{Answers}
+use Rattle.zoneq_lib.proofs.CitedWords.{All-append, All-cons, All-head, All-nil, All-tail, Answered, Answers, AnswersLast, AnswersLine, AnswersLines}
+use Rattle.zoneq_lib.proofs.CitedWords.{HasNoNewline, IsBadLine, IsCut, IsHopeless, IsKeptFor, List, None, Option, Zone, ap, append-nil, append_assoc, arith}
+use Rattle.zoneq_lib.proofs.CitedWords.{codes, ended_lines, flat_map, flat_map-append, inl, inr, map-append, refl, subst, sym, without_return, ℕ, [], ◌++◌, ◌∙◌}
+use Rattle.zoneq_lib.proofs.CitedWords.{◌∷◌, ◌≡◌, ◌≢◌}
 use Rattle.zoneq_lib.proofs.HopelessLaws.{more_hopeless}
 
 -- the answers to some lines, and then to more

@@ -1,3 +1,4 @@
+pub mod CitedWords
 pub mod ScanLaws
 pub mod NumberLaws
 pub mod LineLaws

@@ -1,24 +1,12 @@
 -- Each line asks something or is bad, and a local time that is asked for is in range.
-use Rattle.std.proofs.Common.{◌≡◌, ℕ, ℤ, ◌≤◌, ◌⊎◌, inl, inr, refl, ap, sym, ◌∙◌, subst, true, false, nat_le, ◌&&◌, List, [], Ok, Err, Result, codes, arith}
-use Rattle.std.specs.Bool.{Decides}
-use Rattle.std.specs.Prelude.{Some, None}
-use Rattle.std.proofs.lemmas.Bool.Decides.{nat_tests, Decides-and}
-use Rattle.std.proofs.lemmas.Int.{ints}
-use Rattle.offset_core.specs.declared.choice.Choice.{Choice}
-use Rattle.naive_base.specs.Month.{days_in_month}
-use Rattle.naive_base.specs.Year.{is_leap}
-use Rattle.naive_base.specs.NaiveDate.{IsDateOf}
-use Rattle.naive_base.specs.Range.{IsDayInRange, IsInRange, IsYearInRange}
-use Rattle.naive_base.specs.Reading.{Reading}
-use Rattle.naive_base.specs.declared.date.NaiveDate.{NaiveDate}
-use Rattle.naive_base.proofs.ForCallers.{date_in_years}
-use Rattle.tz_base.specs.Grammar.{Grammar, Spells}
-use Rattle.tz_base.specs.Tests.{between}
-use Rattle.zoneq_lib.specs.Questions.{Query, Text, Data, At, Wall, Resolve, Show, Asks, IsBadLine, After, integer, next, date, local_time, text, data_of_file, at, resolve, wall, show, question, line}
+use Rattle.zoneq_lib.proofs.CitedWords.{After, Asks, At, BadLine, Choice, Data, Decides, Decides-and, Err, Grammar, IsBadLine, IsDateOf, IsDayInRange}
+use Rattle.zoneq_lib.proofs.CitedWords.{IsInRange, IsYearInRange, List, NaiveDate, None, Ok, Query, Reading, Resolve, Result, Show, Some, Spells, Text, Wall}
+use Rattle.zoneq_lib.proofs.CitedWords.{ap, arith, at, between, codes, data_of_file, date, date_in_years, days_in_month, false, inl, inr, integer, ints}
+use Rattle.zoneq_lib.proofs.CitedWords.{is_leap, line, local_time, nat_le, nat_tests, next, question, refl, resolve, show, subst, sym, text, true, wall, ℕ, ℤ}
+use Rattle.zoneq_lib.proofs.CitedWords.{[], ◌&&◌, ◌∙◌, ◌≡◌, ◌≤◌, ◌⊎◌}
 use Rattle.zoneq_lib.specs.Steps.LineReading.{scan}
-use Rattle.zoneq_lib.specs.declared.bad_line.BadLine.{BadLine}
 use Rattle.zoneq_lib.proofs.HexLaws.{refuted}
-use Rattle.zoneq_lib.proofs.ScanLaws.{scanned, not_scanned}
+use Rattle.zoneq_lib.proofs.ScanLaws.{not_scanned, scanned}
 
 -- ---- each line
 ends : (bytes rest : List ℕ) (query : Query) → Spells line bytes query rest → rest ≡ []

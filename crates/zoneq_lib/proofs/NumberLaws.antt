@@ -1,16 +1,11 @@
 -- The number that digits spell, read one by one.
-use Rattle.std.proofs.Common.{◌≡◌, ℕ, zero, suc, ◌+◌, ◌-◌, ◌*◌, ◌<◌, ◌≤◌, arith, refl, ap, List, [], ◌∷◌, length, get_or, drop, true, false, nat_le, Ok, Err, Result, inl, inr}
-use Rattle.std.specs.Char.{IsAsciiDigit, IsNotAsciiDigit}
-use Rattle.std.proofs.lemmas.Bool.{cases_lt}
-use Rattle.std.proofs.lemmas.Bool.Decides.{nat_tests}
-use Rattle.std.proofs.lemmas.List.{drop_more, drop_all}
-use Rattle.tz_base.specs.Fronts.{is_digit, run_of, after_run, value_from, number_within, int_at}
-use Rattle.tz_base.specs.Grammar.{Number}
+use Rattle.tz_base.proofs.RunLaws.{value_grows}
 use Rattle.tz_base.specs.declared.error.Error.TheVariants.{ParseInt}
 use Rattle.tz_base.specs.declared.error.Expected.TheVariants.{NumberWithinItsLimit}
-use Rattle.tz_base.proofs.RunLaws.{value_grows}
-use Rattle.zoneq_lib.specs.Steps.LineReading.{stop, scan}
-use Rattle.zoneq_lib.specs.declared.bad_line.BadLine.{BadLine}
+use Rattle.zoneq_lib.proofs.CitedWords.{BadLine, Err, IsAsciiDigit, IsNotAsciiDigit, List, Number, Ok, Result, after_run, ap, arith, cases_lt, drop, drop_all}
+use Rattle.zoneq_lib.proofs.CitedWords.{drop_more, false, get_or, inl, inr, int_at, is_digit, length, nat_le, nat_tests, number_within, refl, run_of, stop, suc}
+use Rattle.zoneq_lib.proofs.CitedWords.{true, value_from, zero, ℕ, [], ◌*◌, ◌+◌, ◌-◌, ◌<◌, ◌∷◌, ◌≡◌, ◌≤◌}
+use Rattle.zoneq_lib.specs.Steps.LineReading.{scan}
 use Rattle.zoneq_lib.specs.declared.bad_line.BadLine.TheVariants.{Hopeless}
 
 -- the first i bytes are digits, and spell n

@@ -1,19 +1,8 @@
 -- Every reading has an answer under each choice.
-use Rattle.std.proofs.Common.{ℕ, ℤ, ◌-ℤ◌, inl, inr, refl, List, Some, codes, arith}
-use Rattle.std.proofs.lemmas.Int.{ints}
-use Rattle.offset_core.specs.declared.choice.Choice.{Choice}
-use Rattle.naive_base.specs.Range.{IsInRange, IsWide}
-use Rattle.naive_base.specs.Reading.{Reading, behind}
-use Rattle.tz_info.specs.Zones.{Zone, IsValid, IsRuleOrNone}
-use Rattle.zoned_time.specs.Choice.{IsTaken, IsResolved, IsUnresolved}
 use Rattle.zoned_time.specs.ResolveNumbers.{number_of}
-use Rattle.zoned_time.specs.Zone.{Meaning, Law}
-use Rattle.zoned_time.specs.Zoned.{Zoned, in_seconds}
-use Rattle.zoned_time.proofs.ForCallers.{same_itself}
-use Rattle.zoned_time.specs.declared.resolve_error.ResolveError.{ResolveError}
-use Rattle.zoned_ref.specs.Offsets.{IsNarrow, AreOffsetsOf}
-use Rattle.zoned_ref.proofs.ForCallers.{choice_covered}
-use Rattle.zoneq_lib.specs.Answers.{AnswersResolve, instant_text, law_by, refusal_text}
+use Rattle.zoneq_lib.proofs.CitedWords.{AnswersResolve, AreOffsetsOf, Choice, IsInRange, IsNarrow, IsResolved, IsRuleOrNone, IsTaken, IsUnresolved, IsValid}
+use Rattle.zoneq_lib.proofs.CitedWords.{IsWide, Law, List, Meaning, Reading, ResolveError, Some, Zone, Zoned, arith, behind, choice_covered, codes, in_seconds}
+use Rattle.zoneq_lib.proofs.CitedWords.{inl, inr, instant_text, ints, law_by, refl, refusal_text, same_itself, ℕ, ℤ, ◌-ℤ◌}
 use Rattle.zoneq_lib.proofs.Showing.{narrow_or_not}
 
 -- the instant by an offset that is taken

@@ -1,20 +1,16 @@
 -- What is read at the front of a line is what it spells, and no line that goes on from a hopeless front spells anything.
-use Rattle.std.proofs.Common.{◌≡◌, ℕ, zero, suc, ◌+◌, ◌*◌, ◌-◌, ◌==◌, ◌&&◌, arith, refl, ap, sym, ◌∙◌, subst, List, [], ◌∷◌, ◌++◌, append_assoc, length, take, drop, Bool, true, false, cond, nat_lt, nat_le, Ok, Err, Result, Some, None, inl, inr}
-use Rattle.std.proofs.lemmas.Bool.Decides.{nat_tests}
-use Rattle.std.proofs.lemmas.Bool.{cases_lt}
-use Rattle.std.proofs.lemmas.List.{append-nil, length-append, take-append-drop, length-take}
-use Rattle.tz_base.specs.Fronts.{is_digit, run_of, after_run, value_from, number_within, int_at, exact_at, tag_at, optional_tag_at, AllOf, NoneFirst}
-use Rattle.tz_base.specs.Grammar.{Grammar, Nothing, Then, Marked, Ended, Byte, Run, Number, Exact, Rest, Refused, Check, Spells, IsRun, checked, read}
-use Rattle.tz_base.specs.declared.error.Error.{Error}
-use Rattle.tz_base.specs.declared.error.Error.TheVariants.{UnexpectedEnd, MissingTag, ParseInt}
-use Rattle.tz_base.specs.declared.error.Expected.TheVariants.{Tag, OtherBytes, NumberWithinItsLimit}
-use Rattle.tz_base.specs.Refusals.{Refusal, error}
-use Rattle.tz_base.specs.Fronts as fronts
-use Rattle.tz_base.proofs.ForCallers.{lawful, run_splits, run_again, exact_cut}
 use Rattle.tz_base.proofs.RunLaws.{value_grows}
-use Rattle.zoneq_lib.specs.declared.bad_line.BadLine.{BadLine}
-use Rattle.zoneq_lib.specs.declared.bad_line.BadLine.TheVariants.{Unfinished, Hopeless}
-use Rattle.zoneq_lib.specs.Steps.LineReading.{◌>>=◌, or_stop, or_unfinished, stop, after_byte, if_some, scan}
+use Rattle.tz_base.specs.Fronts as fronts
+use Rattle.tz_base.specs.declared.error.Error.TheVariants.{MissingTag, ParseInt, UnexpectedEnd}
+use Rattle.tz_base.specs.declared.error.Expected.TheVariants.{NumberWithinItsLimit, OtherBytes, Tag}
+use Rattle.zoneq_lib.proofs.CitedWords.{AllOf, BadLine, Bool, Byte, Check, Ended, Err, Error, Exact, Grammar, IsRun, List, Marked, None, NoneFirst, Nothing}
+use Rattle.zoneq_lib.proofs.CitedWords.{Number, Ok, Refusal, Refused, Rest, Result, Run, Some, Spells, Then, after_byte, after_run, ap, append-nil}
+use Rattle.zoneq_lib.proofs.CitedWords.{append_assoc, arith, cases_lt, checked, cond, drop, error, exact_at, exact_cut, false, if_some, inl, inr, int_at}
+use Rattle.zoneq_lib.proofs.CitedWords.{is_digit, lawful, length, length-append, length-take, nat_le, nat_lt, nat_tests, number_within, optional_tag_at}
+use Rattle.zoneq_lib.proofs.CitedWords.{or_stop, or_unfinished, read, refl, run_again, run_of, run_splits, stop, subst, suc, sym, tag_at, take}
+use Rattle.zoneq_lib.proofs.CitedWords.{take-append-drop, true, value_from, zero, ℕ, [], ◌&&◌, ◌*◌, ◌++◌, ◌+◌, ◌-◌, ◌==◌, ◌>>=◌, ◌∙◌, ◌∷◌, ◌≡◌}
+use Rattle.zoneq_lib.specs.Steps.LineReading.{scan}
+use Rattle.zoneq_lib.specs.declared.bad_line.BadLine.TheVariants.{Hopeless, Unfinished}
 
 -- ---- the same value as `read` gives, or none
 abbrev Same : {A : Type 0} → Result A BadLine → Result A Error → Type 0

@@ -1,14 +1,7 @@
 -- What stands written where answers were sent on their way, or could not be.
-use Rattle.std.proofs.Common.{◌≡◌, ℕ, inl, inr, refl, ap, sym, ◌∙◌, Bool, true, false, List, [], ◌++◌, append_assoc, take, drop, Option, Result, Ok, Err, OnOk, IfErr}
-use Rattle.std.specs.Io.KnownBytes.{Appends, Keeps}
-use Rattle.std.proofs.lemmas.Bool.{true≢false}
-use Rattle.std.proofs.lemmas.List.{append-nil, take-append-drop}
-use Rattle.tz_info.specs.Zones.{Zone}
-use Rattle.zoneq_lib.specs.Endings.{WritesUnlessFailed}
-use Rattle.zoneq_lib.specs.Steps.Blocks.{AnswersIn, StopsIn}
-use Rattle.zoneq_lib.specs.Steps.LastLine.{AnswersAtEnd, StopsAtEnd}
-use Rattle.zoneq_lib.specs.Steps.Sending.{IsSentOf}
-use Rattle.zoneq_lib.specs.declared.run_error.RunError.{RunError}
+use Rattle.zoneq_lib.proofs.CitedWords.{AnswersAtEnd, AnswersIn, Appends, Bool, Err, IfErr, IsSentOf, Keeps, List, Ok, OnOk, Option, Result, RunError}
+use Rattle.zoneq_lib.proofs.CitedWords.{StopsAtEnd, StopsIn, WritesUnlessFailed, Zone, ap, append-nil, append_assoc, drop, false, inl, inr, refl, sym, take}
+use Rattle.zoneq_lib.proofs.CitedWords.{take-append-drop, true, true≢false, ℕ, [], ◌++◌, ◌∙◌, ◌≡◌}
 use Rattle.zoneq_lib.specs.declared.run_error.RunError.TheVariants as errors
 use Rattle.zoneq_lib.proofs.Bytes.{appends_join, appends_kept}
 

@@ -1,25 +1,9 @@
 -- Every instant that is asked for has an answer.
-use Rattle.std.proofs.Common.{◌≡◌, ℕ, ℤ, pos, neg_ℤ, ◌⊎◌, inl, inr, refl, List, [], ◌∷◌, All, Some, codes, arith}
-use Rattle.std.proofs.lemmas.Bool.{cases_eq, cases_lt}
-use Rattle.std.proofs.lemmas.Int.{ints, by_lt_z}
-use Rattle.std.proofs.lemmas.List.Elements.{All-nil, All-cons, All-head, All-tail}
-use Rattle.offset_core.specs.Offset.{IsWithinDay}
-use Rattle.offset_core.specs.LocalResult.{map_of}
-use Rattle.offset_core.specs.declared.local_result.LocalResult.{LocalResult}
-use Rattle.offset_core.specs.declared.local_result.LocalResult.TheVariants.{Single, Ambiguous, None}
-use Rattle.naive_base.specs.Range.{IsInRange}
-use Rattle.naive_base.specs.Reading.{Reading}
-use Rattle.naive_base.specs.Year.{floor_mod}
-use Rattle.naive_base.proofs.ForCallers.{in_range_or_not}
-use Rattle.tz_base.specs.LocalTypes.{LocalType}
-use Rattle.tz_info.specs.Zones.{Zone, IsValid, IsRuleOrNone}
-use Rattle.naive_base.specs.Stamp.{IsStamp, IsSubsecond, of_secs}
-use Rattle.zoned_time.specs.Stamps.{IsAtWhere}
-use Rattle.zoned_time.specs.Zone.{Meaning, Law, IsZoneSecond}
-use Rattle.zoned_time.specs.Zoned.{Zoned}
-use Rattle.zoned_ref.specs.Offsets.{IsNarrow, AreOffsetsOf, rule_types}
-use Rattle.zoned_ref.proofs.ForCallers.{zone_has_offsets}
-use Rattle.zoneq_lib.specs.Answers.{AnswersShow, instant_text}
+use Rattle.offset_core.specs.declared.local_result.LocalResult.TheVariants.{Ambiguous, None, Single}
+use Rattle.zoneq_lib.proofs.CitedWords.{All, All-cons, All-head, All-nil, All-tail, AnswersShow, AreOffsetsOf, IsAtWhere, IsInRange, IsNarrow, IsRuleOrNone}
+use Rattle.zoneq_lib.proofs.CitedWords.{IsStamp, IsSubsecond, IsValid, IsWithinDay, IsZoneSecond, Law, List, LocalResult, LocalType, Meaning, Reading, Some}
+use Rattle.zoneq_lib.proofs.CitedWords.{Zone, Zoned, arith, by_lt_z, cases_eq, cases_lt, codes, floor_mod, in_range_or_not, inl, inr, instant_text, ints}
+use Rattle.zoneq_lib.proofs.CitedWords.{map_of, neg_ℤ, of_secs, pos, refl, rule_types, zone_has_offsets, ℕ, ℤ, [], ◌∷◌, ◌≡◌, ◌⊎◌}
 
 within_or_not : (k : ℤ) → IsWithinDay k ⊎ (IsWithinDay k → ⊥)
 within_or_not k = by_lt_z (neg_ℤ (pos 86_400)) k

@@ -1,20 +1,11 @@
 -- What stands written where a step of a run goes on or stops.
-use Rattle.std.proofs.Common.{◌≡◌, ◌==◌, ℕ, ◌<◌, inl, refl, ap, sym, ◌∙◌, subst, Bool, true, false, List, [], ◌∷◌, ◌++◌, append_assoc, Option, Result, Ok, Err, OnOk, IfErr, length, codes, take, drop, arith}
-use Rattle.std.specs.Io.KnownBytes.{Appends}
-use Rattle.std.proofs.lemmas.Bool.Decides.{nat_tests}
-use Rattle.std.proofs.lemmas.List.{append-nil, length-append, take-append-drop, nil_from_length}
-use Rattle.std.proofs.lemmas.Result.{on_ok_weaker, IfErr-weaker}
-use Rattle.tz_info.specs.Zones.{Zone}
-use Rattle.zoneq_lib.specs.Answers.{AnswersLine}
-use Rattle.zoneq_lib.specs.Lines.{HasNoNewline, without_return}
-use Rattle.zoneq_lib.specs.Steps.Blocks.{Answered, StopsIn}
-use Rattle.zoneq_lib.specs.Steps.Hopeless.{IsKeptFor}
-use Rattle.zoneq_lib.specs.Steps.LastLine.{AnswersLast, AnswersAtEnd, StopsAtEnd}
-use Rattle.zoneq_lib.specs.Steps.Replies.{Replies, StopsAt}
-use Rattle.zoneq_lib.specs.declared.run_error.RunError.{RunError}
+use Rattle.zoneq_lib.proofs.CitedWords.{Answered, AnswersAtEnd, AnswersLast, AnswersLine, Appends, Bool, Err, HasNoNewline, IfErr, IfErr-weaker, IsKeptFor}
+use Rattle.zoneq_lib.proofs.CitedWords.{List, Ok, OnOk, Option, Replies, Result, RunError, StopsAt, StopsAtEnd, StopsIn, Zone, ap, append-nil, append_assoc}
+use Rattle.zoneq_lib.proofs.CitedWords.{arith, codes, drop, false, inl, length, length-append, nat_tests, nil_from_length, on_ok_weaker, refl, subst, sym, take}
+use Rattle.zoneq_lib.proofs.CitedWords.{take-append-drop, true, without_return, ℕ, [], ◌++◌, ◌<◌, ◌==◌, ◌∙◌, ◌∷◌, ◌≡◌}
 use Rattle.zoneq_lib.specs.declared.run_error.RunError.TheVariants as errors
 use Rattle.zoneq_lib.proofs.Bytes.{appends_join}
-use Rattle.zoneq_lib.proofs.Joining.{answered_line, answered_more, answered_join}
+use Rattle.zoneq_lib.proofs.Joining.{answered_join, answered_line, answered_more}
 
 -- what `is_empty` says of a vector's items
 pub no_items : (b : Bool) (n : ℕ) (xs : List ℕ) → b ≡ (n == 0) → b ≡ true → n ≡ length xs → xs ≡ []

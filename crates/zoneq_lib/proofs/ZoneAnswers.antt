@@ -1,13 +1,7 @@
 -- The answer to what sets the zone, by what was read.
-use Rattle.std.proofs.Common.{◌≡◌, ℕ, ◌⊎◌, refl, inl, inr, List, Option, Some, Result, Ok, Err, IfOk, IfErr, MatchResult}
-use Rattle.tz_base.specs.Errors.{number_of, IsOutOfMemory}
-use Rattle.tz_base.specs.declared.error.Error.{Error}
-use Rattle.tz_info.proofs.ForCallers.{text_fault_or_zone, file_fault_or_zone}
-use Rattle.tz_info.specs.PosixZones.{IsPosixZone, IsPosixFault}
-use Rattle.tz_info.specs.TzFiles.{IsTzFile, IsFileFault, IsZoneFault, In_file, No_memory}
-use Rattle.tz_info.specs.Zones.{Zone, IsValid}
-use Rattle.tz_info.specs.declared.zone.time_zone.TimeZone.{TimeZone}
-use Rattle.zoneq_lib.specs.Answers.{AnswersRead, AnswersText, AnswersData, zone_text, refusal_text}
+use Rattle.zoneq_lib.proofs.CitedWords.{AnswersData, AnswersRead, AnswersText, Err, Error, IfErr, IfOk, In_file, IsFileFault, IsOutOfMemory, IsPosixFault}
+use Rattle.zoneq_lib.proofs.CitedWords.{IsPosixZone, IsTzFile, IsValid, IsZoneFault, List, MatchResult, No_memory, Ok, Option, Result, Some, TimeZone, Zone}
+use Rattle.zoneq_lib.proofs.CitedWords.{file_fault_or_zone, inl, inr, number_of, refl, refusal_text, text_fault_or_zone, zone_text, ℕ, ◌≡◌, ◌⊎◌}
 
 -- what is written and kept of what was read
 abbrev Sets : Option Zone → Result TimeZone Error → List ℕ → Option Zone → Type 0

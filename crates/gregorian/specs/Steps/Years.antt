@@ -1,5 +1,6 @@
 -- Each year's days by the rule of leap years, and the year of a day in closed form.
-use Rattle.std.proofs.Common.{◌≡◌, ℕ, ◌+◌, ◌*◌, ◌<◌, arith, ℤ, pos, negsuc, true, false, cond, not, ◌&&◌, ◌||◌, ◌+ℤ◌, ◌-ℤ◌, ◌≤ℤ◌, refl, unsigned_abs, ◌==◌, ◌*ℤ◌, ◌<ℤ◌, int_lt}
+use Rattle.std.proofs.Common.{◌≡◌, ℕ, ◌+◌, ◌*◌, ◌<◌, arith, ℤ, pos, negsuc, true, false, cond, not, ◌&&◌, ◌||◌, ◌+ℤ◌, ◌-ℤ◌, ◌≤ℤ◌, refl, unsigned_abs, ◌==◌}
+use Rattle.std.proofs.Common.{◌*ℤ◌, ◌<ℤ◌, int_lt}
 use Rattle.std.proofs.lemmas.Bool.Decides.{nat_tests}
 use borrow.Author.Differences.{up, down}
 use Rattle.gregorian.specs.Year.{floor_div, floor_mod, days_in_year, year_start, LiesIn}

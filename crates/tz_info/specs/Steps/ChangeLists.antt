@@ -1,5 +1,6 @@
 -- The changes of a stretch as a list that is made second by second. Which list that is says `AreChanges`.
-use Rattle.std.specs.Prelude.{ℕ, zero, suc, ◌==◌, length, List, [], ◌∷◌, ◌++◌, slice_get, slice_index_or, Bool, true, not, ◌&&◌, if◌then◌else◌, nat_lt, ℤ, pos, neg_ℤ, ◌+ℤ◌, ◌-ℤ◌, int_le, int_lt, unsigned_abs, Option, Some, None}
+use Rattle.std.specs.Prelude.{ℕ, zero, suc, ◌==◌, length, List, [], ◌∷◌, ◌++◌, slice_get, slice_index_or, Bool, true, not, ◌&&◌, if◌then◌else◌, nat_lt, ℤ, pos}
+use Rattle.std.specs.Prelude.{neg_ℤ, ◌+ℤ◌, ◌-ℤ◌, int_le, int_lt, unsigned_abs, Option, Some, None}
 use Rattle.naive_base.specs.DateOf.{year_of}
 use Rattle.naive_base.specs.Year.{floor_div}
 use Rattle.tz_base.specs.LocalTypes.{LocalType}

@@ -1,5 +1,6 @@
 -- Reading what the parts of a TZif file's block say, by the places of records: values, or the error.
-use Rattle.std.specs.Prelude.{ℕ, ℤ, zero, suc, int_lt, nat_lt, ◌+◌, ◌*◌, ◌==◌, Bool, true, false, not, ◌&&◌, if◌then◌else◌, List, [], ◌∷◌, ◌++◌, length, take, drop, slice_index, Result, Ok, Err, Option, Some, None, ◌≡◌, ◌⊎◌}
+use Rattle.std.specs.Prelude.{ℕ, ℤ, zero, suc, int_lt, nat_lt, ◌+◌, ◌*◌, ◌==◌, Bool, true, false, not, ◌&&◌, if◌then◌else◌, List, [], ◌∷◌, ◌++◌, length, take}
+use Rattle.std.specs.Prelude.{drop, slice_index, Result, Ok, Err, Option, Some, None, ◌≡◌, ◌⊎◌}
 use Rattle.std.specs.Int.{w32}
 use Rattle.std.specs.List.{position_from}
 use Rattle.tz_base.specs.LocalTypes.{LocalType, expected_of_type}

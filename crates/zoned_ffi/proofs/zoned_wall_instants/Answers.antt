@@ -1,5 +1,4 @@
-use Rattle.std.proofs.Common.{◌∙◌, inr}
-use Rattle.std.proofs.lemmas.Bool.{eq-eqb}
+use Rattle.zoned_ffi.proofs.Words.{eq-eqb, inr, ◌∙◌}
 use Rattle.zoned_ffi.proofs.zoned_wall_instants.Goals as goal
 
 pub returns-in-Err-clause-only : goal.returns-in-Err-clause-only

@@ -1,5 +1,4 @@
-use Rattle.std.proofs.Common.{◌∙◌, ap, ◌++◌, ◌∷◌, [], string_bytes, to_z-of_z, FitsSigned, w64}
-use Rattle.std.proofs.lemmas.Result.{on_ok_weaker}
+use Rattle.change_views.proofs.CitedWords.{FitsSigned, ap, on_ok_weaker, string_bytes, to_z-of_z, w64, [], ◌++◌, ◌∙◌, ◌∷◌}
 use Rattle.change_views.proofs.LineLaws.{change_printed, near_fits}
 use Rattle.change_views.proofs.change_lines.push_change.Goals as goal
 

@@ -1,4 +1,4 @@
-use Rattle.change_views.specs.ChangeLines.{line, change_text}
+use Rattle.change_views.proofs.CitedWords.{change_text, line}
 use Rattle.change_views.proofs.LineLaws.{piece_next}
 use Rattle.change_views.proofs.change_lines.push_changes.Goals as goal
 

@@ -1,5 +1,4 @@
-use Rattle.std.proofs.Common.{◌≡◌, ◌++◌, take, string_bytes}
-use Rattle.change_views.specs.ChangeLines.{change_lines}
+use Rattle.change_views.proofs.CitedWords.{change_lines, string_bytes, take, ◌++◌, ◌≡◌}
 use Rattle.change_views.proofs.change_lines.push_changes.Given as goal
 
 abbrev pub invariant-loop-change : goal.invariant-loop-change

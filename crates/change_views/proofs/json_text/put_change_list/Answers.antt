@@ -1,6 +1,4 @@
-use Rattle.std.proofs.Common.{◌∙◌, arith}
-use Rattle.json.specs.Tree.{json_tokens}
-use Rattle.change_views.specs.ChangeValues.{change_value}
+use Rattle.change_views.proofs.CitedWords.{arith, change_value, json_tokens, ◌∙◌}
 use Rattle.change_views.proofs.JsonPutting.{pushed}
 use Rattle.change_views.proofs.json_text.put_change_list.Goals as goal
 

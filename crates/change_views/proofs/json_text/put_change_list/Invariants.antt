@@ -1,7 +1,4 @@
-use Rattle.std.proofs.Common.{◌≡◌, ◌++◌, take}
-use Rattle.std.specs.List.{flat_map}
-use Rattle.json.specs.Tree.{json_tokens}
-use Rattle.change_views.specs.ChangeValues.{change_value}
+use Rattle.change_views.proofs.CitedWords.{change_value, flat_map, json_tokens, take, ◌++◌, ◌≡◌}
 use Rattle.change_views.proofs.json_text.put_change_list.Given as goal
 
 abbrev pub invariant-loop-change : goal.invariant-loop-change

@@ -1,4 +1,4 @@
-use Rattle.change_views.specs.ChangeValues.{change_value}
+use Rattle.change_views.proofs.CitedWords.{change_value}
 use Rattle.change_views.proofs.JsonPutting.{items_all, puts_then, wrote}
 use Rattle.change_views.proofs.json_text.put_changes.Goals as goal
 

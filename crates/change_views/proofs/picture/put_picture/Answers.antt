@@ -1,6 +1,4 @@
-use Rattle.std.proofs.Common.{arith, to_z-of_z, FitsSigned, w32}
-use Rattle.std.proofs.lemmas.Int.{ints}
-use Rattle.std.proofs.lemmas.Result.{on_ok_weaker}
+use Rattle.change_views.proofs.CitedWords.{FitsSigned, arith, ints, on_ok_weaker, to_z-of_z, w32}
 use Rattle.change_views.proofs.PictureLaws.{onto}
 use Rattle.change_views.proofs.picture.put_picture.Goals as goal
 

@@ -1,4 +1,4 @@
-use Rattle.std.proofs.Common.{to_z-of_z, FitsSigned, w64}
+use Rattle.change_views.proofs.CitedWords.{FitsSigned, to_z-of_z, w64}
 use Rattle.change_views.proofs.LineLaws.{start_in_years}
 use Rattle.change_views.proofs.years.start_of.Goals as goal
 

@@ -1,5 +1,4 @@
-use Rattle.std.proofs.Common.{◌∙◌, to_z-of_z, FitsSigned, w64}
-use Rattle.std.proofs.lemmas.Result.{on_ok_weaker}
+use Rattle.change_views.proofs.CitedWords.{FitsSigned, on_ok_weaker, to_z-of_z, w64, ◌∙◌}
 use Rattle.change_views.proofs.LineLaws.{near_fits, near_of, pair_told}
 use Rattle.change_views.proofs.zdump.push_pair.Goals as goal
 

@@ -1,6 +1,4 @@
-use Rattle.std.proofs.Common.{◌≡◌, ◌++◌, take, string_bytes}
-use Rattle.std.specs.List.{flat_map}
-use Rattle.change_views.specs.ZdumpLines.{pair_lines}
+use Rattle.change_views.proofs.CitedWords.{flat_map, pair_lines, string_bytes, take, ◌++◌, ◌≡◌}
 use Rattle.change_views.proofs.zdump.push_pairs.Given as goal
 
 abbrev pub invariant-loop-change : goal.invariant-loop-change

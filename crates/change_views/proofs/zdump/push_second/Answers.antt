@@ -1,5 +1,4 @@
-use Rattle.std.proofs.Common.{◌∙◌, ap, ◌++◌, ◌∷◌, [], string_bytes, to_z-of_z}
-use Rattle.std.proofs.lemmas.Result.{on_ok_weaker}
+use Rattle.change_views.proofs.CitedWords.{ap, on_ok_weaker, string_bytes, to_z-of_z, [], ◌++◌, ◌∙◌, ◌∷◌}
 use Rattle.change_views.proofs.LineLaws.{second_printed}
 use Rattle.change_views.proofs.zdump.push_second.Goals as goal
 

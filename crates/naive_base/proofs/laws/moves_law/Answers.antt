@@ -1,4 +1,4 @@
-use Rattle.naive_base.proofs.Moves.{moved-plain_again, moved-moved_back, difference-moved, moved-none, difference-itself}
+use Rattle.naive_base.proofs.Moves.{difference-itself, difference-moved, moved-moved_back, moved-none, moved-plain_again}
 use Rattle.naive_base.proofs.laws.moves_law.Goals as goal
 
 pub returns : goal.returns

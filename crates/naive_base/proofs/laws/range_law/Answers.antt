@@ -1,5 +1,5 @@
-use Rattle.naive_base.proofs.Ranges.{years_in_range, days_in_range, inner_years, inner_days, wide_year}
-use Rattle.naive_base.proofs.Readings.{seconds_in_range, seconds_of_range, seconds_in_inner, seconds_of_inner, seconds_in_wide, seconds_of_wide}
+use Rattle.naive_base.proofs.Ranges.{days_in_range, inner_days, inner_years, wide_year, years_in_range}
+use Rattle.naive_base.proofs.Readings.{seconds_in_inner, seconds_in_range, seconds_in_wide, seconds_of_inner, seconds_of_range, seconds_of_wide}
 use Rattle.naive_base.proofs.laws.range_law.Goals as goal
 
 pub returns : goal.returns

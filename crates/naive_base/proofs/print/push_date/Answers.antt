@@ -1,6 +1,4 @@
-use Rattle.std.proofs.Common.{arith, append_assoc, to_z-of_z, FitsSigned}
-use Rattle.std.proofs.lemmas.Int.{ints}
-use Rattle.std.specs.Int.{w32}
+use Rattle.naive_base.proofs.Words.{FitsSigned, append_assoc, arith, ints, to_z-of_z, w32}
 use Rattle.naive_base.proofs.print.push_date.Goals as goal
 
 pub returns-clause-text : goal.returns-clause-text

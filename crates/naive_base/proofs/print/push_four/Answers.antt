@@ -1,4 +1,4 @@
-use Rattle.std.proofs.Common.{arith, append_assoc}
+use Rattle.naive_base.proofs.Words.{append_assoc, arith}
 use Rattle.naive_base.proofs.Digits.{four_digits-parts}
 use Rattle.naive_base.proofs.print.push_four.Goals as goal
 

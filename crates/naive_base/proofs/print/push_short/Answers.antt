@@ -1,5 +1,4 @@
-use Rattle.std.proofs.Common.{arith}
-use Rattle.std.proofs.lemmas.Fmt.{decimal_digit}
+use Rattle.naive_base.proofs.Words.{arith, decimal_digit}
 use Rattle.naive_base.proofs.Digits.{decimal_pair}
 use Rattle.naive_base.proofs.print.push_short.Goals as goal
 

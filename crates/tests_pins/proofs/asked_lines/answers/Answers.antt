@@ -1,9 +1,7 @@
-use Rattle.std.proofs.Common.{refl, arith, inl, pos}
-use Rattle.std.specs.Fmt.{digits}
 use Rattle.offset_core.specs.declared.local_result.LocalResult.TheVariants as results
-use Rattle.tests_pins.specs.NewYork.{est, edt}
+use Rattle.tests_pins.proofs.Words.{arith, digits, edt, est, inl, pos, refl}
 use Rattle.tests_pins.proofs.NewYork.{edt_between}
-use Rattle.tests_pins.proofs.NewYorkClocks.{in_gap, in_fold, type_of_rule}
+use Rattle.tests_pins.proofs.NewYorkClocks.{in_fold, in_gap, type_of_rule}
 use Rattle.tests_pins.proofs.asked_lines.answers.Goals as goal
 
 pub returns : goal.returns

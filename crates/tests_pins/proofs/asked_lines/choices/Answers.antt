@@ -1,4 +1,4 @@
-use Rattle.tests_pins.proofs.AskedWords.{shift_earliest, refuse_latest, refuse_refuse}
+use Rattle.tests_pins.proofs.AskedWords.{refuse_latest, refuse_refuse, shift_earliest}
 use Rattle.tests_pins.proofs.asked_lines.choices.Goals as goal
 
 pub returns : goal.returns

@@ -1,4 +1,4 @@
-use Rattle.std.proofs.Common.{refl}
+use Rattle.tests_pins.proofs.Words.{refl}
 use Rattle.tests_pins.proofs.asked_lines.endings.Goals as goal
 
 pub returns : goal.returns

@@ -1,4 +1,4 @@
-use Rattle.tests_pins.proofs.AskedWords.{before_1970, two_bytes, half_past_two, half_past_two_chosen, seven_nanoseconds}
+use Rattle.tests_pins.proofs.AskedWords.{before_1970, half_past_two, half_past_two_chosen, seven_nanoseconds, two_bytes}
 use Rattle.tests_pins.proofs.asked_lines.questions.Goals as goal
 
 pub returns : goal.returns

@@ -1,7 +1,4 @@
-use Rattle.std.proofs.Common.{refl}
-use Rattle.std.specs.Fmt.{digits}
-use Rattle.offset_core.specs.Digits.{in_digits}
-use Rattle.naive_base.specs.Text.{year_text}
+use Rattle.tests_pins.proofs.Words.{digits, in_digits, refl, year_text}
 use Rattle.tests_pins.proofs.ChangeDays.{march_2021}
 use Rattle.tests_pins.proofs.asked_lines.words.Goals as goal
 

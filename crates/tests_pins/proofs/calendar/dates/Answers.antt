@@ -1,9 +1,4 @@
-use Rattle.std.proofs.Common.{◌≡◌, pos, refl, arith}
-use Rattle.naive_base.specs.Year.{year_start}
-use Rattle.naive_base.specs.Month.{days_of_months}
-use Rattle.naive_base.specs.Date.{day_number}
-use Rattle.naive_base.specs.DateOf.{year_of, day_of_year, month_of, day_of_month}
-use Rattle.naive_base.proofs.ForCallers.{date_only}
+use Rattle.tests_pins.proofs.Words.{arith, date_only, day_number, day_of_month, day_of_year, days_of_months, month_of, pos, refl, year_of, year_start, ◌≡◌}
 use Rattle.tests_pins.proofs.calendar.dates.Goals as goal
 
 pub returns-clause-first : goal.returns-clause-first

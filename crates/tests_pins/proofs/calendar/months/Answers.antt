@@ -1,5 +1,4 @@
-use Rattle.std.proofs.Common.{refl}
-use Rattle.naive_base.specs.Month.{days_of_months}
+use Rattle.tests_pins.proofs.Words.{days_of_months, refl}
 use Rattle.tests_pins.proofs.calendar.months.Goals as goal
 
 pub returns-clause-common_year : goal.returns-clause-common_year

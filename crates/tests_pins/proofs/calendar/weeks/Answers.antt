@@ -1,8 +1,5 @@
-use Rattle.std.proofs.Common.{refl, arith, pos}
-use Rattle.naive_base.specs.Year.{year_start}
-use Rattle.naive_base.specs.Month.{days_of_months}
-use Rattle.naive_base.specs.Date.{day_number}
-use Rattle.tests_pins.proofs.Weeks.{week_is, first_week}
+use Rattle.tests_pins.proofs.Words.{arith, day_number, days_of_months, pos, refl, year_start}
+use Rattle.tests_pins.proofs.Weeks.{first_week, week_is}
 use Rattle.tests_pins.proofs.calendar.weeks.Goals as goal
 
 pub returns : goal.returns

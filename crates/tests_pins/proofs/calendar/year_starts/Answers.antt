@@ -1,5 +1,4 @@
-use Rattle.std.proofs.Common.{refl}
-use Rattle.naive_base.specs.Year.{year_start}
+use Rattle.tests_pins.proofs.Words.{refl, year_start}
 use Rattle.tests_pins.proofs.calendar.year_starts.Goals as goal
 
 pub returns : goal.returns

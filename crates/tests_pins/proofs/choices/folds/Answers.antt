@@ -1,11 +1,7 @@
-use Rattle.std.proofs.Common.{◌≡◌, ◌∙◌, ap, pos, neg_ℤ}
-use Rattle.zoned_time.specs.Choice.{IsUnresolved}
-use Rattle.zoned_time.specs.Choice.IsUnresolved.{gap, fold, out_of_range}
-use Rattle.zoned_time.specs.declared.resolve_error.ResolveError.{ResolveError}
+use Rattle.zoned_time.specs.Choice.IsUnresolved.{fold, gap, out_of_range}
 use Rattle.zoned_time.specs.declared.resolve_error.ResolveError.TheVariants.{Fold}
-use Rattle.naive_base.specs.Reading.{behind}
-use Rattle.tests_pins.specs.Choices.{set_back, refuse, half_past}
-use Rattle.tests_pins.proofs.SetClocks.{shown_last, taken_earliest, taken_latest, none_taken_twice, zoned_is}
+use Rattle.tests_pins.proofs.Words.{IsUnresolved, ResolveError, ap, behind, half_past, neg_ℤ, pos, refuse, set_back, ◌∙◌, ◌≡◌}
+use Rattle.tests_pins.proofs.SetClocks.{none_taken_twice, shown_last, taken_earliest, taken_latest, zoned_is}
 use Rattle.tests_pins.proofs.choices.folds.Goals as goal
 
 why : (e : ResolveError) → IsUnresolved set_back (pos 1_800) refuse e → e ≡ Fold

@@ -1,11 +1,7 @@
-use Rattle.std.proofs.Common.{◌≡◌, ◌∙◌, ap, pos}
-use Rattle.zoned_time.specs.Choice.{IsUnresolved}
-use Rattle.zoned_time.specs.Choice.IsUnresolved.{gap, fold, out_of_range}
-use Rattle.zoned_time.specs.declared.resolve_error.ResolveError.{ResolveError}
+use Rattle.zoned_time.specs.Choice.IsUnresolved.{fold, gap, out_of_range}
 use Rattle.zoned_time.specs.declared.resolve_error.ResolveError.TheVariants.{Gap}
-use Rattle.naive_base.specs.Reading.{behind}
-use Rattle.tests_pins.specs.Choices.{set_forward, refuse, half_past}
-use Rattle.tests_pins.proofs.SetClocks.{never, before_gap, only_before_gap, taken_shifted, none_taken, zoned_is}
+use Rattle.tests_pins.proofs.Words.{IsUnresolved, ResolveError, ap, behind, half_past, pos, refuse, set_forward, ◌∙◌, ◌≡◌}
+use Rattle.tests_pins.proofs.SetClocks.{before_gap, never, none_taken, only_before_gap, taken_shifted, zoned_is}
 use Rattle.tests_pins.proofs.choices.gaps.Goals as goal
 
 why : (e : ResolveError) → IsUnresolved set_forward (pos 1_800) refuse e → e ≡ Gap

@@ -1,12 +1,7 @@
-use Rattle.std.proofs.Common.{arith, refl, pos}
-use Rattle.std.proofs.lemmas.Int.{ints}
-use Rattle.zoned_time.specs.Choice.{IsUnresolved}
 use Rattle.zoned_time.specs.Choice.IsTaken.{once}
-use Rattle.zoned_time.specs.Choice.IsUnresolved.{gap, fold, out_of_range}
-use Rattle.zoned_time.specs.declared.resolve_error.ResolveError.{ResolveError}
-use Rattle.naive_base.specs.Range.{last_second}
-use Rattle.tests_pins.specs.Choices.{set_forward, refuse}
-use Rattle.tests_pins.proofs.SetClocks.{below_once, taken_below, shown_at_last, last_at, taken_at_last}
+use Rattle.zoned_time.specs.Choice.IsUnresolved.{fold, gap, out_of_range}
+use Rattle.tests_pins.proofs.Words.{IsUnresolved, ResolveError, arith, ints, last_second, pos, refl, refuse, set_forward}
+use Rattle.tests_pins.proofs.SetClocks.{below_once, last_at, shown_at_last, taken_at_last, taken_below}
 use Rattle.tests_pins.proofs.choices.range.Goals as goal
 
 within : (e : ResolveError) → ¬ (IsUnresolved set_forward last_second refuse e)

@@ -1,9 +1,5 @@
-use Rattle.std.proofs.Common.{refl, ap, arith, inl, inr, pos, neg_ℤ, ◌≡◌}
-use Rattle.std.proofs.lemmas.Bool.{false≢true}
-use Rattle.std.proofs.lemmas.Int.{fits_signed_from_abs}
-use Rattle.std.specs.Int.{w64}
-use Rattle.std.specs.Prelude.{Some, None, List, ℕ, [], ◌∷◌, slice_index, Option}
-use Rattle.tests_pins.specs.Changes.{cet, renamed, dst_cet}
+use Rattle.tests_pins.proofs.Words.{List, None, Option, Some, ap, arith, cet, dst_cet, false≢true, fits_signed_from_abs, inl, inr, neg_ℤ, pos, refl, renamed}
+use Rattle.tests_pins.proofs.Words.{slice_index, w64, ℕ, [], ◌∷◌, ◌≡◌}
 use Rattle.tests_pins.proofs.clock_changes.differences.Goals as goal
 
 abbrev first_byte : Option (List ℕ) → ℕ

@@ -1,7 +1,5 @@
-use Rattle.std.proofs.Common.{arith, inl, inr}
-use Rattle.std.proofs.lemmas.Int.{ints}
-use Rattle.tests_pins.specs.Changes.{spring, autumn}
-use Rattle.tests_pins.proofs.NewYorkChanges.{spring_is, autumn_is, change_of_year, none_between}
+use Rattle.tests_pins.proofs.Words.{arith, autumn, inl, inr, ints, spring}
+use Rattle.tests_pins.proofs.NewYorkChanges.{autumn_is, change_of_year, none_between, spring_is}
 use Rattle.tests_pins.proofs.clock_changes.first_and_last.Goals as goal
 
 pub returns : goal.returns

@@ -1,6 +1,5 @@
-use Rattle.std.proofs.Common.{refl, inl, inr, pos}
-use Rattle.tests_pins.specs.Changes.{change_at}
-use Rattle.tests_pins.proofs.NewYorkChanges.{spring_is, autumn_is, none_at}
+use Rattle.tests_pins.proofs.Words.{change_at, inl, inr, pos, refl}
+use Rattle.tests_pins.proofs.NewYorkChanges.{autumn_is, none_at, spring_is}
 use Rattle.tests_pins.proofs.clock_changes.new_york.Goals as goal
 
 pub returns : goal.returns

@@ -1,4 +1,4 @@
-use Rattle.tests_pins.proofs.NewYorkChanges.{year, until_autumn, not_backwards, not_spring_alone}
+use Rattle.tests_pins.proofs.NewYorkChanges.{not_backwards, not_spring_alone, until_autumn, year}
 use Rattle.tests_pins.proofs.clock_changes.year_2021.Goals as goal
 
 pub returns : goal.returns

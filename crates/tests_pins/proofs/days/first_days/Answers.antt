@@ -1,10 +1,4 @@
-use Rattle.std.proofs.Common.{◌≡◌, pos, refl, arith}
-use Rattle.std.proofs.lemmas.Int.{ints}
-use Rattle.naive_base.specs.Year.{year_start}
-use Rattle.naive_base.specs.Month.{days_of_months}
-use Rattle.naive_base.specs.Date.{day_number}
-use Rattle.naive_base.specs.DateOf.{year_of, month_of, day_of_month}
-use Rattle.naive_base.proofs.ForCallers.{date_only}
+use Rattle.tests_pins.proofs.Words.{arith, date_only, day_number, day_of_month, days_of_months, ints, month_of, pos, refl, year_of, year_start, ◌≡◌}
 use Rattle.tests_pins.proofs.days.first_days.Goals as goal
 
 number : day_number (pos 2021) 3 17 ≡ pos 18_703

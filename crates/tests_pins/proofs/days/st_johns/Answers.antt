@@ -1,7 +1,5 @@
-use Rattle.std.proofs.Common.{arith, pos, neg_ℤ, inl, refl}
-use Rattle.std.proofs.lemmas.Int.{ints}
-use Rattle.naive_base.specs.Stamp.{of_secs}
-use Rattle.tests_pins.proofs.SetDays.{not_earlier_than, before_the_jump, after_the_jump, day_over_the_jump}
+use Rattle.tests_pins.proofs.Words.{arith, inl, ints, neg_ℤ, of_secs, pos, refl}
+use Rattle.tests_pins.proofs.SetDays.{after_the_jump, before_the_jump, day_over_the_jump, not_earlier_than}
 use Rattle.tests_pins.proofs.days.st_johns.Goals as goal
 
 pub returns : goal.returns

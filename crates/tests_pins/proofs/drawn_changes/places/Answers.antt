@@ -1,5 +1,5 @@
-use Rattle.std.proofs.Common.{refl}
-use Rattle.change_views.specs.PictureChart.{month_words, year_gap}
+use Rattle.change_views.specs.PictureChart.{month_words}
+use Rattle.tests_pins.proofs.Words.{refl, year_gap}
 use Rattle.tests_pins.proofs.drawn_changes.places.Goals as goal
 
 pub returns : goal.returns

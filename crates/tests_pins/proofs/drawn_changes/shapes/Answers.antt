@@ -1,5 +1,4 @@
-use Rattle.std.proofs.Common.{refl}
-use Rattle.change_views.specs.PicturePanels.{shape_text}
+use Rattle.tests_pins.proofs.Words.{refl, shape_text}
 use Rattle.tests_pins.proofs.drawn_changes.shapes.Goals as goal
 
 pub returns : goal.returns

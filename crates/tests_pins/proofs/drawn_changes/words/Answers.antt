@@ -1,5 +1,4 @@
-use Rattle.std.proofs.Common.{refl}
-use Rattle.std.specs.Fmt.{digits}
+use Rattle.tests_pins.proofs.Words.{digits, refl}
 use Rattle.tests_pins.proofs.drawn_changes.words.Goals as goal
 
 pub returns : goal.returns

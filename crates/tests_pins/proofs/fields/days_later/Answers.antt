@@ -1,7 +1,4 @@
-use Rattle.std.proofs.Common.{arith, inl}
-use Rattle.naive_base.specs.Year.{year_start}
-use Rattle.naive_base.specs.Month.{days_of_months}
-use Rattle.naive_base.specs.Date.{day_number}
+use Rattle.tests_pins.proofs.Words.{arith, day_number, days_of_months, inl, year_start}
 use Rattle.tests_pins.proofs.GivenDays.{given_day}
 use Rattle.tests_pins.proofs.fields.days_later.Goals as goal
 

@@ -1,7 +1,4 @@
-use Rattle.std.proofs.Common.{refl}
-use Rattle.naive_base.specs.Year.{year_start}
-use Rattle.naive_base.specs.Month.{days_of_months}
-use Rattle.naive_base.specs.Date.{day_number}
+use Rattle.tests_pins.proofs.Words.{day_number, days_of_months, refl, year_start}
 use Rattle.tests_pins.proofs.fields.weekdays.Goals as goal
 
 pub returns : goal.returns

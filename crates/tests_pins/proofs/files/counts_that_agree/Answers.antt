@@ -1,7 +1,4 @@
-use Rattle.std.proofs.Common.{refl}
-use Rattle.std.proofs.lemmas.Bool.{false≢true}
-use Rattle.tz_info.specs.FileHeaders.{counts_test}
-use Rattle.tests_pins.specs.Files.{of_types}
+use Rattle.tests_pins.proofs.Words.{counts_test, false≢true, of_types, refl}
 use Rattle.tests_pins.proofs.files.counts_that_agree.Goals as goal
 
 pub returns : goal.returns

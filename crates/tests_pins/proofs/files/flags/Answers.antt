@@ -1,4 +1,4 @@
-use Rattle.std.proofs.Common.{refl}
+use Rattle.tests_pins.proofs.Words.{refl}
 use Rattle.tests_pins.proofs.FileParts.{no_flag}
 use Rattle.tests_pins.proofs.files.flags.Goals as goal
 

@@ -1,7 +1,5 @@
-use Rattle.std.proofs.Common.{refl, arith, [], ◌∷◌}
-use Rattle.std.proofs.lemmas.Str.{IsUtf8-from_ascii}
-use Rattle.std.proofs.lemmas.Str.Ascii.{IsAscii-cons, IsAscii-nil}
 use Rattle.tz_info.specs.Footers.FooterFault.{Colon}
+use Rattle.tests_pins.proofs.Words.{IsAscii-cons, IsAscii-nil, IsUtf8-from_ascii, arith, refl, [], ◌∷◌}
 use Rattle.tests_pins.proofs.HonoluluFile.{footer}
 use Rattle.tests_pins.proofs.files.footers.Goals as goal
 

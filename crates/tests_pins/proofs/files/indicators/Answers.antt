@@ -1,4 +1,4 @@
-use Rattle.std.proofs.Common.{refl}
+use Rattle.tests_pins.proofs.Words.{refl}
 use Rattle.tests_pins.proofs.files.indicators.Goals as goal
 
 pub returns-clause-wall : goal.returns-clause-wall

@@ -1,5 +1,4 @@
-use Rattle.std.proofs.Common.{refl}
-use Rattle.tests_pins.specs.Files.{one_leap_second, short_record, long_record, with_leap_second}
+use Rattle.tests_pins.proofs.Words.{long_record, one_leap_second, refl, short_record, with_leap_second}
 use Rattle.tests_pins.proofs.FileParts.{parts_are}
 use Rattle.tests_pins.proofs.files.leap_second_blocks.Goals as goal
 

@@ -1,5 +1,4 @@
-use Rattle.std.proofs.Common.{refl, [], ◌∷◌}
-use Rattle.tz_info.specs.FileContents.{signed}
+use Rattle.tests_pins.proofs.Words.{refl, signed, [], ◌∷◌}
 use Rattle.tests_pins.proofs.files.leap_seconds.Goals as goal
 
 pub returns : goal.returns

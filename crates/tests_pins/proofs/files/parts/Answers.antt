@@ -1,7 +1,4 @@
-use Rattle.std.proofs.Common.{refl}
-use Rattle.tz_base.specs.Fronts.{exact_at}
-use Rattle.tz_base.proofs.ForCallers.{lawful}
-use Rattle.tz_info.specs.FileBlocks.{block}
+use Rattle.tests_pins.proofs.Words.{block, exact_at, lawful, refl}
 use Rattle.tests_pins.proofs.files.parts.Goals as goal
 
 pub returns : goal.returns

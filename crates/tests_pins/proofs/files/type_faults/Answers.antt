@@ -1,8 +1,5 @@
-use Rattle.std.proofs.Common.{◌≡◌, ℕ, List, [], ◌∷◌, refl, arith}
-use Rattle.tz_base.specs.Errors.{number_of}
-use Rattle.tz_base.specs.declared.error.Error.{Error}
-use Rattle.tz_info.specs.FileContents.{TypeFault}
-use Rattle.tz_info.specs.FileContents.TypeFault.{Other_mark, No_text, Other_type}
+use Rattle.tz_info.specs.FileContents.TypeFault.{No_text, Other_mark, Other_type}
+use Rattle.tests_pins.proofs.Words.{Error, List, TypeFault, arith, number_of, refl, ℕ, [], ◌∷◌, ◌≡◌}
 use Rattle.tests_pins.proofs.FileParts.{no_flag}
 use Rattle.tests_pins.proofs.files.type_faults.Goals as goal
 

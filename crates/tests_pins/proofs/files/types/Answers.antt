@@ -1,6 +1,4 @@
-use Rattle.std.proofs.Common.{refl, arith, [], ◌∷◌}
-use Rattle.std.proofs.lemmas.Int.{ints}
-use Rattle.tz_info.specs.FileContents.{signed}
+use Rattle.tests_pins.proofs.Words.{arith, ints, refl, signed, [], ◌∷◌}
 use Rattle.tests_pins.proofs.FileParts.{no_flag}
 use Rattle.tests_pins.proofs.SpelledPieces.{is_name_3}
 use Rattle.tests_pins.proofs.files.types.Goals as goal

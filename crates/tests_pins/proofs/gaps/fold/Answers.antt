@@ -1,5 +1,5 @@
-use Rattle.std.proofs.Common.{arith, pos}
-use Rattle.tests_pins.proofs.NewYorkClocks.{in_fold, est_once_late}
+use Rattle.tests_pins.proofs.Words.{arith, pos}
+use Rattle.tests_pins.proofs.NewYorkClocks.{est_once_late, in_fold}
 use Rattle.tests_pins.proofs.gaps.fold.Goals as goal
 
 pub returns : goal.returns

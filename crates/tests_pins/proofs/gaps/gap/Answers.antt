@@ -1,7 +1,6 @@
-use Rattle.std.proofs.Common.{arith, pos, sym}
-use Rattle.tests_pins.specs.NewYork.{est, edt}
-use Rattle.tests_pins.proofs.NewYork.{est_early, edt_between}
-use Rattle.tests_pins.proofs.NewYorkClocks.{apart, in_gap, none_earlier, est_once, one_type, type_of_rule}
+use Rattle.tests_pins.proofs.Words.{arith, edt, est, pos, sym}
+use Rattle.tests_pins.proofs.NewYork.{edt_between, est_early}
+use Rattle.tests_pins.proofs.NewYorkClocks.{apart, est_once, in_gap, none_earlier, one_type, type_of_rule}
 use Rattle.tests_pins.proofs.gaps.gap.Goals as goal
 
 pub returns : goal.returns

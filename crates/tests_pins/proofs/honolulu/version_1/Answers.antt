@@ -1,6 +1,6 @@
 use Rattle.tz_info.specs.TzFiles.IsFileFault.{In_piece}
 use Rattle.tz_info.specs.TzFiles.IsZoneFault.{In_file}
-use Rattle.tests_pins.proofs.HonoluluFile.{of_version_1, byte_after, no_file}
+use Rattle.tests_pins.proofs.HonoluluFile.{byte_after, no_file, of_version_1}
 use Rattle.tests_pins.proofs.honolulu.version_1.Goals as goal
 
 pub returns : goal.returns

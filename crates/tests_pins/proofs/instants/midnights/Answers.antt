@@ -1,4 +1,4 @@
-use Rattle.std.proofs.Common.{ap, pos, ◌*ℤ◌}
+use Rattle.tests_pins.proofs.Words.{ap, pos, ◌*ℤ◌}
 use Rattle.tests_pins.proofs.instants.midnights.Goals as goal
 
 pub returns : goal.returns

@@ -1,10 +1,5 @@
-use Rattle.std.proofs.Common.{◌≡◌, pos, refl, arith, inl, inr}
-use Rattle.naive_base.specs.Year.{year_start}
-use Rattle.naive_base.specs.Month.{days_of_months}
-use Rattle.naive_base.specs.Date.{day_number}
-use Rattle.naive_base.specs.DateOf.{year_of, month_of, day_of_month}
-use Rattle.naive_base.proofs.ForCallers.{date_only}
-use Rattle.tests_pins.proofs.PassedYears.{years_less, years_apart}
+use Rattle.tests_pins.proofs.Words.{arith, date_only, day_number, day_of_month, days_of_months, inl, inr, month_of, pos, refl, year_of, year_start, ◌≡◌}
+use Rattle.tests_pins.proofs.PassedYears.{years_apart, years_less}
 use Rattle.tests_pins.proofs.instants.years.Goals as goal
 
 leap_day : (year_of (pos 11_016) ≡ pos 2000) × (month_of (pos 11_016) ≡ 2) × (day_of_month (pos 11_016) ≡ 29)

@@ -1,5 +1,4 @@
-use Rattle.std.proofs.Common.{refl, arith, pos}
-use Rattle.tz_base.specs.LocalTypes.{plain_type}
+use Rattle.tests_pins.proofs.Words.{arith, plain_type, pos, refl}
 use Rattle.tests_pins.proofs.kept_zones.not_kept.Goals as goal
 
 pub returns-clause-not_narrow : goal.returns-clause-not_narrow

@@ -1,4 +1,4 @@
-use Rattle.std.proofs.Common.{arith}
+use Rattle.tests_pins.proofs.Words.{arith}
 use Rattle.tests_pins.proofs.leap_seconds.near.Goals as goal
 
 pub returns : goal.returns

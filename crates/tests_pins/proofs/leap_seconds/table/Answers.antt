@@ -1,8 +1,4 @@
-use Rattle.std.proofs.Common.{refl, arith, inl}
-use Rattle.naive_base.specs.Year.{year_start}
-use Rattle.naive_base.specs.Month.{days_of_months}
-use Rattle.naive_base.specs.Date.{day_number}
-use Rattle.tests_pins.specs.LeapSeconds.{utc_leaps}
+use Rattle.tests_pins.proofs.Words.{arith, day_number, days_of_months, inl, refl, utc_leaps, year_start}
 use Rattle.tests_pins.proofs.LeapSeconds.{Chained, chained}
 use Rattle.tests_pins.proofs.leap_seconds.table.Goals as goal
 

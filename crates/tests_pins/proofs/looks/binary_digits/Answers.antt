@@ -1,5 +1,5 @@
-use Rattle.std.proofs.Common.{refl}
 use Rattle.tz_timeline.specs.Digits.{digits}
+use Rattle.tests_pins.proofs.Words.{refl}
 use Rattle.tests_pins.proofs.looks.binary_digits.Goals as goal
 
 pub returns : goal.returns

@@ -1,5 +1,5 @@
-use Rattle.std.proofs.Common.{refl, arith}
 use Rattle.tz_timeline.specs.Digits.{digits}
+use Rattle.tests_pins.proofs.Words.{arith, refl}
 use Rattle.tests_pins.proofs.looks.by_instant.Goals as goal
 
 pub returns-clause-most : goal.returns-clause-most

@@ -1,5 +1,5 @@
-use Rattle.std.proofs.Common.{refl, arith, pos}
-use Rattle.demo_own_zone.proofs.Walls.{shown_twice, shown_never}
+use Rattle.demo_own_zone.proofs.Walls.{shown_never, shown_twice}
+use Rattle.tests_pins.proofs.Words.{arith, pos, refl}
 use Rattle.tests_pins.proofs.odd.clocks.Goals as goal
 
 pub returns : goal.returns

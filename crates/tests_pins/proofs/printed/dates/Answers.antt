@@ -1,6 +1,4 @@
-use Rattle.std.proofs.Common.{refl}
-use Rattle.offset_core.specs.Digits.{in_digits}
-use Rattle.naive_base.specs.Text.{year_text}
+use Rattle.tests_pins.proofs.Words.{in_digits, refl, year_text}
 use Rattle.tests_pins.proofs.printed.dates.Goals as goal
 
 pub returns : goal.returns

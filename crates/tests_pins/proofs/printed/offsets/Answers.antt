@@ -1,5 +1,4 @@
-use Rattle.std.proofs.Common.{refl}
-use Rattle.offset_core.specs.Digits.{in_digits}
+use Rattle.tests_pins.proofs.Words.{in_digits, refl}
 use Rattle.tests_pins.proofs.printed.offsets.Goals as goal
 
 pub returns : goal.returns

@@ -1,11 +1,5 @@
-use Rattle.std.proofs.Common.{◌≡◌, arith, refl, pos}
-use Rattle.offset_core.specs.Digits.{in_digits}
-use Rattle.naive_base.specs.Year.{year_start}
-use Rattle.naive_base.specs.Month.{days_of_months}
-use Rattle.naive_base.specs.Date.{day_number}
-use Rattle.naive_base.specs.DateOf.{year_of, month_of, day_of_month}
-use Rattle.naive_base.specs.Text.{year_text}
-use Rattle.naive_base.proofs.ForCallers.{date_only}
+use Rattle.tests_pins.proofs.Words.{arith, date_only, day_number, day_of_month, days_of_months, in_digits, month_of, pos, refl, year_of, year_start, year_text}
+use Rattle.tests_pins.proofs.Words.{◌≡◌}
 use Rattle.tests_pins.proofs.printed.readings.Goals as goal
 
 last_day : (year_of (pos 17_166) ≡ pos 2016) × (month_of (pos 17_166) ≡ 12) × (day_of_month (pos 17_166) ≡ 31)

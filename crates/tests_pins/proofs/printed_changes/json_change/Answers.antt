@@ -1,9 +1,4 @@
-use Rattle.std.proofs.Common.{refl}
-use Rattle.std.specs.Fmt.{digits}
-use Rattle.json.specs.Print.{print_from, escape_byte}
-use Rattle.offset_core.specs.Digits.{in_digits}
-use Rattle.naive_base.specs.Text.{year_text}
-use Rattle.change_views.specs.Clocks.{clock_words}
+use Rattle.tests_pins.proofs.Words.{clock_words, digits, escape_byte, in_digits, print_from, refl, year_text}
 use Rattle.tests_pins.proofs.ChangeDays.{march_2021}
 use Rattle.tests_pins.proofs.printed_changes.json_change.Goals as goal
 

@@ -1,6 +1,4 @@
-use Rattle.std.proofs.Common.{refl}
-use Rattle.std.specs.Fmt.{digits}
-use Rattle.json.specs.Print.{print_from, escape_byte}
+use Rattle.tests_pins.proofs.Words.{digits, escape_byte, print_from, refl}
 use Rattle.tests_pins.proofs.printed_changes.json_words.Goals as goal
 
 pub returns : goal.returns

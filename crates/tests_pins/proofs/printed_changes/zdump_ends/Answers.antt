@@ -1,4 +1,4 @@
-use Rattle.std.proofs.Common.{refl}
+use Rattle.tests_pins.proofs.Words.{refl}
 use Rattle.tests_pins.proofs.printed_changes.zdump_ends.Goals as goal
 
 pub returns : goal.returns

@@ -1,6 +1,4 @@
-use Rattle.std.proofs.Common.{refl}
-use Rattle.std.specs.Fmt.{digits}
-use Rattle.change_views.specs.ZdumpLines.{short_weekday, short_month, short_day}
+use Rattle.tests_pins.proofs.Words.{digits, refl, short_day, short_month, short_weekday}
 use Rattle.tests_pins.proofs.printed_changes.zdump_names.Goals as goal
 
 pub returns : goal.returns

@@ -1,4 +1,4 @@
-use Rattle.std.proofs.Common.{refl, inl, inr, pos}
+use Rattle.tests_pins.proofs.Words.{inl, inr, pos, refl}
 use Rattle.tests_pins.proofs.AskedRules.{always, not_before_last, one_more}
 use Rattle.tests_pins.proofs.questions.by_instant.Goals as goal
 

@@ -1,8 +1,5 @@
-use Rattle.std.proofs.Common.{◌≡◌, refl, arith}
-use Rattle.std.proofs.lemmas.Int.{ints}
-use Rattle.zoned_round.specs.Errors.{IsRefusal}
-use Rattle.zoned_round.specs.declared.error.RoundingError.{RoundingError}
-use Rattle.zoned_round.specs.declared.error.RoundingError.TheVariants.{DurationExceedsTimestamp, DurationExceedsLimit, TimestampExceedsLimit}
+use Rattle.zoned_round.specs.declared.error.RoundingError.TheVariants.{DurationExceedsLimit, DurationExceedsTimestamp, TimestampExceedsLimit}
+use Rattle.tests_pins.proofs.Words.{IsRefusal, RoundingError, arith, ints, refl, ◌≡◌}
 use Rattle.tests_pins.proofs.roundings.refusals.Goals as goal
 
 both : (e : RoundingError) → IsRefusal ⊥ ⊥ e → e ≡ DurationExceedsLimit

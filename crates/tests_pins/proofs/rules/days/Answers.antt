@@ -1,10 +1,6 @@
-use Rattle.std.proofs.Common.{arith, pos}
-use Rattle.naive_base.specs.Year.{year_start}
-use Rattle.naive_base.specs.Month.{days_of_months}
-use Rattle.naive_base.specs.Date.{day_number}
-use Rattle.tz_info.specs.Steps.RuleDays.{closed_day}
-use Rattle.tz_info.specs.declared.rule.day.DayForm.TheVariants.{Julian1, Julian0, MonthWeekday}
 use Rattle.tz_info.proofs.RuleDays.{rule_day_closed}
+use Rattle.tz_info.specs.declared.rule.day.DayForm.TheVariants.{Julian0, Julian1, MonthWeekday}
+use Rattle.tests_pins.proofs.Words.{arith, closed_day, day_number, days_of_months, pos, year_start}
 use Rattle.tests_pins.proofs.rules.days.Goals as goal
 
 pub returns : goal.returns

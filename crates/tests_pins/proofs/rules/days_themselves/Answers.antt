@@ -1,9 +1,4 @@
-use Rattle.std.proofs.Common.{◌≡◌, ◌≤◌, ℕ, pos, refl, arith}
-use Rattle.naive_base.specs.Year.{year_start}
-use Rattle.naive_base.specs.Month.{days_of_months}
-use Rattle.naive_base.specs.Date.{IsDate, day_number}
-use Rattle.naive_base.specs.Weekday.{weekday_of}
-use Rattle.naive_base.proofs.ForCallers.{floors}
+use Rattle.tests_pins.proofs.Words.{IsDate, arith, day_number, days_of_months, floors, pos, refl, weekday_of, year_start, ℕ, ◌≡◌, ◌≤◌}
 use Rattle.tests_pins.proofs.rules.days_themselves.Goals as goal
 
 -- no Sunday of March 2021 comes after the 28th

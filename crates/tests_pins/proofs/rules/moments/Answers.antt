@@ -1,4 +1,4 @@
-use Rattle.tests_pins.proofs.NewYork.{start_2021, end_2021}
+use Rattle.tests_pins.proofs.NewYork.{end_2021, start_2021}
 use Rattle.tests_pins.proofs.rules.moments.Goals as goal
 
 pub returns : goal.returns

@@ -1,5 +1,5 @@
-use Rattle.std.proofs.Common.{arith, pos}
-use Rattle.tests_pins.proofs.NewYork.{est_early, est_late, edt_between}
+use Rattle.tests_pins.proofs.Words.{arith, pos}
+use Rattle.tests_pins.proofs.NewYork.{edt_between, est_early, est_late}
 use Rattle.tests_pins.proofs.rules.types.Goals as goal
 
 pub returns : goal.returns

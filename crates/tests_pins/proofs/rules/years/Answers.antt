@@ -1,8 +1,4 @@
-use Rattle.std.proofs.Common.{arith, pos, neg_ℤ}
-use Rattle.std.proofs.lemmas.Int.{ints}
-use Rattle.naive_base.specs.Year.{year_start}
-use Rattle.naive_base.proofs.ForCallers.{one_year}
-use Rattle.tz_info.specs.Moments.{IsYearOf}
+use Rattle.tests_pins.proofs.Words.{IsYearOf, arith, ints, neg_ℤ, one_year, pos, year_start}
 use Rattle.tests_pins.proofs.rules.years.Goals as goal
 
 before_first : IsYearOf (neg_ℤ (pos 67_768_100_504_812_801)) (neg_ℤ (pos 2_147_483_647))

@@ -1,4 +1,4 @@
-use Rattle.std.proofs.Common.{arith, pos}
+use Rattle.tests_pins.proofs.Words.{arith, pos}
 use Rattle.tests_pins.proofs.NewYorkClocks.{fits}
 use Rattle.tests_pins.proofs.NewYorkSpans.{winter_is}
 use Rattle.tests_pins.proofs.spans.new_york.Goals as goal

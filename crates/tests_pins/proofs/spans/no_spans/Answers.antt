@@ -1,9 +1,7 @@
-use Rattle.std.proofs.Common.{arith, pos, refl, Some, None}
-use Rattle.tests_pins.specs.NewYork.{est}
-use Rattle.tests_pins.specs.Spans.{span_of}
-use Rattle.tests_pins.proofs.NewYork.{edt_until_2020, edt_between}
+use Rattle.tests_pins.proofs.Words.{None, Some, arith, est, pos, refl, span_of}
+use Rattle.tests_pins.proofs.NewYork.{edt_between, edt_until_2020}
 use Rattle.tests_pins.proofs.NewYorkClocks.{fits}
-use Rattle.tests_pins.proofs.NewYorkSpans.{only_est, no_change_within}
+use Rattle.tests_pins.proofs.NewYorkSpans.{no_change_within, only_est}
 use Rattle.tests_pins.proofs.spans.no_spans.Goals as goal
 
 pub returns : goal.returns

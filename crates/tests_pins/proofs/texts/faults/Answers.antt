@@ -1,6 +1,4 @@
-use Rattle.std.proofs.Common.{refl, []}
-use Rattle.tz_info.proofs.ForCallers.{text_fault_or_zone}
-use Rattle.tests_pins.specs.Texts.{no_days}
+use Rattle.tests_pins.proofs.Words.{no_days, refl, text_fault_or_zone, []}
 use Rattle.tests_pins.proofs.SpelledPieces.{some_bytes}
 use Rattle.tests_pins.proofs.SpelledTexts.{ends_early}
 use Rattle.tests_pins.proofs.texts.faults.Goals as goal

@@ -1,6 +1,4 @@
-use Rattle.std.proofs.Common.{◌≡◌, arith, refl, ℕ, zero, suc, ◌<◌, true, [], ◌∷◌, slice_index}
-use Rattle.std.proofs.lemmas.Bool.{false≢true}
-use Rattle.tz_base.specs.Names.{is_name_byte}
+use Rattle.tests_pins.proofs.Words.{arith, false≢true, is_name_byte, refl, slice_index, suc, true, zero, ℕ, [], ◌<◌, ◌∷◌, ◌≡◌}
 use Rattle.tests_pins.proofs.SpelledPieces.{is_name_3}
 use Rattle.tests_pins.proofs.texts.names.Goals as goal
 

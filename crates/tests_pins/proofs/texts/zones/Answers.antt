@@ -1,5 +1,4 @@
-use Rattle.std.proofs.Common.{refl, inl, inr, [], ◌∷◌, false}
-use Rattle.tests_pins.specs.Texts.{utc_text, utc_rule}
+use Rattle.tests_pins.proofs.Words.{false, inl, inr, refl, utc_rule, utc_text, [], ◌∷◌}
 use Rattle.tests_pins.proofs.SpelledPieces.{some_bytes}
 use Rattle.tests_pins.proofs.SpelledTexts.{utc}
 use Rattle.tests_pins.proofs.texts.zones.Goals as goal

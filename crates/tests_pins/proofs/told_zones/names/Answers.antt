@@ -1,5 +1,4 @@
-use Rattle.std.proofs.Common.{refl}
-use Rattle.zonedump_lib.specs.RuleWords.{week_words, weekday_words, month_words}
+use Rattle.tests_pins.proofs.Words.{month_words, refl, week_words, weekday_words}
 use Rattle.tests_pins.proofs.told_zones.names.Goals as goal
 
 pub returns : goal.returns

@@ -1,8 +1,4 @@
-use Rattle.std.proofs.Common.{refl}
-use Rattle.std.specs.Fmt.{digits}
-use Rattle.offset_core.specs.Digits.{in_digits}
-use Rattle.change_views.specs.Words.{offset_words}
-use Rattle.zonedump_lib.specs.RuleWords.{week_words, weekday_words, month_words, moment_words}
+use Rattle.tests_pins.proofs.Words.{digits, in_digits, moment_words, month_words, offset_words, refl, week_words, weekday_words}
 use Rattle.tests_pins.proofs.told_zones.rules.Goals as goal
 
 pub returns : goal.returns

@@ -1,10 +1,7 @@
-use Rattle.std.proofs.Common.{refl, arith, inl, ◌∷◌, [], pos}
-use Rattle.naive_base.specs.Year.{year_start}
-use Rattle.tests_pins.specs.Changes.{spring, autumn}
-use Rattle.tests_pins.specs.NewYork.{est}
+use Rattle.tests_pins.proofs.Words.{arith, autumn, est, inl, pos, refl, spring, year_start, [], ◌∷◌}
 use Rattle.tests_pins.proofs.NewYork.{est_early}
-use Rattle.tests_pins.proofs.NewYorkClocks.{type_of_rule}
 use Rattle.tests_pins.proofs.NewYorkChanges.{year, zdump_year}
+use Rattle.tests_pins.proofs.NewYorkClocks.{type_of_rule}
 use Rattle.tests_pins.proofs.told_zones.year_2021.Goals as goal
 
 pub returns : goal.returns

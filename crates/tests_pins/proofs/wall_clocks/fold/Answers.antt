@@ -1,4 +1,4 @@
-use Rattle.std.proofs.Common.{arith, pos}
+use Rattle.tests_pins.proofs.Words.{arith, pos}
 use Rattle.tests_pins.proofs.NewYorkClocks.{edt_once, in_fold}
 use Rattle.tests_pins.proofs.wall_clocks.fold.Goals as goal
 

@@ -1,5 +1,4 @@
-use Rattle.std.proofs.Common.{refl}
-use Rattle.tz_write.specs.FileDesignations.{begins}
+use Rattle.tests_pins.proofs.Words.{begins, refl}
 use Rattle.tests_pins.proofs.WrittenPins.{not_shortest}
 use Rattle.tests_pins.proofs.written_zones.designation_places.Goals as goal
 

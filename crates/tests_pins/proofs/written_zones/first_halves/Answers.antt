@@ -1,5 +1,4 @@
-use Rattle.std.proofs.Common.{refl}
-use Rattle.tz_write.specs.FileBytes.{number_bytes, counts_bytes, header_bytes, first_half}
+use Rattle.tests_pins.proofs.Words.{counts_bytes, first_half, header_bytes, number_bytes, refl}
 use Rattle.tests_pins.proofs.written_zones.first_halves.Goals as goal
 
 pub returns : goal.returns

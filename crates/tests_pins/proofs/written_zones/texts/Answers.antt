@@ -1,4 +1,4 @@
-use Rattle.tests_pins.proofs.WrittenPins.{not_longer, not_extended, not_another, not_longer_zone, two_digits, one_digit, three_digits}
+use Rattle.tests_pins.proofs.WrittenPins.{not_another, not_extended, not_longer, not_longer_zone, one_digit, three_digits, two_digits}
 use Rattle.tests_pins.proofs.written_zones.texts.Goals as goal
 
 pub returns : goal.returns

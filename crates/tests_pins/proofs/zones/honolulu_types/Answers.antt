@@ -1,4 +1,4 @@
-use Rattle.std.proofs.Common.{refl, arith, pos, neg_ℤ}
+use Rattle.tests_pins.proofs.Words.{arith, neg_ℤ, pos, refl}
 use Rattle.tests_pins.proofs.zones.honolulu_types.Goals as goal
 
 pub returns-clause-before_first : goal.returns-clause-before_first

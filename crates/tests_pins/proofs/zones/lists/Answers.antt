@@ -1,9 +1,4 @@
-use Rattle.std.proofs.Common.{arith, ℕ, zero, suc, ◌<◌, ◌<ℤ◌, pos}
-use Rattle.std.specs.Prelude.{[], ◌∷◌, slice_index_or}
-use Rattle.tz_info.specs.declared.zone.transition.Transition.{Transition}
-use Rattle.tz_info.specs.Leaps.{AreLeapSeconds}
-use Rattle.tz_info.specs.Transitions.{AreTransitions}
-use Rattle.tests_pins.specs.Zones.{change}
+use Rattle.tests_pins.proofs.Words.{AreLeapSeconds, AreTransitions, Transition, arith, change, pos, slice_index_or, suc, zero, ℕ, [], ◌<ℤ◌, ◌<◌, ◌∷◌}
 use Rattle.tests_pins.proofs.zones.lists.Goals as goal
 
 no_leap_seconds : AreLeapSeconds []

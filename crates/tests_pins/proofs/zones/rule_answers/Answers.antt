@@ -1,4 +1,4 @@
-use Rattle.std.proofs.Common.{refl, arith, pos}
+use Rattle.tests_pins.proofs.Words.{arith, pos, refl}
 use Rattle.tests_pins.proofs.zones.rule_answers.Goals as goal
 
 pub returns : goal.returns

@@ -1,8 +1,5 @@
-use Rattle.std.proofs.Common.{◌≡◌, ◌∙◌, ap, refl, arith}
-use Rattle.std.proofs.lemmas.Bool.{false≢true}
-use Rattle.std.specs.Prelude.{Some, unsigned_abs}
 use Rattle.tz_info.proofs.ZoneLaws.{some_once}
-use Rattle.tests_pins.specs.Zones.{hst}
+use Rattle.tests_pins.proofs.Words.{Some, ap, arith, false≢true, hst, refl, unsigned_abs, ◌∙◌, ◌≡◌}
 use Rattle.tests_pins.proofs.zones.valid.Goals as goal
 
 pub returns-clause-other_flag : goal.returns-clause-other_flag

@@ -1,7 +1,6 @@
-use Rattle.std.proofs.Common.{arith}
-use Rattle.std.proofs.lemmas.Int.{ints}
+use Rattle.tz_info.proofs.Words.{arith, ints}
 use Rattle.tz_info.proofs.LeapEntries.{before_first, before_later}
-use Rattle.tz_info.proofs.LeapOrder.{leap_times_rise, leap_times_answer, leap_time_undone}
+use Rattle.tz_info.proofs.LeapOrder.{leap_time_undone, leap_times_answer, leap_times_rise}
 use Rattle.tz_info.proofs.laws.leap_times_law.Goals as goal
 
 pub returns-clause-rise : goal.returns-clause-rise

@@ -1,6 +1,5 @@
-use Rattle.std.proofs.Common.{arith}
-use Rattle.naive_base.proofs.ForCallers.{floors}
-use Rattle.tz_info.proofs.RuleDays.{rule_day_is, one_rule_day, day_rises}
+use Rattle.tz_info.proofs.Words.{arith, floors}
+use Rattle.tz_info.proofs.RuleDays.{day_rises, one_rule_day, rule_day_is}
 use Rattle.tz_info.proofs.laws.rule_days_law.Goals as goal
 
 pub returns-clause-found : goal.returns-clause-found

@@ -1,4 +1,4 @@
-use Rattle.tz_info.proofs.RuleLaws.{rule_once, rule_not_refused, rule_decided, rule_time, rule_year}
+use Rattle.tz_info.proofs.RuleLaws.{rule_decided, rule_not_refused, rule_once, rule_time, rule_year}
 use Rattle.tz_info.proofs.laws.rule_types_law.Goals as goal
 
 pub returns-clause-once : goal.returns-clause-once

@@ -1,5 +1,4 @@
-use Rattle.std.proofs.Common.{to_z-of_z}
-use Rattle.std.proofs.lemmas.List.{length-map}
+use Rattle.tz_timeline.proofs.Words.{length-map, to_z-of_z}
 use Rattle.tz_timeline.proofs.hints.fill.Goals as goal
 
 pub returns : goal.returns

@@ -1,9 +1,4 @@
-use Rattle.std.proofs.Common.{arith, rules, map, ◌+◌, ◌/◌, ◌^◌, ◌≡◌, w64, to_z-of_z, ◌∙◌, refl}
-use mir.Val.{SFits}
-use Rattle.std.proofs.lemmas.Int.{ints}
-use Rattle.std.proofs.lemmas.List.{length-set}
-use Rattle.tz_timeline.specs.Steps.Hints.{stretch_of}
-use Rattle.tz_timeline.specs.Search.{time_at}
+use Rattle.tz_timeline.proofs.Words.{SFits, arith, ints, length-set, map, refl, rules, stretch_of, time_at, to_z-of_z, w64, ◌+◌, ◌/◌, ◌^◌, ◌∙◌, ◌≡◌}
 use Rattle.tz_timeline.proofs.HintLaws.{marked_more, seconds_are}
 use Rattle.tz_timeline.proofs.SearchSteps.{time_read}
 use Rattle.tz_timeline.proofs.hints.mark.Given.{Over}

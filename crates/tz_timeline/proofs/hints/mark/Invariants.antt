@@ -1,5 +1,4 @@
-use Rattle.std.proofs.Common.{◌≡◌, length, map}
-use Rattle.tz_timeline.specs.Steps.Hints.{AreMarked}
+use Rattle.tz_timeline.proofs.Words.{AreMarked, length, map, ◌≡◌}
 use Rattle.tz_timeline.proofs.hints.mark.Given as goal
 
 abbrev pub invariant-loop-place : goal.invariant-loop-place

@@ -1,5 +1,5 @@
 use Rattle.tz_write.proofs.RuleTexts.{rule_named}
-use Rattle.tz_write.proofs.WrittenLaws.{text_some, text_once, extensions}
+use Rattle.tz_write.proofs.WrittenLaws.{extensions, text_once, text_some}
 use Rattle.tz_write.proofs.laws.one_written_text.Goals as goal
 
 pub returns : goal.returns

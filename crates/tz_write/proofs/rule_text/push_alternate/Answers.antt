@@ -1,6 +1,5 @@
-use Rattle.std.proofs.Common.{◌≡◌, List, ℕ, OnOk, string_bytes, subst, rules, w32, SFits}
 use Rattle.std.proofs.lemmas.Int.{to_z-of_z}
-use Rattle.tz_write.specs.Steps.TextPieces.{name_text, name_of, type_text, dst_offset_text, days_text}
+use Rattle.tz_write.proofs.Words.{List, OnOk, SFits, days_text, dst_offset_text, name_of, name_text, rules, string_bytes, subst, type_text, w32, ℕ, ◌≡◌}
 use Rattle.tz_write.proofs.Shortest.{four_pieces}
 use Rattle.tz_write.proofs.rule_text.push_alternate.Goals as goal
 

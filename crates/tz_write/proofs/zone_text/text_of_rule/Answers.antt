@@ -1,7 +1,5 @@
-use Rattle.std.proofs.Common.{List, ℕ, Some, subst, sym, refl, rules}
-use Rattle.tz_info.specs.Zones.{zone_of_rule}
-use Rattle.tz_write.specs.WrittenTexts.{HasZoneText, IsWrittenZone}
-use Rattle.tz_write.proofs.ZoneTexts.{written_zone, no_zone_text}
+use Rattle.tz_write.proofs.Words.{HasZoneText, IsWrittenZone, List, Some, refl, rules, subst, sym, zone_of_rule, ℕ}
+use Rattle.tz_write.proofs.ZoneTexts.{no_zone_text, written_zone}
 use Rattle.tz_write.proofs.zone_text.text_of_rule.Goals as goal
 
 pub returns : goal.returns

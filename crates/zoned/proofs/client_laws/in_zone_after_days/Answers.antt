@@ -1,8 +1,5 @@
-use Rattle.std.proofs.Common.{◌≡◌, ◌<◌, ℕ, zero, suc, pos, Some, sym, subst, refl, arith}
-use Rattle.zoned_time.specs.DateTime.{zoned, home_of, IsIn, IsOnlyDaysLater}
-use Rattle.zoned_time.specs.declared.datetime.Instant.{Instant}
-use Rattle.zoned_time.proofs.ForCallers.{stays}
 use Rattle.zoned_time.proofs.Stays.{only_where_in}
+use Rattle.zoned.proofs.Words.{Instant, IsIn, IsOnlyDaysLater, Some, arith, home_of, pos, refl, stays, subst, suc, sym, zero, zoned, ℕ, ◌<◌, ◌≡◌}
 use Rattle.zoned.proofs.client_laws.in_zone_after_days.Goals as goal
 
 -- no days leave it, and some give another

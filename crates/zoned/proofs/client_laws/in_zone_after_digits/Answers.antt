@@ -1,7 +1,4 @@
-use Rattle.zoned_time.specs.DateTime.{zoned, home_of, IsIn}
-use Rattle.zoned_time.specs.Zoned.{IsAt}
-use Rattle.zoned_time.specs.declared.datetime.Instant.{Instant}
-use Rattle.zoned_time.proofs.ForCallers.{stays}
+use Rattle.zoned.proofs.Words.{Instant, IsAt, IsIn, home_of, stays, zoned}
 use Rattle.zoned.proofs.Buckets.{itself-in}
 use Rattle.zoned.proofs.client_laws.in_zone_after_digits.Goals as goal
 

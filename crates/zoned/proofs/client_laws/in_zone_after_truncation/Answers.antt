@@ -1,6 +1,4 @@
-use Rattle.zoned_time.specs.DateTime.{zoned, IsIn, IsMoved}
-use Rattle.zoned_time.specs.declared.datetime.Instant.{Instant}
-use Rattle.zoned_time.proofs.ForCallers.{stays}
+use Rattle.zoned.proofs.Words.{Instant, IsIn, IsMoved, stays, zoned}
 use Rattle.zoned.proofs.Buckets.{gone-in}
 use Rattle.zoned.proofs.client_laws.in_zone_after_truncation.Goals as goal
 

@@ -1,8 +1,4 @@
-use Rattle.offset_core.specs.LocalResult.{map_of}
-use Rattle.naive_base.specs.NaiveDateTime.{reading}
-use Rattle.zoned_time.specs.DateTime.{zoned, IsIn}
-use Rattle.zoned_time.specs.declared.datetime.Instant.{Instant}
-use Rattle.zoned_time.proofs.ForCallers.{relocal_shown}
+use Rattle.zoned.proofs.Words.{Instant, IsIn, map_of, reading, relocal_shown, zoned}
 use Rattle.zoned.proofs.Shown.{each_seen}
 use Rattle.zoned.proofs.client_laws.in_zone_by_clock.Goals as goal
 

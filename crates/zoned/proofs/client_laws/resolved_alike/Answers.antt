@@ -1,6 +1,4 @@
-use Rattle.naive_base.specs.NaiveDateTime.{reading}
-use Rattle.zoned_time.specs.DateTime.{zoned}
-use Rattle.zoned_time.proofs.ForCallers.{resolved_once}
+use Rattle.zoned.proofs.Words.{reading, resolved_once, zoned}
 use Rattle.zoned.proofs.client_laws.resolved_alike.Goals as goal
 
 pub returns : goal.returns

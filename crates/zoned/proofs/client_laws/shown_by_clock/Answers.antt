@@ -1,10 +1,5 @@
-use Rattle.offset_core.specs.LocalResult.{map_of}
-use Rattle.std.proofs.Common.{◌≡◌}
-use Rattle.naive_base.specs.NaiveDateTime.{reading}
-use Rattle.zoned_time.specs.DateTime.{zoned, wall_of}
-use Rattle.zoned_time.specs.declared.datetime.Instant.{Instant}
-use Rattle.zoned_time.proofs.ForCallers.{relocal_shown}
 use Rattle.zoned_time.proofs.Relocals.{shown_by}
+use Rattle.zoned.proofs.Words.{Instant, map_of, reading, relocal_shown, wall_of, zoned, ◌≡◌}
 use Rattle.zoned.proofs.Shown.{each_seen}
 use Rattle.zoned.proofs.client_laws.shown_by_clock.Goals as goal
 

@@ -1,9 +1,5 @@
-use Rattle.offset_core.specs.declared.local_result.LocalResult.{LocalResult}
-use Rattle.offset_core.specs.LocalResult.{map_of}
-use Rattle.naive_base.specs.NaiveDateTime.{reading}
-use Rattle.zoned_time.specs.DateTime.{zoned}
-use Rattle.zoned_time.specs.declared.datetime.Instant.{Instant}
-use Rattle.zoned.proofs.Shown.{all_seconds, some_shown, none_shown}
+use Rattle.zoned.proofs.Words.{Instant, LocalResult, map_of, reading, zoned}
+use Rattle.zoned.proofs.Shown.{all_seconds, none_shown, some_shown}
 use Rattle.zoned.proofs.client_laws.shown_only.Goals as goal
 
 pub returns-clause-some : goal.returns-clause-some

@@ -1,7 +1,4 @@
-use Rattle.offset_core.specs.LocalResult.{map_of}
-use Rattle.naive_base.specs.NaiveDateTime.{reading}
-use Rattle.zoned_time.specs.DateTime.{zoned}
-use Rattle.zoned_time.specs.declared.datetime.Instant.{Instant}
+use Rattle.zoned.proofs.Words.{Instant, map_of, reading, zoned}
 use Rattle.zoned.proofs.Shown.{all_seconds, within_shown}
 use Rattle.zoned.proofs.client_laws.shown_within.Goals as goal
 

@@ -1,14 +1,6 @@
-use Rattle.std.proofs.Common.{◌≡◌, ◌∙◌, subst, refl, arith, ℤ, ◌+ℤ◌, ◌-ℤ◌, unsigned_abs}
-use Rattle.offset_core.specs.TimeDelta.{nanos_of}
-use Rattle.naive_base.proofs.ForCallers.{floors}
-use Rattle.naive_base.specs.Reading.{total, moved}
-use Rattle.naive_base.specs.Year.{floor_div}
-use Rattle.zoned_round.specs.Laws.{IsMultiple}
-use Rattle.zoned_round.specs.Multiples.{multiple_below}
-use Rattle.zoned_time.specs.DateTime.{zoned, wall_of, home_of}
-use Rattle.zoned_time.specs.Zoned.{IsAt}
-use Rattle.zoned_time.specs.declared.datetime.Instant.{Instant}
-use Rattle.zoned.proofs.Buckets.{gone-back, way-back, shown-back}
+use Rattle.zoned.proofs.Words.{Instant, IsAt, IsMultiple, arith, floor_div, floors, home_of, moved, multiple_below, nanos_of, refl, subst, total, unsigned_abs}
+use Rattle.zoned.proofs.Words.{wall_of, zoned, ℤ, ◌+ℤ◌, ◌-ℤ◌, ◌∙◌, ◌≡◌}
+use Rattle.zoned.proofs.Buckets.{gone-back, shown-back, way-back}
 use Rattle.zoned.proofs.client_laws.truncated.Given as given
 use Rattle.zoned.proofs.client_laws.truncated.Goals as goal
 

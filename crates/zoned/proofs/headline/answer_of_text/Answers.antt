@@ -1,8 +1,5 @@
-use Rattle.std.proofs.Common.{subst}
-use Rattle.offset_core.specs.WallAnswer.{IsWallAnswer}
-use Rattle.naive_base.specs.NaiveDateTime.{reading}
 use Rattle.tz_info.specs.WallClocks.{Shows}
-use Rattle.tz_info.specs.Zones.{Zone, TypeAt}
+use Rattle.zoned.proofs.Words.{IsWallAnswer, TypeAt, Zone, reading, subst}
 use Rattle.zoned.proofs.headline.answer_of_text.Goals as goal
 
 pub returns-in-Ok-clause-only : goal.returns-in-Ok-clause-only

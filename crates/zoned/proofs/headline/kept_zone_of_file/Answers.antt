@@ -1,9 +1,5 @@
-use Rattle.std.proofs.Common.{◌≡◌, refl, sym, subst}
-use Rattle.tz_info.specs.Zones.{Zone}
-use Rattle.zoned_ref.specs.Offsets.{IsNarrow}
-use Rattle.zoned_kept.specs.KeepError.{IsRefused}
-use Rattle.zoned_kept.specs.declared.keep_error.KeepError.{KeepError}
-use Rattle.zoned_kept.specs.declared.keep_error.KeepError.TheVariants.{WideZone, OutOfMemory}
+use Rattle.zoned_kept.specs.declared.keep_error.KeepError.TheVariants.{OutOfMemory, WideZone}
+use Rattle.zoned.proofs.Words.{IsNarrow, IsRefused, KeepError, Zone, refl, subst, sym, ◌≡◌}
 use Rattle.zoned.proofs.headline.kept_zone_of_file.Goals as goal
 
 -- a narrow zone is given back only where memory ran out

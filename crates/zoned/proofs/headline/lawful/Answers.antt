@@ -1,7 +1,6 @@
-use Rattle.std.proofs.Common.{◌∙◌, ap, sym}
-use Rattle.tz_info.proofs.ForCallers.{type_once}
 use Rattle.zoned_ref.proofs.Offsets.{offset_within}
 use Rattle.zoned_ref.proofs.Walls.{zone_wall}
+use Rattle.zoned.proofs.Words.{ap, sym, type_once, ◌∙◌}
 use Rattle.zoned.proofs.headline.lawful.Goals as goal
 
 pub returns : goal.returns

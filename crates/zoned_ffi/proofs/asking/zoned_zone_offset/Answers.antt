@@ -1,6 +1,4 @@
-use Rattle.std.proofs.Common.{FitsSigned, of_z, rules, to_z, to_z-of_z, w32, w64}
-use Rattle.zoned_ffi.specs.Handles.{IsLent}
-use Rattle.zoned_ffi.specs.Instants.{IsOffsetAt}
+use Rattle.zoned_ffi.proofs.Words.{FitsSigned, IsLent, IsOffsetAt, of_z, rules, to_z, to_z-of_z, w32, w64}
 use Rattle.zoned_ffi.proofs.asking.zoned_zone_offset.Goals as goal
 
 pub returns-clause-answered : goal.returns-clause-answered

@@ -1,5 +1,4 @@
-use Rattle.std.proofs.Common.{FitsSigned, rules, to_z-of_z, w64}
-use Rattle.zoned_ffi.specs.Handles.{IsLent}
+use Rattle.zoned_ffi.proofs.Words.{FitsSigned, IsLent, rules, to_z-of_z, w64}
 use Rattle.zoned_ffi.proofs.asking.zoned_zone_type.Goals as goal
 
 pub returns-clause-answered : goal.returns-clause-answered

@@ -1,4 +1,4 @@
-use Rattle.std.proofs.Common.{FitsSigned, arith, to_z-of_z, w64}
+use Rattle.zoned_ffi.proofs.Words.{FitsSigned, arith, to_z-of_z, w64}
 use Rattle.zoned_ffi.proofs.ChangesWritten.{all_written}
 use Rattle.zoned_ffi.proofs.changes.write_changes.Goals as goal
 

@@ -1,8 +1,5 @@
-use Rattle.std.proofs.Common.{arith, inl, inr, ◌≡◌, ◌+◌, ◌<◌, ◌≤◌, ◌++◌, ◌∷◌, [], ◌∙◌, ap, sym, subst, length, FitsSigned, to_z-of_z, w64}
-use Rattle.std.proofs.lemmas.List.{length-append, append_assoc}
-use Rattle.tz_info.specs.Changes.{AreChanges}
-use Rattle.tz_info.specs.ChangesLeft.{changes_left}
-use Rattle.tz_info.specs.Zones.{TypeAt}
+use Rattle.zoned_ffi.proofs.Words.{AreChanges, FitsSigned, TypeAt, ap, append_assoc, arith, changes_left, inl, inr, length, length-append, subst, sym}
+use Rattle.zoned_ffi.proofs.Words.{to_z-of_z, w64, [], ◌++◌, ◌+◌, ◌<◌, ◌∙◌, ◌∷◌, ◌≡◌, ◌≤◌}
 use Rattle.zoned_ffi.proofs.ChangesWritten.{first_written, more_written, place_fits}
 use Rattle.zoned_ffi.proofs.changes.write_first_changes.Goals as goal
 

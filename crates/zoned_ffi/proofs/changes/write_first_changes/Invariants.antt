@@ -1,8 +1,4 @@
-use Rattle.std.proofs.Common.{◌≡◌, ◌≤◌, ◌++◌, length, map}
-use Rattle.tz_info.specs.Changes.{AreChanges}
-use Rattle.tz_info.specs.ChangesLeft.{changes_left}
-use Rattle.tz_info.specs.Zones.{TypeAt}
-use Rattle.zoned_ffi.specs.WrittenChanges.{written_change, written_into}
+use Rattle.zoned_ffi.proofs.Words.{AreChanges, TypeAt, changes_left, length, map, written_change, written_into, ◌++◌, ◌≡◌, ◌≤◌}
 use Rattle.zoned_ffi.proofs.changes.write_first_changes.Given as goal
 
 -- what is found so far is counted and written, and with what is left it is the list

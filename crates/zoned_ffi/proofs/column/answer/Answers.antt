@@ -1,13 +1,7 @@
-use Rattle.std.proofs.lemmas.Int.{ints}
-use Rattle.std.proofs.Common.{arith, ◌≤ℤ◌, ◌<ℤ◌, FitsSigned, Result, Ok, Err, MatchResult, ℕ, ℤ, ap, inr, to_z-of_z, w64, rules, ◌≢◌, of_z, subst, sym}
-use Rattle.tz_info.specs.Zones.{Zone}
-use Rattle.zoned_ffi.specs.Columns.{IsAnswered, IsAnsweredOrNone, IsKept, IsNotAnswered}
-use Rattle.zoned_ffi.specs.Units.{no_time}
-use Rattle.zoned_ffi.specs.declared.column.kept.Kept.{Kept}
-use Rattle.zoned_ffi.specs.declared.column.Way.{Way}
-use Rattle.zoned_ffi.specs.declared.unit.Unit.{Unit}
+use Rattle.zoned_ffi.proofs.Words.{Err, FitsSigned, IsAnswered, IsAnsweredOrNone, IsKept, IsNotAnswered, Kept, MatchResult, Ok, Result, Unit, Way, Zone, ap}
+use Rattle.zoned_ffi.proofs.Words.{arith, inr, ints, no_time, of_z, rules, subst, sym, to_z-of_z, w64, ℕ, ℤ, ◌<ℤ◌, ◌≢◌, ◌≤ℤ◌}
 use Rattle.zoned_ffi.proofs.column.answer.Goals as goal
-use Rattle.zoned_ffi.proofs.column.answer.Goals.{then-row-kept-ne1, else-row-kept-ne1+else-row-eq0}
+use Rattle.zoned_ffi.proofs.column.answer.Goals.{else-row-kept-ne1+else-row-eq0, then-row-kept-ne1}
 
 either : (z : Zone) (unit : Unit) (way : Way) (x : ℤ) (r : Result ℤ ℕ) → x ≢ no_time → MatchResult r (IsAnswered z unit way x) (IsNotAnswered z unit way x)
     → MatchResult r (IsAnsweredOrNone z unit way x) (λ n. (x ≢ no_time) × IsNotAnswered z unit way x n)

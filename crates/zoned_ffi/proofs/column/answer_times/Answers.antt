@@ -1,4 +1,4 @@
-use Rattle.std.proofs.Common.{arith}
+use Rattle.zoned_ffi.proofs.Words.{arith}
 use Rattle.zoned_ffi.proofs.Columns.{row_number}
 use Rattle.zoned_ffi.proofs.column.answer_times.Goals as goal
 

@@ -1,5 +1,4 @@
-use Rattle.std.proofs.Common.{FitsSigned, refl, subst, sym, to_z-of_z, w64}
-use Rattle.zoned_ffi.specs.Columns.{IsNotAnswered}
+use Rattle.zoned_ffi.proofs.Words.{FitsSigned, IsNotAnswered, refl, subst, sym, to_z-of_z, w64}
 use Rattle.zoned_ffi.proofs.column.looked_up.Goals as goal
 
 pub returns-in-None : goal.returns-in-None

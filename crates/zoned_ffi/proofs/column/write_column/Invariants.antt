@@ -1,5 +1,4 @@
-use Rattle.std.proofs.Common.{◌≡◌, length, take}
-use Rattle.zoned_ffi.specs.Columns.{AreAnswered, IsKept}
+use Rattle.zoned_ffi.proofs.Words.{AreAnswered, IsKept, length, take, ◌≡◌}
 use Rattle.zoned_ffi.proofs.column.write_column.Given as goal
 
 -- the answers so far, and what is kept

@@ -1,5 +1,5 @@
+use Rattle.zoned_ffi.proofs.Words.{IsExtendedFault}
 use Rattle.zoned_ffi.proofs.Reading.{extended_refused}
-use Rattle.zoned_ffi.specs.Refusals.{IsExtendedFault}
 use Rattle.zoned_ffi.proofs.extended.extended_zone.Goals as goal
 
 pub returns-in-Ok-clause-fault : goal.returns-in-Ok-clause-fault

@@ -1,4 +1,4 @@
-use Rattle.std.proofs.Common.{FitsSigned, inr, refl, to_z-of_z, w64}
+use Rattle.zoned_ffi.proofs.Words.{FitsSigned, inr, refl, to_z-of_z, w64}
 use Rattle.zoned_ffi.proofs.instants.offset_at.Goals as goal
 
 pub returns-in-Err : goal.returns-in-Err

@@ -1,6 +1,4 @@
-use Rattle.std.proofs.Common.{◌∙◌, FitsSigned, arith, get_or, pos, rules, to_z-of_z, w32, w64}
-use Rattle.std.proofs.lemmas.List.{length-set}
-use Rattle.zoned_ffi.specs.Instants.{IsOffsetAt}
+use Rattle.zoned_ffi.proofs.Words.{FitsSigned, IsOffsetAt, arith, get_or, length-set, pos, rules, to_z-of_z, w32, w64, ◌∙◌}
 use Rattle.zoned_ffi.proofs.Slices.{zip_more}
 use Rattle.zoned_ffi.proofs.instants.write_offsets.Goals as goal
 

@@ -1,5 +1,4 @@
-use Rattle.std.proofs.Common.{◌≡◌, length, take}
-use Rattle.zoned_ffi.specs.Instants.{AreOffsetsAt}
+use Rattle.zoned_ffi.proofs.Words.{AreOffsetsAt, length, take, ◌≡◌}
 use Rattle.zoned_ffi.proofs.instants.write_offsets.Given as goal
 
 -- the offsets so far

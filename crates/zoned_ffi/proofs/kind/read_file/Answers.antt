@@ -1,4 +1,4 @@
-use Rattle.zoned_ffi.specs.Refusals.{IsFileError}
+use Rattle.zoned_ffi.proofs.Words.{IsFileError}
 use Rattle.zoned_ffi.proofs.kind.read_file.Goals as goal
 
 pub returns-in-Err-clause-fault : goal.returns-in-Err-clause-fault

@@ -1,9 +1,5 @@
-use Rattle.std.proofs.Common.{List, subst, sym, ℕ}
-use Rattle.std.specs.Str.{IsUtf8}
-use Rattle.tz_base.specs.Errors.{number_of}
-use Rattle.tz_info.specs.PosixZones.{IsPosixZone}
+use Rattle.zoned_ffi.proofs.Words.{IsPosixZone, IsTextFault, IsUtf8, List, number_of, subst, sym, ℕ}
 use Rattle.zoned_ffi.proofs.Reading.{reader_number, text_refused}
-use Rattle.zoned_ffi.specs.Refusals.{IsTextFault}
 use Rattle.zoned_ffi.proofs.kind.read_text.Goals as goal
 
 pub returns-in_default-clause-fault : goal.returns-in_default-clause-fault

@@ -1,5 +1,5 @@
+use Rattle.zoned_ffi.proofs.Words.{IsRefusal}
 use Rattle.zoned_ffi.proofs.Reading.{not_fitting, not_read}
-use Rattle.zoned_ffi.specs.Refusals.{IsRefusal}
 use Rattle.zoned_ffi.proofs.kind.read_zone.Goals as goal
 
 pub returns-in_default-clause-fault : goal.returns-in_default-clause-fault

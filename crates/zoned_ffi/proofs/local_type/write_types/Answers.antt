@@ -1,6 +1,4 @@
-use Rattle.std.proofs.Common.{◌∙◌, FitsSigned, arith, get_or, pos, rules, to_z-of_z, w64}
-use Rattle.std.proofs.lemmas.List.{length-set}
-use Rattle.zoned_ffi.specs.WrittenTypes.{IsWrittenTypeAt}
+use Rattle.zoned_ffi.proofs.Words.{FitsSigned, IsWrittenTypeAt, arith, get_or, length-set, pos, rules, to_z-of_z, w64, ◌∙◌}
 use Rattle.zoned_ffi.proofs.Slices.{zip_more}
 use Rattle.zoned_ffi.proofs.local_type.write_types.Goals as goal
 

@@ -1,5 +1,4 @@
-use Rattle.std.proofs.Common.{◌≡◌, length, take}
-use Rattle.zoned_ffi.specs.WrittenTypes.{AreWrittenTypesAt}
+use Rattle.zoned_ffi.proofs.Words.{AreWrittenTypesAt, length, take, ◌≡◌}
 use Rattle.zoned_ffi.proofs.local_type.write_types.Given as goal
 
 -- what is told so far

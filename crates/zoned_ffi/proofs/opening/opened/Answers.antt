@@ -1,4 +1,4 @@
-use Rattle.std.proofs.Common.{refl}
+use Rattle.zoned_ffi.proofs.Words.{refl}
 use Rattle.zoned_ffi.proofs.Reading.{no_memory_refused}
 use Rattle.zoned_ffi.proofs.opening.opened.Goals as goal
 

@@ -1,4 +1,4 @@
-use Rattle.std.proofs.Common.{◌∙◌, inr}
+use Rattle.zoned_ffi.proofs.Words.{inr, ◌∙◌}
 use Rattle.zoned_ffi.proofs.opening.zoned_open.Goals as goal
 
 pub returns-in-Err-clause-only : goal.returns-in-Err-clause-only

@@ -1,5 +1,4 @@
-use Rattle.std.proofs.Common.{◌∙◌, FitsSigned, rules, to_z-of_z, w32, w64}
-use Rattle.zoned_ffi.specs.Resolved.{IsGapEnd, IsNoneTaken, IsTaken}
+use Rattle.zoned_ffi.proofs.Words.{FitsSigned, IsGapEnd, IsNoneTaken, IsTaken, rules, to_z-of_z, w32, w64, ◌∙◌}
 use Rattle.zoned_ffi.proofs.Resolving.{before_gap, in_force}
 use Rattle.zoned_ffi.proofs.resolved.take.Goals as goal
 

@@ -1,5 +1,4 @@
-use Rattle.std.proofs.Common.{◌≡◌, length, take}
-use Rattle.zoned_ffi.specs.Resolved.{AreResolved}
+use Rattle.zoned_ffi.proofs.Words.{AreResolved, length, take, ◌≡◌}
 use Rattle.zoned_ffi.proofs.resolved.write_resolved.Given as goal
 
 -- what is told so far

@@ -1,4 +1,4 @@
-use Rattle.std.proofs.Common.{FitsSigned, refl, to_z-of_z, w64}
+use Rattle.zoned_ffi.proofs.Words.{FitsSigned, refl, to_z-of_z, w64}
 use Rattle.zoned_ffi.proofs.span.answer_span.Goals as goal
 
 pub returns-in-Err-clause-refused : goal.returns-in-Err-clause-refused

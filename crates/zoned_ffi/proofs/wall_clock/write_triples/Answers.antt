@@ -1,4 +1,4 @@
-use Rattle.std.proofs.Common.{◌∙◌, ◌*◌, FitsSigned, arith, get_or, pos, rules, to_z-of_z, w32, w64}
+use Rattle.zoned_ffi.proofs.Words.{FitsSigned, arith, get_or, pos, rules, to_z-of_z, w32, w64, ◌*◌, ◌∙◌}
 use Rattle.zoned_ffi.proofs.Slices.{triple_length, triple_more}
 use Rattle.zoned_ffi.proofs.wall_clock.write_triples.Goals as goal
 

@@ -1,5 +1,4 @@
-use Rattle.std.proofs.Common.{◌≡◌, ℕ, ◌*◌, ◌<◌, length, pos, get_or}
-use Rattle.zoned_ffi.specs.WallClocks.{IsTripleAt}
+use Rattle.zoned_ffi.proofs.Words.{IsTripleAt, get_or, length, pos, ℕ, ◌*◌, ◌<◌, ◌≡◌}
 use Rattle.zoned_ffi.proofs.wall_clock.write_triples.Given as goal
 
 -- the numbers so far

@@ -1,5 +1,4 @@
-use Rattle.std.proofs.Common.{◌≡◌, length, take}
-use Rattle.zoned_ffi.specs.WallClocks.{AreWallClocks}
+use Rattle.zoned_ffi.proofs.Words.{AreWallClocks, length, take, ◌≡◌}
 use Rattle.zoned_ffi.proofs.wall_clock.write_wall_clocks.Given as goal
 
 -- what is told so far

@@ -1,5 +1,4 @@
-use Rattle.zoned_ref.specs.ZoneChange.{IsAfter, IsUpTo}
-use Rattle.tz_info.proofs.ForCallers.{one_first, one_last}
+use Rattle.zoned_ref.proofs.Words.{IsAfter, IsUpTo, one_first, one_last}
 use Rattle.zoned_ref.proofs.laws.one_change.Goals as goal
 
 pub returns : goal.returns

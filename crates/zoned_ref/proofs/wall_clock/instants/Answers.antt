@@ -1,6 +1,4 @@
-use Rattle.std.proofs.Common.{subst}
-use Rattle.naive_base.specs.NaiveDateTime.{reading}
-use Rattle.zoned_ref.specs.Offsets.{IsNarrow}
+use Rattle.zoned_ref.proofs.Words.{IsNarrow, reading, subst}
 use Rattle.zoned_ref.proofs.Instants.{instants_for}
 use Rattle.zoned_ref.proofs.Walls.{each_within}
 use Rattle.zoned_ref.proofs.wall_clock.instants.Goals as goal

@@ -1,8 +1,4 @@
-use Rattle.std.specs.Prelude.{option_map}
-use Rattle.offset_core.specs.FixedOffset.{seconds_of}
-use Rattle.naive_base.specs.NaiveDateTime.{reading}
-use Rattle.zoned_time.specs.DateTime.{zoned}
-use Rattle.zoned_time.specs.Zoned.{in_seconds}
+use Rattle.zoned_ref.proofs.Words.{in_seconds, option_map, reading, seconds_of, zoned}
 use Rattle.zoned_ref.proofs.Instants.{of_one}
 use Rattle.zoned_ref.proofs.wall_clock.instants_of.Goals as goal
 

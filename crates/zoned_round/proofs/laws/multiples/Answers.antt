@@ -1,4 +1,4 @@
-use Rattle.zoned_round.proofs.Nearest.{below-greatest, above-least, nearest-of_all}
+use Rattle.zoned_round.proofs.Nearest.{above-least, below-greatest, nearest-of_all}
 use Rattle.zoned_round.proofs.laws.multiples.Goals as goal
 
 pub returns : goal.returns

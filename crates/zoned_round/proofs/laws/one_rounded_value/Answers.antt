@@ -1,4 +1,4 @@
-use Rattle.zoned_round.proofs.Instants.{gone-once, refusal-once, not-refused}
+use Rattle.zoned_round.proofs.Instants.{gone-once, not-refused, refusal-once}
 use Rattle.zoned_round.proofs.laws.one_rounded_value.Goals as goal
 
 pub returns-clause-rounded : goal.returns-clause-rounded

@@ -1,8 +1,6 @@
-use Rattle.std.proofs.Common.{inl, inr, arith, ℤ}
-use Rattle.naive_base.specs.Reading.{total}
-use Rattle.naive_base.proofs.ForCallers.{floors}
+use Rattle.zoned_round.proofs.Words.{arith, floors, inl, inr, total, ℤ}
 use Rattle.zoned_round.proofs.Instants.{total-gone}
-use Rattle.zoned_round.proofs.Multiples.{way-down, way-up, way-near}
+use Rattle.zoned_round.proofs.Multiples.{way-down, way-near, way-up}
 use Rattle.zoned_round.proofs.laws.rounded_instants.Goals as goal
 
 pub returns : goal.returns

@@ -1,7 +1,4 @@
-use Rattle.std.proofs.Common.{◌∙◌, ap, neg_ℤ, arith}
-use Rattle.std.specs.Int.{w64}
-use Rattle.std.proofs.lemmas.Int.{to_z_pos}
-use Rattle.naive_base.specs.NaiveDateTime.{reading}
+use Rattle.zoned_round.proofs.Words.{ap, arith, neg_ℤ, reading, to_z_pos, w64, ◌∙◌}
 use Rattle.zoned_round.proofs.Moves.{moved-earlier}
 use Rattle.zoned_round.proofs.subseconds.instant_cut.Goals as goal
 

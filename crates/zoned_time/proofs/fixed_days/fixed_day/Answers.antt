@@ -1,7 +1,4 @@
-use Rattle.std.proofs.Common.{◌∙◌, ap, arith, rules, to_z-of_z, pos, ◌+ℤ◌, w64, SFits}
-use Rattle.std.proofs.lemmas.Int.{ints}
-use Rattle.naive_base.specs.NaiveDate.{day_of}
-use Rattle.zoned_time.specs.Zone.{IsZoneSecond}
+use Rattle.zoned_time.proofs.Words.{IsZoneSecond, SFits, ap, arith, day_of, ints, pos, rules, to_z-of_z, w64, ◌+ℤ◌, ◌∙◌}
 use Rattle.zoned_time.proofs.Days.{fixed_ends}
 use Rattle.zoned_time.proofs.fixed_days.fixed_day.Goals as goal
 

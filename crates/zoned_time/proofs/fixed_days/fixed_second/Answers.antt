@@ -1,6 +1,4 @@
-use Rattle.std.proofs.Common.{◌≡◌, ◌∙◌, sym, arith, to_z-of_z, ◌-ℤ◌, w32, w64, SFits}
-use Rattle.std.proofs.lemmas.Int.{ints}
-use Rattle.zoned_time.specs.Zone.{IsZoneSecond}
+use Rattle.zoned_time.proofs.Words.{IsZoneSecond, SFits, arith, ints, sym, to_z-of_z, w32, w64, ◌-ℤ◌, ◌∙◌, ◌≡◌}
 use Rattle.zoned_time.proofs.Days.{fixed_shown}
 use Rattle.zoned_time.proofs.fixed_days.fixed_second.Goals as goal
 

@@ -1,4 +1,4 @@
-use Rattle.zoned_time.specs.DateTime.{zoned}
+use Rattle.zoned_time.proofs.Words.{zoned}
 use Rattle.zoned_time.proofs.Stays.{stays}
 use Rattle.zoned_time.proofs.laws.in_zone_after_move.Goals as goal
 

@@ -1,5 +1,5 @@
-use Rattle.zoned_time.specs.DateTime.{zoned, home_of}
-use Rattle.zoned_time.proofs.Stays.{stays, only_where_in}
+use Rattle.zoned_time.proofs.Words.{home_of, zoned}
+use Rattle.zoned_time.proofs.Stays.{only_where_in, stays}
 use Rattle.zoned_time.proofs.laws.in_zone_on_day.Goals as goal
 
 pub returns : goal.returns

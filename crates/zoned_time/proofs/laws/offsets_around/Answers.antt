@@ -1,4 +1,4 @@
-use Rattle.std.proofs.Common.{rules, IsTrue}
+use Rattle.zoned_time.proofs.Words.{IsTrue, rules}
 use Rattle.zoned_time.proofs.Alike.{alike_by}
 use Rattle.zoned_time.proofs.laws.offsets_around.Goals as goal
 

@@ -1,7 +1,4 @@
-use Rattle.std.proofs.Common.{pos, refl}
-use Rattle.offset_core.specs.FixedOffset.{seconds_of}
-use Rattle.offset_core.proofs.ForCallers.{one_offset}
-use Rattle.zoned_time.specs.Zone.{meaning_by_seconds, law_by_seconds}
+use Rattle.zoned_time.proofs.Words.{law_by_seconds, meaning_by_seconds, one_offset, pos, refl, seconds_of}
 use Rattle.zoned_time.proofs.Relocals.{fixed_relocal, utc_instant}
 use Rattle.zoned_time.proofs.laws.one_instant_where_the_offset_is_fixed.Goals as goal
 

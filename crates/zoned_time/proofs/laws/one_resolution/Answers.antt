@@ -1,4 +1,4 @@
-use Rattle.zoned_time.proofs.Once.{resolved_once, unresolved_once, not_resolved}
+use Rattle.zoned_time.proofs.Once.{not_resolved, resolved_once, unresolved_once}
 use Rattle.zoned_time.proofs.laws.one_resolution.Goals as goal
 
 pub returns-clause-resolved : goal.returns-clause-resolved

@@ -1,5 +1,4 @@
-use Rattle.std.proofs.Common.{inl}
-use Rattle.zoned_time.specs.Zoned.{shown}
+use Rattle.zoned_time.proofs.Words.{inl, shown}
 use Rattle.zoned_time.proofs.laws.resolution_decided.Goals as goal
 
 pub returns-in-Ok : goal.returns-in-Ok

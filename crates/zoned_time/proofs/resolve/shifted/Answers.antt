@@ -1,6 +1,4 @@
-use Rattle.std.proofs.Common.{◌∙◌, sym, refl, subst}
-use Rattle.zoned_time.specs.DateTime.{zoned}
-use Rattle.zoned_time.specs.Zoned.{IsAt}
+use Rattle.zoned_time.proofs.Words.{IsAt, refl, subst, sym, zoned, ◌∙◌}
 use Rattle.zoned_time.proofs.resolve.shifted.Goals as goal
 
 pub returns-in-Some : goal.returns-in-Some

@@ -1,5 +1,4 @@
-use Rattle.naive_base.specs.NaiveDate.{day_of}
-use Rattle.naive_base.specs.NaiveDateTime.{reading}
+use Rattle.zoned_time.proofs.Words.{day_of, reading}
 use Rattle.zoned_time.proofs.DayEnds.{next_midnight}
 use Rattle.zoned_time.proofs.zone_days.midnight_after.Goals as goal
 

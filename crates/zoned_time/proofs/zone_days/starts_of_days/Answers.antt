@@ -1,5 +1,4 @@
-use Rattle.std.proofs.Common.{ap, rules, to_z-of_z, w64, SFits}
-use Rattle.naive_base.specs.Reading.{Reading}
+use Rattle.zoned_time.proofs.Words.{Reading, SFits, ap, rules, to_z-of_z, w64}
 use Rattle.zoned_time.proofs.zone_days.starts_of_days.Goals as goal
 
 pub returns : goal.returns

@@ -1,11 +1,5 @@
-use Rattle.std.proofs.Common.{◌≡◌, ◌∙◌, ap, refl, pos, ◌+ℤ◌, vec_items, to_z-of_z, FitsSigned, w64}
-use Rattle.std.proofs.lemmas.Iterator.{items_from_collect}
-use Rattle.std.proofs.lemmas.Iterator.Consumers.{YieldsList-from_first}
-use Rattle.std.proofs.lemmas.Result.{IfOk-weaker}
-use Rattle.tz_info.specs.Changes.{AreChanges}
-use Rattle.tz_info.specs.ChangesLeft.{changes_left}
-use Rattle.tz_info.specs.Zones.{TypeAt}
-use Rattle.change_views.specs.Spans.{year_second, year_until}
+use Rattle.zonedump_lib.proofs.Words.{AreChanges, FitsSigned, IfOk-weaker, TypeAt, YieldsList-from_first, ap, changes_left, items_from_collect, pos, refl}
+use Rattle.zonedump_lib.proofs.Words.{to_z-of_z, vec_items, w64, year_second, year_until, ◌+ℤ◌, ◌∙◌, ◌≡◌}
 use Rattle.zonedump_lib.proofs.changes.changes_after.Goals as goal
 
 pub returns : goal.returns

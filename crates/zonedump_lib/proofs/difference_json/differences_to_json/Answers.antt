@@ -1,8 +1,5 @@
-use Rattle.std.proofs.Common.{◌≡◌, [], ◌++◌, ap, ◌∙◌}
-use Rattle.json.specs.Print.{print}
-use Rattle.json.specs.Tree.{json_tokens}
-use Rattle.zonedump_lib.specs.DifferenceForms.{differences_value}
-use Rattle.zonedump_lib.proofs.JsonPutting.{read_back, differences_shallow}
+use Rattle.zonedump_lib.proofs.Words.{ap, differences_value, json_tokens, print, [], ◌++◌, ◌∙◌, ◌≡◌}
+use Rattle.zonedump_lib.proofs.JsonPutting.{differences_shallow, read_back}
 use Rattle.zonedump_lib.proofs.difference_json.differences_to_json.Goals as goal
 
 pub returns : goal.returns

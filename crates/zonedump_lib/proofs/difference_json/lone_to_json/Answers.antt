@@ -1,8 +1,5 @@
-use Rattle.std.proofs.Common.{◌≡◌, [], ◌++◌, ap, ◌∙◌}
-use Rattle.json.specs.Print.{print}
-use Rattle.json.specs.Tree.{json_tokens}
-use Rattle.zonedump_lib.specs.DifferenceForms.{lone_value}
-use Rattle.zonedump_lib.proofs.JsonPutting.{read_back, lone_shallow}
+use Rattle.zonedump_lib.proofs.Words.{ap, json_tokens, lone_value, print, [], ◌++◌, ◌∙◌, ◌≡◌}
+use Rattle.zonedump_lib.proofs.JsonPutting.{lone_shallow, read_back}
 use Rattle.zonedump_lib.proofs.difference_json.lone_to_json.Goals as goal
 
 pub returns : goal.returns

@@ -1,5 +1,4 @@
-use Rattle.std.proofs.Common.{rules, to_z-of_z, FitsSigned, SFits, w64}
-use Rattle.change_views.proofs.ForCallers.{puts_then, wrote}
+use Rattle.zonedump_lib.proofs.Words.{FitsSigned, SFits, puts_then, rules, to_z-of_z, w64, wrote}
 use Rattle.zonedump_lib.proofs.difference_json.put_difference.Goals as goal
 
 pub returns : goal.returns

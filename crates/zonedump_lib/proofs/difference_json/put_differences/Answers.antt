@@ -1,5 +1,4 @@
-use Rattle.zonedump_lib.specs.DifferenceForms.{difference_value}
-use Rattle.change_views.proofs.ForCallers.{items_all, puts_then, wrote}
+use Rattle.zonedump_lib.proofs.Words.{difference_value, items_all, puts_then, wrote}
 use Rattle.zonedump_lib.proofs.difference_json.put_differences.Goals as goal
 
 pub returns : goal.returns

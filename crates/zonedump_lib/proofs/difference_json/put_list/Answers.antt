@@ -1,7 +1,4 @@
-use Rattle.std.proofs.Common.{◌∙◌, arith}
-use Rattle.json.specs.Tree.{json_tokens}
-use Rattle.zonedump_lib.specs.DifferenceForms.{difference_value}
-use Rattle.change_views.proofs.ForCallers.{pushed}
+use Rattle.zonedump_lib.proofs.Words.{arith, difference_value, json_tokens, pushed, ◌∙◌}
 use Rattle.zonedump_lib.proofs.difference_json.put_list.Goals as goal
 
 pub loop-one-preserved : goal.loop-one-preserved

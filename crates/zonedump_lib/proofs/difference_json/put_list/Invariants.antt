@@ -1,7 +1,4 @@
-use Rattle.std.proofs.Common.{◌≡◌, ◌++◌, take}
-use Rattle.std.specs.List.{flat_map}
-use Rattle.json.specs.Tree.{json_tokens}
-use Rattle.zonedump_lib.specs.DifferenceForms.{difference_value}
+use Rattle.zonedump_lib.proofs.Words.{difference_value, flat_map, json_tokens, take, ◌++◌, ◌≡◌}
 use Rattle.zonedump_lib.proofs.difference_json.put_list.Given as goal
 
 abbrev pub invariant-loop-one : goal.invariant-loop-one

@@ -1,6 +1,4 @@
-use Rattle.change_views.specs.ChangeLines.{line}
-use Rattle.zonedump_lib.specs.DifferenceForms.{difference_text}
-use Rattle.change_views.proofs.ForCallers.{piece_next}
+use Rattle.zonedump_lib.proofs.Words.{difference_text, line, piece_next}
 use Rattle.zonedump_lib.proofs.differences.push_differences.Goals as goal
 
 pub loop-one-preserved : goal.loop-one-preserved

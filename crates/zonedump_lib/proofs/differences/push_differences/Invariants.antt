@@ -1,5 +1,4 @@
-use Rattle.std.proofs.Common.{◌≡◌, ◌++◌, take, string_bytes}
-use Rattle.zonedump_lib.specs.DifferenceForms.{difference_lines}
+use Rattle.zonedump_lib.proofs.Words.{difference_lines, string_bytes, take, ◌++◌, ◌≡◌}
 use Rattle.zonedump_lib.proofs.differences.push_differences.Given as goal
 
 abbrev pub invariant-loop-one : goal.invariant-loop-one

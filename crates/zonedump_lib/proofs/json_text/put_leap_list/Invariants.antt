@@ -1,7 +1,4 @@
-use Rattle.std.proofs.Common.{◌≡◌, ◌++◌, take}
-use Rattle.std.specs.List.{flat_map}
-use Rattle.json.specs.Tree.{json_tokens}
-use Rattle.zonedump_lib.specs.JsonValues.{leap_value}
+use Rattle.zonedump_lib.proofs.Words.{flat_map, json_tokens, leap_value, take, ◌++◌, ◌≡◌}
 use Rattle.zonedump_lib.proofs.json_text.put_leap_list.Given as goal
 
 abbrev pub invariant-loop-leap : goal.invariant-loop-leap

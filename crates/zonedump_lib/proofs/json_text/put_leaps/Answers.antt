@@ -1,5 +1,4 @@
-use Rattle.zonedump_lib.specs.JsonValues.{leap_value}
-use Rattle.change_views.proofs.ForCallers.{items_all, puts_then, wrote}
+use Rattle.zonedump_lib.proofs.Words.{items_all, leap_value, puts_then, wrote}
 use Rattle.zonedump_lib.proofs.json_text.put_leaps.Goals as goal
 
 pub returns : goal.returns

@@ -1,4 +1,4 @@
-use Rattle.change_views.proofs.ForCallers.{puts_then, wrote}
+use Rattle.zonedump_lib.proofs.Words.{puts_then, wrote}
 use Rattle.zonedump_lib.proofs.json_text.put_place.Goals as goal
 
 pub returns : goal.returns

@@ -1,5 +1,4 @@
-use Rattle.std.proofs.Common.{FitsSigned, w32, to_z-of_z, rules}
-use Rattle.change_views.proofs.ForCallers.{puts_then, wrote}
+use Rattle.zonedump_lib.proofs.Words.{FitsSigned, puts_then, rules, to_z-of_z, w32, wrote}
 use Rattle.zonedump_lib.proofs.json_text.put_turns.Goals as goal
 
 pub returns : goal.returns

@@ -1,7 +1,4 @@
-use Rattle.std.proofs.Common.{◌≡◌, [], ◌++◌, ap, ◌∙◌}
-use Rattle.json.specs.Print.{print}
-use Rattle.json.specs.Tree.{json_tokens}
-use Rattle.zonedump_lib.specs.JsonValues.{zone_value}
+use Rattle.zonedump_lib.proofs.Words.{ap, json_tokens, print, zone_value, [], ◌++◌, ◌∙◌, ◌≡◌}
 use Rattle.zonedump_lib.proofs.JsonPutting.{read_back, zone_shallow}
 use Rattle.zonedump_lib.proofs.json_text.write_text.Goals as goal
 

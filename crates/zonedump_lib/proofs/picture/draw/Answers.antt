@@ -1,4 +1,4 @@
-use Rattle.std.proofs.Common.{to_z-of_z, FitsSigned, w64}
+use Rattle.zonedump_lib.proofs.Words.{FitsSigned, to_z-of_z, w64}
 use Rattle.zonedump_lib.proofs.picture.draw.Goals as goal
 
 pub returns : goal.returns

@@ -1,4 +1,4 @@
-use Rattle.std.proofs.Common.{inr, to_z-of_z}
+use Rattle.zonedump_lib.proofs.Words.{inr, to_z-of_z}
 use Rattle.zonedump_lib.proofs.picture.type_at.Goals as goal
 
 pub returns-in-Err : goal.returns-in-Err

@@ -1,6 +1,4 @@
-use Rattle.std.proofs.lemmas.Result.{on_ok_weaker}
-use Rattle.change_views.specs.ChangeLines.{line}
-use Rattle.zonedump_lib.specs.Tables.{counts_text, rule_text, leap_lines, years_text}
+use Rattle.zonedump_lib.proofs.Words.{counts_text, leap_lines, line, on_ok_weaker, rule_text, years_text}
 use Rattle.zonedump_lib.proofs.TableLaws.{four_pieces}
 use Rattle.zonedump_lib.proofs.tables.push_head.Goals as goal
 

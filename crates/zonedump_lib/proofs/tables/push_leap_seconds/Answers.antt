@@ -1,6 +1,4 @@
-use Rattle.change_views.specs.ChangeLines.{line}
-use Rattle.zonedump_lib.specs.Tables.{leap_text}
-use Rattle.change_views.proofs.ForCallers.{piece_next}
+use Rattle.zonedump_lib.proofs.Words.{leap_text, line, piece_next}
 use Rattle.zonedump_lib.proofs.tables.push_leap_seconds.Goals as goal
 
 pub loop-leap-preserved : goal.loop-leap-preserved

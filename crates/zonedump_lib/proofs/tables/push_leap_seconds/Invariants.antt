@@ -1,5 +1,4 @@
-use Rattle.std.proofs.Common.{◌≡◌, ◌++◌, take, string_bytes}
-use Rattle.zonedump_lib.specs.Tables.{leap_lines}
+use Rattle.zonedump_lib.proofs.Words.{leap_lines, string_bytes, take, ◌++◌, ◌≡◌}
 use Rattle.zonedump_lib.proofs.tables.push_leap_seconds.Given as goal
 
 abbrev pub invariant-loop-leap : goal.invariant-loop-leap

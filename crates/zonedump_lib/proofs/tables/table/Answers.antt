@@ -1,5 +1,5 @@
+use Rattle.zonedump_lib.proofs.Words.{TypeAt}
 use Rattle.zonedump_lib.proofs.TableLaws.{near_years}
-use Rattle.tz_info.specs.Zones.{TypeAt}
 use Rattle.zonedump_lib.proofs.tables.table.Goals as goal
 
 pub push_changes-requires : goal.push_changes-requires

@@ -1,7 +1,4 @@
-use Rattle.std.proofs.Common.{◌≡◌, inl}
-use Rattle.std.proofs.lemmas.Result.{on_ok_weaker, IfErr-weaker}
-use Rattle.tz_base.specs.Errors.{IsOutOfMemory}
-use Rattle.zonedump_lib.specs.Forms.{IsFileRefused}
+use Rattle.zonedump_lib.proofs.Words.{IfErr-weaker, IsFileRefused, IsOutOfMemory, inl, on_ok_weaker, ◌≡◌}
 use Rattle.zonedump_lib.proofs.tell.tell_file.Goals as goal
 
 pub returns-in-Ok-clause-told : goal.returns-in-Ok-clause-told

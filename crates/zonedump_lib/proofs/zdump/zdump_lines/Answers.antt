@@ -1,4 +1,4 @@
-use Rattle.tz_info.specs.Zones.{TypeAt}
+use Rattle.zonedump_lib.proofs.Words.{TypeAt}
 use Rattle.zonedump_lib.proofs.TableLaws.{in_years}
 use Rattle.zonedump_lib.proofs.zdump.zdump_lines.Goals as goal
 

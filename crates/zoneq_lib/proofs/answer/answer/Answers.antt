@@ -1,5 +1,4 @@
-use Rattle.std.proofs.Common.{codes, inr, refl}
-use Rattle.std.proofs.lemmas.Result.{on_ok_weaker}
+use Rattle.zoneq_lib.proofs.CitedWords.{codes, inr, on_ok_weaker, refl}
 use Rattle.zoneq_lib.proofs.answer.answer.Goals as goal
 
 pub returns-in-None : goal.returns-in-None

@@ -1,8 +1,4 @@
-use Rattle.std.proofs.Common.{◌⊎◌, ◌∙◌}
-use Rattle.std.proofs.lemmas.Result.{IfErr-weaker}
-use Rattle.tz_base.specs.Errors.{IsOutOfMemory}
-use Rattle.tz_info.specs.TzFiles.{IsFileFault, IsZoneFault}
-use Rattle.zoneq_lib.specs.Hex.{bytes_of}
+use Rattle.zoneq_lib.proofs.CitedWords.{IfErr-weaker, IsFileFault, IsOutOfMemory, IsZoneFault, bytes_of, ◌∙◌, ◌⊎◌}
 use Rattle.zoneq_lib.proofs.HexLaws.{decoded}
 use Rattle.zoneq_lib.proofs.ZoneAnswers.{memory_or_fault}
 use Rattle.zoneq_lib.proofs.answer.read_file.Goals as goal

@@ -1,7 +1,4 @@
-use Rattle.std.proofs.Common.{refl}
-use Rattle.std.proofs.lemmas.Result.{on_ok_weaker}
-use Rattle.tz_base.specs.Errors.{number_of}
-use Rattle.zoneq_lib.specs.Answers.{zone_text, refusal_text}
+use Rattle.zoneq_lib.proofs.CitedWords.{number_of, on_ok_weaker, refl, refusal_text, zone_text}
 use Rattle.zoneq_lib.proofs.answer.set_zone.Goals as goal
 
 pub returns-in_ok-writeln-in-Ok : goal.returns-in_ok-writeln-in-Ok

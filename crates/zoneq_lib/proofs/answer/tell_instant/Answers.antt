@@ -1,10 +1,4 @@
-use Rattle.std.proofs.Common.{codes, inl, inr, refl, ap, ◌∙◌, to_z-of_z}
-use Rattle.std.proofs.lemmas.Result.{on_ok_weaker}
-use Rattle.naive_base.specs.Reading.{Reading}
-use Rattle.zoned_time.specs.DateTime.{zoned}
-use Rattle.zoned_ref.specs.TimeZoneRef.{off_of}
-use Rattle.zoned_ref.specs.ZoneOffset.{ahead_of}
-use Rattle.zoneq_lib.specs.Answers.{instant_text}
+use Rattle.zoneq_lib.proofs.CitedWords.{Reading, ahead_of, ap, codes, inl, inr, instant_text, off_of, on_ok_weaker, refl, to_z-of_z, zoned, ◌∙◌}
 use Rattle.zoneq_lib.proofs.Showing.{no_stamp, shown_instant}
 use Rattle.zoneq_lib.proofs.answer.tell_instant.Goals as goal
 

@@ -1,12 +1,6 @@
-use Rattle.std.proofs.Common.{codes, inl, refl}
-use Rattle.std.proofs.lemmas.Result.{on_ok_weaker}
-use Rattle.naive_base.specs.NaiveDateTime.{reading}
-use Rattle.zoned_time.specs.DateTime.{zoned}
 use Rattle.zoned_time.specs.ResolveNumbers.{number_of}
-use Rattle.zoned_ref.specs.TimeZoneRef.{off_of}
-use Rattle.zoned_ref.specs.ZoneOffset.{ahead_of, law_of}
-use Rattle.zoneq_lib.specs.Answers.{instant_text, refusal_text}
-use Rattle.zoneq_lib.proofs.Resolving.{resolved_instant, refused_reading}
+use Rattle.zoneq_lib.proofs.CitedWords.{ahead_of, codes, inl, instant_text, law_of, off_of, on_ok_weaker, reading, refl, refusal_text, zoned}
+use Rattle.zoneq_lib.proofs.Resolving.{refused_reading, resolved_instant}
 use Rattle.zoneq_lib.proofs.answer.tell_resolved.Goals as goal
 
 pub returns-in_default : goal.returns-in_default

@@ -1,8 +1,4 @@
-use Rattle.std.proofs.Common.{ap, codes, inr, refl, ◌∙◌, to_z-of_z}
-use Rattle.std.proofs.lemmas.Result.{on_ok_weaker}
-use Rattle.tz_base.specs.Errors.{number_of}
-use Rattle.tz_info.proofs.ForCallers.{type_error_number}
-use Rattle.zoneq_lib.specs.Answers.{refusal_text}
+use Rattle.zoneq_lib.proofs.CitedWords.{ap, codes, inr, number_of, on_ok_weaker, refl, refusal_text, to_z-of_z, type_error_number, ◌∙◌}
 use Rattle.zoneq_lib.proofs.answer.tell_type.Goals as goal
 
 pub returns-in_default : goal.returns-in_default

@@ -1,5 +1,4 @@
-use Rattle.std.proofs.Common.{codes, refl}
-use Rattle.std.proofs.lemmas.Result.{on_ok_weaker}
+use Rattle.zoneq_lib.proofs.CitedWords.{codes, on_ok_weaker, refl}
 use Rattle.zoneq_lib.proofs.answer.tell_types.Goals as goal
 
 pub returns-in_default : goal.returns-in_default

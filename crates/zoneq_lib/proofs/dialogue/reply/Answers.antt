@@ -1,4 +1,4 @@
-use Rattle.std.proofs.Common.{◌∙◌}
+use Rattle.zoneq_lib.proofs.CitedWords.{◌∙◌}
 use Rattle.zoneq_lib.proofs.Stopping.{reply_made, reply_stops}
 use Rattle.zoneq_lib.proofs.dialogue.reply.Goals as goal
 

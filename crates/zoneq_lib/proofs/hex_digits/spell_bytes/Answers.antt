@@ -1,6 +1,5 @@
-use Rattle.zoneq_lib.specs.Hex.{bytes_test}
-use Rattle.std.proofs.Common.{arith, get_or, sym}
-use Rattle.zoneq_lib.proofs.HexLaws.{refuted, not_hex, hex_at, all_hex_from}
+use Rattle.zoneq_lib.proofs.CitedWords.{arith, bytes_test, get_or, sym}
+use Rattle.zoneq_lib.proofs.HexLaws.{all_hex_from, hex_at, not_hex, refuted}
 use Rattle.zoneq_lib.proofs.hex_digits.spell_bytes.Goals as goal
 
 pub returns-then-not-is_ascii_hexdigit : goal.returns-then-not-is_ascii_hexdigit

@@ -1,5 +1,4 @@
-use Rattle.std.proofs.Common.{ℕ, ◌<◌, get_or}
-use Rattle.std.specs.Char.{digit_value}
+use Rattle.zoneq_lib.proofs.CitedWords.{digit_value, get_or, ℕ, ◌<◌}
 use Rattle.zoneq_lib.proofs.hex_digits.spell_bytes.Given as goal
 
 abbrev pub invariant-loop-digit : goal.invariant-loop-digit

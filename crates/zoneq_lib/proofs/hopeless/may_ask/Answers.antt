@@ -1,5 +1,4 @@
-use Rattle.std.proofs.Common.{◌∙◌, ap, sym, Err}
-use Rattle.zoneq_lib.specs.Questions.{line}
+use Rattle.zoneq_lib.proofs.CitedWords.{Err, ap, line, sym, ◌∙◌}
 use Rattle.zoneq_lib.specs.Steps.LineReading.{scan}
 use Rattle.zoneq_lib.proofs.HopelessLaws.{hopeless}
 use Rattle.zoneq_lib.proofs.hopeless.may_ask.Goals as goal

@@ -1,7 +1,5 @@
-use Rattle.std.proofs.Common.{◌∙◌, ap, arith, length, refl, sym, Ok}
-use Rattle.std.proofs.lemmas.List.{drop_all}
-use Rattle.tz_base.specs.Fronts.{int_at}
-use Rattle.zoneq_lib.proofs.NumberLaws.{a_digit, not_digit, no_number, number_ends, number_stops}
+use Rattle.zoneq_lib.proofs.CitedWords.{Ok, ap, arith, drop_all, int_at, length, refl, sym, ◌∙◌}
+use Rattle.zoneq_lib.proofs.NumberLaws.{a_digit, no_number, not_digit, number_ends, number_stops}
 use Rattle.zoneq_lib.proofs.Stopping.{no_items, some_items}
 use Rattle.zoneq_lib.proofs.numerals.number.Goals as goal
 

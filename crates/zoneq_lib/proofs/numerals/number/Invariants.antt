@@ -1,4 +1,4 @@
-use Rattle.std.proofs.Common.{◌≤◌}
+use Rattle.zoneq_lib.proofs.CitedWords.{◌≤◌}
 use Rattle.zoneq_lib.proofs.NumberLaws.{ReadTo}
 use Rattle.zoneq_lib.proofs.numerals.number.Given as goal
 

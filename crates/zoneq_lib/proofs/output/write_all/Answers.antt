@@ -1,5 +1,4 @@
-use Rattle.std.proofs.Common.{arith, take, subst, List, ℕ}
-use Rattle.std.specs.Io.KnownBytes.{Appends}
+use Rattle.zoneq_lib.proofs.CitedWords.{Appends, List, arith, subst, take, ℕ}
 use Rattle.zoneq_lib.proofs.Bytes.{appends_more, still_works}
 use Rattle.zoneq_lib.proofs.output.write_all.Goals as goal
 

@@ -1,5 +1,4 @@
-use Rattle.std.proofs.Common.{length, ◌-◌, ◌≤◌, ◌≡◌, false, take}
-use Rattle.std.specs.Io.KnownBytes.{Appends}
+use Rattle.zoneq_lib.proofs.CitedWords.{Appends, false, length, take, ◌-◌, ◌≡◌, ◌≤◌}
 use Rattle.zoneq_lib.proofs.output.write_all.Given as goal
 
 abbrev pub invariant-loop-written : goal.invariant-loop-written

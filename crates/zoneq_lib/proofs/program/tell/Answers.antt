@@ -1,7 +1,5 @@
-use Rattle.std.proofs.Common.{◌∙◌, List, ℕ, codes, subst, take}
-use Rattle.std.specs.Io.KnownBytes.{Appends}
-use Rattle.zoneq_lib.specs.Faults.{fault_text}
-use Rattle.zoneq_lib.proofs.Sending.{told_in_part, told}
+use Rattle.zoneq_lib.proofs.CitedWords.{Appends, List, codes, fault_text, subst, take, ℕ, ◌∙◌}
+use Rattle.zoneq_lib.proofs.Sending.{told, told_in_part}
 use Rattle.zoneq_lib.proofs.program.tell.Goals as goal
 
 pub returns-in_err-write_all : goal.returns-in_err-write_all

@@ -1,7 +1,4 @@
-use Rattle.std.proofs.Common.{◌≡◌, ◌≤◌, nat_le, true, arith, ap, sym, Ok, Err, to_z-of_z, FitsSigned, w32, w64}
-use Rattle.std.proofs.lemmas.Int.{ints}
-use Rattle.std.proofs.lemmas.Bool.Decides.{nat_tests}
-use Rattle.zoneq_lib.specs.Questions.{date}
+use Rattle.zoneq_lib.proofs.CitedWords.{Err, FitsSigned, Ok, ap, arith, date, ints, nat_le, nat_tests, sym, to_z-of_z, true, w32, w64, ◌≡◌, ◌≤◌}
 use Rattle.zoneq_lib.proofs.LineLaws.{dated, undated}
 use Rattle.zoneq_lib.proofs.question.date.Goals as goal
 

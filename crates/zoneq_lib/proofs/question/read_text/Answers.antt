@@ -1,5 +1,4 @@
-use Rattle.std.proofs.Common.{[], ap, sym, refl, Ok}
-use Rattle.zoneq_lib.specs.Questions.{Text, text, utf8_test}
+use Rattle.zoneq_lib.proofs.CitedWords.{Ok, Text, ap, refl, sym, text, utf8_test, []}
 use Rattle.zoneq_lib.proofs.HexLaws.{refuted}
 use Rattle.zoneq_lib.proofs.question.read_text.Goals as goal
 

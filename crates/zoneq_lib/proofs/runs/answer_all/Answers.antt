@@ -1,7 +1,7 @@
-use Rattle.std.proofs.Common.{arith, take, [], ◌++◌, None}
+use Rattle.zoneq_lib.proofs.CitedWords.{None, arith, take, [], ◌++◌}
 use Rattle.zoneq_lib.proofs.Bytes.{appends_join, consumes_join, still_works}
+use Rattle.zoneq_lib.proofs.Ending.{block_stopped, ended_now, not_failed, reader_ended, stop_passed_on}
 use Rattle.zoneq_lib.proofs.Joining.{answered_join}
-use Rattle.zoneq_lib.proofs.Ending.{not_failed, ended_now, block_stopped, stop_passed_on, reader_ended}
 use Rattle.zoneq_lib.proofs.runs.answer_all.Goals as goal
 
 pub loop-preserved : goal.loop-preserved

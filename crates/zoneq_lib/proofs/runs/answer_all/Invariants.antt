@@ -1,6 +1,4 @@
-use Rattle.std.proofs.Common.{◌≡◌, ◌≤◌, ◌<◌, ◌^◌, length, false, List, [], ℕ, None}
-use Rattle.std.specs.Io.KnownBytes.{Appends, Consumes}
-use Rattle.zoneq_lib.specs.Steps.Blocks.{Answered}
+use Rattle.zoneq_lib.proofs.CitedWords.{Answered, Appends, Consumes, List, None, false, length, ℕ, [], ◌<◌, ◌^◌, ◌≡◌, ◌≤◌}
 use Rattle.zoneq_lib.proofs.runs.answer_all.Given as goal
 
 abbrev pub invariant-loop : goal.invariant-loop

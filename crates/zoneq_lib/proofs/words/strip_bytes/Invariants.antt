@@ -1,5 +1,4 @@
-use Rattle.std.proofs.Common.{◌≡◌, drop}
-use Rattle.zoneq_lib.specs.Questions.{Word}
+use Rattle.zoneq_lib.proofs.CitedWords.{Word, drop, ◌≡◌}
 use Rattle.zoneq_lib.specs.Steps.LineReading.{scan}
 use Rattle.zoneq_lib.proofs.words.strip_bytes.Given as goal
 

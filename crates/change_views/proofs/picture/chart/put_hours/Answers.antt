@@ -1,6 +1,4 @@
-use Rattle.std.proofs.Common.{refl}
-use Rattle.change_views.specs.Steps.Axes.{axes_of}
-use Rattle.change_views.specs.PictureChart.{hour_ticks, hour_tick_at}
+use Rattle.change_views.proofs.CitedWords.{axes_of, hour_tick_at, hour_ticks, refl}
 use Rattle.change_views.proofs.PictureLaws.{row_next}
 use Rattle.change_views.proofs.picture.chart.put_hours.Goals as goal
 

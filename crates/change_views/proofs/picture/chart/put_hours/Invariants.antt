@@ -1,6 +1,4 @@
-use Rattle.std.proofs.Common.{◌≡◌, ◌++◌, string_bytes}
-use Rattle.change_views.specs.Steps.Axes.{axes_of}
-use Rattle.change_views.specs.PictureChart.{hour_ticks}
+use Rattle.change_views.proofs.CitedWords.{axes_of, hour_ticks, string_bytes, ◌++◌, ◌≡◌}
 use Rattle.change_views.proofs.picture.chart.put_hours.Given as goal
 
 abbrev pub invariant-loop-place : goal.invariant-loop-place

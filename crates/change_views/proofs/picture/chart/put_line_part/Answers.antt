@@ -1,5 +1,4 @@
-use Rattle.std.proofs.Common.{append_assoc}
-use Rattle.change_views.specs.PictureChart.{line_part}
+use Rattle.change_views.proofs.CitedWords.{append_assoc, line_part}
 use Rattle.change_views.proofs.picture.chart.put_line_part.Goals as goal
 
 pub returns : goal.returns

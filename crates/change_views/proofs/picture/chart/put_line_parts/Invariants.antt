@@ -1,6 +1,4 @@
-use Rattle.std.proofs.Common.{◌≡◌, ◌++◌, take, string_bytes}
-use Rattle.change_views.specs.Steps.Axes.{axes_of}
-use Rattle.change_views.specs.PictureChart.{line_parts}
+use Rattle.change_views.proofs.CitedWords.{axes_of, line_parts, string_bytes, take, ◌++◌, ◌≡◌}
 use Rattle.change_views.proofs.picture.chart.put_line_parts.Given as goal
 
 abbrev pub invariant-loop-change : goal.invariant-loop-change

@@ -1,4 +1,4 @@
-use Rattle.change_views.specs.PictureChart.{line_start}
+use Rattle.change_views.proofs.CitedWords.{line_start}
 use Rattle.change_views.proofs.picture.chart.put_line_start.Goals as goal
 
 pub returns : goal.returns

@@ -1,6 +1,4 @@
-use Rattle.std.proofs.Common.{◌≡◌, ◌++◌, string_bytes}
-use Rattle.change_views.specs.Steps.Axes.{axes_of}
-use Rattle.change_views.specs.PictureChart.{months_text}
+use Rattle.change_views.proofs.CitedWords.{axes_of, months_text, string_bytes, ◌++◌, ◌≡◌}
 use Rattle.change_views.proofs.picture.chart.put_months.Given as goal
 
 abbrev pub invariant-loop-place : goal.invariant-loop-place

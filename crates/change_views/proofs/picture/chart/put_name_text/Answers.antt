@@ -1,5 +1,4 @@
-use Rattle.std.proofs.Common.{append_assoc}
-use Rattle.change_views.specs.PictureChart.{name_text}
+use Rattle.change_views.proofs.CitedWords.{append_assoc, name_text}
 use Rattle.change_views.proofs.picture.chart.put_name_text.Goals as goal
 
 pub returns : goal.returns

@@ -1,6 +1,4 @@
-use Rattle.std.proofs.Common.{◌≡◌, ◌≤◌, ◌++◌, drop, string_bytes}
-use Rattle.change_views.specs.Steps.Axes.{axes_of}
-use Rattle.change_views.specs.PictureChart.{labels_text}
+use Rattle.change_views.proofs.CitedWords.{axes_of, drop, labels_text, string_bytes, ◌++◌, ◌≡◌, ◌≤◌}
 use Rattle.change_views.proofs.picture.chart.put_names.Given as goal
 
 -- what is written and the names of the rest are all

@@ -1,5 +1,4 @@
-use Rattle.std.proofs.Common.{append_assoc, to_z-of_z}
-use Rattle.change_views.specs.PictureChart.{year_tick}
+use Rattle.change_views.proofs.CitedWords.{append_assoc, to_z-of_z, year_tick}
 use Rattle.change_views.proofs.picture.chart.put_year.Goals as goal
 
 pub returns : goal.returns

@@ -1,6 +1,4 @@
-use Rattle.std.proofs.Common.{refl}
-use Rattle.change_views.specs.Steps.Axes.{axes_of}
-use Rattle.change_views.specs.PictureChart.{years_text, year_tick_at}
+use Rattle.change_views.proofs.CitedWords.{axes_of, refl, year_tick_at, years_text}
 use Rattle.change_views.proofs.PictureLaws.{row_next}
 use Rattle.change_views.proofs.picture.chart.put_years.Goals as goal
 

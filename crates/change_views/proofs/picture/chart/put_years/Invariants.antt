@@ -1,6 +1,4 @@
-use Rattle.std.proofs.Common.{◌≡◌, ◌++◌, string_bytes}
-use Rattle.change_views.specs.Steps.Axes.{axes_of}
-use Rattle.change_views.specs.PictureChart.{years_text}
+use Rattle.change_views.proofs.CitedWords.{axes_of, string_bytes, years_text, ◌++◌, ◌≡◌}
 use Rattle.change_views.proofs.picture.chart.put_years.Given as goal
 
 abbrev pub invariant-loop-place : goal.invariant-loop-place

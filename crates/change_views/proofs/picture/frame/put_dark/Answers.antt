@@ -1,4 +1,4 @@
-use Rattle.change_views.specs.PictureFrame.{dark_style}
+use Rattle.change_views.proofs.CitedWords.{dark_style}
 use Rattle.change_views.proofs.picture.frame.put_dark.Goals as goal
 
 pub returns : goal.returns

@@ -1,5 +1,4 @@
-use Rattle.std.proofs.Common.{append_assoc, to_z-of_z}
-use Rattle.change_views.specs.PictureFrame.{heading_text}
+use Rattle.change_views.proofs.CitedWords.{append_assoc, heading_text, to_z-of_z}
 use Rattle.change_views.proofs.picture.frame.put_heading.Goals as goal
 
 pub returns : goal.returns

@@ -1,4 +1,4 @@
-use Rattle.change_views.specs.PictureFrame.{line_style}
+use Rattle.change_views.proofs.CitedWords.{line_style}
 use Rattle.change_views.proofs.picture.frame.put_lines.Goals as goal
 
 pub returns : goal.returns

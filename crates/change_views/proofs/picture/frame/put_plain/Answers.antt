@@ -1,4 +1,4 @@
-use Rattle.change_views.specs.PictureFrame.{plain_style}
+use Rattle.change_views.proofs.CitedWords.{plain_style}
 use Rattle.change_views.proofs.picture.frame.put_plain.Goals as goal
 
 pub returns : goal.returns

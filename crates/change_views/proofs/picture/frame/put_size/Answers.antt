@@ -1,5 +1,4 @@
-use Rattle.std.proofs.Common.{append_assoc}
-use Rattle.change_views.specs.PictureFrame.{size_text}
+use Rattle.change_views.proofs.CitedWords.{append_assoc, size_text}
 use Rattle.change_views.proofs.picture.frame.put_size.Goals as goal
 
 pub returns : goal.returns

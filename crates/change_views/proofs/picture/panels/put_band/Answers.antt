@@ -1,4 +1,4 @@
-use Rattle.change_views.specs.PicturePanels.{band_text}
+use Rattle.change_views.proofs.CitedWords.{band_text}
 use Rattle.change_views.proofs.picture.panels.put_band.Goals as goal
 
 pub returns : goal.returns

@@ -1,4 +1,4 @@
-use Rattle.std.proofs.lemmas.Result.{on_ok_weaker}
+use Rattle.change_views.proofs.CitedWords.{on_ok_weaker}
 use Rattle.change_views.proofs.PictureLaws.{onto}
 use Rattle.change_views.proofs.picture.panels.put_panel.Goals as goal
 

@@ -1,5 +1,4 @@
-use Rattle.std.proofs.Common.{◌≡◌, ◌++◌, drop, string_bytes}
-use Rattle.change_views.specs.PicturePanels.{panels_text}
+use Rattle.change_views.proofs.CitedWords.{drop, panels_text, string_bytes, ◌++◌, ◌≡◌}
 use Rattle.change_views.proofs.picture.panels.put_panels.Given as goal
 
 -- what is written and the panels of the rest are all

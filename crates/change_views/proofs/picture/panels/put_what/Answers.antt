@@ -1,4 +1,4 @@
-use Rattle.change_views.specs.PicturePanels.{what_text}
+use Rattle.change_views.proofs.CitedWords.{what_text}
 use Rattle.change_views.proofs.picture.panels.put_what.Goals as goal
 
 pub returns : goal.returns

@@ -1,6 +1,4 @@
-use Rattle.std.proofs.Common.{◌≡◌, drop, ◌≤ℤ◌}
-use Rattle.tz_base.specs.LocalTypes.{IsUtOffset}
-use Rattle.change_views.specs.PictureChart.{greatest}
+use Rattle.change_views.proofs.CitedWords.{IsUtOffset, drop, greatest, ◌≡◌, ◌≤ℤ◌}
 use Rattle.change_views.proofs.picture.scale.greatest.Given as goal
 
 abbrev pub invariant-loop-change : goal.invariant-loop-change

@@ -1,5 +1,4 @@
-use Rattle.std.proofs.Common.{refl, rules, to_z-of_z, FitsSigned, w32}
-use Rattle.change_views.specs.PictureChart.{least, lesser}
+use Rattle.change_views.proofs.CitedWords.{FitsSigned, least, lesser, refl, rules, to_z-of_z, w32}
 use Rattle.change_views.proofs.PictureLaws.{offset_next}
 use Rattle.change_views.proofs.picture.scale.least.Goals as goal
 

@@ -1,6 +1,4 @@
-use Rattle.std.proofs.Common.{◌≡◌, drop, ◌≤ℤ◌}
-use Rattle.tz_base.specs.LocalTypes.{IsUtOffset}
-use Rattle.change_views.specs.PictureChart.{least}
+use Rattle.change_views.proofs.CitedWords.{IsUtOffset, drop, least, ◌≡◌, ◌≤ℤ◌}
 use Rattle.change_views.proofs.picture.scale.least.Given as goal
 
 abbrev pub invariant-loop-change : goal.invariant-loop-change

@@ -1,5 +1,4 @@
-use Rattle.std.proofs.Common.{◌≡◌, ◌++◌, take, string_bytes}
-use Rattle.change_views.specs.PictureWords.{escaped}
+use Rattle.change_views.proofs.CitedWords.{escaped, string_bytes, take, ◌++◌, ◌≡◌}
 use Rattle.change_views.proofs.picture.words.put_escaped.Given as goal
 
 abbrev pub invariant-loop-byte : goal.invariant-loop-byte

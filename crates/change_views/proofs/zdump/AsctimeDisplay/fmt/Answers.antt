@@ -1,4 +1,4 @@
-use Rattle.std.proofs.Common.{append_assoc, to_z-of_z, FitsSigned, w32}
+use Rattle.change_views.proofs.CitedWords.{FitsSigned, append_assoc, to_z-of_z, w32}
 use Rattle.change_views.proofs.zdump.AsctimeDisplay.fmt.Goals as goal
 
 pub returns-clause-writes : goal.returns-clause-writes

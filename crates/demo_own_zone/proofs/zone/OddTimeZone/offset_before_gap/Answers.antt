@@ -1,9 +1,6 @@
-use Rattle.std.proofs.Common.{pos, rules}
-use Rattle.zoned_time.proofs.ForCallers.{same_itself, gap_by_seconds}
-use Rattle.demo_own_zone.specs.Odd.{odd_offset}
-use Rattle.demo_own_zone.specs.OddOffset.{law_of}
+use Rattle.demo_own_zone.proofs.Words.{gap_by_seconds, law_of, odd_offset, pos, rules, same_itself}
 use Rattle.demo_own_zone.specs.declared.offset.OddOffset.TheVariants.{Even}
-use Rattle.demo_own_zone.proofs.Walls.{shown_twice, shown_never}
+use Rattle.demo_own_zone.proofs.Walls.{shown_never, shown_twice}
 use Rattle.demo_own_zone.proofs.zone.OddTimeZone.offset_before_gap.Goals as goal
 
 pub returns-in-Even : goal.returns-in-Even

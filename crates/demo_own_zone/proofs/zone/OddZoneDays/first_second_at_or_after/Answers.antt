@@ -1,5 +1,4 @@
-use Rattle.std.proofs.Common.{arith, rules, to_z-of_z, pos, ◌-ℤ◌, w64, SFits}
-use Rattle.std.proofs.lemmas.Int.{ints}
+use Rattle.demo_own_zone.proofs.Words.{SFits, arith, ints, pos, rules, to_z-of_z, w64, ◌-ℤ◌}
 use Rattle.demo_own_zone.proofs.OddDays.{reached_early, reached_itself}
 use Rattle.demo_own_zone.proofs.zone.OddZoneDays.first_second_at_or_after.Goals as goal
 

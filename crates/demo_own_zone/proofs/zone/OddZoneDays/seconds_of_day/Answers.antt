@@ -1,7 +1,4 @@
-use Rattle.std.proofs.Common.{ap, arith, rules, refl, to_z-of_z, pos, ◌+ℤ◌, w64, SFits}
-use Rattle.std.proofs.lemmas.Int.{ints}
-use Rattle.naive_base.specs.NaiveDate.{day_of}
-use Rattle.naive_base.specs.Reading.{Reading}
+use Rattle.demo_own_zone.proofs.Words.{Reading, SFits, ap, arith, day_of, ints, pos, refl, rules, to_z-of_z, w64, ◌+ℤ◌}
 use Rattle.demo_own_zone.proofs.OddDays.{ends_of_day}
 use Rattle.demo_own_zone.proofs.zone.OddZoneDays.seconds_of_day.Goals as goal
 

@@ -1,8 +1,5 @@
-use Rattle.std.proofs.Common.{arith, to_z, of_z, w64, ◌-ℤ◌}
-use Rattle.gregorian.proofs.ForCallers.{floors}
+use Rattle.naive_base.proofs.Words.{arith, day_of, floors, of_z, to_z, w64, weekday_number, ◌-ℤ◌}
 use Rattle.naive_base.proofs.Named.{number_below, week_start}
-use Rattle.naive_base.specs.NaiveDate.{day_of}
-use Rattle.naive_base.specs.Weekday.{weekday_number}
 use Rattle.naive_base.proofs.date.NaiveDate.first_of_week.Goals as goal
 
 pub returns-clause-start : goal.returns-clause-start

@@ -1,7 +1,5 @@
-use Rattle.std.proofs.Common.{rules, to_z-of_z, FitsSigned, w64, subst, ℤ}
-use Rattle.naive_base.specs.NaiveDate.{IsDateOfDay}
-use Rattle.naive_base.specs.Weekday.{weekday_number}
-use Rattle.naive_base.proofs.Named.{number_below, iso_answer, within_year}
+use Rattle.naive_base.proofs.Words.{FitsSigned, IsDateOfDay, rules, subst, to_z-of_z, w64, weekday_number, ℤ}
+use Rattle.naive_base.proofs.Named.{iso_answer, number_below, within_year}
 use Rattle.naive_base.proofs.date.NaiveDate.from_isoywd_opt.Goals as goal
 
 pub returns-clause-value : goal.returns-clause-value

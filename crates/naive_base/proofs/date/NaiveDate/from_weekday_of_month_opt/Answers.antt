@@ -1,8 +1,5 @@
-use Rattle.std.proofs.Common.{arith, to_z-of_z, ◌≡◌, ◌∙◌, ap, subst, ℕ, ◌+◌, ◌-◌, ◌*◌, ◌%◌}
-use Rattle.gregorian.specs.Date.{day_number}
-use Rattle.naive_base.specs.NaiveDate.{IsDateOf}
-use Rattle.naive_base.specs.Weekday.{weekday_of, weekday_number}
-use Rattle.naive_base.proofs.Named.{number_below, only_nth, nth_answer, first_four}
+use Rattle.naive_base.proofs.Words.{IsDateOf, ap, arith, day_number, subst, to_z-of_z, weekday_number, weekday_of, ℕ, ◌%◌, ◌*◌, ◌+◌, ◌-◌, ◌∙◌, ◌≡◌}
+use Rattle.naive_base.proofs.Named.{first_four, nth_answer, number_below, only_nth}
 use Rattle.naive_base.proofs.date.NaiveDate.from_weekday_of_month_opt.Goals as goal
 
 pub returns-then-n-eq0-clause-value : goal.returns-then-n-eq0-clause-value

@@ -1,4 +1,4 @@
-use Rattle.std.proofs.Common.{to_z-of_z}
+use Rattle.naive_base.proofs.Words.{to_z-of_z}
 use Rattle.naive_base.proofs.Ranges.{inner_day}
 use Rattle.naive_base.proofs.date.NaiveDate.from_ymd_opt.Goals as goal
 

@@ -1,8 +1,4 @@
-use Rattle.std.proofs.Common.{arith, ◌≡◌, ◌∙◌, sym, true, false}
-use Rattle.gregorian.specs.DateOf.{month_of, day_of_month}
-use Rattle.gregorian.proofs.ForCallers.{floors}
-use Rattle.naive_base.specs.NaiveDate.{day_of}
-use Rattle.naive_base.specs.Named.{is_earlier_in_year}
+use Rattle.naive_base.proofs.Words.{arith, day_of, day_of_month, false, floors, is_earlier_in_year, month_of, sym, true, ◌∙◌, ◌≡◌}
 use Rattle.naive_base.proofs.Named.{years_early, years_late}
 use Rattle.naive_base.proofs.date.NaiveDate.whole_years.Goals as goal
 

@@ -1,8 +1,6 @@
-use Rattle.std.proofs.Common.{arith, rules, to_z-of_z, to_z, of_z, w64, FitsSigned, ◌≡◌, ◌∙◌, ap, sym, subst, ℕ, ℤ, pos, ◌+ℤ◌}
-use Rattle.gregorian.specs.Year.{year_start}
-use Rattle.gregorian.proofs.ForCallers.{floors}
-use Rattle.naive_base.specs.Named.{IsThursdayOfWeek}
-use Rattle.naive_base.proofs.Named.{only_thursday, found_thursday}
+use Rattle.naive_base.proofs.Words.{FitsSigned, IsThursdayOfWeek, ap, arith, floors, of_z, pos, rules, subst, sym, to_z, to_z-of_z, w64, year_start, ℕ, ℤ, ◌+ℤ◌}
+use Rattle.naive_base.proofs.Words.{◌∙◌, ◌≡◌}
+use Rattle.naive_base.proofs.Named.{found_thursday, only_thursday}
 use Rattle.naive_base.proofs.date.found.thursday_of.Goals as goal
 
 pub returns-then-week-eq0-clause-value : goal.returns-then-week-eq0-clause-value

@@ -1,4 +1,4 @@
-use Rattle.naive_base.specs.NaiveDateTime.{reading}
+use Rattle.naive_base.proofs.Words.{reading}
 use Rattle.naive_base.proofs.Orders.{readings_in_turn}
 use Rattle.naive_base.proofs.Values.{same_reading}
 use Rattle.naive_base.proofs.laws.comparisons.readings.Goals as goal

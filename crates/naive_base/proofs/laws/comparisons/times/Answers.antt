@@ -1,4 +1,4 @@
-use Rattle.naive_base.specs.NaiveTime.{second_of, fraction_of}
+use Rattle.naive_base.proofs.Words.{fraction_of, second_of}
 use Rattle.naive_base.proofs.Orders.{times_in_turn}
 use Rattle.naive_base.proofs.Values.{same_time}
 use Rattle.naive_base.proofs.laws.comparisons.times.Goals as goal

@@ -1,5 +1,4 @@
-use Rattle.std.proofs.Common.{sym, length}
-use Rattle.tz_info.specs.Steps.ContentReading.{pair_agrees}
+use Rattle.tz_info.proofs.Words.{length, pair_agrees, sym}
 use Rattle.tz_info.proofs.ListLaws.{one_false}
 use Rattle.tz_info.proofs.file.contents.indicators_agree.Goals as goal
 

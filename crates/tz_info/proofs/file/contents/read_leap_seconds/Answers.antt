@@ -1,4 +1,4 @@
-use Rattle.std.proofs.Common.{refl, add-one, arith}
+use Rattle.tz_info.proofs.Words.{add-one, arith, refl}
 use Rattle.tz_info.proofs.file.contents.read_leap_seconds.Goals as goal
 
 pub loop-k-preserved : goal.loop-k-preserved

@@ -1,5 +1,4 @@
-use Rattle.std.proofs.Common.{◌≡◌, Ok, vec_len, vec_capacity}
-use Rattle.tz_info.specs.Steps.ContentReading.{values_below, leap_second_in}
+use Rattle.tz_info.proofs.Words.{Ok, leap_second_in, values_below, vec_capacity, vec_len, ◌≡◌}
 use Rattle.tz_info.proofs.file.contents.read_leap_seconds.Given as goal
 
 abbrev pub invariant-loop-k : goal.invariant-loop-k

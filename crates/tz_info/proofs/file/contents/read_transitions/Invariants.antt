@@ -1,5 +1,4 @@
-use Rattle.std.proofs.Common.{◌≡◌, Ok, length, vec_len, vec_capacity}
-use Rattle.tz_info.specs.Steps.ContentReading.{values_below, transition_in}
+use Rattle.tz_info.proofs.Words.{Ok, length, transition_in, values_below, vec_capacity, vec_len, ◌≡◌}
 use Rattle.tz_info.proofs.file.contents.read_transitions.Given as goal
 
 abbrev pub invariant-loop-k : goal.invariant-loop-k

@@ -1,6 +1,4 @@
-use Rattle.std.proofs.Common.{◌≡◌, sym, Bool, true, false, refl}
-use Rattle.std.proofs.lemmas.Str.{is_utf8-from_IsUtf8, IsUtf8-from_is_utf8}
-use Rattle.std.specs.Str.{is_utf8}
+use Rattle.tz_info.proofs.Words.{Bool, IsUtf8-from_is_utf8, false, is_utf8, is_utf8-from_IsUtf8, refl, sym, true, ◌≡◌}
 use Rattle.tz_info.proofs.file.footer.is_utf8.Goals as goal
 
 is_false : (b : Bool) → (b ≡ true → ⊥) → false ≡ b

@@ -1,6 +1,5 @@
-use Rattle.std.proofs.Common.{◌∙◌, ap}
-use Rattle.tz_info.specs.Steps.FooterReading.{trimmed, trimmed_back}
-use Rattle.tz_info.proofs.TrimLaws.{front_is, back_is}
+use Rattle.tz_info.proofs.Words.{ap, trimmed, trimmed_back, ◌∙◌}
+use Rattle.tz_info.proofs.TrimLaws.{back_is, front_is}
 use Rattle.tz_info.proofs.file.footer.trimmed.Goals as goal
 
 pub returns : goal.returns

@@ -1,8 +1,4 @@
-use Rattle.std.proofs.Common.{◌∙◌, sym, arith}
-use Rattle.std.proofs.lemmas.Bool.{not-false}
-use Rattle.tz_base.specs.Grammar.{Exact}
-use Rattle.tz_base.proofs.ForCallers.{lawful}
-use Rattle.tz_info.specs.FileHeaders.{is_magic}
+use Rattle.tz_info.proofs.Words.{Exact, arith, is_magic, lawful, not-false, sym, ◌∙◌}
 use Rattle.tz_info.proofs.HeaderLaws.{not_magic}
 use Rattle.tz_info.proofs.file.header.read_magic.Goals as goal
 

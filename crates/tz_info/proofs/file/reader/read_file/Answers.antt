@@ -1,7 +1,6 @@
-use Rattle.std.proofs.lemmas.Result.{err_from_is_err_and}
-use Rattle.tz_info.specs.Steps.FileLists.{pieces_of}
-use Rattle.tz_info.proofs.FilePieceLaws.{pieces_law, has_lengths}
-use Rattle.tz_info.proofs.TzFileLaws.{reads, no_pieces}
+use Rattle.tz_info.proofs.Words.{err_from_is_err_and, pieces_of}
+use Rattle.tz_info.proofs.FilePieceLaws.{has_lengths, pieces_law}
+use Rattle.tz_info.proofs.TzFileLaws.{no_pieces, reads}
 use Rattle.tz_info.proofs.file.reader.read_file.Goals as goal
 
 pub lists_of-requires : goal.lists_of-requires

@@ -1,4 +1,4 @@
-use Rattle.tz_info.proofs.TzFileLaws.{found, only, fault, memory}
+use Rattle.tz_info.proofs.TzFileLaws.{fault, found, memory, only}
 use Rattle.tz_info.proofs.file.reader.read_lists.Goals as goal
 
 pub returns-clause-found : goal.returns-clause-found

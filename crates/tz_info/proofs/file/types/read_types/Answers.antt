@@ -1,4 +1,4 @@
-use Rattle.std.proofs.lemmas.Result.{err_from_is_err_and}
+use Rattle.tz_info.proofs.Words.{err_from_is_err_and}
 use Rattle.tz_info.proofs.TypeLaws.{next_refused}
 use Rattle.tz_info.proofs.file.types.read_types.Goals as goal
 

@@ -1,5 +1,4 @@
-use Rattle.std.proofs.Common.{◌≡◌, Ok}
-use Rattle.tz_info.specs.Steps.ContentReading.{values_below, type_in}
+use Rattle.tz_info.proofs.Words.{Ok, type_in, values_below, ◌≡◌}
 use Rattle.tz_info.proofs.file.types.read_types.Given as goal
 
 abbrev pub invariant-loop-k : goal.invariant-loop-k

@@ -1,4 +1,4 @@
-use Rattle.tz_info.proofs.ChangeLaws.{one_change, one_first, one_last, one_list_of_changes, front_is_first}
+use Rattle.tz_info.proofs.ChangeLaws.{front_is_first, one_change, one_first, one_last, one_list_of_changes}
 use Rattle.tz_info.proofs.laws.changes.one_change_law.Goals as goal
 
 pub returns : goal.returns

@@ -1,4 +1,4 @@
-use Rattle.tz_info.proofs.TzFileLaws.{fault_or_zone, fault_once, has_fault, fault_low}
+use Rattle.tz_info.proofs.TzFileLaws.{fault_low, fault_once, fault_or_zone, has_fault}
 use Rattle.tz_info.proofs.laws.files.fault_or_zone.Goals as goal
 
 pub returns-clause-apart : goal.returns-clause-apart

@@ -1,4 +1,4 @@
-use Rattle.tz_info.proofs.ShownSecondLaws.{one_first, first_rises}
+use Rattle.tz_info.proofs.ShownSecondLaws.{first_rises, one_first}
 use Rattle.tz_info.proofs.laws.shown_seconds.first_at_or_after_law.Goals as goal
 
 pub returns-clause-once : goal.returns-clause-once

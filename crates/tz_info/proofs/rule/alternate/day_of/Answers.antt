@@ -1,5 +1,4 @@
-use Rattle.std.proofs.Common.{arith}
-use Rattle.naive_base.proofs.ForCallers.{floors}
+use Rattle.tz_info.proofs.Words.{arith, floors}
 use Rattle.tz_info.proofs.rule.alternate.day_of.Goals as goal
 
 pub returns-clause-value : goal.returns-clause-value

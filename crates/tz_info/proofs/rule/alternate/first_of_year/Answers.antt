@@ -1,5 +1,4 @@
-use Rattle.std.proofs.Common.{arith}
-use Rattle.naive_base.proofs.ForCallers.{floors, day_of_year_is, own_start_in_range}
+use Rattle.tz_info.proofs.Words.{arith, day_of_year_is, floors, own_start_in_range}
 use Rattle.tz_info.proofs.rule.alternate.first_of_year.Goals as goal
 
 pub overflow_sub-result : goal.overflow_sub-result

@@ -1,4 +1,4 @@
-use Rattle.std.proofs.Common.{to_z-of_z, not, ap, sym, ◌∙◌}
+use Rattle.tz_info.proofs.Words.{ap, not, sym, to_z-of_z, ◌∙◌}
 use Rattle.tz_info.proofs.rule.alternate.is_dst_by_three.Goals as goal
 
 pub returns-then-is_start_first : goal.returns-then-is_start_first

@@ -1,8 +1,4 @@
-use Rattle.std.proofs.Common.{◌≡◌, w32, w64, arith, to_z-of_z}
-use mir.Val.{SFits}
-use Rattle.naive_base.specs.Year.{floor_div}
-use Rattle.naive_base.proofs.ForCallers.{floors}
-use Rattle.tz_info.specs.Moments.{IsRuleYear, IsYearOf}
+use Rattle.tz_info.proofs.Words.{IsRuleYear, IsYearOf, SFits, arith, floor_div, floors, to_z-of_z, w32, w64, ◌≡◌}
 use Rattle.tz_info.proofs.RuleLaws.{year_found}
 use Rattle.tz_info.proofs.rule.changes.rule_year_of.Goals as goal
 use Rattle.tz_info.proofs.rule.changes.rule_year_of.Goals.{After-year_of}

@@ -1,6 +1,4 @@
-use Rattle.std.proofs.Common.{arith, refl, inr, ◌≡◌, ◌∙◌, ap, pos, ◌+ℤ◌, to_z-of_z}
-use Rattle.naive_base.specs.Year.{year_start, days_in_year}
-use Rattle.naive_base.proofs.ForCallers.{days_at_least}
+use Rattle.tz_info.proofs.Words.{ap, arith, days_at_least, days_in_year, inr, pos, refl, to_z-of_z, year_start, ◌+ℤ◌, ◌∙◌, ◌≡◌}
 use Rattle.tz_info.proofs.RuleDays.{behind_december}
 use Rattle.tz_info.proofs.rule.day.date_in_year.Goals as goal
 

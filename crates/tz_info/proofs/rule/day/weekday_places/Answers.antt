@@ -1,5 +1,4 @@
-use Rattle.std.proofs.Common.{[], ◌∷◌}
-use Rattle.tz_info.specs.Steps.KindPlaces.{place_by, places_by_kind}
+use Rattle.tz_info.proofs.Words.{place_by, places_by_kind, [], ◌∷◌}
 use Rattle.tz_info.proofs.rule.day.weekday_places.Goals as goal
 
 pub returns : goal.returns

@@ -1,5 +1,4 @@
-use Rattle.std.proofs.Common.{arith, ◌≡◌, sym}
-use Rattle.tz_info.specs.Steps.Kinds.{is_calm_kind, are_calm}
+use Rattle.tz_info.proofs.Words.{are_calm, arith, is_calm_kind, sym, ◌≡◌}
 use Rattle.tz_info.proofs.ListLaws.{one_false}
 use Rattle.tz_info.proofs.rule.kinds.are_calm.Goals as goal
 

@@ -1,6 +1,4 @@
-use Rattle.std.proofs.Common.{◌≡◌, true}
-use Rattle.tz_info.specs.Steps.Below.{all_below}
-use Rattle.tz_info.specs.Steps.Kinds.{is_calm_kind}
+use Rattle.tz_info.proofs.Words.{all_below, is_calm_kind, true, ◌≡◌}
 use Rattle.tz_info.proofs.rule.kinds.are_calm.Given as goal
 
 abbrev pub invariant-loop-kind : goal.invariant-loop-kind

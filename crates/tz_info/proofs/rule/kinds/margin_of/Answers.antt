@@ -1,5 +1,4 @@
-use Rattle.std.proofs.Common.{sym, ◌∙◌}
-use Rattle.tz_info.specs.Steps.Kinds.{margin_of}
+use Rattle.tz_info.proofs.Words.{margin_of, sym, ◌∙◌}
 use Rattle.tz_info.proofs.rule.kinds.margin_of.Goals as goal
 
 pub returns-then-are_calm : goal.returns-then-are_calm

@@ -1,9 +1,5 @@
-use Rattle.std.proofs.Common.{arith, ap, inl, inr, refl, w32, w64, ◌≡◌, ◌-ℤ◌, to_z-of_z}
-use mir.Val.{SFits}
-use Rattle.std.proofs.lemmas.Int.{ints}
 use Rattle.offset_core.specs.declared.local_result.LocalResult.TheVariants.{None, Single}
-use Rattle.tz_timeline.specs.Counts.{Counts}
-use Rattle.tz_info.specs.Steps.RuleSeconds.{TypeFrom}
+use Rattle.tz_info.proofs.Words.{Counts, SFits, TypeFrom, ap, arith, inl, inr, ints, refl, to_z-of_z, w32, w64, ◌-ℤ◌, ◌≡◌}
 use Rattle.tz_info.specs.declared.rule.transition_rule.TransitionRule.TheVariants.{Fixed}
 use Rattle.tz_info.proofs.Candidates.{asked_found, asked_one, one_fixed}
 use Rattle.tz_info.proofs.QuestionLaws.{asked_fixed}

@@ -1,5 +1,4 @@
-use Rattle.std.proofs.Common.{◌≡◌, ◌&&◌, true, to_z-of_z}
-use Rattle.std.proofs.lemmas.Bool.{and_parts}
+use Rattle.tz_info.proofs.Words.{and_parts, to_z-of_z, true, ◌&&◌, ◌≡◌}
 use Rattle.tz_info.proofs.rule.wall_clock.are_amid.Goals as goal
 
 pub returns : goal.returns

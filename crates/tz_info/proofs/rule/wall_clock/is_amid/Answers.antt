@@ -1,4 +1,4 @@
-use Rattle.std.proofs.Common.{to_z-of_z}
+use Rattle.tz_info.proofs.Words.{to_z-of_z}
 use Rattle.tz_info.proofs.SeasonAnswers.{amid_by}
 use Rattle.tz_info.proofs.rule.wall_clock.is_amid.Goals as goal
 

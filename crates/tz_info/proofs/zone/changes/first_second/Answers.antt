@@ -1,11 +1,6 @@
-use Rattle.std.proofs.Common.{◌-◌, ℤ, pos, ◌-ℤ◌, ◌≤ℤ◌, ◌↔◌, arith, to_z-of_z, w64, rules, get_or}
-use mir.Val.{SFits}
-use mir.Syntax.{w128}
-use Rattle.std.proofs.lemmas.Int.{ints}
-use Rattle.tz_info.specs.Steps.Starts.{HaveCome}
-use Rattle.tz_info.specs.declared.zone.leap_second.LeapSecond.{LeapSecond}
-use Rattle.tz_info.proofs.LeapStarts.{reached_first, both_ways}
-use Rattle.tz_info.proofs.ZoneChanges.{reached_exactly, entry_late}
+use Rattle.tz_info.proofs.Words.{HaveCome, LeapSecond, SFits, arith, get_or, ints, pos, rules, to_z-of_z, w128, w64, ℤ, ◌-ℤ◌, ◌-◌, ◌↔◌, ◌≤ℤ◌}
+use Rattle.tz_info.proofs.LeapStarts.{both_ways, reached_first}
+use Rattle.tz_info.proofs.ZoneChanges.{entry_late, reached_exactly}
 use Rattle.tz_info.proofs.zone.changes.first_second.Goals as goal
 use Rattle.tz_info.proofs.zone.changes.first_second.Goals.{After-later}
 

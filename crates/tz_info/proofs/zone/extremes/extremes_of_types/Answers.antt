@@ -1,8 +1,5 @@
-use Rattle.std.proofs.Common.{arith, ap, ◌∙◌, w32, to_z-of_z}
-use mir.Val.{SFits}
-use Rattle.std.proofs.lemmas.Int.{ints}
-use Rattle.tz_base.specs.LocalTypes.{LocalType}
-use Rattle.tz_info.proofs.ExtremeLaws.{first_until, more_until, all_until}
+use Rattle.tz_info.proofs.Words.{LocalType, SFits, ap, arith, ints, to_z-of_z, w32, ◌∙◌}
+use Rattle.tz_info.proofs.ExtremeLaws.{all_until, first_until, more_until}
 use Rattle.tz_info.proofs.zone.extremes.extremes_of_types.Goals as goal
 
 pub loop-local_type-init : goal.loop-local_type-init

@@ -1,4 +1,4 @@
-use Rattle.tz_info.specs.Steps.Extremes.{AreExtremesUntil}
+use Rattle.tz_info.proofs.Words.{AreExtremesUntil}
 use Rattle.tz_info.proofs.zone.extremes.extremes_of_types.Given as goal
 
 abbrev pub invariant-loop-local_type : goal.invariant-loop-local_type

@@ -1,6 +1,4 @@
-use Rattle.std.proofs.Common.{arith, ap, ◌+ℤ◌, w32, w64, to_z-of_z}
-use mir.Val.{SFits}
-use Rattle.std.proofs.lemmas.Int.{ints}
+use Rattle.tz_info.proofs.Words.{SFits, ap, arith, ints, to_z-of_z, w32, w64, ◌+ℤ◌}
 use Rattle.tz_info.proofs.zone.gap.shown_at.Goals as goal
 
 pub returns : goal.returns

@@ -1,7 +1,4 @@
-use Rattle.std.proofs.Common.{◌≡◌, ◌-◌, suc, pos, arith, sym, ◌∙◌, ap, to_z-of_z, w32, w64, rules, get_or}
-use mir.Val.{SFits}
-use Rattle.std.proofs.lemmas.Int.{ints}
-use Rattle.tz_info.specs.declared.zone.leap_second.LeapSecond.{LeapSecond}
+use Rattle.tz_info.proofs.Words.{LeapSecond, SFits, ap, arith, get_or, ints, pos, rules, suc, sym, to_z-of_z, w32, w64, ◌-◌, ◌∙◌, ◌≡◌}
 use Rattle.tz_info.proofs.LeapStarts.{correction_behind}
 use Rattle.tz_info.proofs.Prefixes.{last_taken}
 use Rattle.tz_info.proofs.zone.leap_time.correction_after.Goals as goal

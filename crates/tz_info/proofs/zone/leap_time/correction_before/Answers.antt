@@ -1,6 +1,4 @@
-use Rattle.std.proofs.Common.{arith, to_z-of_z, pos, w32, rules}
-use mir.Val.{SFits}
-use Rattle.tz_info.specs.declared.zone.leap_second.LeapSecond.{LeapSecond}
+use Rattle.tz_info.proofs.Words.{LeapSecond, SFits, arith, pos, rules, to_z-of_z, w32}
 use Rattle.tz_info.proofs.LeapEntries.{before_found}
 use Rattle.tz_info.proofs.zone.leap_time.correction_before.Goals as goal
 

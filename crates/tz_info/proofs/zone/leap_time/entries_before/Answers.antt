@@ -1,8 +1,5 @@
-use Rattle.std.proofs.Common.{arith, int_lt, rules}
-use Rattle.std.proofs.lemmas.List.Sorted.{IsPartitionPoint-from_clause}
-use Rattle.tz_timeline.proofs.ForCallers.{lt_is}
-use Rattle.tz_info.specs.declared.zone.leap_second.LeapSecond.{LeapSecond}
-use Rattle.tz_info.proofs.LeapSearch.{parted_before, lt_is_not}
+use Rattle.tz_info.proofs.Words.{IsPartitionPoint-from_clause, LeapSecond, arith, int_lt, lt_is, rules}
+use Rattle.tz_info.proofs.LeapSearch.{lt_is_not, parted_before}
 use Rattle.tz_info.proofs.zone.leap_time.entries_before.Goals as goal
 
 pub returns : goal.returns

@@ -1,4 +1,4 @@
-use Rattle.std.proofs.Common.{to_z-of_z, length, ◌∙◌, sym}
+use Rattle.tz_info.proofs.Words.{length, sym, to_z-of_z, ◌∙◌}
 use Rattle.tz_info.proofs.LeapSearch.{is_none}
 use Rattle.tz_info.proofs.LeaplessChanges.{own_leap_time}
 use Rattle.tz_info.proofs.zone.leap_time.leap_time.Goals as goal

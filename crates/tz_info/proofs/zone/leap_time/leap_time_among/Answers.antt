@@ -1,7 +1,5 @@
-use Rattle.std.proofs.Common.{arith, to_z-of_z, w64, w32, rules, ap, ◌+ℤ◌}
-use mir.Val.{SFits}
-use Rattle.std.proofs.lemmas.Int.{ints}
-use Rattle.tz_info.proofs.LeapSearch.{leap_time_early, leap_time_by}
+use Rattle.tz_info.proofs.Words.{SFits, ap, arith, ints, rules, to_z-of_z, w32, w64, ◌+ℤ◌}
+use Rattle.tz_info.proofs.LeapSearch.{leap_time_by, leap_time_early}
 use Rattle.tz_info.proofs.LeapStarts.{passed_at_most}
 use Rattle.tz_info.proofs.zone.leap_time.leap_time_among.Goals as goal
 

@@ -1,8 +1,5 @@
-use Rattle.std.proofs.Common.{arith, to_z-of_z, w64, w32, rules, pos, get_or, refl}
-use mir.Val.{SFits}
-use Rattle.std.proofs.lemmas.Int.{ints}
-use Rattle.tz_info.specs.declared.zone.leap_second.LeapSecond.{LeapSecond}
-use Rattle.tz_info.proofs.LeapEntries.{passed_more, leap_time_found, leap_time_refused, before_threshold}
+use Rattle.tz_info.proofs.Words.{LeapSecond, SFits, arith, get_or, ints, pos, refl, rules, to_z-of_z, w32, w64}
+use Rattle.tz_info.proofs.LeapEntries.{before_threshold, leap_time_found, leap_time_refused, passed_more}
 use Rattle.tz_info.proofs.zone.leap_time.leap_time_at_the_end.Goals as goal
 
 abbrev none : LeapSecond

@@ -1,8 +1,5 @@
-use Rattle.std.proofs.Common.{◌+◌, ◌/◌, arith, length, to_z-of_z, w64, w32, rules, pos, get_or, ◌+ℤ◌}
-use mir.Val.{SFits}
-use Rattle.std.proofs.lemmas.Int.{ints}
-use Rattle.tz_info.specs.declared.zone.leap_second.LeapSecond.{LeapSecond}
-use Rattle.tz_info.proofs.LeapSearch.{all_between, passed_more, passed_less}
+use Rattle.tz_info.proofs.Words.{LeapSecond, SFits, arith, get_or, ints, length, pos, rules, to_z-of_z, w32, w64, ◌+ℤ◌, ◌+◌, ◌/◌}
+use Rattle.tz_info.proofs.LeapSearch.{all_between, passed_less, passed_more}
 use Rattle.tz_info.proofs.zone.leap_time.passed_at.Goals as goal
 use Rattle.tz_info.proofs.zone.leap_time.passed_at.Goals.{After-correction_after}
 

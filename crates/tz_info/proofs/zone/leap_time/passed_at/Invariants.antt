@@ -1,4 +1,4 @@
-use Rattle.std.proofs.Common.{◌+◌}
+use Rattle.tz_info.proofs.Words.{◌+◌}
 use Rattle.tz_info.proofs.LeapSearch.{ArePassedBetween}
 use Rattle.tz_info.proofs.zone.leap_time.passed_at.Given as goal
 

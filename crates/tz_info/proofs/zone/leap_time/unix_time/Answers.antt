@@ -1,8 +1,5 @@
-use Rattle.std.proofs.Common.{arith, to_z-of_z, of_z, w64, w32, rules, ◌-ℤ◌, ◌≤ℤ◌, ◌∙◌, ap, sym, inr}
-use mir.Val.{SFits}
-use Rattle.std.proofs.lemmas.Int.{ints}
 use Rattle.tz_base.specs.declared.error.Error.TheVariants.{OutOfRange}
-use Rattle.tz_info.specs.Leaps.{least_time}
+use Rattle.tz_info.proofs.Words.{SFits, ap, arith, inr, ints, least_time, of_z, rules, sym, to_z-of_z, w32, w64, ◌-ℤ◌, ◌∙◌, ◌≤ℤ◌}
 use Rattle.tz_info.proofs.LeapEntries.{above_least}
 use Rattle.tz_info.proofs.zone.leap_time.unix_time.Goals as goal
 

@@ -1,4 +1,4 @@
-use Rattle.std.proofs.Common.{to_z-of_z}
+use Rattle.tz_info.proofs.Words.{to_z-of_z}
 use Rattle.tz_info.proofs.zone.lookups.type_at.Goals as goal
 
 pub returns-in-Err : goal.returns-in-Err

@@ -1,8 +1,5 @@
-use Rattle.std.proofs.Common.{◌≡◌, ◌-◌, pos, arith, to_z-of_z, w64, rules, get_or, length}
-use mir.Val.{SFits}
-use Rattle.std.proofs.lemmas.Bool.Decides.{nat_tests}
-use Rattle.tz_info.specs.declared.zone.transition.Transition.{Transition}
-use Rattle.tz_info.proofs.OnePass.{leapless_between, at_least, at_most}
+use Rattle.tz_info.proofs.Words.{SFits, Transition, arith, get_or, length, nat_tests, pos, rules, to_z-of_z, w64, ◌-◌, ◌≡◌}
+use Rattle.tz_info.proofs.OnePass.{at_least, at_most, leapless_between}
 use Rattle.tz_info.proofs.zone.one_pass.is_leapless.Goals as goal
 
 abbrev none : Transition

@@ -1,10 +1,7 @@
-use Rattle.std.proofs.Common.{arith, refl, to_z-of_z, w64, rules, inl, inr}
-use mir.Val.{SFits}
-use Rattle.std.proofs.lemmas.Int.{ints}
-use Rattle.tz_info.specs.Steps.Pieces.{zone_in}
+use Rattle.tz_info.proofs.Words.{SFits, arith, inl, inr, ints, refl, rules, to_z-of_z, w64, zone_in}
 use Rattle.tz_info.proofs.OnePass.{pieces_found}
 use Rattle.tz_info.proofs.zone.one_pass.pieces_at.Goals as goal
-use Rattle.tz_info.proofs.zone.one_pass.pieces_at.Goals.{then-end-start, else-end-start}
+use Rattle.tz_info.proofs.zone.one_pass.pieces_at.Goals.{else-end-start, then-end-start}
 
 pub returns : goal.returns
 returns c =

@@ -1,16 +1,9 @@
-use Rattle.std.proofs.Common.{ℕ, ℤ, ◌+ℤ◌, suc, ◌-◌, ◌≡◌, ◌++◌, ◌∷◌, [], ◌∙◌, ap, inl, List, arith, add-one, to_z-of_z, w64, rules}
-use Rattle.std.specs.Int.{saturate_signed}
-use mir.Val.{SFits}
-use Rattle.tz_info.specs.Segments.{table_count}
-use Rattle.tz_info.specs.Steps.Pieces.{zone_in, IsCutFrom, IsSegment}
-use Rattle.tz_info.specs.WallPieces.{IsStart}
-use Rattle.tz_info.specs.Zones.{Zone}
-use Rattle.tz_info.specs.declared.zone.pieces.Piece.{Piece}
-use Rattle.tz_info.specs.declared.zone.segments.Segment.{Segment}
-use Rattle.tz_info.proofs.OnePass.{open_first, open_more, table_most, within_table, cuts_of, crossed_by}
+use Rattle.tz_info.proofs.Words.{IsCutFrom, IsSegment, IsStart, List, Piece, SFits, Segment, Zone, add-one, ap, arith, inl, rules, saturate_signed, suc}
+use Rattle.tz_info.proofs.Words.{table_count, to_z-of_z, w64, zone_in, ℕ, ℤ, [], ◌++◌, ◌+ℤ◌, ◌-◌, ◌∙◌, ◌∷◌, ◌≡◌}
+use Rattle.tz_info.proofs.OnePass.{crossed_by, cuts_of, open_first, open_more, table_most, within_table}
 use Rattle.tz_info.proofs.WallSegments.{cut_from}
 use Rattle.tz_info.proofs.zone.one_pass.pieces_by.Goals as goal
-use Rattle.tz_info.proofs.zone.one_pass.pieces_by.Goals.{then-count-lists+else-is_crossed-2, else-count-lists}
+use Rattle.tz_info.proofs.zone.one_pass.pieces_by.Goals.{else-count-lists, then-count-lists+else-is_crossed-2}
 
 pub loop-place-init : goal.loop-place-init
 loop-place-init c = record {

@@ -1,6 +1,4 @@
-use Rattle.std.proofs.Common.{◌≡◌, ◌+◌, ◌-◌, ◌*◌, length, vec_len, vec_capacity}
-use Rattle.tz_info.specs.Steps.Segments.{index_of}
-use Rattle.tz_info.specs.Steps.Pieces.{zone_in, IsSegment}
+use Rattle.tz_info.proofs.Words.{IsSegment, index_of, length, vec_capacity, vec_len, zone_in, ◌*◌, ◌+◌, ◌-◌, ◌≡◌}
 use Rattle.tz_info.proofs.OnePass.{AreOpen}
 use Rattle.tz_info.proofs.zone.one_pass.pieces_by.Given as goal
 

@@ -1,6 +1,4 @@
-use Rattle.std.proofs.Common.{◌-◌, pos, to_z-of_z, w64, rules, get_or}
-use mir.Val.{SFits}
-use Rattle.tz_info.specs.declared.zone.transition.Transition.{Transition}
+use Rattle.tz_info.proofs.Words.{SFits, Transition, get_or, pos, rules, to_z-of_z, w64, ◌-◌}
 use Rattle.tz_info.proofs.OnePass.{start_leapless}
 use Rattle.tz_info.proofs.zone.one_pass.start_by.Goals as goal
 

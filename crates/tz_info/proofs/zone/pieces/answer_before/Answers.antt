@@ -1,6 +1,4 @@
-use Rattle.std.proofs.Common.{◌≡◌, ◌-◌, suc, arith, sym, ◌∙◌, ap, take}
-use Rattle.tz_info.specs.WallPieces.{answer_before}
-use Rattle.tz_info.specs.declared.zone.pieces.Piece.{Piece}
+use Rattle.tz_info.proofs.Words.{Piece, answer_before, ap, arith, suc, sym, take, ◌-◌, ◌∙◌, ◌≡◌}
 use Rattle.tz_info.proofs.Prefixes.{last_taken}
 use Rattle.tz_info.proofs.zone.pieces.answer_before.Goals as goal
 

@@ -1,5 +1,4 @@
-use Rattle.std.proofs.Common.{◌≡◌, ◌+◌}
-use Rattle.tz_info.specs.Steps.Shown.{together}
+use Rattle.tz_info.proofs.Words.{together, ◌+◌, ◌≡◌}
 use Rattle.tz_info.proofs.WallPieces.{Merging}
 use Rattle.tz_info.proofs.zone.pieces.merged.Given as goal
 

@@ -1,4 +1,4 @@
-use Rattle.std.proofs.Common.{arith}
+use Rattle.tz_info.proofs.Words.{arith}
 use Rattle.tz_info.proofs.WallSegments.{pieces_joined}
 use Rattle.tz_info.proofs.zone.segments.+pieces_of.Goals as goal
 

@@ -1,4 +1,4 @@
-use Rattle.std.proofs.Common.{◌-◌}
+use Rattle.tz_info.proofs.Words.{◌-◌}
 use Rattle.tz_info.proofs.zone.segments.+pieces_of.Given as goal
 
 abbrev pub decreases-pieces_of : goal.decreases-pieces_of

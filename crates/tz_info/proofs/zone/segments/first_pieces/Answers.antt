@@ -1,7 +1,5 @@
-use Rattle.std.proofs.Common.{arith, ◌<◌, to_z-of_z, w64, rules, length, ◌≡◌}
-use mir.Val.{SFits}
-use Rattle.std.proofs.lemmas.Bool.Decides.{nat_tests}
-use Rattle.tz_info.proofs.WallSegments.{only_pieces, first_pieces}
+use Rattle.tz_info.proofs.Words.{SFits, arith, length, nat_tests, rules, to_z-of_z, w64, ◌<◌, ◌≡◌}
+use Rattle.tz_info.proofs.WallSegments.{first_pieces, only_pieces}
 use Rattle.tz_info.proofs.zone.segments.first_pieces.Goals as goal
 
 pub returns-then-is_empty : goal.returns-then-is_empty

@@ -1,10 +1,7 @@
-use Rattle.std.proofs.Common.{arith, w64, rules}
-use mir.Val.{SFits}
-use Rattle.std.proofs.lemmas.Int.{ints}
-use Rattle.tz_info.specs.Steps.Pieces.{zone_in}
-use Rattle.tz_info.proofs.WallSegments.{up_to_less, type_latest}
+use Rattle.tz_info.proofs.Words.{SFits, arith, ints, rules, w64, zone_in}
+use Rattle.tz_info.proofs.WallSegments.{type_latest, up_to_less}
 use Rattle.tz_info.proofs.zone.segments.index_before.Goals as goal
-use Rattle.tz_info.proofs.zone.segments.index_before.Goals.{then-loop-latest-test+else-start_of-start, else-loop-latest-test}
+use Rattle.tz_info.proofs.zone.segments.index_before.Goals.{else-loop-latest-test, then-loop-latest-test+else-start_of-start}
 
 pub loop-latest-preserved : goal.loop-latest-preserved
 loop-latest-preserved c =

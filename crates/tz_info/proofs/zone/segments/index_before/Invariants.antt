@@ -1,5 +1,4 @@
-use Rattle.std.proofs.Common.{◌<◌}
-use Rattle.tz_info.specs.Steps.Pieces.{zone_in}
+use Rattle.tz_info.proofs.Words.{zone_in, ◌<◌}
 use Rattle.tz_info.proofs.WallSegments.{AreUpTo}
 use Rattle.tz_info.proofs.zone.segments.index_before.Given as goal
 

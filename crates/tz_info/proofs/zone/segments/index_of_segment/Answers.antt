@@ -1,5 +1,4 @@
-use Rattle.std.proofs.Common.{◌≡◌, ◌+◌, ◌-◌, arith, sym, ◌∙◌, ap, pos}
-use Rattle.tz_info.specs.Steps.Segments.{index_of}
+use Rattle.tz_info.proofs.Words.{ap, arith, index_of, pos, sym, ◌+◌, ◌-◌, ◌∙◌, ◌≡◌}
 use Rattle.tz_info.proofs.SegmentLaws.{index_next}
 use Rattle.tz_info.proofs.zone.segments.index_of_segment.Goals as goal
 

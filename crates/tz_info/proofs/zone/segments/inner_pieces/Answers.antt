@@ -1,7 +1,5 @@
-use Rattle.std.proofs.Common.{arith, to_z-of_z, w64, rules, add-one}
-use mir.Val.{SFits}
-use Rattle.std.proofs.lemmas.Int.{ints}
-use Rattle.tz_info.proofs.WallSegments.{inner_pieces, empty_pieces}
+use Rattle.tz_info.proofs.Words.{SFits, add-one, arith, ints, rules, to_z-of_z, w64}
+use Rattle.tz_info.proofs.WallSegments.{empty_pieces, inner_pieces}
 use Rattle.tz_info.proofs.zone.segments.inner_pieces.Goals as goal
 
 pub returns-then-first-next : goal.returns-then-first-next

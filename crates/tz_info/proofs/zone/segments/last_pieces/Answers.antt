@@ -1,5 +1,4 @@
-use Rattle.std.proofs.Common.{to_z-of_z, w64, rules, length, refl, add-one}
-use mir.Val.{SFits}
+use Rattle.tz_info.proofs.Words.{SFits, add-one, length, refl, rules, to_z-of_z, w64}
 use Rattle.tz_info.proofs.WallSegments.{last_pieces}
 use Rattle.tz_info.proofs.zone.segments.last_pieces.Goals as goal
 

@@ -1,6 +1,4 @@
-use Rattle.std.proofs.Common.{to_z-of_z, w32, w64, arith, rules}
-use mir.Val.{SFits}
-use Rattle.std.proofs.lemmas.Int.{ints}
+use Rattle.tz_info.proofs.Words.{SFits, arith, ints, rules, to_z-of_z, w32, w64}
 use Rattle.tz_info.proofs.zone.starts.correction_behind.Goals as goal
 
 pub returns : goal.returns

@@ -1,7 +1,4 @@
-use Rattle.std.proofs.Common.{arith, int_le, rules}
-use Rattle.std.proofs.lemmas.List.Sorted.{IsPartitionPoint-from_clause}
-use Rattle.tz_timeline.proofs.ForCallers.{le_is, le_is_not}
-use Rattle.tz_info.specs.declared.zone.leap_second.LeapSecond.{LeapSecond}
+use Rattle.tz_info.proofs.Words.{IsPartitionPoint-from_clause, LeapSecond, arith, int_le, le_is, le_is_not, rules}
 use Rattle.tz_info.proofs.LeapStarts.{parted}
 use Rattle.tz_info.proofs.zone.starts.entries_come.Goals as goal
 

@@ -1,8 +1,5 @@
-use Rattle.std.proofs.Common.{◌-◌, pos, arith, to_z-of_z, w64, rules, get_or}
-use mir.Val.{SFits}
-use Rattle.tz_info.specs.Steps.Starts.{HaveCome}
-use Rattle.tz_info.specs.declared.zone.leap_second.LeapSecond.{LeapSecond}
-use Rattle.tz_info.proofs.LeapStarts.{reached_first, reached_behind, both_ways}
+use Rattle.tz_info.proofs.Words.{HaveCome, LeapSecond, SFits, arith, get_or, pos, rules, to_z-of_z, w64, ◌-◌}
+use Rattle.tz_info.proofs.LeapStarts.{both_ways, reached_behind, reached_first}
 use Rattle.tz_info.proofs.zone.starts.first_second.Goals as goal
 
 pub returns-then-come-eq0 : goal.returns-then-come-eq0

@@ -1,5 +1,4 @@
-use Rattle.std.proofs.Common.{arith}
-use Rattle.std.proofs.lemmas.Int.{ints}
+use Rattle.tz_info.proofs.Words.{arith, ints}
 use Rattle.tz_info.proofs.zone.starts.later.Goals as goal
 
 pub returns-then-a-b : goal.returns-then-a-b

@@ -1,6 +1,4 @@
-use Rattle.std.proofs.Common.{◌-◌, pos, to_z-of_z, w64, rules, get_or}
-use mir.Val.{SFits}
-use Rattle.tz_info.specs.declared.zone.transition.Transition.{Transition}
+use Rattle.tz_info.proofs.Words.{SFits, Transition, get_or, pos, rules, to_z-of_z, w64, ◌-◌}
 use Rattle.tz_info.proofs.WallSegments.{start_found}
 use Rattle.tz_info.proofs.zone.starts.start_of.Goals as goal
 

@@ -1,7 +1,5 @@
-use Rattle.std.proofs.Common.{refl, to_z-of_z, w64, rules}
-use Rattle.std.proofs.lemmas.Option.{slice_get_read}
-use mir.Val.{SFits}
-use Rattle.tz_info.proofs.Validity.{agrees_if_same, differs_without_time, differs_without_rule}
+use Rattle.tz_info.proofs.Words.{SFits, refl, rules, slice_get_read, to_z-of_z, w64}
+use Rattle.tz_info.proofs.Validity.{agrees_if_same, differs_without_rule, differs_without_time}
 use Rattle.tz_info.proofs.zone.valid.agrees.Goals as goal
 
 pub returns-in-Ok-find_local_time_type : goal.returns-in-Ok-find_local_time_type

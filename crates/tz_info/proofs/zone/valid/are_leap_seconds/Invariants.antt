@@ -1,5 +1,4 @@
-use Rattle.std.specs.List.{AllAdjacentBelow}
-use Rattle.tz_info.specs.Leaps.{IsNextLeap}
+use Rattle.tz_info.proofs.Words.{AllAdjacentBelow, IsNextLeap}
 use Rattle.tz_info.proofs.zone.valid.are_leap_seconds.Given as goal
 
 abbrev pub invariant-loop-i : goal.invariant-loop-i

@@ -1,5 +1,5 @@
-use Rattle.std.proofs.Common.{arith}
-use Rattle.tz_info.proofs.TableSearch.{stand_more, stand_less}
+use Rattle.tz_info.proofs.Words.{arith}
+use Rattle.tz_info.proofs.TableSearch.{stand_less, stand_more}
 use Rattle.tz_info.proofs.zone.valid.are_transitions.Goals as goal
 
 pub loop-i-preserved : goal.loop-i-preserved

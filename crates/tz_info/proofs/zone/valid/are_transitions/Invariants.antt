@@ -1,4 +1,4 @@
-use Rattle.std.proofs.Common.{IsTrue, ◌↔◌}
+use Rattle.tz_info.proofs.Words.{IsTrue, ◌↔◌}
 use Rattle.tz_info.proofs.TableSearch.{StandUntil}
 use Rattle.tz_info.proofs.zone.valid.are_transitions.Given as goal
 

@@ -1,7 +1,5 @@
-use Rattle.std.proofs.Common.{arith, ◌<◌, length, List, Bool, true, false, ◌≡◌, ◌==◌}
-use Rattle.std.proofs.lemmas.Bool.Decides.{nat_tests}
-use Rattle.tz_base.specs.LocalTypes.{LocalType}
-use Rattle.tz_info.specs.Zones.{No_type, Other_index, Not_rising, Other_leaps, Other_rule}
+use Rattle.tz_info.proofs.Words.{Bool, List, LocalType, No_type, Not_rising, Other_index, Other_leaps, Other_rule, arith, false, length, nat_tests, true, ◌<◌}
+use Rattle.tz_info.proofs.Words.{◌==◌, ◌≡◌}
 use Rattle.tz_info.proofs.ListFaults.{with_fault}
 use Rattle.tz_info.proofs.zone.valid.check.Goals as goal
 

@@ -1,5 +1,4 @@
-use Rattle.std.proofs.Common.{◌≡◌, true, to_z-of_z, w32, w64, rules}
-use mir.Val.{SFits}
+use Rattle.tz_info.proofs.Words.{SFits, rules, to_z-of_z, true, w32, w64, ◌≡◌}
 use Rattle.tz_info.proofs.zone.valid.is_next.Goals as goal
 
 pub returns-then-is_far_enough : goal.returns-then-is_far_enough

@@ -1,7 +1,5 @@
-use Rattle.std.proofs.Common.{arith, map, length, ◌∙◌, ◌+◌, ◌-◌, ◌/◌, ◌^◌, ◌≡◌, ap, pos, ◌-ℤ◌, drop, replicate, to_z-of_z, rules, w64}
-use mir.Val.{SFits}
-use Rattle.std.proofs.lemmas.List.{length-map, length-replicate, take-append-le, take_all}
-use Rattle.tz_timeline.specs.Search.{time_at}
+use Rattle.tz_timeline.proofs.Words.{SFits, ap, arith, drop, length, length-map, length-replicate, map, pos, replicate, rules, take-append-le, take_all}
+use Rattle.tz_timeline.proofs.Words.{time_at, to_z-of_z, w64, ◌+◌, ◌-ℤ◌, ◌-◌, ◌/◌, ◌^◌, ◌∙◌, ◌≡◌}
 use Rattle.tz_timeline.proofs.HintLaws.{first_least, hints_made, slots, zeros}
 use Rattle.tz_timeline.proofs.SearchSteps.{time_read}
 use Rattle.tz_timeline.proofs.hints.Hints.new.Given.{Over}

@@ -1,6 +1,4 @@
-use Rattle.std.proofs.Common.{arith, ◌+◌, ◌-◌, ◌/◌, ◌≡◌}
-use Rattle.std.proofs.lemmas.Int.{ints}
-use Rattle.std.proofs.lemmas.List.{length-map}
+use Rattle.tz_timeline.proofs.Words.{arith, ints, length-map, ◌+◌, ◌-◌, ◌/◌, ◌≡◌}
 use Rattle.tz_timeline.proofs.SearchSteps.{left_earlier, left_later, time_read}
 use Rattle.tz_timeline.proofs.timeline.Timeline.halved.Goals as goal
 

@@ -1,9 +1,7 @@
-use Rattle.std.proofs.Common.{arith, ◌+◌, ◌-◌, ◌/◌, refl}
-use Rattle.std.proofs.lemmas.Int.{ints}
-use Rattle.std.proofs.lemmas.List.{length-map}
+use Rattle.tz_timeline.proofs.Words.{arith, ints, length-map, refl, ◌+◌, ◌-◌, ◌/◌}
 use Rattle.tz_timeline.proofs.SearchSteps.{near_earlier, near_later, time_read}
 use Rattle.tz_timeline.proofs.timeline.Timeline.narrowed.Goals as goal
-use Rattle.tz_timeline.proofs.timeline.Timeline.narrowed.Goals.{then-second, else-second}
+use Rattle.tz_timeline.proofs.timeline.Timeline.narrowed.Goals.{else-second, then-second}
 
 pub returns-clause-near : goal.returns-clause-near
 returns-clause-near g c =

@@ -1,10 +1,4 @@
-use Rattle.std.proofs.Common.{◌≡◌, arith, length, map, to_z-of_z, rules, w64}
-use Rattle.std.proofs.lemmas.Int.{ints}
-use Rattle.std.proofs.lemmas.List.{length-map}
-use Rattle.std.proofs.lemmas.Nat.{pow_pos}
-use mir.Val.{SFits}
-use Rattle.tz_timeline.specs.Steps.Hints.{AreHints}
-use Rattle.tz_timeline.specs.Steps.Search.{AreEnds}
+use Rattle.tz_timeline.proofs.Words.{AreEnds, AreHints, SFits, arith, ints, length, length-map, map, pow_pos, rules, to_z-of_z, w64, ◌≡◌}
 use Rattle.tz_timeline.proofs.HintLaws.{near_hinted}
 use Rattle.tz_timeline.proofs.SearchSteps.{all_left, all_passed, digits-halved, none_passed}
 use Rattle.tz_timeline.proofs.timeline.Timeline.passed.Given.{Over}

@@ -1,5 +1,4 @@
-use Rattle.std.proofs.Common.{arith, ap, ◌∙◌, ◌+◌, ◌-◌, length}
-use Rattle.tz_timeline.specs.Counts.{Counts}
+use Rattle.tz_timeline.proofs.Words.{Counts, ap, arith, length, ◌+◌, ◌-◌, ◌∙◌}
 use Rattle.tz_timeline.proofs.DigitLaws.{digits-less, digits-more}
 use Rattle.tz_timeline.proofs.SearchSteps.{digits-halved}
 use Rattle.tz_timeline.proofs.timeline.Timeline.passed_by_halves.Goals as goal

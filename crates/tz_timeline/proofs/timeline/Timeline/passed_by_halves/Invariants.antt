@@ -1,7 +1,4 @@
-use Rattle.std.proofs.Common.{ℕ, ◌≡◌, ◌+◌, ◌-◌, ◌<◌, ◌≤◌, length, map, option_map}
-use Rattle.tz_timeline.specs.Digits.{digits}
-use Rattle.tz_timeline.specs.Search.{IsLastOf}
-use Rattle.tz_timeline.specs.Steps.Search.{IsLeft}
+use Rattle.tz_timeline.proofs.Words.{IsLastOf, IsLeft, digits, length, map, option_map, ℕ, ◌+◌, ◌-◌, ◌<◌, ◌≡◌, ◌≤◌}
 use Rattle.tz_timeline.proofs.timeline.Timeline.passed_by_halves.Given as goal
 
 abbrev pub invariant-loop-left : goal.invariant-loop-left

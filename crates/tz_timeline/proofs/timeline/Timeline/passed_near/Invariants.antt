@@ -1,6 +1,4 @@
-use Rattle.std.proofs.Common.{ℕ, ◌≡◌, ◌+◌, ◌-◌, ◌≤◌, length, map}
-use Rattle.tz_timeline.specs.Digits.{digits}
-use Rattle.tz_timeline.specs.Steps.Search.{IsNear}
+use Rattle.tz_timeline.proofs.Words.{IsNear, digits, length, map, ℕ, ◌+◌, ◌-◌, ◌≡◌, ◌≤◌}
 use Rattle.tz_timeline.proofs.timeline.Timeline.passed_near.Given as goal
 
 abbrev pub invariant-loop-left : goal.invariant-loop-left

@@ -1,6 +1,5 @@
-use Rattle.std.proofs.Common.{subst}
-use Rattle.tz_write.specs.WrittenFiles.{HasText}
-use Rattle.tz_write.proofs.FileWritten.{no_file, can_be_written, footer_spelled}
+use Rattle.tz_write.proofs.Words.{HasText, subst}
+use Rattle.tz_write.proofs.FileWritten.{can_be_written, footer_spelled, no_file}
 use Rattle.tz_write.proofs.ZoneTexts.{on_err}
 use Rattle.tz_write.proofs.file.TimeZoneToTzData.to_tz_data.Goals as goal
 

@@ -1,6 +1,4 @@
-use Rattle.std.proofs.Common.{take}
-use Rattle.std.specs.Prelude.{All}
-use Rattle.tz_write.specs.WrittenFiles.{HasIndex}
+use Rattle.tz_write.proofs.Words.{All, HasIndex, take}
 use Rattle.tz_write.proofs.file.contents.have_indexes.Given as goal
 
 abbrev pub invariant-loop-place : goal.invariant-loop-place

@@ -1,5 +1,4 @@
-use Rattle.std.proofs.Common.{arith, ap, ◌++◌, ◌∙◌, ◌<◌, length}
-use Rattle.tz_write.specs.FileBytes.{index_bytes}
+use Rattle.tz_write.proofs.Words.{ap, arith, index_bytes, length, ◌++◌, ◌<◌, ◌∙◌}
 use Rattle.tz_write.proofs.FilePushes.{flat_map_next}
 use Rattle.tz_write.proofs.file.contents.push_indexes.Goals as goal
 

@@ -1,6 +1,4 @@
-use Rattle.std.proofs.Common.{◌≡◌, ◌++◌, take}
-use Rattle.std.specs.List.{flat_map}
-use Rattle.tz_write.specs.FileBytes.{index_bytes}
+use Rattle.tz_write.proofs.Words.{flat_map, index_bytes, take, ◌++◌, ◌≡◌}
 use Rattle.tz_write.proofs.file.contents.push_indexes.Given as goal
 
 abbrev pub invariant-loop-place : goal.invariant-loop-place

@@ -1,8 +1,4 @@
-use Rattle.std.proofs.Common.{arith}
-use Rattle.std.proofs.lemmas.List.{take_all}
-use Rattle.std.proofs.lemmas.List.Elements.{All-more}
-use Rattle.tz_write.specs.FileBytes.{leap_bytes}
-use Rattle.tz_write.specs.WrittenFiles.{IsEntry}
+use Rattle.tz_write.proofs.Words.{All-more, IsEntry, arith, leap_bytes, take_all}
 use Rattle.tz_write.proofs.FilePushes.{flat_map_next}
 use Rattle.tz_write.proofs.file.contents.push_leap_seconds.Goals as goal
 

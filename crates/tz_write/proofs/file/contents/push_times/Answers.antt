@@ -1,8 +1,4 @@
-use Rattle.std.proofs.Common.{arith, ap, ◌++◌, ◌∙◌, ◌<◌, length}
-use Rattle.std.proofs.lemmas.List.{take_all}
-use Rattle.std.proofs.lemmas.List.Elements.{All-more}
-use Rattle.tz_write.specs.FileBytes.{time_bytes}
-use Rattle.tz_write.specs.WrittenFiles.{IsTime}
+use Rattle.tz_write.proofs.Words.{All-more, IsTime, ap, arith, length, take_all, time_bytes, ◌++◌, ◌<◌, ◌∙◌}
 use Rattle.tz_write.proofs.FilePushes.{flat_map_next}
 use Rattle.tz_write.proofs.file.contents.push_times.Goals as goal
 

@@ -1,8 +1,4 @@
-use Rattle.std.proofs.Common.{◌≡◌, ◌++◌, take}
-use Rattle.std.specs.Prelude.{All}
-use Rattle.std.specs.List.{flat_map}
-use Rattle.tz_write.specs.FileBytes.{time_bytes}
-use Rattle.tz_write.specs.WrittenFiles.{IsTime}
+use Rattle.tz_write.proofs.Words.{All, IsTime, flat_map, take, time_bytes, ◌++◌, ◌≡◌}
 use Rattle.tz_write.proofs.file.contents.push_times.Given as goal
 
 abbrev pub invariant-loop-place : goal.invariant-loop-place

@@ -1,7 +1,5 @@
-use Rattle.std.proofs.Common.{◌∙◌, [], subst, sym}
-use Rattle.std.proofs.lemmas.Bool.{false≢true}
-use Rattle.tz_write.specs.FileLayouts.{HavePlaces, laid}
-use Rattle.tz_write.proofs.FileLayouts.{laid_in_order, laid_if_any}
+use Rattle.tz_write.proofs.Words.{HavePlaces, false≢true, laid, subst, sym, [], ◌∙◌}
+use Rattle.tz_write.proofs.FileLayouts.{laid_if_any, laid_in_order}
 use Rattle.tz_write.proofs.file.designations.designations_of.Goals as goal
 
 pub returns-then-have_places : goal.returns-then-have_places

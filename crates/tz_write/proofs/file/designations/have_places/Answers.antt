@@ -1,7 +1,4 @@
-use Rattle.std.proofs.Common.{rules, ◌≡◌, arith, true, take, subst, refl}
-use Rattle.std.proofs.lemmas.List.{take_all}
-use Rattle.std.proofs.lemmas.List.Elements.{All-more}
-use Rattle.tz_write.specs.FileLayouts.{HasPlace, HavePlaces}
+use Rattle.tz_write.proofs.Words.{All-more, HasPlace, HavePlaces, arith, refl, rules, subst, take, take_all, true, ◌≡◌}
 use Rattle.tz_write.proofs.file.designations.have_places.Goals as goal
 
 pub loop-local-preserved : goal.loop-local-preserved

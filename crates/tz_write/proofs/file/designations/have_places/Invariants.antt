@@ -1,5 +1,4 @@
-use Rattle.std.proofs.Common.{take}
-use Rattle.tz_write.specs.FileLayouts.{HavePlaces}
+use Rattle.tz_write.proofs.Words.{HavePlaces, take}
 use Rattle.tz_write.proofs.file.designations.have_places.Given as goal
 
 abbrev pub invariant-loop-local : goal.invariant-loop-local

@@ -1,6 +1,4 @@
-use Rattle.std.proofs.Common.{◌≡◌, arith, inl, inr, subst}
-use Rattle.std.proofs.lemmas.Bool.{cases_lt}
-use Rattle.tz_write.specs.FileLayouts.{IsPlacedFrom}
+use Rattle.tz_write.proofs.Words.{IsPlacedFrom, arith, cases_lt, inl, inr, subst, ◌≡◌}
 use Rattle.tz_write.proofs.file.designations.laid_otherwise.Goals as goal
 
 pub loop-place-preserved : goal.loop-place-preserved

@@ -1,4 +1,4 @@
-use Rattle.tz_write.specs.FileLayouts.{AreNotPlacedBefore}
+use Rattle.tz_write.proofs.Words.{AreNotPlacedBefore}
 use Rattle.tz_write.proofs.file.designations.laid_otherwise.Given as goal
 
 abbrev pub invariant-loop-place : goal.invariant-loop-place

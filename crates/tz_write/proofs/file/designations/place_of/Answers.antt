@@ -1,5 +1,4 @@
-use Rattle.std.proofs.Common.{arith, sym, ap, ◌≡◌, ◌∙◌, true, false, drop}
-use Rattle.tz_write.specs.FileDesignations.{begins}
+use Rattle.tz_write.proofs.Words.{ap, arith, begins, drop, false, sym, true, ◌∙◌, ◌≡◌}
 use Rattle.tz_write.proofs.FilePlaces.{place_here, place_later}
 use Rattle.tz_write.proofs.file.designations.place_of.Goals as goal
 

@@ -1,5 +1,4 @@
-use Rattle.std.proofs.Common.{◌≡◌, ◌+◌, drop}
-use Rattle.tz_write.specs.FileDesignations.{place_of}
+use Rattle.tz_write.proofs.Words.{drop, place_of, ◌+◌, ◌≡◌}
 use Rattle.tz_write.proofs.file.designations.place_of.Given as goal
 
 abbrev pub invariant-loop-place : goal.invariant-loop-place

@@ -1,9 +1,4 @@
-use Rattle.std.proofs.Common.{take, sym, ap, ◌∙◌}
-use Rattle.std.specs.List.{fold}
-use Rattle.std.proofs.lemmas.List.Elements.{All-more}
-use Rattle.std.proofs.lemmas.List.Sums.{fold_more}
-use Rattle.tz_base.specs.Names.{IsNameOrNone}
-use Rattle.tz_write.specs.FileLayouts.{with_text_of}
+use Rattle.tz_write.proofs.Words.{All-more, IsNameOrNone, ap, fold, fold_more, sym, take, with_text_of, ◌∙◌}
 use Rattle.tz_write.proofs.file.designations.push_texts.Goals as goal
 
 pub loop-local-preserved : goal.loop-local-preserved

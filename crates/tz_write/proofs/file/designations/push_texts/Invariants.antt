@@ -1,8 +1,4 @@
-use Rattle.std.proofs.Common.{◌≡◌, take}
-use Rattle.std.specs.List.{fold}
-use Rattle.std.specs.Prelude.{All}
-use Rattle.tz_base.specs.Names.{IsNameOrNone}
-use Rattle.tz_write.specs.FileLayouts.{with_text_of}
+use Rattle.tz_write.proofs.Words.{All, IsNameOrNone, fold, take, with_text_of, ◌≡◌}
 use Rattle.tz_write.proofs.file.designations.push_texts.Given as goal
 
 abbrev pub invariant-loop-local : goal.invariant-loop-local

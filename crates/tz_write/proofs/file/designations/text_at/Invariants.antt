@@ -1,5 +1,4 @@
-use Rattle.std.proofs.Common.{◌≡◌, ◌++◌, drop, take}
-use Rattle.tz_write.specs.FileLayouts.{before_zero}
+use Rattle.tz_write.proofs.Words.{before_zero, drop, take, ◌++◌, ◌≡◌}
 use Rattle.tz_write.proofs.file.designations.text_at.Given as goal
 
 abbrev pub invariant-loop-end : goal.invariant-loop-end

@@ -1,8 +1,4 @@
-use Rattle.std.proofs.Common.{arith, ap, ◌++◌, ◌∙◌}
-use Rattle.std.proofs.lemmas.List.{take_all}
-use Rattle.std.proofs.lemmas.List.Elements.{All-more}
-use Rattle.tz_write.specs.FileBytes.{type_bytes}
-use Rattle.tz_write.specs.WrittenFiles.{IsType}
+use Rattle.tz_write.proofs.Words.{All-more, IsType, ap, arith, take_all, type_bytes, ◌++◌, ◌∙◌}
 use Rattle.tz_write.proofs.FilePushes.{flat_map_next}
 use Rattle.tz_write.proofs.file.types.push_types.Goals as goal
 

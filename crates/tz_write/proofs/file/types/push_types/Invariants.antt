@@ -1,8 +1,4 @@
-use Rattle.std.proofs.Common.{◌≡◌, ◌++◌, take}
-use Rattle.std.specs.Prelude.{All}
-use Rattle.std.specs.List.{flat_map}
-use Rattle.tz_write.specs.FileBytes.{type_bytes}
-use Rattle.tz_write.specs.WrittenFiles.{IsType}
+use Rattle.tz_write.proofs.Words.{All, IsType, flat_map, take, type_bytes, ◌++◌, ◌≡◌}
 use Rattle.tz_write.proofs.file.types.push_types.Given as goal
 
 abbrev pub invariant-loop-local : goal.invariant-loop-local

@@ -1,7 +1,4 @@
-use Rattle.std.proofs.Common.{ap, MatchResult, Result, Ok, Err, sym, subst, ◌∙◌}
-use Rattle.std.specs.Result.{IsErrAnd}
-use Rattle.tz_base.specs.Errors.{number_of, IsOutOfMemory}
-use Rattle.tz_info.specs.TzFiles.{IsTzFile}
+use Rattle.tz_write.proofs.Words.{Err, IsErrAnd, IsOutOfMemory, IsTzFile, MatchResult, Ok, Result, ap, number_of, subst, sym, ◌∙◌}
 use Rattle.tz_write.proofs.laws.files.written_and_read.Goals as goal
 
 pub returns-in_ok-from_tz_data-in-Some : goal.returns-in_ok-from_tz_data-in-Some

@@ -1,7 +1,5 @@
-use Rattle.std.proofs.Common.{◌≡◌, ℤ, pos, negsuc, int_lt, refl, arith, w32}
 use Rattle.std.proofs.lemmas.Int.{to_z-of_z}
-use Rattle.std.proofs.lemmas.Bool.{le-ltb}
-use Rattle.tz_write.specs.Steps.TextPieces.{is_negative}
+use Rattle.tz_write.proofs.Words.{arith, int_lt, is_negative, le-ltb, negsuc, pos, refl, w32, ℤ, ◌≡◌}
 use Rattle.tz_write.proofs.pieces.offset.is_negative.Goals as goal
 
 tested : (z : ℤ) → int_lt z (pos 0) ≡ is_negative z

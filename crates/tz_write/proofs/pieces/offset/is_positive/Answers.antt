@@ -1,7 +1,5 @@
-use Rattle.std.proofs.Common.{◌≡◌, ℤ, pos, negsuc, zero, suc, int_lt, refl, arith, w32}
 use Rattle.std.proofs.lemmas.Int.{to_z-of_z}
-use Rattle.std.proofs.lemmas.Bool.{lt-ltb}
-use Rattle.tz_write.specs.Steps.TextPieces.{is_positive}
+use Rattle.tz_write.proofs.Words.{arith, int_lt, is_positive, lt-ltb, negsuc, pos, refl, suc, w32, zero, ℤ, ◌≡◌}
 use Rattle.tz_write.proofs.pieces.offset.is_positive.Goals as goal
 
 tested : (z : ℤ) → int_lt (pos 0) z ≡ is_positive z

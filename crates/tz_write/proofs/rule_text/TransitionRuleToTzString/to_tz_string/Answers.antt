@@ -1,6 +1,4 @@
-use Rattle.std.proofs.Common.{◌≡◌, List, ℕ, true, false, not, subst, sym, rules}
-use Rattle.tz_write.specs.WrittenTexts.{CanBeSpelled, AreTimesOf, IsWrittenText}
-use Rattle.tz_write.specs.Steps.TextPieces.{text_of}
+use Rattle.tz_write.proofs.Words.{AreTimesOf, CanBeSpelled, IsWrittenText, List, false, not, rules, subst, sym, text_of, true, ℕ, ◌≡◌}
 use Rattle.tz_write.proofs.RuleTexts.{rule_spelled, times_extended, unspelled, written}
 use Rattle.tz_write.proofs.ZoneTexts.{on_err}
 use Rattle.tz_write.proofs.rule_text.TransitionRuleToTzString.to_tz_string.Goals as goal

@@ -1,10 +1,6 @@
-use Rattle.std.proofs.Common.{◌≡◌, [], rules, subst, Some, None, MatchOption, MatchResult, string_bytes}
-use Rattle.std.specs.Result.{IfOk}
-use Rattle.tz_base.specs.Errors.{IsOutOfMemory}
-use Rattle.tz_info.specs.RuleTypes.{IsRule}
-use Rattle.tz_info.specs.Zones.{Zone}
-use Rattle.tz_write.specs.WrittenTexts.{IsOfText, IsWrittenZone, IsNoPosixZone}
-use Rattle.tz_write.proofs.ZoneTexts.{zone_is, gives_same_zone, on_err_to}
+use Rattle.tz_write.proofs.Words.{IfOk, IsNoPosixZone, IsOfText, IsOutOfMemory, IsRule, IsWrittenZone, MatchOption, MatchResult, None, Some, Zone, rules}
+use Rattle.tz_write.proofs.Words.{string_bytes, subst, [], ◌≡◌}
+use Rattle.tz_write.proofs.ZoneTexts.{gives_same_zone, on_err_to, zone_is}
 use Rattle.tz_write.proofs.zone_text.TimeZoneToPosixTz.to_posix_tz.Goals as goal
 
 pub returns-in-Some : goal.returns-in-Some

@@ -1,5 +1,4 @@
-use Rattle.std.proofs.Common.{FitsSigned, inr, rules, to_z-of_z, w64}
-use Rattle.zoned_ffi.specs.Handles.{IsLent}
+use Rattle.zoned_ffi.proofs.Words.{FitsSigned, IsLent, inr, rules, to_z-of_z, w64}
 use Rattle.zoned_ffi.proofs.asking.locals.zoned_zone_gap.Goals as goal
 
 pub returns-clause-refused : goal.returns-clause-refused

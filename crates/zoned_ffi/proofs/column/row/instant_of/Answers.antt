@@ -1,9 +1,5 @@
-use Rattle.std.proofs.Common.{◌∙◌, FitsSigned, Some, None, ap, arith, rules, subst, to_z-of_z, w64}
-use Rattle.naive_base.specs.Range.{IsInRange}
+use Rattle.zoned_ffi.proofs.Words.{FitsSigned, IsInRange, IsNoInstant, IsNoneTaken, IsTakenAs, None, Some, ap, arith, rules, subst, to_z-of_z, w64, ◌∙◌}
 use Rattle.zoned_ffi.proofs.Columns.{instant_told}
-use Rattle.zoned_ffi.specs.Columns.{IsNoInstant}
-use Rattle.zoned_ffi.specs.Resolved.{IsNoneTaken}
-use Rattle.zoned_ffi.specs.Steps.ResolvedInstants.{IsTakenAs}
 use Rattle.zoned_ffi.proofs.column.row.instant_of.Goals as goal
 
 pub returns-in-Some-instant_taken : goal.returns-in-Some-instant_taken

@@ -1,6 +1,4 @@
-use Rattle.std.proofs.Common.{FitsSigned, to_z-of_z, w32, w64, ◌∙◌, ap, ◌*ℤ◌, ℤ, pos, rules, subst}
-use Rattle.tz_info.specs.Zones.{IsTypeRefused, TypeAt}
-use Rattle.zoned_ffi.specs.Units.{no_type, per_second}
+use Rattle.zoned_ffi.proofs.Words.{FitsSigned, IsTypeRefused, TypeAt, ap, no_type, per_second, pos, rules, subst, to_z-of_z, w32, w64, ℤ, ◌*ℤ◌, ◌∙◌}
 use Rattle.zoned_ffi.proofs.Columns.{looked_up}
 use Rattle.zoned_ffi.proofs.column.row.local_of.Goals as goal
 

@@ -1,20 +1,13 @@
-use mir.Raw.{raw}
-use base.Shift.{Keyless}
-use denote.Memory.{lone}
-use denote.RawPtr.{Ptr}
-use denote.Param.Send.{IsSend, owning_send, struct_send, sendable}
-use denote.Builtin.{RawPtr}
-use denote.Struct.Struct.{exits_of}
-use denote.Struct.Owning.{shape, fields, to}
-use Rattle.std_alloc.proofs.SendSync.{quiet, lies}
 use Rattle.std.proofs.Crossing as crossing
 use Rattle.std.proofs.alloc.Global.TheSendSync as heap
+use Rattle.std.specs.declared.alloc.Global.{Global}
 use Rattle.std.specs.declared.option.Option.{Option}
 use Rattle.std.specs.declared.option.Option.TheVariants.{None, Some}
-use Rattle.std.specs.declared.alloc.Global.{Global}
+use Rattle.std_alloc.proofs.SendSync.{lies, quiet}
+use mir.Raw.{raw}
 use Rattle.tz_info.proofs.zone.time_zone.TimeZone.TheSendSync as zone_crosses
 use Rattle.tz_info.specs.contracts.zone.time_zone.TimeZone as zone
-use Rattle.zoned_ffi.specs.Owned.{held, shared_row}
+use Rattle.zoned_ffi.proofs.Words.{IsSend, Keyless, Ptr, RawPtr, exits_of, fields, held, lone, owning_send, sendable, shape, shared_row, struct_send, to}
 use Rattle.zoned_ffi.specs.contracts.handle.Handle.{the_row, the_type}
 
 a_share : IsSend shared_row

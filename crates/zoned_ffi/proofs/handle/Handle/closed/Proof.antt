@@ -1,29 +1,15 @@
 -- `closed` makes a handle at null, which owns nothing.
-use Rattle.std.proofs.Common.{◌≡◌, List, [], ◌∷◌, ◌++◌, refl, sym, subst}
-use mir.Val.{Val}
-use base.Logic.{SProp, ent, emp, id⊢}
-use base.Fml.{ftrue, fsep}
-use prog.Wp.{WpFn}
-use types.Kit.{‵, raw, ◌⊛◌, ◌$◌, ◌∵◌, !, qed, by, move, keep, split, fsplit, fjoin, fpack, suffices, use0}
-use types.Run.{lit, no_more, and_then, returns, enter}
-use types.ByLocal.{alloc_all, pass_all, free_all, look_at, get, sets}
-use types.Part.{agg}
-use contract.Monad.{fact, fact_i}
-use contract.Running.{tables}
-use denote.Exit.{yes}
-use denote.Signature.{plain}
-use denote.RawPtr.{null_ptr, ptr_val}
-use denote.Steps.{nothing}
-use denote.Triple.Walked.{Stays, stay_dropped, walk_of, Goes-dropped}
-use Rattle.std.proofs.alloc.Calls.{handle_tells}
-use Rattle.std.specs.declared.option.Option.TheVariants.{None}
 use Rattle.std.specs.contracts.impls.GlobalAllocator.TheImpl.{ghosts}
-use Rattle.std.proofs.raw_atomic.Walks.{proved_at, leaves}
-use Rattle.zoned_ffi.proofs.Slots.{allocator, two}
-use Rattle.zoned_ffi.proofs.Handles.{R, Z, LZ, null_fits, handle_in}
+use Rattle.std.specs.declared.option.Option.TheVariants.{None}
+use Rattle.zoned_ffi.proofs.Words.{Goes-dropped, List, SProp, Stays, Val, WpFn, agg, alloc_all, and_then, by, emp, ent, enter, fact, fact_i, fjoin, fpack}
+use Rattle.zoned_ffi.proofs.Words.{free_all, fsep, fsplit, ftrue, get, handle_tells, id⊢, keep, leaves, lit, look_at, move, no_more, nothing, null_ptr}
+use Rattle.zoned_ffi.proofs.Words.{pass_all, plain, proved_at, ptr_val, qed, raw, refl, returns, sets, split, stay_dropped, subst, suffices, sym, tables, use0}
+use Rattle.zoned_ffi.proofs.Words.{walk_of, yes, !, [], ‵, ◌$◌, ◌++◌, ◌∵◌, ◌∷◌, ◌≡◌, ◌⊛◌}
 use Rattle.zoned_ffi.specs.contracts.handle.Handle.closed as f
-use Rattle.zoned_ffi.proofs.handle.Handle.closed.Statement.{statement}
+use Rattle.zoned_ffi.proofs.Handles.{LZ, R, Z, handle_in, null_fits}
+use Rattle.zoned_ffi.proofs.Slots.{allocator, two}
 use Rattle.zoned_ffi.proofs.handle.Handle.closed.Code as code
+use Rattle.zoned_ffi.proofs.handle.Handle.closed.Statement.{statement}
 
 abbrev stayed : Stays f.ended.signature.params f.ended.kept
 stayed = (stay_dropped (plain (λ _. Z)) yes, tt)

@@ -1,29 +1,15 @@
 -- `from_slot` keeps the pointer of the slot, and forgets its type.
-use Rattle.std.proofs.Common.{◌≡◌, List, [], ◌∷◌, ◌++◌, refl, sym, subst}
-use mir.Val.{Val, vptr}
-use base.Logic.{SProp, ent, emp, id⊢}
-use base.Fml.{ftrue, fsep}
-use prog.Wp.{WpFn}
-use types.Kit.{‵, raw, ◌⊛◌, ◌$◌, ◌∵◌, !, qed, by, move, keep, split, fsplit, fjoin, suffices, use0}
-use types.Run.{stop, fld, of_opd, no_more, and_then, returns, enter}
-use types.ByLocal.{alloc_all, pass_all, free_all, look_at, get, get_in, sets}
-use types.Part.{agg, sub, whole}
-use contract.Monad.{fact, fact_i}
-use contract.Running.{tables}
-use denote.Exit.{yes}
-use denote.RattleType.{RattleType}
-use denote.Signature.{plain}
-use denote.RawPtr.{block_ptr}
-use denote.Steps.{nothing}
-use denote.Triple.Walked.{Stays, stay_dropped, walk_of, Goes-dropped}
-use Rattle.std.specs.declared.option.Option.TheVariants.{Some}
 use Rattle.std.specs.contracts.impls.GlobalAllocator.TheImpl.{ghosts}
-use Rattle.std.proofs.raw_atomic.Walks.{proved_at, leaves}
-use Rattle.zoned_ffi.proofs.Slots.{two, Slot, slot_fits, slot_out}
-use Rattle.zoned_ffi.proofs.Handles.{R, Z, LZ, handle_in}
+use Rattle.std.specs.declared.option.Option.TheVariants.{Some}
+use Rattle.zoned_ffi.proofs.Words.{Goes-dropped, List, RattleType, SProp, Stays, Val, WpFn, agg, alloc_all, and_then, block_ptr, by, emp, ent, enter, fact}
+use Rattle.zoned_ffi.proofs.Words.{fact_i, fjoin, fld, free_all, fsep, fsplit, ftrue, get, get_in, id⊢, keep, leaves, look_at, move, no_more, nothing, of_opd}
+use Rattle.zoned_ffi.proofs.Words.{pass_all, plain, proved_at, qed, raw, refl, returns, sets, split, stay_dropped, stop, sub, subst, suffices, sym, tables}
+use Rattle.zoned_ffi.proofs.Words.{use0, vptr, walk_of, whole, yes, !, [], ‵, ◌$◌, ◌++◌, ◌∵◌, ◌∷◌, ◌≡◌, ◌⊛◌}
 use Rattle.zoned_ffi.specs.contracts.handle.Handle.from_slot as f
-use Rattle.zoned_ffi.proofs.handle.Handle.from_slot.Statement.{statement}
+use Rattle.zoned_ffi.proofs.Handles.{LZ, R, Z, handle_in}
+use Rattle.zoned_ffi.proofs.Slots.{Slot, slot_fits, slot_out, two}
 use Rattle.zoned_ffi.proofs.handle.Handle.from_slot.Code as code
+use Rattle.zoned_ffi.proofs.handle.Handle.from_slot.Statement.{statement}
 
 abbrev Sl : RattleType
 Sl = Slot R Z LZ ghosts

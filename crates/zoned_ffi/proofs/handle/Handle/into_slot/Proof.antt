@@ -1,35 +1,17 @@
 -- `into_slot` tests the pointer, and gives the slot back where there is one.
-use Rattle.std.proofs.Common.{◌≡◌, List, [], ◌∷◌, ◌++◌, refl, sym, ap, ◌∙◌, subst, lit<}
-use mir.Val.{Val, vptr, vcons, vnil}
-use base.Logic.{SProp, ent, emp, id⊢}
-use base.Fml.{ftrue, fsep}
-use prog.Wp.{WpFn}
-use types.Kit.{‵, raw, ◌⊛◌, at_ret, ◌$◌, ◌∵◌, !, qed, by, move, keep, split, fsplit, fjoin, suffices, use0, use1}
-use types.Run.{stop, fld, lit, of_opd, bin, no_more, and_then, first, branches, exec, returns, enter}
-use types.ByLocal.{alloc_all, pass_all, free_all, look_at, get, get_in, sets, sets_last, env}
-use types.Part.{agg, sub, whole}
-use types.Match.{live}
-use contract.Monad.{fact, fact_i}
-use contract.Running.{tables}
-use denote.Exit.{yes}
-use denote.RattleType.{RattleType}
-use denote.Param.{layout}
-use denote.Signature.{type_at, plain}
-use denote.RawPtr.{Ptr, block_ptr, null_ptr, ptr_val, tests_null}
-use denote.Steps.{nothing}
-use denote.Triple.Walked.{Stays, stay_dropped, walk_of, Goes-dropped}
-use Rattle.std.specs.declared.option.Option.TheVariants.{None, Some}
 use Rattle.std.specs.contracts.impls.GlobalAllocator.TheImpl.{ghosts}
-use Rattle.std.proofs.alloc.Shapes.{after}
-use Rattle.std.proofs.cell.Inside.{Good}
-use Rattle.std.proofs.option.Made.{Some-of, none_of}
-use Rattle.std.proofs.ResultValues.{and_tt}
-use Rattle.std.proofs.raw_atomic.Walks.{proved_at, leaves}
-use Rattle.zoned_ffi.proofs.Slots.{two, Slot, slot_fits, slot_in}
-use Rattle.zoned_ffi.proofs.Handles.{R, Z, LZ, Hd, null_fits_word, null_fits, handle_out, null_or_block}
+use Rattle.std.specs.declared.option.Option.TheVariants.{None, Some}
+use Rattle.zoned_ffi.proofs.Words.{Goes-dropped, Good, List, Ptr, RattleType, SProp, Some-of, Stays, Val, WpFn, after, agg, alloc_all, and_then, and_tt, ap}
+use Rattle.zoned_ffi.proofs.Words.{at_ret, bin, block_ptr, branches, by, emp, ent, enter, env, exec, fact, fact_i, first, fjoin, fld, free_all, fsep, fsplit}
+use Rattle.zoned_ffi.proofs.Words.{ftrue, get, get_in, id⊢, keep, layout, leaves, lit, lit<, live, look_at, move, no_more, none_of, nothing, null_ptr, of_opd}
+use Rattle.zoned_ffi.proofs.Words.{pass_all, plain, proved_at, ptr_val, qed, raw, refl, returns, sets, sets_last, split, stay_dropped, stop, sub, subst}
+use Rattle.zoned_ffi.proofs.Words.{suffices, sym, tables, tests_null, type_at, use0, use1, vcons, vnil, vptr, walk_of, whole, yes, !, [], ‵, ◌$◌, ◌++◌, ◌∙◌}
+use Rattle.zoned_ffi.proofs.Words.{◌∵◌, ◌∷◌, ◌≡◌, ◌⊛◌}
 use Rattle.zoned_ffi.specs.contracts.handle.Handle.into_slot as f
-use Rattle.zoned_ffi.proofs.handle.Handle.into_slot.Statement.{statement}
+use Rattle.zoned_ffi.proofs.Handles.{Hd, LZ, R, Z, handle_out, null_fits, null_fits_word, null_or_block}
+use Rattle.zoned_ffi.proofs.Slots.{Slot, slot_fits, slot_in, two}
 use Rattle.zoned_ffi.proofs.handle.Handle.into_slot.Code as code
+use Rattle.zoned_ffi.proofs.handle.Handle.into_slot.Statement.{statement}
 
 abbrev Sl : RattleType
 Sl = Slot R Z LZ ghosts

@@ -1,17 +1,10 @@
-use base.Shift.{Keyless}
-use denote.Param.Send.{IsSend, owning_send, struct_send, sendable}
-use denote.Builtin.{RawPtr}
-use denote.RawPtr.{Ptr}
-use denote.Struct.Struct.{exits_of}
-use denote.Struct.Owning.{shape, fields, to}
-use Rattle.std_alloc.proofs.SendSync.{quiet, seen}
 use Rattle.std.proofs.Crossing as crossing
-use Rattle.std.specs.Prelude.{ℕ, [], ◌∷◌}
 use Rattle.std.specs.declared.option.Option.{Option}
 use Rattle.std.specs.declared.option.Option.TheVariants.{None, Some}
+use Rattle.std_alloc.proofs.SendSync.{quiet, seen}
 use Rattle.tz_info.proofs.zone.time_zone.TimeZone.TheSendSync as zone_crosses
 use Rattle.tz_info.specs.contracts.zone.time_zone.TimeZone as zone
-use Rattle.zoned_ffi.specs.Owned.{lent, shared_row}
+use Rattle.zoned_ffi.proofs.Words.{IsSend, Keyless, Ptr, RawPtr, exits_of, fields, lent, owning_send, sendable, shape, shared_row, struct_send, to, ℕ, [], ◌∷◌}
 use Rattle.zoned_ffi.specs.contracts.lent.Lent.{the_row, the_type}
 
 lent_keyless : (a : ℕ) (p : Ptr) (k : Option shared_row.Denot) → Keyless (lent shared_row a p k)

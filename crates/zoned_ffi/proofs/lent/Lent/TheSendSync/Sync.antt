@@ -1,4 +1,4 @@
-use denote.Param.Send.{IsSync, part_keyless}
+use Rattle.zoned_ffi.proofs.Words.{IsSync, part_keyless}
 use Rattle.zoned_ffi.specs.contracts.lent.Lent.{the_row}
 use Rattle.zoned_ffi.proofs.lent.Lent.TheSendSync.Send.{send}
 

@@ -1,35 +1,17 @@
 -- `share` reads the pointer, tests it, and lends the value there for as long as the handle is lent. Assumes `Logic`.
-use Rattle.std.proofs.Common.{◌≡◌, ℕ, List, [], ◌∷◌, refl, sym, lit<}
-use mir.Syntax.{named}
-use mir.Val.{Val, vptr, vcons, vnil}
-use base.Logic.{SProp, emp}
-use base.Fml.{Lft, Share, ftrue, flft}
-use types.Kit.{‵, raw, ◌⊛◌, at_ret, ◌$◌, ◌∵◌, !, qed, by, move, keep, drop, split, join, fsplit, fjoin, use0, use1, rewrite, feq_i}
-use types.Run.{stop, fld, load, lit, of_opd, addr, bin, no_more, and_then, first, blocks, branches, skips, exec, returns, returns_within, enter}
-use types.ByLocal.{alloc_all, pass_all, free_all, look_at, get, through, sets, sets_last, env}
-use types.Part.{agg, sub, whole, look_in}
-use types.Match.{live}
-use contract.Monad.{fact, fact_i}
-use contract.Running.{tables}
-use denote.Exit.{yes}
-use denote.RattleType.{RattleType, owns}
-use denote.Builtin.{RefOf}
-use denote.Ref.{Bor, ShrRef, shr_vals, shr_Tells}
-use denote.Memory.{cell_at}
-use denote.Opens.{hide}
-use denote.Signature.{plain, types_at}
-use denote.RawPtr.{Ptr, block_ptr, tests_null}
-use denote.Steps.{nothing}
-use denote.Triple.Walked.{Stays, stay_dropped, walk_of, Goes-dropped}
-use Rattle.std.specs.declared.option.Option.TheVariants.{None, Some}
 use Rattle.std.specs.contracts.option.Option as OP
-use Rattle.std.proofs.alloc.Shapes.{after}
-use Rattle.std.proofs.option.Made.{Some-of, none_of}
-use Rattle.std.proofs.raw_atomic.Walks.{proved, leaves}
-use Rattle.zoned_ffi.proofs.Lending.{R, Le, word, null_or_lent, reads, read}
+use Rattle.std.specs.declared.option.Option.TheVariants.{None, Some}
+use types.Kit.{drop}
+use Rattle.zoned_ffi.proofs.Words.{Bor, Goes-dropped, Lft, List, Ptr, RattleType, RefOf, SProp, Share, ShrRef, Some-of, Stays, Val, addr, after, agg, alloc_all}
+use Rattle.zoned_ffi.proofs.Words.{and_then, at_ret, bin, block_ptr, blocks, branches, by, cell_at, emp, enter, env, exec, fact, fact_i, feq_i, first, fjoin}
+use Rattle.zoned_ffi.proofs.Words.{fld, flft, free_all, fsplit, ftrue, get, hide, join, keep, leaves, lit, lit<, live, load, look_at, look_in, move, named}
+use Rattle.zoned_ffi.proofs.Words.{no_more, none_of, nothing, of_opd, owns, pass_all, plain, proved, qed, raw, refl, returns, returns_within, rewrite, sets}
+use Rattle.zoned_ffi.proofs.Words.{sets_last, shr_Tells, shr_vals, skips, split, stay_dropped, stop, sub, sym, tables, tests_null, through, types_at, use0}
+use Rattle.zoned_ffi.proofs.Words.{use1, vcons, vnil, vptr, walk_of, whole, yes, ℕ, !, [], ‵, ◌$◌, ◌∵◌, ◌∷◌, ◌≡◌, ◌⊛◌}
 use Rattle.zoned_ffi.specs.contracts.lent.Lent.share as f
-use Rattle.zoned_ffi.proofs.lent.Lent.share.Statement.{statement}
+use Rattle.zoned_ffi.proofs.Lending.{Le, R, null_or_lent, read, reads, word}
 use Rattle.zoned_ffi.proofs.lent.Lent.share.Code as code
+use Rattle.zoned_ffi.proofs.lent.Lent.share.Statement.{statement}
 
 abbrev stayed : Stays f.ended.signature.params f.ended.kept
 stayed = (stay_dropped (RefOf (0 ∷ []) tt (plain (λ _. Le)) (λ _. tt)) yes, tt)

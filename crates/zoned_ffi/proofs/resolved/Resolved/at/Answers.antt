@@ -1,9 +1,6 @@
-use Rattle.std.proofs.Common.{◌∙◌, ◌-ℤ◌, ◌≡◌, FitsSigned, ap, rules, subst, to_z-of_z, w32, w64}
-use Rattle.zoned_ffi.proofs.Resolving.{ended_by, resolved_by}
-use Rattle.zoned_ffi.specs.Instants.{IsOffsetAt}
-use Rattle.zoned_ffi.specs.Resolved.{IsNoneTaken, IsResolvedAt}
-use Rattle.zoned_ffi.specs.Steps.ResolvedInstants.{IsStamp, IsTakenAs}
+use Rattle.zoned_ffi.proofs.Words.{FitsSigned, IsNoneTaken, IsOffsetAt, IsResolvedAt, IsStamp, IsTakenAs, ap, rules, subst, to_z-of_z, w32, w64, ◌-ℤ◌, ◌∙◌, ◌≡◌}
 use Rattle.zoned_ffi.specs.declared.resolved.Taken.TheVariants.{BeforeGap, GapEnd, InForce}
+use Rattle.zoned_ffi.proofs.Resolving.{ended_by, resolved_by}
 use Rattle.zoned_ffi.proofs.resolved.Resolved.at.Goals as goal
 
 pub returns-in-Ok-InForce : goal.returns-in-Ok-InForce

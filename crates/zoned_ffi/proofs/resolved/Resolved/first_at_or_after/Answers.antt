@@ -1,8 +1,5 @@
-use Rattle.std.proofs.Common.{FitsSigned, ap, rules, subst, to_z-of_z, w32, w64}
-use Rattle.tz_info.specs.ShownSeconds.{IsFirstAtOrAfter}
-use Rattle.tz_info.specs.Zones.{TypeAt}
+use Rattle.zoned_ffi.proofs.Words.{FitsSigned, IsFirstAtOrAfter, IsStamp, TypeAt, ap, rules, subst, to_z-of_z, w32, w64}
 use Rattle.zoned_ffi.proofs.Resolving.{reached_by}
-use Rattle.zoned_ffi.specs.Steps.ResolvedInstants.{IsStamp}
 use Rattle.zoned_ffi.proofs.resolved.Resolved.first_at_or_after.Goals as goal
 
 pub returns : goal.returns

@@ -1,42 +1,22 @@
 -- `into_box` takes the slot apart, and makes the box of its parts.
-use Rattle.std.proofs.Common.{◌≡◌, List, [], ◌∷◌, ◌++◌, refl, sym, ap, subst}
-use mir.Syntax.{a_type, dcons, dnil}
-use mir.Val.{Val, vptr}
-use mir.MapTy.{inst_fn}
-use base.Logic.{SProp, ent, id⊢}
-use base.Fml.{ftrue, flft}
-use prog.Wp.{WpFn}
-use types.Kit.{‵, raw, ◌⊛◌, some, later, at_ret, ◌$◌, ◌∵◌, !, qed, by, move, keep, drop, split, split3, join, fsplit, fjoin, pick, suffices, use1, await, rewrite, feq_i}
-use types.Run.{stop, fld, of_opd, no_more, and_then, first, blocks, exec, returns, enter}
-use types.ByLocal.{alloc_all, pass_all, free_all, look_at, get, get_in, sets, lands_last, env}
-use types.Part.{sub, whole}
-use contract.Monad.{fact}
-use contract.BorrowLft.{◌⊑◌}
-use contract.Running.{tables}
-use denote.Exit.{no}
-use denote.RattleType.{RattleType, owns}
-use denote.Signature.{types_at, plain}
-use denote.RawPtr.{block_ptr}
-use denote.Steps.{nothing, only}
-use denote.Param.{param, layout, bounded}
-use denote.Param.Laws.{param_laws}
-use denote.Triple.Clauses.{Lasts, lasts}
-use denote.Triple.Spec.{triple_of}
-use denote.Triple.Call.{calls_at_last}
-use denote.Triple.Table.{framed}
-use denote.Triple.Walked.{Stays, stay_dropped, walk_of}
 use Rattle.core.proofs.alloc.Calls.{Goes-blank}
 use Rattle.core.proofs.alloc.Shapes.{after}
 use Rattle.core.proofs.cell.Inside.{Good}
-use Rattle.std.proofs.raw_atomic.Walks.{proved_at, leaves}
 use Rattle.std_alloc.proofs.BoxSteps.Form as box
-use Rattle.std_alloc.proofs.BoxSteps.Steps.{box_out, box_in}
-use Rattle.std_alloc.specs.contracts.boxed.Box.from_raw as made
+use Rattle.std_alloc.proofs.BoxSteps.Steps.{box_in, box_out}
 use Rattle.std_alloc.proofs.boxed.Box.from_raw.Met.{met}
-use Rattle.zoned_ffi.proofs.Slots.{two, Slot, slot_fits, slot_out}
+use Rattle.std_alloc.specs.contracts.boxed.Box.from_raw as made
+use types.Kit.{drop}
+use Rattle.zoned_ffi.proofs.Words.{Lasts, List, RattleType, SProp, Stays, Val, WpFn, a_type, alloc_all, and_then, ap, at_ret, await, block_ptr, blocks, bounded}
+use Rattle.zoned_ffi.proofs.Words.{by, calls_at_last, dcons, dnil, ent, enter, env, exec, fact, feq_i, first, fjoin, fld, flft, framed, free_all, fsplit, ftrue}
+use Rattle.zoned_ffi.proofs.Words.{get, get_in, id⊢, inst_fn, join, keep, lands_last, lasts, later, layout, leaves, look_at, move, no, no_more, nothing, of_opd}
+use Rattle.zoned_ffi.proofs.Words.{only, owns, param, param_laws, pass_all, pick, plain, proved_at, qed, raw, refl, returns, rewrite, sets, some, split, split3}
+use Rattle.zoned_ffi.proofs.Words.{stay_dropped, stop, sub, subst, suffices, sym, tables, triple_of, types_at, use1, vptr, walk_of, whole, !, [], ‵, ◌$◌, ◌++◌}
+use Rattle.zoned_ffi.proofs.Words.{◌∵◌, ◌∷◌, ◌≡◌, ◌⊑◌, ◌⊛◌}
 use Rattle.zoned_ffi.specs.contracts.slot.Slot.into_box as f
-use Rattle.zoned_ffi.proofs.slot.Slot.into_box.Statement.{statement}
+use Rattle.zoned_ffi.proofs.Slots.{Slot, slot_fits, slot_out, two}
 use Rattle.zoned_ffi.proofs.slot.Slot.into_box.Code as code
+use Rattle.zoned_ffi.proofs.slot.Slot.into_box.Statement.{statement}
 
 pub into_box_spec : {M : Type 1} → statement M
 into_box_spec 𝓤 𝓛 𝓜 𝓡 wired T A L LA g d dx dd allocator glue glued =

@@ -1,9 +1,5 @@
-use Rattle.std.proofs.Common.{FitsSigned, ap, inl, subst, to_z-of_z, w64}
-use Rattle.offset_core.specs.WallAnswer.{IsWallAnswer}
-use Rattle.tz_info.specs.WallClocks.{Shows}
-use Rattle.tz_info.specs.Zones.{TypeAt}
+use Rattle.zoned_ffi.proofs.Words.{FitsSigned, IsWallAnswer, Shows, TypeAt, ap, inl, subst, to_z-of_z, told_of, w64}
 use Rattle.zoned_ffi.proofs.Telling.{told_answer}
-use Rattle.zoned_ffi.specs.Steps.Told.{told_of}
 use Rattle.zoned_ffi.proofs.wall_clock.WallClock.at.Goals as goal
 
 pub returns : goal.returns

@@ -1,5 +1,4 @@
-use Rattle.std.proofs.Common.{◌-ℤ◌, FitsSigned, arith, to_z-of_z, w32, w64}
-use Rattle.std.proofs.lemmas.Int.{ints}
+use Rattle.zoned_ffi.proofs.Words.{FitsSigned, arith, ints, to_z-of_z, w32, w64, ◌-ℤ◌}
 use Rattle.zoned_ffi.proofs.wall_clock.WallClock.between.Goals as goal
 
 pub returns : goal.returns

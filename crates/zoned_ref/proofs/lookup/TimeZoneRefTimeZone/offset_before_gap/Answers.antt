@@ -1,5 +1,4 @@
-use Rattle.naive_base.specs.NaiveDateTime.{reading}
-use Rattle.zoned_ref.specs.ZoneOffset.{law_of}
+use Rattle.zoned_ref.proofs.Words.{law_of, reading}
 use Rattle.zoned_ref.proofs.Gaps.{before_within, gap_given, no_gap}
 use Rattle.zoned_ref.proofs.Homes.{in_force_by, same_law}
 use Rattle.zoned_ref.proofs.lookup.TimeZoneRefTimeZone.offset_before_gap.Goals as goal

@@ -1,6 +1,5 @@
-use Rattle.offset_core.specs.declared.local_result.LocalResult.TheVariants.{Single, Ambiguous}
-use Rattle.naive_base.specs.NaiveDateTime.{reading}
-use Rattle.zoned_ref.specs.ZoneOffset.{law_of}
+use Rattle.offset_core.specs.declared.local_result.LocalResult.TheVariants.{Ambiguous, Single}
+use Rattle.zoned_ref.proofs.Words.{law_of, reading}
 use Rattle.zoned_ref.proofs.Homes.{in_force_by, same_law}
 use Rattle.zoned_ref.proofs.Walls.{each_within, one_given, two_given}
 use Rattle.zoned_ref.proofs.lookup.TimeZoneRefTimeZone.offset_from_local_datetime.Goals as goal

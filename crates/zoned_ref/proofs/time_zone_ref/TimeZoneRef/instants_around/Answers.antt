@@ -1,7 +1,5 @@
-use Rattle.std.proofs.Common.{ap, to_z-of_z}
-use Rattle.zoned_time.specs.DateTime.{zoned}
-use Rattle.zoned_ref.specs.ZoneOffset.{law_of, type_of}
-use Rattle.zoned_ref.proofs.Changes.{change_is, around_by}
+use Rattle.zoned_ref.proofs.Words.{ap, law_of, to_z-of_z, type_of, zoned}
+use Rattle.zoned_ref.proofs.Changes.{around_by, change_is}
 use Rattle.zoned_ref.proofs.time_zone_ref.TimeZoneRef.instants_around.Goals as goal
 
 pub returns : goal.returns

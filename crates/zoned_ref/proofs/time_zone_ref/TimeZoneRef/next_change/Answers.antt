@@ -1,10 +1,4 @@
-use Rattle.std.proofs.Common.{arith, subst, to_z-of_z, w64, SFits}
-use Rattle.std.proofs.lemmas.Int.{ints}
-use Rattle.tz_info.specs.Zones.{TypeAt}
-use Rattle.zoned_time.specs.DateTime.{zoned}
-use Rattle.zoned_ref.specs.Offsets.{AreOffsetsOf}
-use Rattle.zoned_ref.specs.TimeZoneRef.{zone_of, off_of}
-use Rattle.zoned_ref.specs.ZoneChange.{IsOfZone, change_of}
+use Rattle.zoned_ref.proofs.Words.{AreOffsetsOf, IsOfZone, SFits, TypeAt, arith, change_of, ints, off_of, subst, to_z-of_z, w64, zone_of, zoned}
 use Rattle.zoned_ref.proofs.Changes.{first_told, none_after, stand_until}
 use Rattle.zoned_ref.proofs.time_zone_ref.TimeZoneRef.next_change.Goals as goal
 

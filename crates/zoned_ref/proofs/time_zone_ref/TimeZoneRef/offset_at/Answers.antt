@@ -1,7 +1,4 @@
-use Rattle.std.proofs.Common.{subst, to_z-of_z}
-use Rattle.tz_info.specs.Zones.{TypeAt}
-use Rattle.zoned_time.specs.Zone.{IsOffsetAt}
-use Rattle.tz_info.proofs.ForCallers.{type_not_refused}
+use Rattle.zoned_ref.proofs.Words.{IsOffsetAt, TypeAt, subst, to_z-of_z, type_not_refused}
 use Rattle.zoned_ref.proofs.time_zone_ref.TimeZoneRef.offset_at.Goals as goal
 
 pub unreachable-requires : goal.unreachable-requires

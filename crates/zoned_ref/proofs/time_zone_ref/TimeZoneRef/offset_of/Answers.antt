@@ -1,6 +1,4 @@
-use Rattle.std.proofs.Common.{sym, ap, ◌∙◌, refl}
-use Rattle.tz_info.proofs.ForCallers.{type_once}
-use Rattle.zoned_ref.specs.TimeZoneRef.{zone_of}
+use Rattle.zoned_ref.proofs.Words.{ap, refl, sym, type_once, zone_of, ◌∙◌}
 use Rattle.zoned_ref.proofs.Homes.{in_force_by, same_law}
 use Rattle.zoned_ref.proofs.Offsets.{type_within}
 use Rattle.zoned_ref.proofs.time_zone_ref.TimeZoneRef.offset_of.Goals as goal

@@ -1,7 +1,4 @@
-use Rattle.std.proofs.Common.{subst}
-use Rattle.naive_base.specs.NaiveDateTime.{reading}
-use Rattle.tz_info.specs.Zones.{Zone}
-use Rattle.zoned_ref.specs.WallClock.{Tells}
+use Rattle.zoned_ref.proofs.Words.{Tells, Zone, reading, subst}
 use Rattle.zoned_ref.proofs.wall_clock.WallClock.from_posix_tz.Goals as goal
 
 pub returns-in-Ok-clause-only : goal.returns-in-Ok-clause-only

@@ -1,6 +1,4 @@
-use Rattle.std.proofs.Common.{rules, to_z-of_z, w64, SFits}
-use Rattle.naive_base.specs.NaiveDateTime.{reading}
-use Rattle.zoned_ref.specs.TimeZoneRef.{off_of}
+use Rattle.zoned_ref.proofs.Words.{SFits, off_of, reading, rules, to_z-of_z, w64}
 use Rattle.zoned_ref.proofs.Days.{first_to_reach}
 use Rattle.zoned_ref.proofs.zone_days.TimeZoneRefZoneDays.first_second_at_or_after.Goals as goal
 

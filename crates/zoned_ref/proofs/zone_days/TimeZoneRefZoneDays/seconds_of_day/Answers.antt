@@ -1,7 +1,5 @@
-use Rattle.std.proofs.Common.{rules, to_z-of_z, w64, SFits}
-use Rattle.naive_base.specs.NaiveDate.{day_of}
-use Rattle.zoned_ref.specs.TimeZoneRef.{off_of}
-use Rattle.zoned_ref.proofs.Days.{never_on_day, ends_of_day}
+use Rattle.zoned_ref.proofs.Words.{SFits, day_of, off_of, rules, to_z-of_z, w64}
+use Rattle.zoned_ref.proofs.Days.{ends_of_day, never_on_day}
 use Rattle.zoned_ref.proofs.zone_days.TimeZoneRefZoneDays.seconds_of_day.Goals as goal
 
 pub returns-in-Some : goal.returns-in-Some

@@ -1,5 +1,4 @@
-use Rattle.zoned_round.specs.Durations.{IsReadingMoved}
-use Rattle.zoned_round.specs.Multiples.{nearest_multiple}
+use Rattle.zoned_round.proofs.Words.{IsReadingMoved, nearest_multiple}
 use Rattle.zoned_round.proofs.Ways.{gone}
 use Rattle.zoned_round.proofs.durations.NaiveDateTimeDurationRound.duration_round.Goals as goal
 

@@ -1,5 +1,4 @@
-use Rattle.zoned_round.specs.Durations.{IsReadingMoved}
-use Rattle.zoned_round.specs.Multiples.{multiple_below}
+use Rattle.zoned_round.proofs.Words.{IsReadingMoved, multiple_below}
 use Rattle.zoned_round.proofs.Ways.{gone}
 use Rattle.zoned_round.proofs.durations.NaiveDateTimeDurationRound.duration_trunc.Goals as goal
 

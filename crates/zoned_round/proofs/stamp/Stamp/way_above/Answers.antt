@@ -1,6 +1,5 @@
-use Rattle.std.proofs.Common.{arith, unsigned_abs}
-use Rattle.std.proofs.lemmas.Int.{ints}
-use Rattle.zoned_round.proofs.Multiples.{span-is, below-near, above-next, above-same}
+use Rattle.zoned_round.proofs.Words.{arith, ints, unsigned_abs}
+use Rattle.zoned_round.proofs.Multiples.{above-next, above-same, below-near, span-is}
 use Rattle.zoned_round.proofs.stamp.Stamp.way_above.Goals as goal
 
 pub returns-in-0-clause-is : goal.returns-in-0-clause-is

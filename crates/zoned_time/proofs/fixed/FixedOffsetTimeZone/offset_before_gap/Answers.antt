@@ -1,5 +1,4 @@
-use Rattle.offset_core.specs.FixedOffset.{seconds_of}
-use Rattle.naive_base.specs.NaiveDateTime.{reading}
+use Rattle.zoned_time.proofs.Words.{reading, seconds_of}
 use Rattle.zoned_time.proofs.Walls.{shown_once}
 use Rattle.zoned_time.proofs.fixed.FixedOffsetTimeZone.offset_before_gap.Goals as goal
 

@@ -1,7 +1,4 @@
-use Rattle.std.proofs.Common.{refl}
-use Rattle.offset_core.specs.FixedOffset.{seconds_of}
-use Rattle.naive_base.specs.NaiveDateTime.{reading}
-use Rattle.zoned_time.specs.Zone.{meaning_by_seconds, law_by_seconds}
+use Rattle.zoned_time.proofs.Words.{law_by_seconds, meaning_by_seconds, reading, refl, seconds_of}
 use Rattle.zoned_time.proofs.Homes.{same_itself}
 use Rattle.zoned_time.proofs.Walls.{constant_wall}
 use Rattle.zoned_time.proofs.fixed.FixedOffsetTimeZone.offset_from_local_datetime.Goals as goal

@@ -1,4 +1,4 @@
-use Rattle.zoned_time.proofs.DayStarts.{skipped, no_later_date, starts_with_first}
+use Rattle.zoned_time.proofs.DayStarts.{no_later_date, skipped, starts_with_first}
 use Rattle.zoned_time.proofs.laws.days.dates_in_days.Goals as goal
 
 pub returns-clause-skipped : goal.returns-clause-skipped

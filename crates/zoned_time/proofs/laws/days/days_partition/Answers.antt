@@ -1,4 +1,4 @@
-use Rattle.zoned_time.proofs.DayStarts.{some_day, one_day}
+use Rattle.zoned_time.proofs.DayStarts.{one_day, some_day}
 use Rattle.zoned_time.proofs.laws.days.days_partition.Goals as goal
 
 pub returns-clause-exists : goal.returns-clause-exists

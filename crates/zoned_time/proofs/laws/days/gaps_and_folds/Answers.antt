@@ -1,4 +1,4 @@
-use Rattle.zoned_time.proofs.DayEnds.{first_of_one, first_of_fold, gap_end, not_later}
+use Rattle.zoned_time.proofs.DayEnds.{first_of_fold, first_of_one, gap_end, not_later}
 use Rattle.zoned_time.proofs.laws.days.gaps_and_folds.Goals as goal
 
 pub returns-clause-once : goal.returns-clause-once

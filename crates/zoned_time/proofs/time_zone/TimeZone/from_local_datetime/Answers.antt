@@ -1,9 +1,5 @@
-use Rattle.std.proofs.Common.{◌≡◌, pos, arith, refl, ◌∙◌, sym, of_calls}
-use Rattle.std.proofs.lemmas.Int.{ints}
-use Rattle.naive_base.specs.NaiveDateTime.{reading}
-use Rattle.zoned_time.specs.Zone.{IsFixed}
-use Rattle.zoned_time.specs.Zoned.{shown}
-use Rattle.zoned_time.proofs.Relocals.{relocal_of, fixed_single}
+use Rattle.zoned_time.proofs.Words.{IsFixed, arith, ints, of_calls, pos, reading, refl, shown, sym, ◌∙◌, ◌≡◌}
+use Rattle.zoned_time.proofs.Relocals.{fixed_single, relocal_of}
 use Rattle.zoned_time.proofs.time_zone.TimeZone.from_local_datetime.Goals as goal
 
 pub returns-clause-instants : goal.returns-clause-instants

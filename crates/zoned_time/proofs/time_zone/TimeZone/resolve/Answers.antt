@@ -1,8 +1,6 @@
-use Rattle.std.proofs.Common.{refl}
-use Rattle.naive_base.specs.NaiveDateTime.{reading}
-use Rattle.zoned_time.specs.Zoned.{shown}
-use Rattle.zoned_time.specs.Choice.{once, earliest, latest, fold}
-use Rattle.zoned_time.proofs.Choices.{taken_resolved, shift_resolved}
+use Rattle.zoned_time.proofs.Words.{earliest, latest, once, reading, refl, shown}
+use Rattle.zoned_time.specs.Choice.{fold}
+use Rattle.zoned_time.proofs.Choices.{shift_resolved, taken_resolved}
 use Rattle.zoned_time.proofs.time_zone.TimeZone.resolve.Goals as goal
 
 pub returns-in-Single : goal.returns-in-Single

@@ -1,10 +1,4 @@
-use Rattle.std.proofs.Common.{◌≡◌, pos, ◌+ℤ◌, ◌*ℤ◌, arith, ap, sym, to_z-of_z}
-use Rattle.std.proofs.lemmas.Int.{ints}
-use Rattle.naive_base.specs.Clock.{clock_second}
-use Rattle.naive_base.specs.Date.{day_number}
-use Rattle.naive_base.specs.NaiveDate.{day_of}
-use Rattle.naive_base.specs.NaiveDateTime.{reading}
-use Rattle.naive_base.proofs.ForCallers.{inner_date}
+use Rattle.zoned_time.proofs.Words.{ap, arith, clock_second, day_number, day_of, inner_date, ints, pos, reading, sym, to_z-of_z, ◌*ℤ◌, ◌+ℤ◌, ◌≡◌}
 use Rattle.zoned_time.proofs.time_zone.TimeZone.with_ymd_and_hms.Goals as goal
 
 pub returns-in-Some-and_hms_opt-clause-fixed : goal.returns-in-Some-and_hms_opt-clause-fixed

@@ -1,7 +1,5 @@
-use Rattle.std.proofs.Common.{rules, to_z-of_z, w64, SFits}
-use Rattle.naive_base.specs.NaiveDate.{day_of}
-use Rattle.zoned_time.specs.DateTime.{zoned}
-use Rattle.zoned_time.proofs.Days.{no_day, instants_of_day}
+use Rattle.zoned_time.proofs.Words.{SFits, day_of, rules, to_z-of_z, w64, zoned}
+use Rattle.zoned_time.proofs.Days.{instants_of_day, no_day}
 use Rattle.zoned_time.proofs.zone_days.ZoneDays.day.Goals as goal
 
 pub returns-in_err-last : goal.returns-in_err-last

@@ -1,7 +1,4 @@
-use Rattle.std.proofs.Common.{◌≡◌, ◌∙◌, sym, ap, ℤ, ◌+ℤ◌}
-use Rattle.naive_base.specs.NaiveDate.{day_of}
-use Rattle.naive_base.specs.Year.{floor_div}
-use Rattle.zoned_time.specs.DateTime.{zoned}
+use Rattle.zoned_time.proofs.Words.{ap, day_of, floor_div, sym, zoned, ℤ, ◌+ℤ◌, ◌∙◌, ◌≡◌}
 use Rattle.zoned_time.proofs.Days.{day_of_told}
 use Rattle.zoned_time.proofs.zone_days.ZoneDays.day_of.Goals as goal
 

@@ -1,8 +1,4 @@
-use Rattle.std.proofs.Common.{ap, rules, arith, to_z, of_z, to_z-of_z, w64, SFits, pos, ◌-ℤ◌, ◌<ℤ◌}
-use Rattle.std.proofs.lemmas.Int.{ints, by_lt_z}
-use Rattle.naive_base.specs.NaiveDate.{day_of}
-use Rattle.naive_base.specs.Range.{last_day}
-use Rattle.zoned_time.specs.DateTime.{zoned}
+use Rattle.zoned_time.proofs.Words.{SFits, ap, arith, by_lt_z, day_of, ints, last_day, of_z, pos, rules, to_z, to_z-of_z, w64, zoned, ◌-ℤ◌, ◌<ℤ◌}
 use Rattle.zoned_time.proofs.DayEnds.{empty_day, end_of_last_day, told_end}
 use Rattle.zoned_time.proofs.zone_days.ZoneDays.end_of_day.Goals as goal
 

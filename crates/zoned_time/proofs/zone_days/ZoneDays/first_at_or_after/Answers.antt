@@ -1,9 +1,4 @@
-use Rattle.std.proofs.Common.{◌∙◌, sym, ap, subst, arith, rules, to_z-of_z, w64, SFits}
-use Rattle.std.proofs.lemmas.Int.{ints}
-use Rattle.naive_base.specs.NaiveDateTime.{reading}
-use Rattle.naive_base.specs.Reading.{Reading}
-use Rattle.zoned_time.specs.DateTime.{zoned}
-use Rattle.zoned_time.specs.Zone.{IsOffsetAt}
+use Rattle.zoned_time.proofs.Words.{IsOffsetAt, Reading, SFits, ap, arith, ints, reading, rules, subst, sym, to_z-of_z, w64, zoned, ◌∙◌}
 use Rattle.zoned_time.proofs.Days.{out_of_range, told_exact, told_later}
 use Rattle.zoned_time.proofs.zone_days.ZoneDays.first_at_or_after.Goals as goal
 

@@ -1,5 +1,4 @@
-use Rattle.std.proofs.Common.{arith, rules, to_z-of_z, ◌-ℤ◌, w64, SFits}
-use Rattle.std.proofs.lemmas.Int.{ints}
+use Rattle.zoned_time.proofs.Words.{SFits, arith, ints, rules, to_z-of_z, w64, ◌-ℤ◌}
 use Rattle.zoned_time.proofs.zone_days.ZoneDays.length_of_day.Goals as goal
 
 pub returns : goal.returns

@@ -1,9 +1,4 @@
-use Rattle.std.proofs.Common.{◌≡◌, arith, pos, ◌-ℤ◌}
-use Rattle.std.proofs.lemmas.Int.{ints}
-use Rattle.naive_base.specs.DateOf.{year_of, month_of, day_of_month}
-use Rattle.naive_base.specs.NaiveDate.{day_of}
-use Rattle.naive_base.proofs.ForCallers.{date_is, number_at}
-use Rattle.zoned_time.specs.DayEnds.{first_of_month}
+use Rattle.zoned_time.proofs.Words.{arith, date_is, day_of, day_of_month, first_of_month, ints, month_of, number_at, pos, year_of, ◌-ℤ◌, ◌≡◌}
 use Rattle.zoned_time.proofs.zone_days.ZoneDays.start_of_month.Goals as goal
 
 pub returns : goal.returns

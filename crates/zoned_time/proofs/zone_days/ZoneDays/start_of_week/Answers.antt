@@ -1,8 +1,5 @@
-use Rattle.std.proofs.Common.{arith, pos, ◌-ℤ◌}
-use Rattle.std.proofs.lemmas.Int.{ints}
-use Rattle.naive_base.specs.NaiveDate.{day_of}
-use Rattle.naive_base.specs.Weekday.{weekday_number}
 use Rattle.naive_base.proofs.Named.{number_below, week_start}
+use Rattle.zoned_time.proofs.Words.{arith, day_of, ints, pos, weekday_number, ◌-ℤ◌}
 use Rattle.zoned_time.proofs.zone_days.ZoneDays.start_of_week.Goals as goal
 
 pub returns : goal.returns

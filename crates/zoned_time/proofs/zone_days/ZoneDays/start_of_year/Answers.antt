@@ -1,8 +1,4 @@
-use Rattle.std.proofs.Common.{◌≡◌, arith, pos, ◌-ℤ◌}
-use Rattle.std.proofs.lemmas.Int.{ints}
-use Rattle.naive_base.specs.NaiveDate.{day_of}
-use Rattle.naive_base.proofs.ForCallers.{day_of_year_is}
-use Rattle.zoned_time.specs.DayEnds.{first_of_year}
+use Rattle.zoned_time.proofs.Words.{arith, day_of, day_of_year_is, first_of_year, ints, pos, ◌-ℤ◌, ◌≡◌}
 use Rattle.zoned_time.proofs.zone_days.ZoneDays.start_of_year.Goals as goal
 
 pub returns : goal.returns

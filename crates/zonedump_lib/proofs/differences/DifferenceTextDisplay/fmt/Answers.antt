@@ -1,6 +1,4 @@
-use Rattle.std.proofs.Common.{append_assoc, arith, rules, to_z-of_z, w64, SFits}
-use mir.Syntax.{w128}
-use Rattle.std.proofs.lemmas.Int.{ints}
+use Rattle.zonedump_lib.proofs.Words.{SFits, append_assoc, arith, ints, rules, to_z-of_z, w128, w64}
 use Rattle.zonedump_lib.proofs.differences.DifferenceTextDisplay.fmt.Goals as goal
 
 pub returns-clause-writes : goal.returns-clause-writes

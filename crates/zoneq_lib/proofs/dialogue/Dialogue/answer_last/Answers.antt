@@ -1,5 +1,5 @@
-use Rattle.std.proofs.Common.{ap, length}
-use Rattle.zoneq_lib.proofs.Stopping.{some_items, last_replied, last_not_replied}
+use Rattle.zoneq_lib.proofs.CitedWords.{ap, length}
+use Rattle.zoneq_lib.proofs.Stopping.{last_not_replied, last_replied, some_items}
 use Rattle.zoneq_lib.proofs.dialogue.Dialogue.answer_last.Goals as goal
 
 pub returns-clause-ok : goal.returns-clause-ok

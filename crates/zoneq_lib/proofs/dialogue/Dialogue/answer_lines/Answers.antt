@@ -1,7 +1,7 @@
-use Rattle.std.proofs.Common.{[], ◌++◌, refl, codes}
-use Rattle.zoneq_lib.proofs.Bytes.{appends_same, appends_join}
+use Rattle.zoneq_lib.proofs.CitedWords.{codes, refl, [], ◌++◌}
+use Rattle.zoneq_lib.proofs.Bytes.{appends_join, appends_same}
 use Rattle.zoneq_lib.proofs.Joining.{answered_none}
-use Rattle.zoneq_lib.proofs.Stopping.{line_taken, line_stops, rest_kept}
+use Rattle.zoneq_lib.proofs.Stopping.{line_stops, line_taken, rest_kept}
 use Rattle.zoneq_lib.proofs.dialogue.Dialogue.answer_lines.Goals as goal
 
 pub loop-piece-init : goal.loop-piece-init

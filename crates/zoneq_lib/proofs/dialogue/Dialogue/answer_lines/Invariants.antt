@@ -1,6 +1,4 @@
-use Rattle.std.proofs.Common.{◌≡◌, false, length, List, ℕ, ◌++◌}
-use Rattle.std.specs.Io.KnownBytes.{Appends}
-use Rattle.zoneq_lib.specs.Steps.Blocks.{Answered}
+use Rattle.zoneq_lib.proofs.CitedWords.{Answered, Appends, List, false, length, ℕ, ◌++◌, ◌≡◌}
 use Rattle.zoneq_lib.proofs.dialogue.Dialogue.answer_lines.Given as goal
 
 abbrev pub invariant-loop-piece : goal.invariant-loop-piece

@@ -1,6 +1,4 @@
-use Rattle.std.proofs.Common.{◌≡◌, ◌++◌, ◌∙◌, List, ℕ, ap, sym, subst, IfErr, arith}
-use Rattle.zoneq_lib.specs.Lines.{without_return}
-use Rattle.zoneq_lib.specs.Steps.Replies.{StopsAt}
+use Rattle.zoneq_lib.proofs.CitedWords.{IfErr, List, StopsAt, ap, arith, subst, sym, without_return, ℕ, ◌++◌, ◌∙◌, ◌≡◌}
 use Rattle.zoneq_lib.proofs.Stopping.{no_items, same_reply}
 use Rattle.zoneq_lib.proofs.dialogue.Dialogue.end_line.Goals as goal
 

@@ -1,7 +1,5 @@
-use Rattle.std.proofs.Common.{[]}
-use Rattle.zoneq_lib.specs.Questions.{line}
-use Rattle.zoneq_lib.specs.Steps.QueryOf.{query_of}
-use Rattle.zoneq_lib.proofs.ScanLaws.{scanned, not_scanned}
+use Rattle.zoneq_lib.proofs.CitedWords.{line, query_of, []}
+use Rattle.zoneq_lib.proofs.ScanLaws.{not_scanned, scanned}
 use Rattle.zoneq_lib.proofs.question.Question.parse.Goals as goal
 
 pub returns-in-Ok : goal.returns-in-Ok

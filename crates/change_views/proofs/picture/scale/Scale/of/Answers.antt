@@ -1,5 +1,4 @@
-use Rattle.std.proofs.Common.{arith, to_z-of_z, FitsSigned, w64}
-use Rattle.naive_base.proofs.ForCallers.{floors}
+use Rattle.change_views.proofs.CitedWords.{FitsSigned, arith, floors, to_z-of_z, w64}
 use Rattle.change_views.proofs.PictureLaws.{years_rise}
 use Rattle.change_views.proofs.picture.scale.Scale.of.Goals as goal
 

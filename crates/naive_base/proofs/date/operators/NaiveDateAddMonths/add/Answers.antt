@@ -1,6 +1,4 @@
-use Rattle.std.proofs.Common.{sym, pos}
-use Rattle.naive_base.specs.Months.{months_of}
-use Rattle.naive_base.specs.NaiveDate.{day_of, IsDateOn}
+use Rattle.naive_base.proofs.Words.{IsDateOn, day_of, months_of, pos, sym}
 use Rattle.naive_base.proofs.MonthDates.{months_found}
 use Rattle.naive_base.proofs.date.operators.NaiveDateAddMonths.add.Goals as goal
 

@@ -1,6 +1,4 @@
-use Rattle.std.proofs.Common.{sym, pos, neg_ℤ}
-use Rattle.naive_base.specs.Months.{months_of}
-use Rattle.naive_base.specs.NaiveDate.{day_of, IsDateOn}
+use Rattle.naive_base.proofs.Words.{IsDateOn, day_of, months_of, neg_ℤ, pos, sym}
 use Rattle.naive_base.proofs.MonthDates.{months_found}
 use Rattle.naive_base.proofs.date.operators.NaiveDateSubMonths.sub.Goals as goal
 

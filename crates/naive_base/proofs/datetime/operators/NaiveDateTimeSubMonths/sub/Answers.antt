@@ -1,7 +1,5 @@
-use Rattle.std.proofs.Common.{pos, neg_ℤ}
-use Rattle.naive_base.specs.Months.{months_of}
-use Rattle.naive_base.specs.NaiveDateTime.{reading, day_shown_by, IsReadingOnDay}
-use Rattle.naive_base.proofs.MonthDates.{months_found, mapped_none}
+use Rattle.naive_base.proofs.Words.{IsReadingOnDay, day_shown_by, months_of, neg_ℤ, pos, reading}
+use Rattle.naive_base.proofs.MonthDates.{mapped_none, months_found}
 use Rattle.naive_base.proofs.datetime.operators.NaiveDateTimeSubMonths.sub.Goals as goal
 
 pub unwrap-requires : goal.unwrap-requires

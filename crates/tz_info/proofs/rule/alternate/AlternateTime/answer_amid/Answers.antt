@@ -1,9 +1,4 @@
-use Rattle.std.proofs.Common.{◌≡◌, arith, rules, inl, ap, ◌∙◌, ◌-ℤ◌, ◌<ℤ◌, w32, w64, to_z-of_z}
-use mir.Val.{SFits}
-use Rattle.std.proofs.lemmas.Int.{ints}
-use Rattle.tz_base.specs.LocalTypes.{LocalType}
-use Rattle.tz_timeline.specs.Counts.{Counts}
-use Rattle.tz_info.specs.Steps.RuleSeconds.{IsAskedFrom}
+use Rattle.tz_info.proofs.Words.{Counts, IsAskedFrom, LocalType, SFits, ap, arith, inl, ints, rules, to_z-of_z, w32, w64, ◌-ℤ◌, ◌<ℤ◌, ◌∙◌, ◌≡◌}
 use Rattle.tz_info.specs.declared.rule.transition_rule.TransitionRule.TheVariants.{Alternate}
 use Rattle.tz_info.proofs.Candidates.{dst_or_std, std_or_dst}
 use Rattle.tz_info.proofs.QuestionLaws.{asked_std_dst}

@@ -1,10 +1,6 @@
-use Rattle.std.proofs.Common.{◌≡◌, ◌≢◌, arith, ap, ◌∙◌, ◌-ℤ◌, rules, w32, w64, to_z-of_z}
-use mir.Val.{SFits}
-use Rattle.std.proofs.lemmas.Int.{ints}
-use Rattle.tz_base.specs.LocalTypes.{LocalType}
-use Rattle.tz_info.specs.Steps.RuleSeconds.{TypeFrom}
+use Rattle.tz_info.proofs.Words.{LocalType, SFits, TypeFrom, ap, arith, ints, rules, to_z-of_z, w32, w64, ◌-ℤ◌, ◌∙◌, ◌≡◌, ◌≢◌}
 use Rattle.tz_info.specs.declared.rule.transition_rule.TransitionRule.TheVariants.{Alternate}
-use Rattle.tz_info.proofs.Candidates.{asked_both, asked_one, dst_or_std, none_since, std_or_dst, one_second}
+use Rattle.tz_info.proofs.Candidates.{asked_both, asked_one, dst_or_std, none_since, one_second, std_or_dst}
 use Rattle.tz_info.proofs.QuestionLaws.{asked_dst_std, asked_never, asked_once, asked_std_dst}
 use Rattle.tz_info.proofs.rule.alternate.AlternateTime.answer_from.Goals as goal
 use Rattle.tz_info.proofs.rule.alternate.AlternateTime.answer_from.Goals.{After-second_showing-by_dst}

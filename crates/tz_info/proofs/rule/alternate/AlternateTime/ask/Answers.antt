@@ -1,6 +1,4 @@
-use Rattle.std.proofs.Common.{arith, w32, w64, ◌-ℤ◌, to_z-of_z}
-use mir.Val.{SFits}
-use Rattle.std.proofs.lemmas.Int.{ints}
+use Rattle.tz_info.proofs.Words.{SFits, arith, ints, to_z-of_z, w32, w64, ◌-ℤ◌}
 use Rattle.tz_info.specs.declared.rule.transition_rule.TransitionRule.TheVariants.{Alternate}
 use Rattle.tz_info.proofs.Candidates.{asked_found, asked_other}
 use Rattle.tz_info.proofs.rule.alternate.AlternateTime.ask.Goals as goal

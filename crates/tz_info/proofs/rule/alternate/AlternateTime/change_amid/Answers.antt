@@ -1,7 +1,4 @@
-use Rattle.std.proofs.Common.{arith, w64, to_z-of_z, pos, ◌-ℤ◌}
-use mir.Val.{SFits}
-use Rattle.std.proofs.lemmas.Int.{ints}
-use Rattle.tz_info.specs.Moments.{AlternateAt}
+use Rattle.tz_info.proofs.Words.{AlternateAt, SFits, arith, ints, pos, to_z-of_z, w64, ◌-ℤ◌}
 use Rattle.tz_info.proofs.ChangeSearch.{change_made}
 use Rattle.tz_info.proofs.RuleChanges.{rule_type_once}
 use Rattle.tz_info.proofs.rule.alternate.AlternateTime.change_amid.Goals as goal

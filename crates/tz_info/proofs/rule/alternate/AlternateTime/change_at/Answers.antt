@@ -1,6 +1,4 @@
-use Rattle.std.proofs.Common.{w64, to_z-of_z}
-use mir.Val.{SFits}
-use Rattle.tz_info.specs.Moments.{AlternateAt}
+use Rattle.tz_info.proofs.Words.{AlternateAt, SFits, to_z-of_z, w64}
 use Rattle.tz_info.proofs.ChangeSearch.{change_made, none_before, none_here}
 use Rattle.tz_info.proofs.RuleChanges.{rule_type_once}
 use Rattle.tz_info.proofs.rule.alternate.AlternateTime.change_at.Goals as goal

@@ -1,6 +1,4 @@
-use Rattle.std.proofs.Common.{w64, to_z-of_z, rules}
-use mir.Val.{SFits}
-use Rattle.tz_info.specs.Moments.{AlternateAt}
+use Rattle.tz_info.proofs.Words.{AlternateAt, SFits, rules, to_z-of_z, w64}
 use Rattle.tz_info.proofs.SeasonChanges.{nearest_on}
 use Rattle.tz_info.proofs.rule.alternate.AlternateTime.change_from.Goals as goal
 

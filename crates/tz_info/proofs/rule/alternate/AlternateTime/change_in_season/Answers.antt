@@ -1,7 +1,5 @@
-use Rattle.std.proofs.Common.{w64, ap, of_z, to_z-of_z, rules}
-use mir.Val.{SFits}
-use Rattle.tz_info.specs.Moments.{AlternateAt}
-use Rattle.tz_info.proofs.SeasonChanges.{IsMomentAhead, moment_ahead, found_at, idle_over}
+use Rattle.tz_info.proofs.Words.{AlternateAt, SFits, ap, of_z, rules, to_z-of_z, w64}
+use Rattle.tz_info.proofs.SeasonChanges.{IsMomentAhead, found_at, idle_over, moment_ahead}
 use Rattle.tz_info.proofs.rule.alternate.AlternateTime.change_in_season.Goals as goal
 use Rattle.tz_info.proofs.rule.alternate.AlternateTime.change_in_season.Goals.{After-nearest-moment}
 

@@ -1,9 +1,5 @@
-use Rattle.std.proofs.Common.{◌≡◌, refl, arith, w32, w64, to_z-of_z, rules}
-use mir.Val.{SFits}
-use Rattle.std.proofs.lemmas.Int.{ints}
-use Rattle.tz_info.specs.Moments.{IsRuleYear}
-use Rattle.tz_info.specs.Steps.Changes.{year_at}
-use Rattle.tz_info.proofs.RuleChanges.{IsStart, in_first, in_next, found_in, none_out, never}
+use Rattle.tz_info.proofs.Words.{IsRuleYear, SFits, arith, ints, refl, rules, to_z-of_z, w32, w64, year_at, ◌≡◌}
+use Rattle.tz_info.proofs.RuleChanges.{IsStart, found_in, in_first, in_next, never, none_out}
 use Rattle.tz_info.proofs.rule.alternate.AlternateTime.change_in_years.Goals as goal
 use Rattle.tz_info.proofs.rule.alternate.AlternateTime.change_in_years.Goals.{After-rule_year_of-first, Else-not-is_rule_year}
 

@@ -1,4 +1,4 @@
-use Rattle.tz_info.specs.Steps.Changes.{AreIn, year_at}
+use Rattle.tz_info.proofs.Words.{AreIn, year_at}
 use Rattle.tz_info.proofs.rule.alternate.AlternateTime.change_in_years.Given as goal
 
 abbrev pub invariant-loop-step : goal.invariant-loop-step

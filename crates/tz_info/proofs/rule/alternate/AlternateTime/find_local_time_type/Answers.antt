@@ -1,4 +1,4 @@
-use Rattle.std.proofs.Common.{to_z-of_z, refl, ◌≡◌, true}
+use Rattle.tz_info.proofs.Words.{refl, to_z-of_z, true, ◌≡◌}
 use Rattle.tz_info.proofs.RuleLaws.{refused_outside}
 use Rattle.tz_info.proofs.rule.alternate.AlternateTime.find_local_time_type.Goals as goal
 

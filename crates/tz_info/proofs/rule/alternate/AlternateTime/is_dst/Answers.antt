@@ -1,8 +1,5 @@
-use Rattle.std.proofs.Common.{arith, to_z-of_z, w32, pos, ◌+ℤ◌, ◌-ℤ◌}
-use mir.Val.{SFits}
-use Rattle.naive_base.proofs.ForCallers.{floors}
-use Rattle.tz_info.specs.Moments.{start_in, end_in}
-use Rattle.tz_info.proofs.Neighbours.{starts_near, ends_near, dst_by_three}
+use Rattle.tz_info.proofs.Words.{SFits, arith, end_in, floors, pos, start_in, to_z-of_z, w32, ◌+ℤ◌, ◌-ℤ◌}
+use Rattle.tz_info.proofs.Neighbours.{dst_by_three, ends_near, starts_near}
 use Rattle.tz_info.proofs.rule.alternate.AlternateTime.is_dst.Goals as goal
 
 pub returns : goal.returns

@@ -1,9 +1,5 @@
-use Rattle.std.proofs.Common.{◌≡◌, arith, to_z-of_z, w32, w64}
-use mir.Val.{SFits}
-use Rattle.naive_base.specs.Year.{floor_div, LiesIn}
-use Rattle.naive_base.proofs.ForCallers.{floors}
-use Rattle.tz_info.specs.Moments.{IsRuleYear}
-use Rattle.tz_info.proofs.RuleLaws.{year_found, alternate_at}
+use Rattle.tz_info.proofs.Words.{IsRuleYear, LiesIn, SFits, arith, floor_div, floors, to_z-of_z, w32, w64, ◌≡◌}
+use Rattle.tz_info.proofs.RuleLaws.{alternate_at, year_found}
 use Rattle.tz_info.proofs.rule.alternate.AlternateTime.is_dst_in.Goals as goal
 use Rattle.tz_info.proofs.rule.alternate.AlternateTime.is_dst_in.Goals.{After-year_of}
 

@@ -1,7 +1,4 @@
-use Rattle.std.proofs.Common.{w32, w64, arith, to_z-of_z, rules, refl, pos, ◌+ℤ◌, ◌-ℤ◌}
-use mir.Val.{SFits}
-use Rattle.std.proofs.lemmas.Int.{ints}
-use Rattle.tz_info.specs.Steps.Changes.{moments_near}
+use Rattle.tz_info.proofs.Words.{SFits, arith, ints, moments_near, pos, refl, rules, to_z-of_z, w32, w64, ◌+ℤ◌, ◌-ℤ◌}
 use Rattle.tz_info.proofs.rule.alternate.AlternateTime.moments_near.Goals as goal
 
 pub returns-clause-moments : goal.returns-clause-moments

@@ -1,4 +1,4 @@
-use Rattle.std.proofs.Common.{to_z-of_z}
+use Rattle.tz_info.proofs.Words.{to_z-of_z}
 use Rattle.tz_info.proofs.rule.alternate.AlternateTime.nearest_change.Goals as goal
 
 pub returns-in-Some : goal.returns-in-Some

@@ -1,6 +1,4 @@
-use Rattle.std.proofs.Common.{arith, w32, w64, to_z-of_z, rules, pos, ◌+ℤ◌}
-use mir.Val.{SFits}
-use Rattle.std.proofs.lemmas.Int.{ints}
+use Rattle.tz_info.proofs.Words.{SFits, arith, ints, pos, rules, to_z-of_z, w32, w64, ◌+ℤ◌}
 use Rattle.tz_info.proofs.RuleChanges.{nearest_of_year}
 use Rattle.tz_info.proofs.rule.alternate.AlternateTime.nearest_in.Goals as goal
 

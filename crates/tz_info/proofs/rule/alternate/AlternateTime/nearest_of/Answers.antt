@@ -1,7 +1,5 @@
-use Rattle.std.proofs.Common.{get_or, pos, w64, to_z-of_z, rules}
-use mir.Val.{SFits}
-use Rattle.tz_info.proofs.ChangeSearch.{none_of, nearest_more}
-use Rattle.tz_info.specs.Moments.{AlternateAt}
+use Rattle.tz_info.proofs.Words.{AlternateAt, SFits, get_or, pos, rules, to_z-of_z, w64}
+use Rattle.tz_info.proofs.ChangeSearch.{nearest_more, none_of}
 use Rattle.tz_info.proofs.rule.alternate.AlternateTime.nearest_of.Goals as goal
 
 pub loop-second-init : goal.loop-second-init

@@ -1,5 +1,4 @@
-use Rattle.tz_info.specs.Moments.{AlternateAt}
-use Rattle.tz_info.specs.Steps.Changes.{IsNearest, IsOneOf}
+use Rattle.tz_info.proofs.Words.{AlternateAt, IsNearest, IsOneOf}
 use Rattle.tz_info.proofs.rule.alternate.AlternateTime.nearest_of.Given as goal
 
 abbrev pub invariant-loop-second : goal.invariant-loop-second

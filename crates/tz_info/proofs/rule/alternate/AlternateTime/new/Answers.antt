@@ -1,14 +1,8 @@
-use mir.Val.{SFits}
-use Rattle.std.proofs.Common.{w64, arith, rules, refl, ap, subst, ◌≡◌, true, ℤ, pos, neg_ℤ, ◌<ℤ◌, to_z-of_z}
-use Rattle.std.proofs.lemmas.Int.{ints}
-use Rattle.offset_core.specs.Offset.{IsWithinDay}
-use Rattle.tz_base.specs.LocalTypes.{LocalType}
 use Rattle.tz_base.specs.declared.error.Error.TheVariants.{TransitionRule}
 use Rattle.tz_base.specs.declared.error.Expected.TheVariants.{EndWithinWeek}
-use Rattle.tz_timeline.proofs.ForCallers.{lt_true}
-use Rattle.tz_info.specs.Rules.{Alternate, IsAlternate, IsWithinWeek, is_between, expected_of_alternate}
-use Rattle.tz_info.specs.Steps.Kinds.{seconds_by_kind}
-use Rattle.tz_info.specs.declared.rule.day.DayTime.{DayTime}
+use Rattle.tz_info.proofs.Words.{Alternate, DayTime, IsAlternate, IsWithinDay, IsWithinWeek, LocalType, SFits, ap, arith, expected_of_alternate, ints, lt_true}
+use Rattle.tz_info.proofs.Words.{neg_ℤ, pos, refl, rules, seconds_by_kind, subst, to_z-of_z, true, w64, ℤ, ◌<ℤ◌, ◌≡◌}
+use Rattle.tz_info.specs.Rules.{is_between}
 use Rattle.tz_info.proofs.rule.alternate.AlternateTime.new.Goals as goal
 
 shown : LocalType → LocalType → DayTime → DayTime → Alternate

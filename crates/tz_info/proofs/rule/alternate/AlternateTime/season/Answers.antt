@@ -1,12 +1,6 @@
-use Rattle.std.proofs.Common.{arith, refl, ap, ◌∙◌, ◌≡◌, sym, to_z-of_z, w64, pos, ◌+ℤ◌, ◌-ℤ◌, ◌*ℤ◌}
-use mir.Val.{SFits}
-use Rattle.naive_base.specs.DateOf.{year_of}
-use Rattle.naive_base.specs.Year.{year_start}
-use Rattle.naive_base.proofs.ForCallers.{floors}
-use Rattle.tz_info.specs.declared.rule.alternate.Season.{Season}
-use Rattle.tz_info.proofs.KindLaws.{IsMargin}
-use Rattle.tz_info.proofs.KindLaws.{margin_kept}
-use Rattle.tz_info.proofs.SeasonLaws.{season_made, own_start}
+use Rattle.tz_info.proofs.Words.{SFits, Season, ap, arith, floors, pos, refl, sym, to_z-of_z, w64, year_of, year_start, ◌*ℤ◌, ◌+ℤ◌, ◌-ℤ◌, ◌∙◌, ◌≡◌}
+use Rattle.tz_info.proofs.KindLaws.{IsMargin, margin_kept}
+use Rattle.tz_info.proofs.SeasonLaws.{own_start, season_made}
 use Rattle.tz_info.proofs.rule.alternate.AlternateTime.season.Goals as goal
 use Rattle.tz_info.proofs.rule.alternate.AlternateTime.season.Goals.{After-first_of_year-first, After-self}
 

@@ -1,8 +1,4 @@
-use Rattle.std.proofs.Common.{◌≡◌, ◌∙◌, ap, sym, arith, w64, to_z-of_z}
-use mir.Val.{SFits}
-use Rattle.naive_base.specs.DateOf.{year_of}
-use Rattle.naive_base.specs.Year.{year_start}
-use Rattle.naive_base.proofs.ForCallers.{floors}
+use Rattle.tz_info.proofs.Words.{SFits, ap, arith, floors, sym, to_z-of_z, w64, year_of, year_start, ◌∙◌, ◌≡◌}
 use Rattle.tz_info.proofs.SeasonLaws.{own_start}
 use Rattle.tz_info.proofs.rule.alternate.AlternateTime.turns.Goals as goal
 use Rattle.tz_info.proofs.rule.alternate.AlternateTime.turns.Goals.{After-year_start-first}

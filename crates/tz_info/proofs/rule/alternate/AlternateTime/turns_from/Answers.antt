@@ -1,9 +1,5 @@
-use Rattle.std.proofs.Common.{arith, to_z-of_z, w64, ℤ, pos, ◌+ℤ◌, ◌*ℤ◌}
-use mir.Val.{SFits}
-use Rattle.naive_base.specs.DateOf.{year_of}
-use Rattle.naive_base.specs.Year.{IsDay}
-use Rattle.naive_base.proofs.ForCallers.{floors}
-use Rattle.tz_info.proofs.KindLaws.{IsKept, start_by_kind, end_by_kind}
+use Rattle.tz_info.proofs.Words.{IsDay, SFits, arith, floors, pos, to_z-of_z, w64, year_of, ℤ, ◌*ℤ◌, ◌+ℤ◌}
+use Rattle.tz_info.proofs.KindLaws.{IsKept, end_by_kind, start_by_kind}
 use Rattle.tz_info.proofs.rule.alternate.AlternateTime.turns_from.Goals as goal
 
 -- each of the numbers on the way fits 64 bits

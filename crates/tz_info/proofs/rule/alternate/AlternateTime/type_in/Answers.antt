@@ -1,5 +1,4 @@
-use Rattle.std.proofs.Common.{ap, to_z-of_z}
-use Rattle.tz_info.specs.Rules.{Alternate}
+use Rattle.tz_info.proofs.Words.{Alternate, ap, to_z-of_z}
 use Rattle.tz_info.proofs.rule.alternate.AlternateTime.type_in.Goals as goal
 
 pub returns-then-is_dst_in : goal.returns-then-is_dst_in

@@ -1,5 +1,4 @@
-use Rattle.std.proofs.Common.{to_z-of_z, w64, rules}
-use mir.Val.{SFits}
+use Rattle.tz_info.proofs.Words.{SFits, rules, to_z-of_z, w64}
 use Rattle.tz_info.proofs.SeasonAnswers.{decided_by}
 use Rattle.tz_info.proofs.rule.alternate.Season.decides.Goals as goal
 

@@ -1,5 +1,4 @@
-use Rattle.std.proofs.Common.{w64, to_z-of_z, rules}
-use mir.Val.{SFits}
+use Rattle.tz_info.proofs.Words.{SFits, rules, to_z-of_z, w64}
 use Rattle.tz_info.proofs.rule.alternate.Season.limit.Goals as goal
 
 pub returns-then-forward : goal.returns-then-forward

@@ -1,8 +1,4 @@
-use Rattle.std.proofs.Common.{◌≡◌, ℕ, [], ◌∷◌, ap, refl, pos, get_or, true, false, rules, to_z-of_z, w64}
-use mir.Val.{SFits}
-use Rattle.naive_base.specs.Year.{year_start}
-use Rattle.tz_info.specs.Steps.KindPlaces.{places_by_kind}
-use Rattle.tz_info.specs.Steps.Kinds.{seconds_by_kind}
+use Rattle.tz_info.proofs.Words.{SFits, ap, false, get_or, places_by_kind, pos, refl, rules, seconds_by_kind, to_z-of_z, true, w64, year_start, ℕ, [], ◌∷◌, ◌≡◌}
 use Rattle.tz_info.proofs.KindLaws.{second_kept}
 use Rattle.tz_info.proofs.rule.day.DayTime.seconds_by_kind.Goals as goal
 

@@ -1,6 +1,5 @@
-use Rattle.std.proofs.Common.{◌≡◌, sym, ◌∙◌}
-use Rattle.tz_info.specs.Steps.KindPlaces.{place_by, places_by_kind}
-use Rattle.tz_info.specs.declared.rule.day.DayForm.TheVariants.{Julian1, Julian0}
+use Rattle.tz_info.proofs.Words.{place_by, places_by_kind, sym, ◌∙◌, ◌≡◌}
+use Rattle.tz_info.specs.declared.rule.day.DayForm.TheVariants.{Julian0, Julian1}
 use Rattle.tz_info.proofs.rule.day.RuleDay.places_by_kind.Goals as goal
 
 pub returns-in-Julian1-clause-value : goal.returns-in-Julian1-clause-value

@@ -1,8 +1,5 @@
-use Rattle.std.proofs.Common.{arith, inl, ◌≡◌, ◌+◌, to_z-of_z, sym, ◌∙◌}
-use Rattle.std.proofs.lemmas.Int.{ints}
-use Rattle.tz_info.specs.RuleDays.{IsRuleDay}
-use Rattle.tz_info.specs.Steps.RuleDays.{closed_day, number_after}
-use Rattle.tz_info.specs.declared.rule.day.DayForm.TheVariants.{Julian1, Julian0, MonthWeekday}
+use Rattle.tz_info.proofs.Words.{IsRuleDay, arith, closed_day, inl, ints, number_after, sym, to_z-of_z, ◌+◌, ◌∙◌, ◌≡◌}
+use Rattle.tz_info.specs.declared.rule.day.DayForm.TheVariants.{Julian0, Julian1, MonthWeekday}
 use Rattle.tz_info.proofs.RuleDays.{rule_day_closed}
 use Rattle.tz_info.proofs.rule.day.RuleDay.transition_date.Goals as goal
 

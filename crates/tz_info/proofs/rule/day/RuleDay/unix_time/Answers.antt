@@ -1,5 +1,4 @@
-use Rattle.std.proofs.Common.{arith, to_z-of_z}
-use Rattle.naive_base.proofs.ForCallers.{floors}
+use Rattle.tz_info.proofs.Words.{arith, floors, to_z-of_z}
 use Rattle.tz_info.proofs.RuleDays.{rule_day_closed}
 use Rattle.tz_info.proofs.rule.day.RuleDay.unix_time.Goals as goal
 

@@ -1,6 +1,4 @@
-use Rattle.std.proofs.Common.{sym}
-use Rattle.tz_base.proofs.ForCallers.{runs_are}
-use Rattle.tz_info.specs.TzGrammar.{is_letter}
+use Rattle.tz_info.proofs.Words.{is_letter, runs_are, sym}
 use Rattle.tz_info.proofs.rule.reader.name.read_letters.Goals as goal
 
 pub returns-clause-run : goal.returns-clause-run

@@ -1,6 +1,4 @@
-use Rattle.std.proofs.Common.{sym, ap, not}
-use Rattle.tz_base.proofs.ForCallers.{runs_are}
-use Rattle.tz_info.specs.TzGrammar.{is_not_greater}
+use Rattle.tz_info.proofs.Words.{ap, is_not_greater, not, runs_are, sym}
 use Rattle.tz_info.proofs.rule.reader.name.read_until_greater.Goals as goal
 
 pub returns-clause-run : goal.returns-clause-run

@@ -1,4 +1,4 @@
-use Rattle.std.proofs.Common.{rules, to_z-of_z}
+use Rattle.tz_info.proofs.Words.{rules, to_z-of_z}
 use Rattle.tz_info.proofs.NamedTypes.{named_by}
 use Rattle.tz_info.proofs.rule.reader.text.named_type.Goals as goal
 

@@ -1,6 +1,4 @@
-use Rattle.std.proofs.Common.{refl, rules, to_z-of_z, w32}
-use mir.Val.{SFits}
-use Rattle.tz_info.specs.TzGrammar.{alternate, named}
+use Rattle.tz_info.proofs.Words.{SFits, alternate, named, refl, rules, to_z-of_z, w32}
 use Rattle.tz_info.proofs.rule.reader.text.read_alternate.Goals as goal
 
 pub returns-clause-value : goal.returns-clause-value

@@ -1,4 +1,4 @@
-use Rattle.std.proofs.Common.{to_z-of_z}
+use Rattle.tz_info.proofs.Words.{to_z-of_z}
 use Rattle.tz_info.proofs.rule.transition_rule.TransitionRule.answer_from.Goals as goal
 
 pub returns-in-Fixed-clause-found : goal.returns-in-Fixed-clause-found

@@ -1,4 +1,4 @@
-use Rattle.tz_info.proofs.TextLaws.{found_by, only_by, fault_by}
+use Rattle.tz_info.proofs.TextLaws.{fault_by, found_by, only_by}
 use Rattle.tz_info.proofs.rule.transition_rule.TransitionRule.from_tz_string.Goals as goal
 
 pub returns-clause-found : goal.returns-clause-found

@@ -1,5 +1,4 @@
-use Rattle.std.proofs.Common.{rules, to_z-of_z, w64, refl}
-use mir.Val.{SFits}
+use Rattle.tz_info.proofs.Words.{SFits, refl, rules, to_z-of_z, w64}
 use Rattle.tz_info.proofs.ChangeLists.{shorter, steps_last, steps_none}
 use Rattle.tz_info.proofs.zone.all_changes.ChangesDoubleEndedIterator.next_back.Goals as goal
 

@@ -1,6 +1,4 @@
-use Rattle.std.proofs.Common.{rules, to_z-of_z, w64, arith, pos, ◌+ℤ◌, refl, ap, length}
-use Rattle.std.proofs.lemmas.Int.{ints}
-use mir.Val.{SFits}
+use Rattle.tz_info.proofs.Words.{SFits, ap, arith, ints, length, pos, refl, rules, to_z-of_z, w64, ◌+ℤ◌}
 use Rattle.tz_info.proofs.ChangeLists.{steps_first, steps_none}
 use Rattle.tz_info.proofs.zone.all_changes.ChangesIterator.next.Goals as goal
 

@@ -1,6 +1,4 @@
-use Rattle.std.proofs.Common.{arith, w32, to_z-of_z}
-use mir.Val.{SFits}
-use Rattle.std.proofs.lemmas.Int.{ints}
+use Rattle.tz_info.proofs.Words.{SFits, arith, ints, to_z-of_z, w32}
 use Rattle.tz_info.proofs.zone.extremes.Extremes.with_rule.Goals as goal
 
 pub returns-in-Fixed-clause-joined : goal.returns-in-Fixed-clause-joined

@@ -1,6 +1,4 @@
-use Rattle.std.proofs.Common.{◌≡◌, [], arith, ap, length, to_z-of_z}
-use Rattle.tz_timeline.proofs.ForCallers.{digits-le}
-use Rattle.tz_info.specs.WallPieces.{WallIndex}
+use Rattle.tz_info.proofs.Words.{WallIndex, ap, arith, digits-le, length, to_z-of_z, [], ◌≡◌}
 use Rattle.tz_info.proofs.PassedTransitions.{no_items}
 use Rattle.tz_info.proofs.WallPieces.{latest_answers, none_answers}
 use Rattle.tz_info.proofs.zone.index.Index.answer.Goals as goal

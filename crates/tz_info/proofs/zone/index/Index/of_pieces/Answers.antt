@@ -1,4 +1,4 @@
-use Rattle.std.proofs.Common.{rules}
+use Rattle.tz_info.proofs.Words.{rules}
 use Rattle.tz_info.proofs.WallPieces.{starts_in_order}
 use Rattle.tz_info.proofs.zone.index.Index.of_pieces.Goals as goal
 

@@ -1,4 +1,4 @@
-use Rattle.std.proofs.Common.{to_z-of_z}
+use Rattle.tz_info.proofs.Words.{to_z-of_z}
 use Rattle.tz_info.proofs.zone.lookups.Lookups.find_outside.Goals as goal
 
 pub returns-clause-found : goal.returns-clause-found

@@ -1,4 +1,4 @@
-use Rattle.std.proofs.Common.{to_z-of_z}
+use Rattle.tz_info.proofs.Words.{to_z-of_z}
 use Rattle.tz_info.proofs.TableSearch.{first_passed}
 use Rattle.tz_info.proofs.zone.table.Table.passed.Goals as goal
 

@@ -1,10 +1,4 @@
-use Rattle.std.proofs.Common.{ℕ, arith, length, ap, refl, to_z-of_z, ◌-◌}
-use Rattle.std.specs.Borrow.{Bor}
-use Rattle.std.proofs.lemmas.Option.{slice_get_read}
-use Rattle.tz_base.specs.LocalTypes.{LocalType}
-use Rattle.tz_timeline.proofs.ForCallers.{digits-le}
-use Rattle.tz_info.specs.Zones.{Zone}
-use Rattle.tz_info.specs.declared.zone.transition.Transition.{Transition}
+use Rattle.tz_info.proofs.Words.{Bor, LocalType, Transition, Zone, ap, arith, digits-le, length, refl, slice_get_read, to_z-of_z, ℕ, ◌-◌}
 use Rattle.tz_info.proofs.PassedTransitions.{ArePassed, at_first, at_last, at_middle, last_passed, none_passed}
 use Rattle.tz_info.proofs.zone.time_zone.TimeZone.at_leap_time.Goals as goal
 use Rattle.tz_info.proofs.zone.time_zone.TimeZone.at_leap_time.Goals.{After-passed-passed}

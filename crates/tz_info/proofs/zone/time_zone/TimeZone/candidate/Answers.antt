@@ -1,8 +1,4 @@
-use Rattle.std.proofs.Common.{◌≡◌, arith, ap, refl, sym, ◌∙◌, length, slice_get, ◌-ℤ◌, w32, w64, to_z-of_z, rules}
-use mir.Val.{SFits}
-use Rattle.std.proofs.lemmas.Int.{ints}
-use Rattle.std.proofs.lemmas.Option.{slice_get_read}
-use Rattle.tz_info.specs.Zones.{Zone}
+use Rattle.tz_info.proofs.Words.{SFits, Zone, ap, arith, ints, length, refl, rules, slice_get, slice_get_read, sym, to_z-of_z, w32, w64, ◌-ℤ◌, ◌∙◌, ◌≡◌}
 use Rattle.tz_info.proofs.zone.time_zone.TimeZone.candidate.Goals as goal
 
 pub returns : goal.returns

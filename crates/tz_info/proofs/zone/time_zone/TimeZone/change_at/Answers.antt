@@ -1,6 +1,4 @@
-use Rattle.std.proofs.Common.{w64, to_z-of_z, pos, ◌-ℤ◌}
-use mir.Val.{SFits}
-use Rattle.tz_info.specs.Zones.{TypeAt}
+use Rattle.tz_info.proofs.Words.{SFits, TypeAt, pos, to_z-of_z, w64, ◌-ℤ◌}
 use Rattle.tz_info.proofs.ChangeSearch.{change_made, none_before, none_here}
 use Rattle.tz_info.proofs.ZoneLaws.{type_not_refused, type_once}
 use Rattle.tz_info.proofs.zone.time_zone.TimeZone.change_at.Goals as goal

@@ -1,6 +1,4 @@
-use Rattle.std.proofs.Common.{◌∙◌, ap, sym, w64, of_z, to_z-of_z, rules}
-use Rattle.std.proofs.lemmas.Bool.{false≢true}
-use mir.Val.{SFits}
+use Rattle.tz_info.proofs.Words.{SFits, ap, false≢true, of_z, rules, sym, to_z-of_z, w64, ◌∙◌}
 use Rattle.tz_info.proofs.SpanSearch.{changes_with}
 use Rattle.tz_info.proofs.zone.time_zone.TimeZone.change_second.Goals as goal
 

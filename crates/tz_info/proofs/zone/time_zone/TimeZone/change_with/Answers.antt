@@ -1,7 +1,4 @@
-use Rattle.std.proofs.Common.{arith, w64, to_z-of_z, rules}
-use mir.Val.{SFits}
-use mir.Syntax.{w128}
-use Rattle.std.proofs.lemmas.Int.{ints}
+use Rattle.tz_info.proofs.Words.{SFits, arith, ints, rules, to_z-of_z, w128, w64}
 use Rattle.tz_info.proofs.ZoneChanges.{none_outside, with_start}
 use Rattle.tz_info.proofs.zone.time_zone.TimeZone.change_with.Goals as goal
 

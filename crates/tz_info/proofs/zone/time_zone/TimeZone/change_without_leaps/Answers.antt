@@ -1,5 +1,4 @@
-use Rattle.std.proofs.Common.{ap, w64, to_z, of_z, to_z-of_z, rules}
-use mir.Val.{SFits}
+use Rattle.tz_info.proofs.Words.{SFits, ap, of_z, rules, to_z, to_z-of_z, w64}
 use Rattle.tz_info.proofs.LeaplessChanges.{made, none_made}
 use Rattle.tz_info.proofs.zone.time_zone.TimeZone.change_without_leaps.Goals as goal
 

@@ -1,4 +1,4 @@
-use Rattle.std.proofs.Common.{to_z-of_z}
+use Rattle.tz_info.proofs.Words.{to_z-of_z}
 use Rattle.tz_info.proofs.ChangeLists.{all_left}
 use Rattle.tz_info.proofs.zone.time_zone.TimeZone.changes.Goals as goal
 

@@ -1,6 +1,4 @@
-use Rattle.std.proofs.Common.{arith, ap, w64, to_z-of_z, rules, inl, inr}
-use mir.Val.{SFits}
-use Rattle.tz_timeline.specs.Counts.{Counts}
+use Rattle.tz_info.proofs.Words.{Counts, SFits, ap, arith, inl, inr, rules, to_z-of_z, w64}
 use Rattle.tz_info.proofs.ZoneChanges.{counted_segment}
 use Rattle.tz_info.proofs.zone.time_zone.TimeZone.come_at.Goals as goal
 

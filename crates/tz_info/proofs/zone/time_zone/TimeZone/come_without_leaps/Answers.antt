@@ -1,5 +1,4 @@
-use Rattle.std.proofs.Common.{arith, ap, to_z-of_z}
-use Rattle.tz_timeline.specs.Counts.{Counts}
+use Rattle.tz_info.proofs.Words.{Counts, ap, arith, to_z-of_z}
 use Rattle.tz_info.proofs.LeaplessChanges.{own_leap_time}
 use Rattle.tz_info.proofs.ZoneChanges.{counted_segment}
 use Rattle.tz_info.proofs.zone.time_zone.TimeZone.come_without_leaps.Goals as goal

@@ -1,7 +1,5 @@
-use Rattle.std.proofs.Common.{arith, rules, to_z-of_z, w64}
-use mir.Val.{SFits}
-use Rattle.std.proofs.lemmas.Int.{ints}
-use Rattle.tz_info.proofs.DifferenceLaws.{listed_more, all_listed}
+use Rattle.tz_info.proofs.Words.{SFits, arith, ints, rules, to_z-of_z, w64}
+use Rattle.tz_info.proofs.DifferenceLaws.{all_listed, listed_more}
 use Rattle.tz_info.proofs.zone.time_zone.TimeZone.differences.Goals as goal
 
 pub loop-at-preserved : goal.loop-at-preserved

@@ -1,6 +1,4 @@
-use Rattle.std.proofs.Common.{◌-ℤ◌, unsigned_abs}
-use Rattle.tz_info.specs.Steps.Differences.{AreListedTo}
-use Rattle.tz_info.specs.Zones.{TypeAt}
+use Rattle.tz_info.proofs.Words.{AreListedTo, TypeAt, unsigned_abs, ◌-ℤ◌}
 use Rattle.tz_info.proofs.zone.time_zone.TimeZone.differences.Given as goal
 
 abbrev pub invariant-loop-at : goal.invariant-loop-at

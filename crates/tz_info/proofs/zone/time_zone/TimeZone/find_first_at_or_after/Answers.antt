@@ -1,6 +1,5 @@
-use Rattle.std.proofs.Common.{rules, to_z-of_z, w64}
-use mir.Val.{SFits}
-use Rattle.tz_info.proofs.ShownSecondLaws.{never_before_until, first_reached}
+use Rattle.tz_info.proofs.Words.{SFits, rules, to_z-of_z, w64}
+use Rattle.tz_info.proofs.ShownSecondLaws.{first_reached, never_before_until}
 use Rattle.tz_info.proofs.zone.time_zone.TimeZone.find_first_at_or_after.Goals as goal
 
 pub unreachable-requires : goal.unreachable-requires

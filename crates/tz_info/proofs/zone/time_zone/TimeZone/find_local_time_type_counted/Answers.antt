@@ -1,10 +1,5 @@
-use Rattle.std.proofs.Common.{ap, arith, length, ◌∙◌, refl, sym, to_z-of_z, w64, rules}
-use mir.Val.{SFits}
-use Rattle.std.specs.Borrow.{Bor}
-use Rattle.tz_base.specs.LocalTypes.{LocalType}
-use Rattle.tz_info.specs.Leaps.{IsLeapTime}
-use Rattle.tz_info.specs.Zones.{Zone, by_leap_time}
-use Rattle.tz_info.proofs.PassedTransitions.{without_transitions, with_transitions}
+use Rattle.tz_info.proofs.Words.{Bor, IsLeapTime, LocalType, SFits, Zone, ap, arith, by_leap_time, length, refl, rules, sym, to_z-of_z, w64, ◌∙◌}
+use Rattle.tz_info.proofs.PassedTransitions.{with_transitions, without_transitions}
 use Rattle.tz_info.proofs.QuestionLaws.{asked_at_time, asked_without}
 use Rattle.tz_info.proofs.zone.time_zone.TimeZone.find_local_time_type_counted.Goals as goal
 

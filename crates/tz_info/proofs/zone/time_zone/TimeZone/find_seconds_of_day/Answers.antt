@@ -1,7 +1,4 @@
-use Rattle.std.proofs.Common.{◌≡◌, ◌∙◌, ap, arith, to_z-of_z, pos, ◌+ℤ◌, ◌*ℤ◌, w64}
-use mir.Val.{SFits}
-use Rattle.std.proofs.lemmas.Int.{ints}
-use Rattle.naive_base.specs.NaiveDate.{day_of}
+use Rattle.tz_info.proofs.Words.{SFits, ap, arith, day_of, ints, pos, to_z-of_z, w64, ◌*ℤ◌, ◌+ℤ◌, ◌∙◌, ◌≡◌}
 use Rattle.tz_info.proofs.zone.time_zone.TimeZone.find_seconds_of_day.Goals as goal
 
 pub seconds_between-requires-clause-until : goal.seconds_between-requires-clause-until

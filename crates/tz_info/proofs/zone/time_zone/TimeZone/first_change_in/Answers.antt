@@ -1,6 +1,4 @@
-use Rattle.std.proofs.Common.{rules, to_z-of_z, w64}
-use mir.Val.{SFits}
-use Rattle.tz_info.specs.Zones.{TypeAt}
+use Rattle.tz_info.proofs.Words.{SFits, TypeAt, rules, to_z-of_z, w64}
 use Rattle.tz_info.proofs.ChangeLists.{first_of_stretch, none_of_stretch}
 use Rattle.tz_info.proofs.zone.time_zone.TimeZone.first_change_in.Goals as goal
 

@@ -1,7 +1,5 @@
-use Rattle.std.proofs.Common.{arith, rules, to_z-of_z, w32, w64}
-use mir.Val.{SFits}
-use Rattle.std.proofs.lemmas.Int.{ints}
-use Rattle.tz_info.proofs.ShownSecondLaws.{first_begins, first_ends, first_goes_on, first_found}
+use Rattle.tz_info.proofs.Words.{SFits, arith, ints, rules, to_z-of_z, w32, w64}
+use Rattle.tz_info.proofs.ShownSecondLaws.{first_begins, first_ends, first_found, first_goes_on}
 use Rattle.tz_info.proofs.zone.time_zone.TimeZone.first_within.Goals as goal
 
 pub loop-at-init : goal.loop-at-init

@@ -1,5 +1,4 @@
-use Rattle.std.proofs.Common.{◌-ℤ◌, unsigned_abs}
-use Rattle.tz_info.specs.Steps.Runs.{AreNoneBefore}
+use Rattle.tz_info.proofs.Words.{AreNoneBefore, unsigned_abs, ◌-ℤ◌}
 use Rattle.tz_info.proofs.zone.time_zone.TimeZone.first_within.Given as goal
 
 abbrev pub invariant-loop-at : goal.invariant-loop-at

@@ -1,6 +1,5 @@
-use Rattle.std.proofs.Common.{inl, inr, refl}
-use Rattle.std.proofs.lemmas.Result.{err_from_is_err_and}
-use Rattle.tz_info.proofs.PosixLaws.{zone_of_text, fault_of_text, zone_found, only_found, zone_memory, refused_memory, fault_or_zone, is_empty}
+use Rattle.tz_info.proofs.Words.{err_from_is_err_and, inl, inr, refl}
+use Rattle.tz_info.proofs.PosixLaws.{fault_of_text, fault_or_zone, is_empty, only_found, refused_memory, zone_found, zone_memory, zone_of_text}
 use Rattle.tz_info.proofs.zone.time_zone.TimeZone.from_posix_tz.Goals as goal
 
 pub returns-clause-found : goal.returns-clause-found

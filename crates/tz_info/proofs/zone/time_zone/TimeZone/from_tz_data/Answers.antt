@@ -1,8 +1,6 @@
-use Rattle.std.proofs.lemmas.Result.{err_from_is_err_and}
-use Rattle.tz_info.specs.Steps.FileLists.{zone_of}
-use Rattle.std.proofs.Common.{Err}
+use Rattle.tz_info.proofs.Words.{Err, err_from_is_err_and, zone_of}
 use Rattle.tz_info.proofs.TzFileLaws.{named}
-use Rattle.tz_info.proofs.ZoneFileLaws.{made_found, made_only, made_fault, made_memory}
+use Rattle.tz_info.proofs.ZoneFileLaws.{made_fault, made_found, made_memory, made_only}
 use Rattle.tz_info.proofs.zone.time_zone.TimeZone.from_tz_data.Goals as goal
 
 pub returns-clause-found : goal.returns-clause-found

@@ -1,8 +1,5 @@
-use Rattle.std.proofs.Common.{arith, ap, ◌∙◌, Some, to_z-of_z, w64, rules}
-use mir.Val.{SFits}
-use Rattle.std.proofs.lemmas.Int.{ints}
-use Rattle.tz_info.specs.Steps.Gaps.{IsPassed}
-use Rattle.tz_info.proofs.GapLaws.{gap_at_rule, passed_at_rule, fixed_ends}
+use Rattle.tz_info.proofs.Words.{IsPassed, SFits, Some, ap, arith, ints, rules, to_z-of_z, w64, ◌∙◌}
+use Rattle.tz_info.proofs.GapLaws.{fixed_ends, gap_at_rule, passed_at_rule}
 use Rattle.tz_info.proofs.zone.time_zone.TimeZone.gap_by_rule.Goals as goal
 use Rattle.tz_info.proofs.zone.time_zone.TimeZone.gap_by_rule.Goals.{Else-local-shown_at}
 

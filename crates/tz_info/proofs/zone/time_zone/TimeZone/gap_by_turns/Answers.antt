@@ -1,7 +1,5 @@
-use Rattle.std.proofs.Common.{arith, to_z-of_z, w64}
-use mir.Val.{SFits}
-use Rattle.std.proofs.lemmas.Int.{ints}
-use Rattle.tz_info.proofs.GapLaws.{passed_more, gap_of_turn}
+use Rattle.tz_info.proofs.Words.{SFits, arith, ints, to_z-of_z, w64}
+use Rattle.tz_info.proofs.GapLaws.{gap_of_turn, passed_more}
 use Rattle.tz_info.proofs.zone.time_zone.TimeZone.gap_by_turns.Goals as goal
 
 pub loop-turn-smaller : goal.loop-turn-smaller

@@ -1,5 +1,4 @@
-use Rattle.std.proofs.Common.{pos, ◌-ℤ◌, unsigned_abs}
-use Rattle.tz_info.specs.Steps.Gaps.{IsTurn}
+use Rattle.tz_info.proofs.Words.{IsTurn, pos, unsigned_abs, ◌-ℤ◌}
 use Rattle.tz_info.proofs.zone.time_zone.TimeZone.gap_by_turns.Given as goal
 
 abbrev pub invariant-loop-turn : goal.invariant-loop-turn

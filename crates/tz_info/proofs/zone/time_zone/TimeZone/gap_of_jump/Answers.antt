@@ -1,10 +1,5 @@
-use Rattle.std.proofs.Common.{◌≡◌, ◌+◌, ◌-◌, arith, ap, sym, ◌∙◌, subst, to_z-of_z, w64, rules}
-use mir.Val.{SFits}
-use Rattle.tz_info.specs.Steps.Segments.{index_of}
-use Rattle.tz_info.specs.Steps.Starts.{IsReachedFrom}
-use Rattle.tz_info.specs.WallPieces.{IsStart}
-use Rattle.tz_info.specs.Zones.{Zone, HasType, IsValid}
-use Rattle.tz_info.specs.declared.zone.transition.Transition.{Transition}
+use Rattle.tz_info.proofs.Words.{HasType, IsReachedFrom, IsStart, IsValid, SFits, Transition, Zone, ap, arith, index_of, rules, subst, sym, to_z-of_z, w64, ◌+◌}
+use Rattle.tz_info.proofs.Words.{◌-◌, ◌∙◌, ◌≡◌}
 use Rattle.tz_info.proofs.GapLaws.{jump_found}
 use Rattle.tz_info.proofs.OnePass.{within_table}
 use Rattle.tz_info.proofs.SegmentLaws.{index_next}

@@ -1,5 +1,4 @@
-use Rattle.std.proofs.Common.{◌≡◌, ap, sym, ◌∙◌, None, to_z-of_z}
-use Rattle.tz_info.specs.Zones.{Zone}
+use Rattle.tz_info.proofs.Words.{None, Zone, ap, sym, to_z-of_z, ◌∙◌, ◌≡◌}
 use Rattle.tz_info.proofs.GapLaws.{none_ends}
 use Rattle.tz_info.proofs.zone.time_zone.TimeZone.gap_of_rule.Goals as goal
 

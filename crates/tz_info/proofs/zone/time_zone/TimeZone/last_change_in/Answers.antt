@@ -1,7 +1,5 @@
-use Rattle.std.proofs.Common.{◌≡◌, to_z-of_z, w64, pos, ◌-ℤ◌}
-use mir.Val.{SFits}
-use Rattle.tz_info.specs.Zones.{TypeAt}
-use Rattle.tz_info.proofs.ChangeLists.{last_of_stretch, none_up_to, none_before_all}
+use Rattle.tz_info.proofs.Words.{SFits, TypeAt, pos, to_z-of_z, w64, ◌-ℤ◌, ◌≡◌}
+use Rattle.tz_info.proofs.ChangeLists.{last_of_stretch, none_before_all, none_up_to}
 use Rattle.tz_info.proofs.zone.time_zone.TimeZone.last_change_in.Goals as goal
 use Rattle.tz_info.proofs.zone.time_zone.TimeZone.last_change_in.Goals.{In-Some}
 

@@ -1,7 +1,5 @@
-use Rattle.std.proofs.Common.{arith, rules, to_z, to_z-of_z, pos, ◌+ℤ◌, ◌-ℤ◌, ◌≡◌, w32, w64}
-use mir.Val.{SFits}
-use Rattle.std.proofs.lemmas.Int.{ints}
-use Rattle.tz_info.proofs.ShownSecondLaws.{last_begins, last_ends, last_goes_on, last_found}
+use Rattle.tz_info.proofs.Words.{SFits, arith, ints, pos, rules, to_z, to_z-of_z, w32, w64, ◌+ℤ◌, ◌-ℤ◌, ◌≡◌}
+use Rattle.tz_info.proofs.ShownSecondLaws.{last_begins, last_ends, last_found, last_goes_on}
 use Rattle.tz_info.proofs.zone.time_zone.TimeZone.last_within.Goals as goal
 
 pub loop-end-init : goal.loop-end-init

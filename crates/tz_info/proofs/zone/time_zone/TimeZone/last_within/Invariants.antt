@@ -1,5 +1,4 @@
-use Rattle.std.proofs.Common.{◌-ℤ◌, unsigned_abs}
-use Rattle.tz_info.specs.Steps.Runs.{AreNoneFrom}
+use Rattle.tz_info.proofs.Words.{AreNoneFrom, unsigned_abs, ◌-ℤ◌}
 use Rattle.tz_info.proofs.zone.time_zone.TimeZone.last_within.Given as goal
 
 abbrev pub invariant-loop-end : goal.invariant-loop-end

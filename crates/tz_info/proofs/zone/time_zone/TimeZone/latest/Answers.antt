@@ -1,6 +1,4 @@
-use Rattle.std.proofs.Common.{arith, ap, ◌≡◌, ◌-◌, ◌+◌, ◌∙◌, sym}
-use Rattle.tz_info.specs.declared.zone.transition.Transition.{Transition}
-use Rattle.tz_info.specs.Steps.Segments.{begin_of, index_of}
+use Rattle.tz_info.proofs.Words.{Transition, ap, arith, begin_of, index_of, sym, ◌+◌, ◌-◌, ◌∙◌, ◌≡◌}
 use Rattle.tz_info.proofs.SegmentLaws.{begin_next, index_next}
 use Rattle.tz_info.proofs.zone.time_zone.TimeZone.latest.Goals as goal
 

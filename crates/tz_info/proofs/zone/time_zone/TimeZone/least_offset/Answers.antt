@@ -1,5 +1,4 @@
-use Rattle.std.proofs.Common.{w32, to_z-of_z, rules}
-use mir.Val.{SFits}
+use Rattle.tz_info.proofs.Words.{SFits, rules, to_z-of_z, w32}
 use Rattle.tz_info.proofs.zone.time_zone.TimeZone.least_offset.Goals as goal
 
 pub returns : goal.returns

@@ -1,8 +1,4 @@
-use Rattle.std.proofs.Common.{arith, w64, to_z-of_z, rules, ◌<ℤ◌}
-use mir.Val.{SFits}
-use mir.Syntax.{w128}
-use Rattle.std.proofs.lemmas.Int.{ints}
-use Rattle.tz_info.specs.Moments.{AlternateAt}
+use Rattle.tz_info.proofs.Words.{AlternateAt, SFits, arith, ints, rules, to_z-of_z, w128, w64, ◌<ℤ◌}
 use Rattle.tz_info.proofs.ChangeSearch.{first_nearest}
 use Rattle.tz_info.proofs.ZoneChanges.{none_begun, rule_found, steady}
 use Rattle.tz_info.proofs.zone.time_zone.TimeZone.next_by_rule.Goals as goal

@@ -1,5 +1,5 @@
-use Rattle.std.proofs.Common.{to_z-of_z, ◌<ℤ◌}
-use Rattle.tz_info.proofs.ZoneChanges.{table_first, rule_first}
+use Rattle.tz_info.proofs.Words.{to_z-of_z, ◌<ℤ◌}
+use Rattle.tz_info.proofs.ZoneChanges.{rule_first, table_first}
 use Rattle.tz_info.proofs.zone.time_zone.TimeZone.next_change.Goals as goal
 
 pub returns-in-Some : goal.returns-in-Some

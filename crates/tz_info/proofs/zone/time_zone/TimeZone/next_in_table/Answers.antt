@@ -1,4 +1,4 @@
-use Rattle.std.proofs.Common.{arith, to_z-of_z}
+use Rattle.tz_info.proofs.Words.{arith, to_z-of_z}
 use Rattle.tz_info.proofs.ZoneChanges.{behind_come, found_behind}
 use Rattle.tz_info.proofs.zone.time_zone.TimeZone.next_in_table.Goals as goal
 

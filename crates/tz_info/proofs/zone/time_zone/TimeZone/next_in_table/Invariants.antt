@@ -1,4 +1,4 @@
-use Rattle.std.proofs.Common.{◌≤◌}
+use Rattle.tz_info.proofs.Words.{◌≤◌}
 use Rattle.tz_info.proofs.ZoneChanges.{AreBehind}
 use Rattle.tz_info.proofs.zone.time_zone.TimeZone.next_in_table.Given as goal
 

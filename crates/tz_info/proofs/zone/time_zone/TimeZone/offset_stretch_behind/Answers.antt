@@ -1,8 +1,5 @@
-use Rattle.std.proofs.Common.{◌≡◌, ◌∙◌, None, Some, ap, length, pos, sym, ℤ, w32, w64, to_z-of_z, rules}
-use mir.Val.{SFits}
-use Rattle.tz_info.specs.Steps.Segments.{index_of}
-use Rattle.tz_info.specs.Zones.{HasType, RuleOrType, Zone}
-use Rattle.tz_info.specs.declared.rule.transition_rule.TransitionRule.{TransitionRule}
+use Rattle.tz_info.proofs.Words.{HasType, None, RuleOrType, SFits, Some, TransitionRule, Zone, ap, index_of, length, pos, rules, sym, to_z-of_z, w32, w64, ℤ}
+use Rattle.tz_info.proofs.Words.{◌∙◌, ◌≡◌}
 use Rattle.tz_info.specs.declared.rule.transition_rule.TransitionRule.TheVariants.{Fixed}
 use Rattle.tz_info.proofs.OffsetStretchLaws.{by_fixed, by_none, offset_stretch_behind}
 use Rattle.tz_info.proofs.zone.time_zone.TimeZone.offset_stretch_behind.Goals as goal

@@ -1,6 +1,4 @@
-use Rattle.std.proofs.Common.{rules, to_z-of_z, w64}
-use mir.Val.{SFits}
-use Rattle.tz_info.specs.Zones.{TypeAt}
+use Rattle.tz_info.proofs.Words.{SFits, TypeAt, rules, to_z-of_z, w64}
 use Rattle.tz_info.proofs.DifferenceLaws.{pair_until}
 use Rattle.tz_info.proofs.zone.time_zone.TimeZone.pair_until.Goals as goal
 

@@ -1,5 +1,4 @@
-use Rattle.std.proofs.Common.{arith, length}
-use Rattle.tz_timeline.proofs.ForCallers.{digits-le}
+use Rattle.tz_info.proofs.Words.{arith, digits-le, length}
 use Rattle.tz_info.proofs.zone.time_zone.TimeZone.passed_count.Goals as goal
 
 pub passed-requires : goal.passed-requires

@@ -1,8 +1,4 @@
-use Rattle.std.proofs.Common.{arith, to_z-of_z, rules, ◌≤ℤ◌, None, Some}
-use mir.Val.{SFits}
-use mir.Syntax.{w128}
-use Rattle.std.proofs.lemmas.Int.{ints}
-use Rattle.tz_info.specs.Moments.{AlternateAt}
+use Rattle.tz_info.proofs.Words.{AlternateAt, None, SFits, Some, arith, ints, rules, to_z-of_z, w128, ◌≤ℤ◌}
 use Rattle.tz_info.proofs.ChangeSearch.{last_after, last_nearest}
 use Rattle.tz_info.proofs.ZoneChanges.{none_begun, rule_until, steady}
 use Rattle.tz_info.proofs.zone.time_zone.TimeZone.previous_by_rule.Goals as goal

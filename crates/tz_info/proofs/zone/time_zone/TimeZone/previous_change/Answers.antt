@@ -1,4 +1,4 @@
-use Rattle.std.proofs.Common.{to_z-of_z, ◌≤ℤ◌}
+use Rattle.tz_info.proofs.Words.{to_z-of_z, ◌≤ℤ◌}
 use Rattle.tz_info.proofs.ZoneChanges.{rule_is_last, table_is_last}
 use Rattle.tz_info.proofs.zone.time_zone.TimeZone.previous_change.Goals as goal
 

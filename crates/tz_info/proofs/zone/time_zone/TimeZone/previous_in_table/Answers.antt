@@ -1,4 +1,4 @@
-use Rattle.std.proofs.Common.{◌≡◌, ◌+◌, ◌-◌, arith, to_z-of_z}
+use Rattle.tz_info.proofs.Words.{arith, to_z-of_z, ◌+◌, ◌-◌, ◌≡◌}
 use Rattle.tz_info.proofs.ZoneChanges.{ahead_come, ahead_less, ahead_none, table_last}
 use Rattle.tz_info.proofs.zone.time_zone.TimeZone.previous_in_table.Goals as goal
 

@@ -1,5 +1,4 @@
-use Rattle.std.proofs.Common.{◌-◌}
-use Rattle.tz_info.specs.Steps.Changes.{AreAhead}
+use Rattle.tz_info.proofs.Words.{AreAhead, ◌-◌}
 use Rattle.tz_info.proofs.zone.time_zone.TimeZone.previous_in_table.Given as goal
 
 abbrev pub invariant-loop-back : goal.invariant-loop-back

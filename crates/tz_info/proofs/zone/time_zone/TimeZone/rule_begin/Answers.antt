@@ -1,6 +1,4 @@
-use Rattle.std.proofs.Common.{◌-◌, arith, to_z-of_z, rules}
-use mir.Val.{SFits}
-use mir.Syntax.{w128}
+use Rattle.tz_info.proofs.Words.{SFits, arith, rules, to_z-of_z, w128, ◌-◌}
 use Rattle.tz_info.proofs.ZoneChanges.{begin_last}
 use Rattle.tz_info.proofs.zone.time_zone.TimeZone.rule_begin.Goals as goal
 

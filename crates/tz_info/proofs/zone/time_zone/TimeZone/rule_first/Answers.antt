@@ -1,5 +1,4 @@
-use Rattle.std.proofs.Common.{to_z-of_z, w64, rules}
-use mir.Val.{SFits}
+use Rattle.tz_info.proofs.Words.{SFits, rules, to_z-of_z, w64}
 use Rattle.tz_info.proofs.GapLaws.{table_passed}
 use Rattle.tz_info.proofs.zone.time_zone.TimeZone.rule_first.Goals as goal
 

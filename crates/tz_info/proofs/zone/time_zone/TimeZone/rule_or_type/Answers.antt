@@ -1,6 +1,4 @@
-use Rattle.std.proofs.Common.{ap}
-use Rattle.tz_timeline.specs.Counts.{Counts}
-use Rattle.tz_info.specs.Zones.{Zone}
+use Rattle.tz_info.proofs.Words.{Counts, Zone, ap}
 use Rattle.tz_info.proofs.zone.time_zone.TimeZone.rule_or_type.Goals as goal
 
 pub returns-in-None-clause-asked : goal.returns-in-None-clause-asked

@@ -1,4 +1,4 @@
-use Rattle.std.proofs.Common.{arith, to_z-of_z}
+use Rattle.tz_info.proofs.Words.{arith, to_z-of_z}
 use Rattle.tz_info.proofs.SpanSearch.{come_all}
 use Rattle.tz_info.proofs.zone.time_zone.TimeZone.span_by_search.Goals as goal
 

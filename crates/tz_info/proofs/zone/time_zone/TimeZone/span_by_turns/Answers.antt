@@ -1,7 +1,4 @@
-use Rattle.std.proofs.Common.{arith, to_z-of_z, w64, rules}
-use mir.Val.{SFits}
-use mir.Syntax.{w128}
-use Rattle.std.proofs.lemmas.Int.{ints}
+use Rattle.tz_info.proofs.Words.{SFits, arith, ints, rules, to_z-of_z, w128, w64}
 use Rattle.tz_info.proofs.SpanSearch.{by_turns}
 use Rattle.tz_info.proofs.zone.time_zone.TimeZone.span_by_turns.Goals as goal
 

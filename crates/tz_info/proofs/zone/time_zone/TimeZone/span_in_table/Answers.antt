@@ -1,5 +1,4 @@
-use Rattle.std.proofs.Common.{arith, to_z-of_z, w64, rules}
-use mir.Val.{SFits}
+use Rattle.tz_info.proofs.Words.{SFits, arith, rules, to_z-of_z, w64}
 use Rattle.tz_info.proofs.SpanSearch.{first_span, later_span}
 use Rattle.tz_info.proofs.zone.time_zone.TimeZone.span_in_table.Goals as goal
 

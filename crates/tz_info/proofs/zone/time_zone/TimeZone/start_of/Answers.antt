@@ -1,8 +1,4 @@
-use Rattle.std.proofs.Common.{◌≡◌, ◌↔◌, ℤ, ◌≤ℤ◌, ap, subst, to_z-of_z, w64, rules}
-use mir.Val.{SFits}
-use mir.Syntax.{w128}
-use Rattle.tz_info.specs.Leaps.{IsLeapTime}
-use Rattle.tz_info.specs.Zones.{Zone}
+use Rattle.tz_info.proofs.Words.{IsLeapTime, SFits, Zone, ap, rules, subst, to_z-of_z, w128, w64, ℤ, ◌↔◌, ◌≡◌, ◌≤ℤ◌}
 use Rattle.tz_info.proofs.ZoneChanges.{comes_at}
 use Rattle.tz_info.proofs.zone.time_zone.TimeZone.start_of.Goals as goal
 

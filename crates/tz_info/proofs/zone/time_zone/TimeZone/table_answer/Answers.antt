@@ -1,7 +1,5 @@
-use Rattle.std.proofs.Common.{arith, length, ◌+◌, ◌*◌, to_z-of_z, ap}
-use Rattle.tz_timeline.proofs.ForCallers.{digits-more}
-use Rattle.tz_info.specs.Zones.{Zone}
-use Rattle.tz_info.proofs.WallSegments.{typed_answer, indexes_below}
+use Rattle.tz_info.proofs.Words.{Zone, ap, arith, digits-more, length, to_z-of_z, ◌*◌, ◌+◌}
+use Rattle.tz_info.proofs.WallSegments.{indexes_below, typed_answer}
 use Rattle.tz_info.proofs.zone.time_zone.TimeZone.table_answer.Goals as goal
 
 pub types_of-requires : goal.types_of-requires

@@ -1,10 +1,4 @@
-use Rattle.std.proofs.Common.{length, w64, rules, to_z-of_z}
-use mir.Val.{SFits}
-use Rattle.tz_info.specs.Steps.RuleSeconds.{TypeFrom}
-use Rattle.tz_info.specs.Steps.Walk.{IsShownIn}
-use Rattle.tz_info.specs.WallClocks.{Shows}
-use Rattle.tz_info.specs.WallPieces.{IsStart}
-use Rattle.tz_info.specs.Zones.{IsValid}
+use Rattle.tz_info.proofs.Words.{IsShownIn, IsStart, IsValid, SFits, Shows, TypeFrom, length, rules, to_z-of_z, w64}
 use Rattle.tz_info.proofs.AnswerLaws.{joined_answer}
 use Rattle.tz_info.proofs.QuestionLaws.{asked_by_zone}
 use Rattle.tz_info.proofs.WalkLaws.{with_rule}

@@ -1,6 +1,4 @@
-use Rattle.std.proofs.Common.{arith, refl, inl, inr, w64, rules, to_z-of_z}
-use mir.Val.{SFits}
-use Rattle.std.proofs.lemmas.Int.{ints}
+use Rattle.tz_info.proofs.Words.{SFits, arith, inl, inr, ints, refl, rules, to_z-of_z, w64}
 use Rattle.tz_info.proofs.zone.time_zone.TimeZone.try_until.Goals as goal
 use Rattle.tz_info.proofs.zone.time_zone.TimeZone.try_until.Goals.{After-candidate-candidate}
 

@@ -1,18 +1,11 @@
-use Rattle.std.proofs.Common.{arith, ap, ◌+◌, sym, ◌∙◌, ◌≡◌, length, w64, to_z-of_z, rules}
-use mir.Val.{SFits}
-use Rattle.std.proofs.lemmas.Int.{ints}
-use Rattle.offset_core.specs.WallAnswer.{IsWallAnswer}
-use Rattle.tz_timeline.specs.Counts.{Counts}
-use Rattle.tz_timeline.proofs.ForCallers.{digits-le}
-use Rattle.tz_info.specs.Steps.Walk.{IsShownIn}
-use Rattle.tz_info.specs.Windows.{IsWindow}
-use Rattle.tz_info.specs.declared.zone.transition.Transition.{Transition}
+use Rattle.tz_info.proofs.Words.{Counts, IsShownIn, IsWallAnswer, IsWindow, SFits, Transition, ap, arith, digits-le, ints, length, rules, sym, to_z-of_z, w64}
+use Rattle.tz_info.proofs.Words.{◌+◌, ◌∙◌, ◌≡◌}
 use Rattle.tz_info.proofs.QuestionLaws.{asked_for_window}
-use Rattle.tz_info.proofs.SegmentLaws.{between_passed, begin_next, index_next}
+use Rattle.tz_info.proofs.SegmentLaws.{begin_next, between_passed, index_next}
 use Rattle.tz_info.proofs.TableSearch.{Between}
-use Rattle.tz_info.proofs.WalkLaws.{none_before, tried_before, none_behind, all_segments, walked_more, one_look, rose_by_walk}
+use Rattle.tz_info.proofs.WalkLaws.{all_segments, none_before, none_behind, one_look, rose_by_walk, tried_before, walked_more}
 use Rattle.tz_info.proofs.zone.time_zone.TimeZone.walked_answer.Goals as goal
-use Rattle.tz_info.proofs.zone.time_zone.TimeZone.walked_answer.Goals.{After-window-window, After-passed_count-first, After-try_until-answer}
+use Rattle.tz_info.proofs.zone.time_zone.TimeZone.walked_answer.Goals.{After-passed_count-first, After-try_until-answer, After-window-window}
 
 seen : (c : goal.After-window-window) → IsWindow c.args.self.now c.args.local c.window-window.result.low c.window-window.result.high
 seen c =

@@ -1,7 +1,4 @@
-use Rattle.std.proofs.Common.{◌≡◌, ◌<◌, length}
-use Rattle.offset_core.specs.WallAnswer.{IsWallAnswer}
-use Rattle.tz_info.specs.Steps.Segments.{begin_of, index_of}
-use Rattle.tz_info.specs.Steps.Walk.{IsShownIn}
+use Rattle.tz_info.proofs.Words.{IsShownIn, IsWallAnswer, begin_of, index_of, length, ◌<◌, ◌≡◌}
 use Rattle.tz_info.proofs.WalkLaws.{Walked}
 use Rattle.tz_info.proofs.zone.time_zone.TimeZone.walked_answer.Given as goal
 

@@ -1,5 +1,4 @@
-use Rattle.std.proofs.Common.{◌≡◌, arith, ap, sym, ◌∙◌, to_z-of_z}
-use Rattle.tz_info.specs.Zones.{Zone}
+use Rattle.tz_info.proofs.Words.{Zone, ap, arith, sym, to_z-of_z, ◌∙◌, ◌≡◌}
 use Rattle.tz_info.proofs.WalkLaws.{all_segments}
 use Rattle.tz_info.proofs.WallSegments.{table_alone, table_first}
 use Rattle.tz_info.proofs.zone.time_zone.TimeZone.wall_answer_of.Goals as goal

@@ -1,6 +1,4 @@
-use Rattle.std.proofs.Common.{arith, w32, w64, to_z-of_z, rules}
-use mir.Val.{SFits}
-use Rattle.std.proofs.lemmas.Int.{ints}
+use Rattle.tz_info.proofs.Words.{SFits, arith, ints, rules, to_z-of_z, w32, w64}
 use Rattle.tz_info.proofs.zone.time_zone.TimeZone.window.Goals as goal
 
 pub returns-clause-window : goal.returns-clause-window

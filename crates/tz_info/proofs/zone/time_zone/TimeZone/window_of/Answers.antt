@@ -1,7 +1,4 @@
-use Rattle.std.proofs.Common.{◌≡◌, arith, ◌-ℤ◌, subst, w32, w64, to_z-of_z, rules}
-use mir.Val.{SFits}
-use Rattle.std.proofs.lemmas.Int.{ints}
-use Rattle.tz_info.specs.Windows.{IsGreatest, IsLeast, offsets}
+use Rattle.tz_info.proofs.Words.{IsGreatest, IsLeast, SFits, arith, ints, offsets, rules, subst, to_z-of_z, w32, w64, ◌-ℤ◌, ◌≡◌}
 use Rattle.tz_info.proofs.zone.time_zone.TimeZone.window_of.Goals as goal
 
 pub returns : goal.returns

@@ -1,5 +1,4 @@
-use Rattle.std.proofs.Common.{arith, ap, length, take}
-use Rattle.std.proofs.lemmas.List.{length-append, length-take}
+use Rattle.tz_write.proofs.Words.{ap, arith, length, length-append, length-take, take}
 use Rattle.tz_write.proofs.file.designations.Designations.push_all.Goals as goal
 
 pub push-requires : goal.push-requires

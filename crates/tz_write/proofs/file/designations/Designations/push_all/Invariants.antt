@@ -1,4 +1,4 @@
-use Rattle.std.proofs.Common.{◌≡◌, ◌++◌, take}
+use Rattle.tz_write.proofs.Words.{take, ◌++◌, ◌≡◌}
 use Rattle.tz_write.proofs.file.designations.Designations.push_all.Given as goal
 
 abbrev pub invariant-loop-byte : goal.invariant-loop-byte

@@ -1,8 +1,5 @@
-use Rattle.std.proofs.Common.{FitsSigned, ℤ, ◌≤ℤ◌, ◌*ℤ◌, ◌-ℤ◌, pos, arith, subst, to_z-of_z, w32, w64, rules}
-use Rattle.std.proofs.lemmas.Int.{ints}
-use mir.Syntax.{w128}
-use Rattle.zoned_ffi.specs.Units.{per_second}
-use Rattle.zoned_ffi.proofs.Columns.{kept_of, least, greatest}
+use Rattle.zoned_ffi.proofs.Words.{FitsSigned, arith, ints, per_second, pos, rules, subst, to_z-of_z, w128, w32, w64, ℤ, ◌*ℤ◌, ◌-ℤ◌, ◌≤ℤ◌}
+use Rattle.zoned_ffi.proofs.Columns.{greatest, kept_of, least}
 use Rattle.zoned_ffi.proofs.column.kept.Kept.of.Goals as goal
 
 pub overflow_cast-result : goal.overflow_cast-result

@@ -1,5 +1,4 @@
-use Rattle.naive_base.specs.NaiveDateTime.{reading}
-use Rattle.zoned_time.specs.DateTime.{zoned, home_of}
+use Rattle.zoned_time.proofs.Words.{home_of, reading, zoned}
 use Rattle.zoned_time.proofs.Homes.{at_home}
 use Rattle.zoned_time.proofs.datetime.arithmetic.DateTime+Tz.at.Goals as goal
 

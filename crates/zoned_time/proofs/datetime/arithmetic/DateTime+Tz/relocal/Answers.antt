@@ -1,6 +1,4 @@
-use Rattle.offset_core.specs.LocalResult.{map_of}
-use Rattle.naive_base.specs.NaiveDateTime.{reading}
-use Rattle.zoned_time.specs.DateTime.{zoned, home_of}
+use Rattle.zoned_time.proofs.Words.{home_of, map_of, reading, zoned}
 use Rattle.zoned_time.proofs.Homes.{relocal_home}
 use Rattle.zoned_time.proofs.datetime.arithmetic.DateTime+Tz.relocal.Goals as goal
 

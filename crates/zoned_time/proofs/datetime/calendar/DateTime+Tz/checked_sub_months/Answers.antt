@@ -1,7 +1,4 @@
-use Rattle.std.proofs.Common.{pos, neg_ℤ}
-use Rattle.naive_base.specs.Months.{months_of}
-use Rattle.naive_base.specs.NaiveDateTime.{reading}
-use Rattle.zoned_time.specs.DateTime.{zoned, wall_of, home_of, day_shown_by}
+use Rattle.zoned_time.proofs.Words.{day_shown_by, home_of, months_of, neg_ℤ, pos, reading, wall_of, zoned}
 use Rattle.zoned_time.proofs.Instants.{no_months_later}
 use Rattle.zoned_time.proofs.datetime.calendar.DateTime+Tz.checked_sub_months.Goals as goal
 

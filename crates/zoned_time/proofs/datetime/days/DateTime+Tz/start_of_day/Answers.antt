@@ -1,5 +1,4 @@
-use Rattle.zoned_time.specs.DateTime.{zoned, home_of, day_shown_by}
-use Rattle.zoned_time.specs.Days.{midnight}
+use Rattle.zoned_time.proofs.Words.{day_shown_by, home_of, midnight, zoned}
 use Rattle.zoned_time.proofs.DayEnds.{start_home}
 use Rattle.zoned_time.proofs.datetime.days.DateTime+Tz.start_of_day.Goals as goal
 

@@ -1,8 +1,4 @@
-use Rattle.std.proofs.Common.{ap, subst, Option, List, ℕ, Some}
-use Rattle.std.specs.Fmt.{DisplaysOnOk, ◌++?◌}
-use Rattle.naive_base.specs.NaiveDateTime.{reading}
-use Rattle.naive_base.specs.Text.{reading_text}
-use Rattle.zoned_time.specs.DateTime.{wall_of}
+use Rattle.zoned_time.proofs.Words.{DisplaysOnOk, List, Option, Some, ap, reading, reading_text, subst, wall_of, ℕ, ◌++?◌}
 use Rattle.zoned_time.proofs.Printed.{at_once, joined}
 use Rattle.zoned_time.proofs.datetime.print.InstantDebug.fmt.Goals as goal
 

@@ -1,0 +1,170 @@
+-- The words that this crate's proofs cite, passed on from std, from the crates below and from specs/.
+pub use Rattle.std.proofs.Common.{All, AllPairs, Contains, Err, IfErr, IfOk, IfSome, IsTrue, MatchResult, None, Ok, Option, Result, Some, add-one, int_eq}
+pub use Rattle.std.proofs.Common.{length-take, nat_le, nat_lt, not, slice_get, vec_capacity, vec_len, ⊎_elim, ◌&&◌, ◌==◌, ◌||◌, ◌↔◌}
+pub use Rattle.std.proofs.Math.ListN.{get_or-eq_default}
+pub use Rattle.std.proofs.Math.Seq.{take-append_seam}
+pub use Rattle.std.proofs.lemmas.Bool.{and_parts, false≢true, not-false, or_cases, or_left, or_right, true≢false}
+pub use Rattle.std.proofs.lemmas.Bool.Decides.{Decides-and, Decides-eqb, Decides-int_eq, Decides-ltb, Decides-or}
+pub use Rattle.std.proofs.lemmas.List.{append-nil, drop-drop, get_or-map, get_or_default, length-drop, length_push, nil_from_length, take-append-drop}
+pub use Rattle.std.proofs.lemmas.List.{take_more}
+pub use Rattle.std.proofs.lemmas.List.Elements.{All-append, All-contains, All-push, Contains-append_left, Contains-append_right, Contains-get_or, Contains-push}
+pub use Rattle.std.proofs.lemmas.List.Elements.{Contains-push_cases}
+pub use Rattle.std.proofs.lemmas.List.Kept.{AllPairs-cons}
+pub use Rattle.std.proofs.lemmas.List.Quantifiers.{all_pairs_push}
+pub use Rattle.std.proofs.lemmas.List.Sorted.{IsPartitionPoint-from_clause}
+pub use Rattle.std.proofs.lemmas.List.Sums.{count_by-le-length, length-filter}
+pub use Rattle.std.proofs.lemmas.Option.{none-some, slice_get-get_or, slice_get_read}
+pub use Rattle.std.proofs.lemmas.Result.{err_from_is_err_and}
+pub use Rattle.std.proofs.lemmas.Slice.Eq.{slice_eq-Decides}
+pub use Rattle.std.proofs.lemmas.Str.{IsUtf8-from_is_utf8, is_utf8-from_IsUtf8}
+pub use Rattle.std.specs.Bool.{Decides, nat_eq}
+pub use Rattle.std.specs.Borrow.{Bor}
+pub use Rattle.std.specs.Char.{is_ascii_whitespace}
+pub use Rattle.std.specs.Int.{saturate_signed}
+pub use Rattle.std.specs.List.{AllAdjacentBelow, ends_with, list_all, list_any, position_from, starts_with}
+pub use Rattle.std.specs.Option.{option_eq}
+pub use Rattle.std.specs.Prelude.{unwrap_or}
+pub use Rattle.std.specs.Result.{IsErrAnd, IsOkAnd}
+pub use Rattle.std.specs.Str.{IsAsciiWhitespaceBelow, IsAsciiWhitespaceFrom, IsTrimAscii, IsTrimAsciiEnd, IsTrimAsciiStart, IsUtf8}
+unfoldable pub use Rattle.std.specs.Str.{is_utf8}
+pub use borrow.Author.Count.{below_more}
+pub use mir.Syntax.{w128}
+pub use Rattle.offset_core.proofs.ForCallers.{one_wall_answer}
+pub use Rattle.offset_core.specs.Offset.{IsWithinDay}
+pub use Rattle.offset_core.specs.WallAnswer.{IsNeverShown, IsWallAnswer}
+pub use Rattle.offset_core.specs.declared.local_result.LocalResult.{LocalResult}
+pub use Rattle.naive_base.proofs.ForCallers.{date_lies, days_at_most, leap_at_most, months_all, months_step, own_start_in_range}
+pub use Rattle.naive_base.proofs.Words.{FitsSigned, IsWide, LiesIn, MatchOption, append_assoc, by_lt_z, day_of, day_of_year_is, days_at_least, days_in_month}
+pub use Rattle.naive_base.proofs.Words.{days_in_year, floor_div, floor_mod, floor_mod_parts, floors, is_leap, length-append, lies_in, min, nat_tests, neg_ℤ}
+pub use Rattle.naive_base.proofs.Words.{of_z, one_year, starts_rise, subst, to_z, unsigned_abs, w32, weekday_below, weekday_later, weekday_of, year_step, ◌%◌}
+pub use Rattle.naive_base.proofs.Words.{◌*ℤ◌, ◌++◌}
+unfoldable pub use Rattle.naive_base.proofs.Words.{day_number, days_of_months, year_of, year_start}
+pub use Rattle.naive_base.specs.Year.{IsDay}
+pub use Rattle.tz_base.proofs.ForCallers.{Decided, IsExact, and_both, and_left, and_right, apart, bind, bind_err, by_error, choice, done, drop_front, either}
+pub use Rattle.tz_base.proofs.ForCallers.{exact_cut, false_unless, fault_low, fault_once, guard, lawful, like, made, ok_same, refused, runs_are, said}
+pub use Rattle.tz_base.proofs.ForCallers.{same_byte, type_exact, value_once}
+pub use Rattle.tz_base.specs.Errors.{IsOutOfMemory, number_of}
+pub use Rattle.tz_base.specs.Fronts.{Gives, ◌>>=◌}
+unfoldable pub use Rattle.tz_base.specs.Fronts.{exact_at}
+pub use Rattle.tz_base.specs.Grammar.{Exact, Spells, checked, read}
+pub use Rattle.tz_base.specs.LocalTypes.{IsUtOffset, LocalType, expected_of_type}
+pub use Rattle.tz_base.specs.Names.{IsNameOrNone, expected_of_name, is_name, name_test}
+pub use Rattle.tz_base.specs.Refusals.{LocalTimeType}
+pub use Rattle.tz_base.specs.declared.change.Change.{Change}
+pub use Rattle.tz_base.specs.declared.error.Error.{Error}
+pub use Rattle.tz_base.specs.declared.span.Span.{Span}
+pub use Rattle.tz_timeline.proofs.ForCallers.{count_first, count_least, digits-le, digits-more, filter_first, first_come, le_false, le_is, le_is_not, le_true}
+pub use Rattle.tz_timeline.proofs.ForCallers.{lt_false, lt_is, lt_true, mapped_at, rises, times_ordered}
+pub use Rattle.tz_timeline.proofs.Words.{AreOrdered, ArePassed, Bool, Counts, IsLastOf, List, SFits, add-suc, add-zero, ap, arith, cases_lt, cond, count_by}
+pub use Rattle.tz_timeline.proofs.Words.{drop, false, filter, get_or, inl, inr, int_le, int_lt, ints, length, length-map, map, negsuc, option_map, pos, refl}
+pub use Rattle.tz_timeline.proofs.Words.{rules, slice_index, suc, sum_by-cons, sym, take, to_z-of_z, true, w64, zero, ℕ, ℤ, [], ◌*◌, ◌+ℤ◌, ◌+◌, ◌-ℤ◌, ◌-◌, ◌/◌}
+pub use Rattle.tz_timeline.proofs.Words.{◌<ℤ◌, ◌<◌, ◌∙◌, ◌∷◌, ◌≡◌, ◌≢◌, ◌≤ℤ◌, ◌≤◌, ◌⊎◌}
+unfoldable pub use Rattle.tz_timeline.proofs.Words.{digits}
+pub use Rattle.tz_timeline.specs.Counts.{RoseWithin, reads_more}
+pub use Rattle.tz_info.specs.Around.{IsAround}
+pub use Rattle.tz_info.specs.Changes.{AreChanges, HasNoChange, IsChange, IsFirst, IsFirstChange, IsFromUntil, IsLast, IsLastChange}
+unfoldable pub use Rattle.tz_info.specs.ChangesLeft.{changes_left}
+pub use Rattle.tz_info.specs.Differences.{AreDifferences, IsDifference, IsInDifference}
+pub use Rattle.tz_info.specs.FileBlocks.{Parts}
+unfoldable pub use Rattle.tz_info.specs.FileBlocks.{block}
+pub use Rattle.tz_info.specs.FileContents.{AreRecords, HasNoZero, HasRecordFault, HasTypeFault, IndicatorsAgree, IsMark, No_text, Other_mark, Other_type}
+pub use Rattle.tz_info.specs.FileContents.{SpellLeapSeconds, SpellTransitions, SpellTypes, SpellsLeapSecond, SpellsType, StandsAt, TypeFault, designation_of}
+pub use Rattle.tz_info.specs.FileContents.{expected_of_place, least_offset, mark_in, offset_in, place_in, time_of}
+pub use Rattle.tz_info.specs.FileHeaders.{HasOtherMagic, is_magic, magic, magic_test}
+pub use Rattle.tz_info.specs.FilePieces.{FilePieces, HasPieces, PieceFault}
+unfoldable pub use Rattle.tz_info.specs.FilePieces.{after_first_block, file, first_version, later_version}
+pub use Rattle.tz_info.specs.Footers.{Colon, FooterFault, HasText, In_text, IsBetweenNewlines, IsFooter, No_newlines, Not_utf8, SaysRule, Zero}
+pub use Rattle.tz_info.specs.Gaps.{HasGap, IsBeforeGap}
+pub use Rattle.tz_info.specs.Leaps.{AreCounted, AreLeapSeconds, IsFirstLeap, IsLeapTime, IsLeapTimeRefused, IsNear, IsNextLeap, IsOneStep, IsUnixTime}
+pub use Rattle.tz_info.specs.Leaps.{IsUnixTimeRefused, correction_at, correction_before, corrections, expected_of_leap_time, least_time, passed_count}
+pub use Rattle.tz_info.specs.Leaps.{thresholds}
+pub use Rattle.tz_info.specs.Lists.{last_else}
+pub use Rattle.tz_info.specs.Looks.{RoseByWalk}
+pub use Rattle.tz_info.specs.Moments.{AlternateAt, IsAlternateRefused, IsBetween, IsDstAt, IsInSomeYear, IsRuleTime, IsRuleYear, IsYearOf, end_in, start_in}
+pub use Rattle.tz_info.specs.Moments.{type_when}
+unfoldable pub use Rattle.tz_info.specs.Moments.{moment}
+pub use Rattle.tz_info.specs.PosixZones.{IsPosixFault, IsPosixZone, posix_zone, types_of}
+pub use Rattle.tz_info.specs.Questions.{IsAskedAt, IsAskedAtEach, IsAskedFor, IsByRuleFor}
+pub use Rattle.tz_info.specs.RuleDayOf.{rule_day_with}
+unfoldable pub use Rattle.tz_info.specs.RuleDayOf.{rule_day}
+pub use Rattle.tz_info.specs.RuleDays.{IsDayOf, IsRuleDay, IsWeekdayOfMonth}
+pub use Rattle.tz_info.specs.RuleTypes.{IsRule, IsRuleRefused, RuleAt}
+pub use Rattle.tz_info.specs.Rules.{Alternate, IsAlternate, IsAlternateRule, IsWithinWeek, expected_of_alternate}
+pub use Rattle.tz_info.specs.Segments.{table_count, table_count_by}
+unfoldable pub use Rattle.tz_info.specs.Segments.{segment_of}
+pub use Rattle.tz_info.specs.ShownSeconds.{AreEndsWithin, AreShownWithin, IsFirstAtOrAfter, IsFirstWithin, IsLastWithin, IsNeverWithin, ShowsAtOrAfter}
+pub use Rattle.tz_info.specs.ShownSeconds.{ShowsWithin}
+pub use Rattle.tz_info.specs.Spans.{IsInSpan, IsSince, IsSpan, IsSpanAt, IsUntil}
+pub use Rattle.tz_info.specs.Steps.Answers.{joined, shown_if}
+pub use Rattle.tz_info.specs.Steps.Asked.{IsAskedAtLeapTime}
+pub use Rattle.tz_info.specs.Steps.Below.{all_below}
+pub use Rattle.tz_info.specs.Steps.ChangeLists.{all_fit, alternate_type, change_between, change_here, changes_in, is_dst_by_three, is_rule_year, is_second}
+pub use Rattle.tz_info.specs.Steps.ChangeLists.{rule_type, rule_type_or, type_at_leap_time}
+unfoldable pub use Rattle.tz_info.specs.Steps.ChangeLists.{changes_of, seconds_between, type_or_none}
+pub use Rattle.tz_info.specs.Steps.Changes.{AreAhead, AreComeAt, AreComeOrAll, AreIn, ComesAt, HasNoneAt, IsAhead, IsBegin, IsByRule, IsEarlierOf, IsIdle}
+pub use Rattle.tz_info.specs.Steps.Changes.{IsIdleTo, IsInStretch, IsInTable, IsLaterOf, IsNearRuleTime, IsNearest, IsNearestChange, IsOfYear, IsOneOf}
+pub use Rattle.tz_info.specs.Steps.Changes.{IsStretchAhead, IsUpTo, Precedes, far_side, near_end, near_side, nearer_one, new_year, year_at}
+unfoldable pub use Rattle.tz_info.specs.Steps.Changes.{moments_near}
+pub use Rattle.tz_info.specs.Steps.ContentReading.{GivesInMemory, front_of, is_name_or_none, is_zero, leap_second_in, leap_second_of, mark_of, pair_agrees}
+pub use Rattle.tz_info.specs.Steps.ContentReading.{record_at, transition_in, type_in, values_below, with_next_type}
+unfoldable pub use Rattle.tz_info.specs.Steps.ContentReading.{designation_at, indicators_of, text_before_zero, type_of, type_of_record}
+pub use Rattle.tz_info.specs.Steps.Differences.{AreListedTo, IsListedIf, IsPairUntil}
+pub use Rattle.tz_info.specs.Steps.Extremes.{AreExtremes, AreExtremesUntil, AreJoined, AreJoinedByRule, offsets_of}
+pub use Rattle.tz_info.specs.Steps.FileLists.{HasLengths, Reads, pieces_of, zone_of}
+unfoldable pub use Rattle.tz_info.specs.Steps.FileLists.{file_at, lists_in, pieces_at, with_rule, with_types}
+pub use Rattle.tz_info.specs.Steps.FooterReading.{footer_of, is_between_newlines, is_no_text, rule_or_none, trimmed_back, trimmed_front, unless_space}
+unfoldable pub use Rattle.tz_info.specs.Steps.FooterReading.{footer_at, rule_in, trimmed}
+pub use Rattle.tz_info.specs.Steps.Gaps.{AreLess, IsBehindTable, IsPassed, IsReach, IsTurn}
+unfoldable pub use Rattle.tz_info.specs.Steps.KindPlaces.{place_by, places_by_kind}
+pub use Rattle.tz_info.specs.Steps.Kinds.{is_calm, is_calm_kind, is_inside, kind_place, second_at, second_in}
+unfoldable pub use Rattle.tz_info.specs.Steps.Kinds.{are_calm, margin_of, seconds_by_kind}
+pub use Rattle.tz_info.specs.Steps.Merging.{IsMerged, IsNext, IsStep}
+pub use Rattle.tz_info.specs.Steps.NextMoments.{IsNearestMoment, IsOutside, nearer_moment}
+pub use Rattle.tz_info.specs.Steps.Pieces.{AreBelow, AreCutsCrossed, AreListed, ArePieces, ArePiecesAt, IsCutAt, IsCutFrom, IsFold, IsGap, IsSegment, closing}
+pub use Rattle.tz_info.specs.Steps.Pieces.{zone_in}
+pub use Rattle.tz_info.specs.Steps.RuleDays.{closed_day_is, julian_is, julian_place, number_after, weekday_at, weekday_is, weekday_place}
+unfoldable pub use Rattle.tz_info.specs.Steps.RuleDays.{closed_day}
+pub use Rattle.tz_info.specs.Steps.RuleSeconds.{AreUtOffsets, IsAmidFrom, IsAskedFrom, IsAskedSince, IsSecondFrom, TypeFrom}
+pub use Rattle.tz_info.specs.Steps.Runs.{AreNoneBefore, AreNoneFrom, IsBeyondJumps, IsRunSince, IsRunUntil, IsWindowOf, IsWithinRun}
+pub use Rattle.tz_info.specs.Steps.Seasons.{IsAmid, IsDecidedIn, IsLimit, IsSeason}
+pub use Rattle.tz_info.specs.Steps.Segments.{begin_of, index_of}
+pub use Rattle.tz_info.specs.Steps.Shown.{together}
+pub use Rattle.tz_info.specs.Steps.Spans.{ChangesWith}
+pub use Rattle.tz_info.specs.Steps.Starts.{HaveCome, IsCut, IsLeapless, IsReachedFrom}
+pub use Rattle.tz_info.specs.Steps.Turns.{is_between, is_dst_by_one, is_in_three}
+pub use Rattle.tz_info.specs.Steps.Validity.{Stands}
+pub use Rattle.tz_info.specs.Steps.Walk.{IsAskedLast, IsShownIn, IsTried, TypeIn}
+pub use Rattle.tz_info.specs.Transitions.{AreRising, AreTransitions, passed}
+pub use Rattle.tz_info.specs.Trims.{BeginsBare, EndsBare, IsSpace, IsTrimmed}
+pub use Rattle.tz_info.specs.TzFiles.{ContentFault, HasRule, In_contents, In_file, In_footer, In_indicators, In_piece, In_type, IsFileFault, IsTzFile}
+pub use Rattle.tz_info.specs.TzFiles.{IsZoneFault, No_memory, Not_valid, SayZone}
+pub use Rattle.tz_info.specs.TzGrammar.{IsTextFault, IsTzText, is_letter, is_not_greater, named_type, seconds_of, time_limit}
+unfoldable pub use Rattle.tz_info.specs.TzGrammar.{alternate, date, day, days, dst_offset, duration, end, fixed, given_offset, julian_date, month_date, named}
+unfoldable pub use Rattle.tz_info.specs.TzGrammar.{next_hour, offset, optional_time, rule, text, time}
+pub use Rattle.tz_info.specs.WallClocks.{AreShown, IsAmongShown, Shows}
+pub use Rattle.tz_info.specs.WallPieces.{AreInOrder, AreLessAmong, IsIndex, IsLastBefore, IsShownAmong, IsSideAmong, IsStart, IsTypeBefore, Jumps, ListedAmong}
+pub use Rattle.tz_info.specs.WallPieces.{ShownAmong, WallIndex, answer_at, answer_before, wall_of}
+pub use Rattle.tz_info.specs.Windows.{IsGreatest, IsLeast, IsWindow, IsWindowCount, between, offsets, rule_offsets}
+pub use Rattle.tz_info.specs.ZoneEquality.{zone_eq}
+pub use Rattle.tz_info.specs.Zones.{Agrees, HasType, IsBeforeLast, IsFromLast, IsRefusedBy, IsRuleOrNone, IsTypeError, IsTypeOf, IsTypeRefused, IsValid}
+pub use Rattle.tz_info.specs.Zones.{ListFault, No_type, Not_rising, Other_index, Other_leaps, Other_rule, RuleOrElse, RuleOrType, TypeAt, TypeAtLeapTime, Zone}
+pub use Rattle.tz_info.specs.Zones.{by_leap_time, by_rule, index_at, last_transition, plain_zone, type_error, zone_of_rule}
+pub use Rattle.tz_info.specs.declared.file.header.Version.{Version}
+pub use Rattle.tz_info.specs.declared.file.reader.Lists.{Lists}
+pub use Rattle.tz_info.specs.declared.rule.alternate.Season.{Season}
+pub use Rattle.tz_info.specs.declared.rule.day.DayForm.{DayForm}
+pub use Rattle.tz_info.specs.declared.rule.day.DayTime.{DayTime}
+pub use Rattle.tz_info.specs.declared.rule.transition_rule.TransitionRule.{TransitionRule}
+pub use Rattle.tz_info.specs.declared.zone.all_changes.Changes.{Changes}
+pub use Rattle.tz_info.specs.declared.zone.around.TypesAround.{TypesAround}
+pub use Rattle.tz_info.specs.declared.zone.differences.Difference.{Difference}
+pub use Rattle.tz_info.specs.declared.zone.extremes.Extremes.{Extremes}
+pub use Rattle.tz_info.specs.declared.zone.leap_second.LeapSecond.{LeapSecond}
+pub use Rattle.tz_info.specs.declared.zone.pieces.Piece.{Piece}
+pub use Rattle.tz_info.specs.declared.zone.segments.Segment.{Segment}
+pub use Rattle.tz_info.specs.declared.zone.shown.Jump.{Jump}
+pub use Rattle.tz_info.specs.declared.zone.shown.Shown.{Shown}
+pub use Rattle.tz_info.specs.declared.zone.shown_seconds.ShownSeconds.{ShownSeconds}
+pub use Rattle.tz_info.specs.declared.zone.shown_seconds.TypedSecond.{TypedSecond}
+pub use Rattle.tz_info.specs.declared.zone.time_zone.TimeZone.{TimeZone}
+pub use Rattle.tz_info.specs.declared.zone.transition.Transition.{Transition}

@@ -1,0 +1,38 @@
+-- The words that this crate's proofs cite, passed on from std, from the crates below and from specs/.
+pub use Rattle.std.proofs.Common.{None, Option, Some}
+pub use Rattle.std.proofs.Math.ListN.{get_or-map}
+pub use Rattle.std.proofs.lemmas.List.Elements.{All-contains_itself, All-map}
+pub use Rattle.std.specs.Coded.{Coded-set, coded_ℤ}
+pub use Rattle.offset_core.proofs.ForCallers.{IsWallAnswer-map_of}
+pub use Rattle.offset_core.specs.declared.choice.Choice.{Choice}
+pub use Rattle.offset_core.specs.declared.local_result.LocalResult.{LocalResult}
+pub use Rattle.naive_base.proofs.ForCallers.{gap_of}
+pub use Rattle.tz_base.specs.declared.change.Change.{Change}
+pub use Rattle.tz_info.proofs.ForCallers.{leap_times_answer, one_first, one_last, rule_year, type_decided, type_listed, type_not_refused, type_once}
+pub use Rattle.tz_info.proofs.ForCallers.{wall_decided}
+pub use Rattle.tz_info.proofs.Words.{All, All-append, All-contains, Alternate, AreEndsWithin, Bool, Contains-append_left, Contains-append_right, FitsSigned}
+pub use Rattle.tz_info.proofs.Words.{HasNoChange, IfSome, IsChange, IsFirst, IsFirstAtOrAfter, IsFirstChange, IsGreatest, IsLast, IsLastChange, IsLeast}
+pub use Rattle.tz_info.proofs.Words.{IsNeverWithin, IsRefusedBy, IsRuleOrNone, IsTypeOf, IsTypeRefused, IsValid, LocalType, Shows, ShowsAtOrAfter, ShowsWithin}
+pub use Rattle.tz_info.proofs.Words.{TypeAt, Zone, by_leap_time, by_rule, false, false≢true, get_or, length, length-map, lies_in, map, offsets, rule_offsets}
+pub use Rattle.tz_info.proofs.Words.{slice_get, true, type_when, unsigned_abs, ◌<◌, ◌≢◌}
+pub use Rattle.tz_info.specs.declared.rule.transition_rule.TransitionRule.{TransitionRule}
+pub use Rattle.tz_info.specs.declared.zone.shown_seconds.ShownSeconds.{ShownSeconds}
+pub use Rattle.zoned_time.proofs.ForCallers.{choice_decided, same_itself}
+pub use Rattle.zoned_time.proofs.Words.{AreEndsOfDay, HasInstant, HasReached, IsAt, IsBeforeGap, IsFirstToReach, IsInRange, IsNeverOnDay, IsOffsetAt}
+pub use Rattle.zoned_time.proofs.Words.{IsOffsetBeforeGap, IsOnDay, IsTaken, IsTrue, IsUnresolved, IsWallAnswer, IsWide, IsWideDay, IsWithinDay, IsZoneSecond}
+pub use Rattle.zoned_time.proofs.Words.{Law, List, MatchOption, Meaning, Reading, SFits, SameLaw, SomeIff, Zoned, all_or_none, ap, arith, day_of, floor_div}
+pub use Rattle.zoned_time.proofs.Words.{home_law, in_seconds, inl, inr, instant_of, ints, map_of, of_secs, one_wall_answer, option_map, pos, reading, refl}
+pub use Rattle.zoned_time.proofs.Words.{rules, seconds_of, subst, suc, sym, to_z-of_z, w32, w64, zero, zoned, ℕ, ℤ, [], ◌*ℤ◌, ◌++◌, ◌+ℤ◌, ◌-ℤ◌, ◌<ℤ◌, ◌↔◌, ◌∙◌}
+pub use Rattle.zoned_time.proofs.Words.{◌∷◌, ◌≡◌, ◌≤ℤ◌, ◌⊎◌}
+unfoldable pub use Rattle.zoned_time.proofs.Words.{year_of}
+pub use Rattle.zoned_time.specs.declared.resolve_error.ResolveError.{ResolveError}
+pub use Rattle.zoned_ref.specs.Instants.{AreInstantsAt, AreTypesFor}
+pub use Rattle.zoned_ref.specs.OffsetAt.{offset_at, offset_with}
+pub use Rattle.zoned_ref.specs.Offsets.{AreOffsetsOf, HasOffset, HasOffsets, HasOneOffset, IsNarrow, rule_types}
+pub use Rattle.zoned_ref.specs.Steps.OffsetAt.{one_offset}
+pub use Rattle.zoned_ref.specs.TimeZoneRef.{off_of, zone_of}
+pub use Rattle.zoned_ref.specs.WallClock.{Tells}
+pub use Rattle.zoned_ref.specs.ZoneChange.{AreAround, IsAfter, IsOfZone, IsUpTo, StandAlike, StandWithin, change_between, change_of}
+pub use Rattle.zoned_ref.specs.ZoneOffset.{IsInForce, law_of, meaning_of, type_of}
+pub use Rattle.zoned_ref.specs.declared.time_zone_ref.TimeZoneRef.{TimeZoneRef}
+pub use Rattle.zoned_ref.specs.declared.zone_offset.ZoneOffset.{ZoneOffset}

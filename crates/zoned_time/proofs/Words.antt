@@ -1,0 +1,43 @@
+-- The words that this crate's proofs cite, passed on from std, from the crates below and from specs/.
+pub use Rattle.std.proofs.Common.{Err, IsTrue, MatchResult, None, Ok, Option, Result, SFits, Some, negsuc, of_calls, ◌↔◌}
+pub use Rattle.std.proofs.lemmas.Fmt.{contents_after_writes}
+pub use Rattle.std.specs.Fmt.{DisplaysOnOk, WritesOnOk, WritesText, ◌++?◌}
+pub use Rattle.std.specs.declared.fmt.Error.{Error}
+pub use Rattle.std.specs.declared.fmt.Formatter.{Formatter}
+pub use Rattle.offset_core.proofs.ForCallers.{HasOneValue, and_then_told, map_all, one_offset, one_wall_answer}
+pub use Rattle.offset_core.specs.FixedOffset.{seconds_of}
+pub use Rattle.offset_core.specs.LocalResult.{IsAndThen, all_or_none, map_of, single_of}
+pub use Rattle.offset_core.specs.Offset.{IsWithinDay}
+pub use Rattle.offset_core.specs.WallAnswer.{IsNeverShown, IsShownBetween, IsShownOnce, IsWallAnswer}
+pub use Rattle.offset_core.specs.declared.choice.Choice.{Choice}
+pub use Rattle.offset_core.specs.declared.choice.FoldChoice.{FoldChoice}
+pub use Rattle.offset_core.specs.declared.choice.GapChoice.{GapChoice}
+pub use Rattle.offset_core.specs.declared.local_result.LocalResult.{LocalResult}
+pub use Rattle.naive_base.proofs.ForCallers.{in_range_or_not, inner_date}
+pub use Rattle.naive_base.proofs.Words.{IsDateOn, IsEarlier, IsInRange, IsMonthsLater, IsReadingOnDay, IsSome, IsWide, IsWideDay, List, MatchOption, Reading}
+pub use Rattle.naive_base.proofs.Words.{SomeIff, ap, arith, by_lt_z, date_is, day_at, day_of, day_of_year_is, floor_div, floors, inl, inr, ints, months_of}
+pub use Rattle.naive_base.proofs.Words.{neg_ℤ, number_at, of_z, option_map, pos, reading, reading_at, reading_text, refl, rules, second_at, subst, suc, sym}
+pub use Rattle.naive_base.proofs.Words.{to_z, to_z-of_z, w32, w64, weekday_number, zero, ℕ, ℤ, [], ◌*ℤ◌, ◌++◌, ◌+ℤ◌, ◌-ℤ◌, ◌<ℤ◌, ◌∙◌, ◌∷◌, ◌≡◌, ◌≤ℤ◌, ◌⊎◌}
+unfoldable pub use Rattle.naive_base.proofs.Words.{day_number, day_of_month, month_of, year_of}
+pub use Rattle.naive_base.specs.Clock.{clock_second}
+pub use Rattle.naive_base.specs.Fields.{IsDaysLater, IsGiven, MayShowDay}
+pub use Rattle.naive_base.specs.Range.{first_day, last_day}
+pub use Rattle.naive_base.specs.Reading.{ahead, behind}
+pub use Rattle.naive_base.specs.Stamp.{of_secs}
+pub use Rattle.naive_base.specs.declared.date.NaiveDate.{NaiveDate}
+pub use Rattle.zoned_time.specs.Alike.{AreAlike}
+pub use Rattle.zoned_time.specs.Choice.{IsBeforeGap, IsOffsetBeforeGap, IsResolved, IsTaken, IsUnresolved, earliest, gap, latest, once, out_of_range, shifted}
+pub use Rattle.zoned_time.specs.DateTime.{day_shown_by, home_of, wall_of, zoned}
+pub use Rattle.zoned_time.specs.DayEnds.{AreStartsOfDays, HasNoEnd, IsEndOfDay, IsGapEnd, IsZonedEnd, NonePassed, first_of_month, first_of_year}
+pub use Rattle.zoned_time.specs.Days.{AreEndsOfDay, AreInstantsOfDay, HasReached, IsFirstAtOrAfter, IsFirstOutOfRange, IsFirstToReach, IsInDay, IsNeverOnDay}
+pub use Rattle.zoned_time.specs.Days.{IsNoDay, IsOnDay, IsZonedAtOrAfter, ShowsAtOrAfter, midnight}
+pub use Rattle.zoned_time.specs.Fields.{IsOnly, IsOnlyWhere}
+pub use Rattle.zoned_time.specs.Relocal.{AreInstantsOf, HasInstant, IsRelocal, SingleIff, instant_of}
+pub use Rattle.zoned_time.specs.Stamps.{in_utc}
+pub use Rattle.zoned_time.specs.Steps.Shifts.{IsShiftOutOfRange, IsShifted}
+pub use Rattle.zoned_time.specs.Zone.{AreOffsetsFor, Each, IsFixed, IsOffsetAt, IsZoneSecond, Law, Meaning, SameLaw, SameOffsets, Shows, home_law}
+pub use Rattle.zoned_time.specs.Zone.{law_by_seconds, meaning_by_seconds, seconds_alone}
+pub use Rattle.zoned_time.specs.Zoned.{IsAt, Zoned, in_seconds, local_of, shown}
+pub use Rattle.zoned_time.specs.declared.around.OffsetsAround.{OffsetsAround}
+pub use Rattle.zoned_time.specs.declared.resolve_error.ResolveError.{ResolveError}
+pub use Rattle.zoned_time.specs.declared.utc.Utc.{Utc}
