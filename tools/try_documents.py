@@ -32,8 +32,6 @@ from sources import TOP, files, shown, text_of, without_comments
 PAGES = [TOP / "README.md", *sorted((TOP / "docs").glob("*.md")), TOP / "python/README.md"]
 FROM_CHRONO = TOP / "docs/FROM_CHRONO.md"
 WITH_RATTLE = [TOP / "README.md", FROM_CHRONO, TOP / "docs/OWN_ZONE.md"]
-# Its examples name calls that aren't there (`NaiveDate::from_ymd`, `NaiveDateTime::parse`).
-WITHOUT_CODE = [TOP / "crates/zoned_time/src/zone_days.rt"]
 OURS = "| task | chrono 0.4.45 | here |"
 PYTHON = "/usr/bin/python3"
 
@@ -82,7 +80,7 @@ def examples():
 def rattle():
     known = code()
     for path, place, line in examples():
-        if path not in WITHOUT_CODE and bare(without_comments(line, "//")).rstrip(",") not in known:
+        if bare(without_comments(line, "//")).rstrip(",") not in known:
             yield f"{shown(path, place)}: no code has the line: {line.strip()}"
     for path in WITH_RATTLE:
         for place, _, text in blocks(path, "rust"):
