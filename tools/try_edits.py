@@ -16,12 +16,13 @@ An edit is rejected if a goal of its function is open. It is NOT REJECTED if the
 not in the files that are checked, if a text can't be read, or if a proof only misses a name. Both are failures.
 
 Libraries are used as `rt ci` or `rt check` has built them. Beside an `rt ci` that is still running, with its output in FILE, a
-crate's edits wait until the crate is proved. Then each function that FILE reports as proved, and that no edit changes, is reduced to
-its contract: a hole takes the place of its proof, and `unreachable!()` that of its body. If FILE reports none, since an earlier run
-proved the crate, the functions with a plain name are found in the sources. The edits of tz_info don't wait for its long proof:
-processors are free meanwhile. What is left out must reject nothing. So the same functions are first checked in the same copy without
-the edits, and the edits of one that isn't proved there are NOT TRIED. Without FILE nothing is left out: the functions that the
-edited ones call are proved as well, starting from what `rt check` has kept of the crate.
+crate's edits wait until the crate is proved. Then each function that FILE reports as proved, and that no edit changes, is
+reduced to its contract: a hole takes the place of its proof, and `unreachable!()` that of its body. If FILE reports none, since
+an earlier run proved the crate, the functions with a plain name are found in the sources. The edits of tz_info don't wait for
+its long proof: processors are free meanwhile. What is left out must reject nothing. So the same functions are first checked in
+the same copy without the edits, and the edits of one that isn't proved there, or whose name isn't one function's, are NOT
+TRIED. Without FILE nothing is left out: the functions that the edited ones call are proved as well, starting from what `rt
+check` has kept of the crate.
 
 --self-test tries this script, without a proof.
 
@@ -277,8 +278,15 @@ def told(edit, said):
 def not_proved(crate, edits, proved):
     """The rows of the edits whose functions aren't proved if no edit is made: what rejects them need not be the edit."""
     said = checked(crate, [replace(edit, pairs=[]) for edit in edits], edits, proved)
-    verdicts = re.findall(f"(?m)^{VERDICT}$", said)
+    unnamed = re.search(r"(?:has no function|several functions are named) `([\w:+]+)`", said)
     rows = {}
+    if unnamed:
+        row = f"{NOT_TRIED} {unnamed[0]}: it needs a line `only: PATH`"
+        rows = {edit.name: (f"{edit}: {row}", False) for edit in edits if unnamed[1] in edit.parts}
+    others = [edit for edit in edits if edit.name not in rows]
+    if rows:
+        return rows | (not_proved(crate, others, proved) if others else {})
+    verdicts = re.findall(f"(?m)^{VERDICT}$", said)
     for edit in edits:
         of_edit = [verdict for path, verdict in verdicts if edits_function(edit, path)] or [said[-900:]]
         if not all(re.fullmatch(PROVED, verdict) for verdict in of_edit):
