@@ -213,26 +213,26 @@ def differing(old, new, year):
 def try_folders(program, folder, line):
     """Two folders are compared zone by zone, also in folders below, in the order of their names."""
     years = ("--from", "2021", "--to", "2021")
-    for name, file in (("old/a/same", "good"), ("new/a/same", "good"), ("old/moved", "good"), ("new/moved", "new"),
-                       ("old/gone", "good"), ("new/b/added", "new")):
+    for name, file in (("before/a/same", "good"), ("after/a/same", "good"), ("before/moved", "good"), ("after/moved", "new"),
+                       ("before/gone", "good"), ("after/b/added", "new")):
         (folder / name).parent.mkdir(parents=True, exist_ok=True)
         (folder / name).write_bytes((folder / file).read_bytes())
-    for name in ("old/README", "new/README"):
+    for name in ("before/README", "after/README"):
         (folder / name).write_text("no zone\n")
-    lines = f"b/added: only in new\ngone: only in old\nmoved\n{line}"
-    check("--diff of two folders", (1, lines, ""), run(program, *years, "--diff", "old", "new", folder=folder))
-    check("--diff of one folder", (0, "", ""), run(program, *years, "--diff", "old", "old", folder=folder))
-    status, output, errors = run(program, *years, "--json", "--diff", "old", "new", folder=folder)
+    lines = f"b/added: only in after\ngone: only in before\nmoved\n{line}"
+    check("--diff of two folders", (1, lines, ""), run(program, *years, "--diff", "before", "after", folder=folder))
+    check("--diff of one folder", (0, "", ""), run(program, *years, "--diff", "before", "before", folder=folder))
+    status, output, errors = run(program, *years, "--json", "--diff", "before", "after", folder=folder)
     told = [json.loads(each) for each in output.splitlines()]
-    check("--json --diff of two folders", (1, "", [{"only": "new/b/added"}, {"only": "old/gone"}]), (status, errors, told[:2]))
-    check("the zone that differs", [("old/moved", "new/moved", [-3600])],
+    check("--json --diff of two folders", (1, "", [{"only": "after/b/added"}, {"only": "before/gone"}]), (status, errors, told[:2]))
+    check("the zone that differs", [("before/moved", "after/moved", [-3600])],
           [(each["old"], each["new"], [d["moved"] for d in each["differences"]]) for each in told[2:]])
     check("--diff of a file and a folder", (2, "", "zonedump: --diff takes two files or two folders\n"),
-          run(program, "--diff", "good", "old", folder=folder))
-    (folder / "new/moved").write_bytes((folder / "good").read_bytes()[:60])
-    status, output, errors = run(program, *years, "--diff", "old", "new", folder=folder)
-    check("--diff of folders with a broken file", (2, "b/added: only in new\ngone: only in old\n", True),
-          (status, output, errors.startswith("zonedump: new/moved: not a TZif file: ")))
+          run(program, "--diff", "good", "before", folder=folder))
+    (folder / "after/moved").write_bytes((folder / "good").read_bytes()[:60])
+    status, output, errors = run(program, *years, "--diff", "before", "after", folder=folder)
+    check("--diff of folders with a broken file", (2, "b/added: only in after\ngone: only in before\n", True),
+          (status, output, errors.startswith("zonedump: after/moved: not a TZif file: ")))
 
 
 def try_diff(program, folder):
