@@ -29,7 +29,7 @@ def side_words(at, side):
 def table_line(change):
     step = change.after.offset - change.before.offset
     words = f"gap of {step} s" if step > 0 else f"fold of {-step} s" if step else "no step"
-    before, after = side_words(change.at - 1, change.before), side_words(change.at, change.after)
+    before, after = side_words(change.at, change.before), side_words(change.at, change.after)
     return f"{printed(change.at)} UTC  {before} -> {after}  {words} at {change.at}"
 
 
