@@ -32,7 +32,7 @@ use crate::wall_clock::{WallClock, answer_triples, answer_wall_clocks};
 /// Writes the offset in force at the instant, as [`crate::zoned_at`] does.
 #[unsafe(no_mangle)]
 pub extern "C" fn zoned_zone_offset(zone: &Lent, instant: i64, offset: &mut i32) -> u32
-    // 0: what is written is told of the zone.
+    // 0: the answer is the zone's.
     ensures answered { result ≡ 0 → (z : Zone) × IsLent zone.now z × IsOffsetAt z instant offset.new }
     // 33: no zone is open, and nothing is written.
     ensures refused { result ≢ 0 → (result ≡ 33) × IsNoneLent zone.now × (offset.new ≡ offset.old) }
@@ -47,7 +47,7 @@ pub extern "C" fn zoned_zone_offset(zone: &Lent, instant: i64, offset: &mut i32)
 /// Writes the offset in force at each instant, as [`crate::zoned_at`] does.
 #[unsafe(no_mangle)]
 pub extern "C" fn zoned_zone_at(zone: &Lent, instants: &[i64], offsets: &mut [i32]) -> u32
-    // 0: each answer is told of the zone.
+    // 0: each answer is the zone's.
     ensures answered { result ≡ 0
         → (z : Zone) × IsLent zone.now z × AreOffsetsAt z instants.now offsets.new }
     // Another number says what is wrong, and nothing is written.
@@ -63,7 +63,7 @@ pub extern "C" fn zoned_zone_at(zone: &Lent, instants: &[i64], offsets: &mut [i3
 /// Writes the local time type in force at the instant.
 #[unsafe(no_mangle)]
 pub extern "C" fn zoned_zone_type(zone: &Lent, instant: i64, local_type: &mut WrittenType) -> u32
-    // 0: what is written is told of the zone.
+    // 0: the answer is the zone's.
     ensures answered { result ≡ 0 → (z : Zone) × IsLent zone.now z × IsWrittenTypeAt z instant local_type.new }
     // 33: no zone is open, and nothing is written.
     ensures refused { result ≢ 0 → (result ≡ 33) × IsNoneLent zone.now × (local_type.new ≡ local_type.old) }
@@ -78,7 +78,7 @@ pub extern "C" fn zoned_zone_type(zone: &Lent, instant: i64, local_type: &mut Wr
 /// Writes the local time type in force at each instant.
 #[unsafe(no_mangle)]
 pub extern "C" fn zoned_zone_types(zone: &Lent, instants: &[i64], types: &mut [WrittenType]) -> u32
-    // 0: each answer is told of the zone.
+    // 0: each answer is the zone's.
     ensures answered { result ≡ 0
         → (z : Zone) × IsLent zone.now z × AreWrittenTypesAt z instants.now types.new }
     // Another number says what is wrong, and nothing is written.
@@ -111,7 +111,7 @@ pub extern "C" fn zoned_zone_span(zone: &Lent, instant: i64, span: &mut WrittenS
 /// Writes when the zone's clocks show the local time.
 #[unsafe(no_mangle)]
 pub extern "C" fn zoned_zone_wall_clock(zone: &Lent, local: i64, clock: &mut WallClock) -> u32
-    // 0: what is written is told of the zone.
+    // 0: the answer is the zone's.
     ensures answered { result ≡ 0 → (z : Zone) × IsLent zone.now z × IsWallClockAt z local clock.new }
     // 33: no zone is open, and nothing is written.
     ensures refused { result ≢ 0 → (result ≡ 33) × IsNoneLent zone.now × (clock.new ≡ clock.old) }
@@ -130,7 +130,7 @@ pub extern "C" fn zoned_zone_wall_instants(
     locals: &[i64],
     clocks: &mut [WallClock],
 ) -> u32
-    // 0: each answer is told of the zone.
+    // 0: each answer is the zone's.
     ensures answered { result ≡ 0
         → (z : Zone) × IsLent zone.now z × AreWallClocks z locals.now clocks.new }
     // Another number says what is wrong, and nothing is written.
@@ -146,7 +146,7 @@ pub extern "C" fn zoned_zone_wall_instants(
 /// Writes three numbers for each local time, as [`crate::zoned_wall`] does.
 #[unsafe(no_mangle)]
 pub extern "C" fn zoned_zone_wall(zone: &Lent, locals: &[i64], answers: &mut [i32]) -> u32
-    // 0: each answer is told of the zone.
+    // 0: each answer is the zone's.
     ensures answered { result ≡ 0
         → (z : Zone) × IsLent zone.now z × AreTriples z locals.now answers.new }
     // Another number says what is wrong, and nothing is written.

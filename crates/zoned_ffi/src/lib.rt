@@ -159,7 +159,7 @@ pub extern "C" fn zoned_wall_instants(
     locals: &[i64],
     answers: &mut [WallClock],
 ) -> u32
-    // 0: each answer is told of the zone's clocks.
+    // 0: each answer is what the zone's clocks show.
     ensures answered { result ≡ 0
         → (z : Zone) × IsZoneOf kind zone.now z × AreWallClocks z locals.now answers.new }
     // Another number says what is wrong, and nothing is written.

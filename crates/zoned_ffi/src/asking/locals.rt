@@ -28,7 +28,7 @@ pub extern "C" fn zoned_zone_instant(
     local: i64,
     resolved: &mut Resolved,
 ) -> u32
-    // 0: what is written is told of the zone, under the choice of those numbers.
+    // 0: the answer is the zone's, under the policy of those numbers.
     ensures answered { result ≡ 0 → (choice : AnyChoice) × IsChoiceOf gap fold choice
         × ((z : Zone) × IsLent zone.now z × IsResolvedAt z choice local resolved.new) }
     // 34: no choice has these numbers. 33: no zone is open. Nothing is written.
@@ -54,7 +54,7 @@ pub extern "C" fn zoned_zone_resolve(
     locals: &[i64],
     resolved: &mut [Resolved],
 ) -> u32
-    // 0: each answer is told of the zone, under the choice of those numbers.
+    // 0: each answer is the zone's, under the policy of those numbers.
     ensures answered { result ≡ 0 → (choice : AnyChoice) × IsChoiceOf gap fold choice
         × ((z : Zone) × IsLent zone.now z × AreResolved z choice locals.now resolved.new) }
     // 34: no choice has these numbers. Others as in the calls above. Nothing is written.
