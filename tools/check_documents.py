@@ -27,7 +27,7 @@ usage: tools/check_documents.py [--write]
   there, and lowers the counts of tools/habits.py.
 - No more calls in src/ are made for an answer that nothing reads (`let _name = call(..);`), and no more lines are longer than 120
   columns in src/, or 160 in .antt, than tools/counts.py allows. --write lowers the counts of lines to those of the day.
-- README.md names the version of the kit that `rt version` prints (if there is rt); docs/FROM_CHRONO.md has how many functions
+- README.md names the number and the logic of the kit that `rt version` prints (if there is rt); docs/FROM_CHRONO.md has how many functions
   tests_idioms_utc and the crates like it have.
 - The tables of docs/SPEED.md have the figures of the latest file of bench/results, and README.md has those of New York.
 
@@ -411,8 +411,10 @@ def number_faults():
 def facts_of_documents():
     text = text_of(README)
     version = subprocess.run(["rt", "version"], capture_output=True, text=True).stdout.strip() if shutil.which("rt") else ""
-    if version and f"`{version}`" not in text:
-        yield f"{shown(README)}: it doesn't name the version of the kit, {version}"
+    # Kits of one number differ in a letter, and prove the same if their logic is the same.
+    number, logic = re.sub(r"^(rattle-kit-\d+)\w* (logic \w+)$", r"\1 \2", version).partition(" ")[::2]
+    if version and f"`{number}`, `{logic}`" not in text:
+        yield f"{shown(README)}: it doesn't name the kit and its logic, `{number}`, `{logic}`"
     idioms = ["tests_idioms_utc", "tests_idioms_borrowed", "tests_idioms_kept"]
     counts = [str(sum(len(re.findall(r"(?m)^ *pub fn ", text_of(path))) for path in files("src", ".rt", [crate]))) for crate in idioms]
     due = f"`crates/{idioms[0]}`, `{idioms[1]}` and `{idioms[2]}` have {counts[0]}, {counts[1]} and {counts[2]} "
