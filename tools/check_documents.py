@@ -29,7 +29,7 @@ usage: tools/check_documents.py [--write]
   columns in src/, or 160 in .antt, than tools/counts.py allows. --write lowers the counts of lines to those of the day.
 - README.md names the version of the kit that `rt version` prints (if there is rt); docs/FROM_CHRONO.md has how many functions
   tests_idioms_utc and the crates like it have.
-- The tables of docs/SPEED.md have the figures of the latest file of bench/results, and README.md has those of New York.
+- The tables of docs/SPEED.md and README.md have the figures of the latest file of bench/results (bench/write_speed.py).
 
 Prints a line for each fault, with its place, and ends with status 1 if there is one.
 """
@@ -49,6 +49,9 @@ from sources import (
 from try_definitions import faults as wrong_definitions, write_rejected
 from try_documents import rattle as rattle_blocks
 
+sys.path.append(str(TOP / "bench"))
+from write_speed import latest as latest_results, written as with_figures  # noqa: E402
+
 DOCUMENTS = [*sorted(TOP.glob("*.md")), *sorted((TOP / "docs").glob("*.md"))]
 DEFINITIONS = TOP / "docs/DEFINITIONS.md"
 TESTING = TOP / "docs/TESTING.md"
@@ -63,8 +66,6 @@ ERROR = TOP / "crates/tz_base/src/error.rt"
 TEXTS = TOP / "crates/zoned_ffi/specs/Texts.antt"
 HEADER = TOP / "crates/zoned_ffi/include/zoned_ffi.h"
 PYTHON = TOP / "python/src/sahvumbi/errors.py"
-# The tables of SPEED.md, and the titles that bench/print_tables.py gives them.
-FIGURES = {"By instant, 1900 to 2099": "An instant, 1900 to 2099", "By local time, 1900 to 2099": "A wall clock, 1900 to 2099"}
 INDEX = "## Index of the words that contracts cite\n"
 PLANTED = "## The list of planted bugs\n"
 IN_PART, BY_HAND = "mutants", "mutants-by-hand"
@@ -424,22 +425,11 @@ def facts_of_documents():
 # Figures
 
 
-def rows(text, title):
-    """The rows of the table below a heading: the cells of each but the last one, by the first one."""
-    table = text.partition(f"# {title}\n")[2].partition("\n#")[0]
-    cells = [re.split(r" *\| *", row) for row in re.findall(r"(?m)^\| (.*) \|$", table)]
-    return {zone: times for zone, *times, _ in cells if zone != "zone"}
-
-
 def figure_faults():
-    results = sorted((TOP / "bench/results").glob("*.md"))[-1]
-    for title, printed in FIGURES.items():
-        figures, due = rows(text_of(SPEED), title), rows(text_of(results), printed)
-        for zone in sorted(figures.keys() | due.keys()):
-            if sorted(figures.get(zone, [])) != sorted(due.get(zone, [])):
-                yield f"{shown(SPEED)}: {title}: {zone} doesn't have the figures of {shown(results)}"
-        if " | ".join(figures.get("New_York", ["none"])) not in text_of(README):
-            yield f"{shown(README)}: it doesn't have the figures of New_York in {shown(SPEED)}, {title}"
+    results = latest_results()
+    for document in (README, SPEED):
+        if with_figures(document, results) != text_of(document):
+            yield f"{shown(document)}: it doesn't have the figures of {shown(results)} (bench/write_speed.py puts them there)"
 
 
 # What a client that names `zoned` alone can cite
