@@ -4,7 +4,7 @@
 usage: bench/draw.py TABLES PICTURE     TABLES is what print_tables.py printed: a file of bench/results/
 
 Above, for each question and zone, this library's time divided by that of the fastest peer whose answers are the same, by one call
-for each question if the table has that column; below, times for each number of transitions. The date and the machine are those of
+for each question; below, times for each number of transitions. The date and the machine are those of
 the tables. If a table is missing, its part is left out. It measures nothing.
 """
 
@@ -15,7 +15,6 @@ from pathlib import Path
 from xml.sax.saxutils import escape
 
 OURS = "Sahvumbi"
-ONE_CALL = "one call a question"
 # The panels of each row.
 RATIOS = [
     {
@@ -99,11 +98,7 @@ def nanoseconds(cell):
 def ratio(row):
     """This library's time divided by that of the peer which the row names as fastest, and that peer; None if it names none."""
     number, _, peer = row["ratio"].partition(" (")
-    peer = peer.rstrip(")")
-    one_call = nanoseconds(row.get(ONE_CALL, "-"))
-    if not peer:
-        return None
-    return (one_call / nanoseconds(row[peer]), peer) if one_call else (float(number), peer)
+    return (float(number), peer.rstrip(")")) if peer else None
 
 
 def measured(text):
@@ -266,7 +261,7 @@ def draw_lines(picture, x, top, width, head, rows, peers, times):
         picture.parts.append(f'<polyline points="{path}" class="{kind} s{number}"/>')
         ends.append((peer, number, points[-1][1]))
     for (peer, number, _), height in zip(ends, spread([end for _, _, end in ends], 14)):
-        picture.text(x + width + 6, height + 4, peer, f"l{number}")
+        picture.text(x + width + 6, height + 4, peer.split()[0], f"l{number}")
 
 
 def draw_growth(picture, found):
@@ -297,4 +292,5 @@ def main():
     picture_path.write_text(picture.spelled())
 
 
-main()
+if __name__ == "__main__":
+    main()

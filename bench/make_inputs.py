@@ -3,9 +3,10 @@
 
 usage: bench/make_inputs.py FOLDER [ZONEINFO]
 
-- zones/NAME: five zones of ZONEINFO (/usr/share/zoneinfo) as they lie there, New York once more as `zic -b slim` writes it,
-  the text of zones/Text as the footer of a file without a transition, and a made zone of 1,048,576 transitions;
-- text: the TZ text itself;
+- zones/NAME: five zones of ZONEINFO (/usr/share/zoneinfo), New York also as `zic -b slim` writes it and with leap seconds
+  (ZONEINFO/right), the string of zones/Text as the footer of a file without a transition, and a made zone of 1,048,576
+  transitions;
+- text: the TZ string itself;
 - names: the names of the zones, one a line; years: the sets of years, one a line;
 - at_SET.i64, wall_SET.i64: a million instants and a million local times, as seconds in 64 bits, low byte first. They are
   spread evenly over the years 1900 to 2099 (SET is wide) and 2020 to 2029 (near), from fixed seeds;
@@ -135,6 +136,9 @@ def main():
     slim = slim_new_york(zoneinfo, folder)
     if slim:
         zones["New_York_slim"] = slim
+    right = zoneinfo / "right/America/New_York"
+    if right.exists():
+        zones["New_York_right"] = right.read_bytes()
     zones["Text"] = file_of([], [], [(-18000, 0, 0), (-14400, 1, 4)], b"EST\0EDT\0", TEXT)
     zones["Large"] = made_zone(1 << 20, 6000)
     for name, file in zones.items():

@@ -4,21 +4,21 @@
 usage: bench/print_tables.py INPUTS OUTPUTS
 
 OUTPUTS/figures has the lines of every driver, also of several runs: of each figure the least counts. The answers of each peer
-are compared with those of this library, number by number. Those of the growing zones stand in the folder growth of both, and
+are compared with those of this library, number by number. Those of the growing zones are in the folder growth of both, and
 those of instants at work in OUTPUTS/work (drivers/work.h says how they are spelled).
 """
 
 import os
+import re
 import subprocess
 import sys
 from array import array
 from datetime import datetime, timedelta, timezone
+from functools import lru_cache
 from pathlib import Path
 
 OURS = "sahvumbi"
-HANDLE = "handle"
 PEERS = {
-    HANDLE: "one call a question",
     OURS: "Sahvumbi",
     "cctz": "cctz",
     "hinnant": "date",
@@ -26,6 +26,16 @@ PEERS = {
     "glibc": "glibc",
     "cpython": "CPython",
     "chrono": "chrono",
+    "chrono_tz": "chrono-tz",
+}
+# The packages of Debian whose versions the heads of the tables have.
+PACKAGES = {
+    "cctz": "libabsl-dev",
+    "hinnant": "libhowardhinnant-date-dev",
+    "java": "openjdk-17-jdk-headless",
+    "glibc": "libc6",
+    "chrono": "librust-chrono-dev",
+    "chrono_tz": "librust-chrono-tz-dev",
 }
 TABLES = {
     ("at", "wide"): "An instant, 1900 to 2099",
@@ -33,6 +43,9 @@ TABLES = {
     ("wall", "wide"): "A wall clock, 1900 to 2099",
     ("wall", "near"): "A wall clock, 2020 to 2029",
     ("read", "-"): "Reading a zone",
+    ("next", "near"): "The next clock change, 2020 to 2029",
+    ("span", "near"): "A span, 2020 to 2029",
+    ("gap", "near"): "The instant of a local time in a gap, 2020 to 2029",
 }
 GROWTH = {
     "at": "An instant, by the number of transitions",
@@ -59,8 +72,14 @@ WORK = {
 LINES = {
     "lines": {"zoneq": "`zoneq`", "mawk": "`mawk '{print NF}'`, which only counts words"},
     "lines_at": {"zoneq": "`zoneq`", "mawk": "`mawk` by `strftime`", "GNU date": "GNU `date -f`"},
+    "dumps": {"zonedump": "`zonedump --zdump`", "zdump": "`zdump -v`"},
 }
-LINE_KINDS = {"lines": "a `wall` line answered", "lines_at": "an instant printed (`show`)"}
+LINE_KINDS = {
+    "lines": "a `wall` line answered",
+    "lines_at": "an instant printed (`show`)",
+    "dumps": "a zone's clock changes of 1900 to 2037, of each zone of the tz database",
+}
+ASKED = {"at": "an instant", "wall": "a wall clock", "next": "the next change", "span": "a span", "gap": "a gap"}
 # How many instants an answer has.
 SIZES = {"daily": 28}
 GOAL = 0.5
@@ -68,7 +87,7 @@ GOAL = 0.5
 NO_INSTANT = str(-(1 << 63))
 # The peers whose answers are of another kind than the question's: mktime answers one instant, whatever the wall clock shows.
 NO_ANSWER = {("glibc", "wall")}
-# What a driver prints in place of a time where the peer refuses the zone.
+# What a driver prints in place of a time if the peer rejects the zone.
 REFUSED = -1
 SHOWN = ["never", "once", "several times"]
 EPOCH = datetime(1970, 1, 1, tzinfo=timezone.utc)
@@ -102,7 +121,8 @@ class Answers:
         places = [i for i in range(count) if theirs[size * i : size * (i + 1)] != ours[size * i : size * (i + 1)]]
         if not places:
             return None
-        asked = array("q", (self.inputs / f"{question}_{years}.i64").read_bytes())
+        drawn = {"next": "at", "span": "at"}.get(question, question)
+        asked = array("q", (self.inputs / f"{drawn}_{years}.i64").read_bytes())
         when = [EPOCH + timedelta(seconds=asked[i]) for i in places]
         i = places[0]
         told = [self.words(question, numbers[size * i : size * (i + 1)]) for numbers in (theirs, ours)]
@@ -110,7 +130,7 @@ class Answers:
 
     @staticmethod
     def words(question, numbers):
-        if question == "at":
+        if question != "wall":
             return str(numbers[0])
         shown, first, last = numbers
         return SHOWN[0] if shown == 0 else f"{SHOWN[min(shown, 2)]}, {first}" + (f" and {last}" if shown > 1 else "")
@@ -118,7 +138,7 @@ class Answers:
 
 def spelled(nanoseconds):
     if nanoseconds == REFUSED:
-        return "refused"
+        return "rejected"
     if nanoseconds < 1e4:
         return f"{nanoseconds:.1f} ns"
     return f"{nanoseconds / 1e3:.1f} µs" if nanoseconds < 1e6 else f"{nanoseconds / 1e6:.1f} ms"
@@ -137,7 +157,7 @@ def best_peer(figures, wrong, question, years, zone):
     times = [
         (figures[key], peer)
         for peer in PEERS
-        if peer not in (OURS, HANDLE)
+        if peer != OURS
         and (key := (question, years, zone, peer)) in figures
         and figures[key] > 0
         and key not in wrong
@@ -147,8 +167,8 @@ def best_peer(figures, wrong, question, years, zone):
 
 
 def ratio(figures, wrong, question, years, zone):
-    """Our time, by one call for each question if that was measured, divided by that of the best peer; and its name."""
-    ours = figures.get((question, years, zone, HANDLE)) or figures.get((question, years, zone, OURS))
+    """Our time divided by that of the best peer, and its name."""
+    ours = figures.get((question, years, zone, OURS))
     best = best_peer(figures, wrong, question, years, zone)
     return (ours / best[0], PEERS[best[1]]) if ours and best else None
 
@@ -185,12 +205,10 @@ def print_growth(inputs, outputs):
         return
     figures, zones = read_figures(outputs / "figures")
     wrong = differences(figures, Answers(inputs, outputs))
-    # All are asked by one call a question, this library too.
-    names = {HANDLE: PEERS[OURS]} | {peer: name for peer, name in PEERS.items() if peer not in (OURS, HANDLE)}
-    peers = {peer: name for peer, name in names.items() if any(key[3] == peer for key in figures)}
+    peers = [peer for peer in PEERS if any(key[3] == peer for key in figures)]
     for question, title in GROWTH.items():
         print(f"\n### {title}\n")
-        print("| transitions | " + " | ".join(peers.values()) + " |")
+        print(f"| transitions | {heads(peers)} |")
         print("|--:|" + "--:|" * len(peers))
         for zone in sorted(zones, key=int):
             cells = [cell(figures, wrong, (question, "wide", zone, peer)) for peer in peers]
@@ -232,7 +250,7 @@ def print_work(outputs):
     peers = [peer for peer in PEERS if any(key[3] == peer for key in figures)]
     wrong, none = differences_at_work(outputs, [peer for peer in peers if peer != OURS])
     print("\n### Instants at work\n")
-    print("| question | " + " | ".join(PEERS[peer] for peer in peers) + " | ratio |")
+    print(f"| question | {heads(peers)} | ratio |")
     print("|---|" + "--:|" * (len(peers) + 1))
     rows = []
     for question, title in WORK.items():
@@ -263,34 +281,58 @@ def machine():
     return f"{name}, {os.cpu_count()} processors, {lines.get('Architecture', '').strip()}"
 
 
+@lru_cache(maxsize=None)
+def packages():
+    """The version of each package."""
+    named = [*PACKAGES.values(), "tzdata", "g++", "cargo"]
+    said = command("dpkg-query", "-W", "-f", "${Package} ${Version}\n", *named).splitlines()
+    return dict(line.split(" ", 1) for line in said if re.match(r"[\w.+-]+ \S+$", line))
+
+
+def heads(peers):
+    """The peers' names, each with its version."""
+
+    def head(peer):
+        version = sys.version.split()[0] if peer == "cpython" else packages().get(PACKAGES.get(peer), "")
+        return f"{PEERS[peer]} {re.split(r'[-+]', version.split(':')[-1])[0]}".strip()
+
+    return " | ".join(map(head, peers))
+
+
+def load():
+    """How much else ran, by the mean of the last minute."""
+    return f"Load at the end: {os.getloadavg()[0]:.1f}"
+
+
 def versions():
-    packages = ["libc6", "libabsl-dev", "libhowardhinnant-date-dev", "openjdk-17-jdk-headless", "librust-chrono-dev", "tzdata", "g++"]
-    found = command("dpkg-query", "-W", "-f", "${Package} ${Version}\n", *packages).splitlines()
-    return ", ".join([each for each in found if " " in each and not each.startswith("dpkg")] + ["CPython " + sys.version.split()[0]])
+    found = [f"{package} {version}" for package, version in packages().items()]
+    return ", ".join([*found, "CPython " + sys.version.split()[0]])
 
 
 def print_lines(figures):
-    """What programs take for a line, beside zoneq."""
-    if not all((question, "-", "New_York", program) in figures for question, programs in LINES.items() for program in programs):
+    """What the two programs take, compared with others."""
+    found = {(question, program): took for (question, _, _, program), took in figures.items() if question in LINES}
+    if not found:
         return
-    print("\n### A line of `zoneq`\n")
-    print("| lines | program | processor's time for a line | `zoneq`'s time by it |")
+    print("\n### The programs\n")
+    print("| work | program | processor's time for each | ours divided by it |")
     print("|---|---|--:|--:|")
     for question, programs in LINES.items():
-        times = {program: figures[question, "-", "New_York", program] for program in programs}
+        ours = found.get((question, next(iter(programs))))
         for program, words in programs.items():
-            print(f"| {LINE_KINDS[question]} | {words} | {times[program]:.0f} ns | {times['zoneq'] / times[program]:.2f} |")
+            if took := found.get((question, program)):
+                print(f"| {LINE_KINDS[question]} | {words} | {spelled(took)} | {ours / took:.3g} |")
 
 
 def main():
     inputs, outputs = Path(sys.argv[1]), Path(sys.argv[2])
     figures, zones = read_figures(outputs / "figures")
     wrong = differences(figures, Answers(inputs, outputs))
-    peers = [peer for peer in PEERS if any(key[3] == peer for key in figures)]
-    print(f"{datetime.now(timezone.utc):%Y-%m-%d}, {machine()}. {command('uname', '-sr')}. {versions()}.")
+    print(f"{datetime.now(timezone.utc):%Y-%m-%d}, {machine()}. {command('uname', '-sr')}. {load()}. {versions()}.")
     for (question, years), title in TABLES.items():
         print(f"\n### {title}\n")
-        print("| zone | " + " | ".join(PEERS[peer] for peer in peers) + " | ratio |")
+        peers = [peer for peer in PEERS if any(key[::3] == (question, peer) for key in figures)]
+        print(f"| zone | {heads(peers)} | ratio |")
         print("|---|" + "--:|" * (len(peers) + 1))
         for zone in zones:
             if not any((question, years, zone, peer) in figures for peer in peers):
@@ -310,8 +352,8 @@ def main():
     print("|---|---|---|--:|---|---|---|---|")
     for (question, years, zone, peer), (differ, count, when_years, when, theirs, ours) in wrong.items():
         first, end = ("1900", "2099") if years == "wide" else ("2020", "2029")
-        asked = f"{'an instant' if question == 'at' else 'a wall clock'}, {first} to {end}"
-        shown = f"{when:%Y-%m-%d %H:%M:%S}" + (" UTC" if question == "at" else "")
+        asked = f"{ASKED[question]}, {first} to {end}"
+        shown = f"{when:%Y-%m-%d %H:%M:%S}" + ("" if question in ("wall", "gap") else " UTC")
         told = f"{when_years[0]} to {when_years[1]} | {shown} | {theirs} | {ours}"
         print(f"| {PEERS[peer]} | {zone} | {asked} | {differ:,} of {count:,} | {told} |")
 

@@ -1,29 +1,31 @@
 #!/bin/sh
-# Times lookups of this library, and what it does with instants, compared with other libraries, prints tables for bench/results/,
-# and draws docs/speed.svg from them.
+# Times lookups of this library, what it does with instants and its programs, compared with other libraries and programs, and
+# writes the tables into bench/results/, with the date as its name. `bench/write_speed.py` puts them into the documents then.
 #
-# usage: bench/run.sh [PEER ..]     of sahvumbi cctz hinnant java glibc cpython chrono zoneq calls misses (else all of them)
+# usage: bench/run.sh [PEER ..]     of sahvumbi work cctz hinnant java glibc cpython chrono lines dumps calls misses (else all)
 #
-# First `rt lib` in crates/zoned_ffi builds the archive, and `rt run` in crates/zoneq and crates/bench_instants the programs.
-# Debian has the peers:
+# First `rt lib` in crates/zoned_ffi builds the archive, and `rt run` in crates/zoneq, crates/zonedump and crates/bench_instants
+# the programs. Debian has the peers:
 #   apt-get install g++ pkg-config libabsl-dev libhowardhinnant-date-dev openjdk-17-jdk-headless mawk python3 tzdata valgrind \
-#     cargo librust-chrono-dev
-# A peer that is not there is left out. It takes some fifteen minutes. `misses` counts in a simulation, by valgrind.
+#     cargo librust-chrono-dev librust-chrono-tz-dev
+# A peer that is not there is left out. All times are the processor's. `misses` counts in a simulation, by valgrind.
 #
 #   BENCH_DIR   where inputs, programs and figures are kept (else sahvumbi-bench in the folder for temporary files)
 #   KEEP=1      keep the figures of earlier runs too: of each figure the least of all runs counts
 #   PYTHON      the Python that is timed (else python3)
 #   ARCHIVE     the library that is timed (else the one that `rt lib` built)
-#   PICTURE     where the picture is drawn (else docs/speed.svg)
+#   RESULTS     the file of the tables (else bench/results/DATE.md)
 set -u
 here=$(cd "$(dirname "$0")" && pwd)
 folder=${BENCH_DIR:-${TMPDIR:-/tmp}/sahvumbi-bench}
 kit=$(dirname "$(rt doc)")
 archive=${ARCHIVE:-$here/../crates/zoned_ffi/out/libzoned_ffi.a}
-picture=${PICTURE:-$here/../docs/speed.svg}
-peers=${*:-sahvumbi cctz hinnant java glibc cpython chrono zoneq calls misses}
+results=${RESULTS:-$here/results/$(date -u +%Y-%m-%d).md}
+peers=${*:-sahvumbi work cctz hinnant java glibc cpython chrono lines dumps calls misses}
 python=${PYTHON:-python3}
-compile="${CXX:-g++} -std=c++17 -O2"
+# As `rt lib` compiles the library.
+processor=x86-64-v2
+compile="${CXX:-g++} -std=c++17 -O2 -march=$processor"
 absl=$(pkg-config --cflags --libs absl_time 2> /dev/null)
 inputs=$folder/inputs outputs=$folder/outputs
 
@@ -39,12 +41,12 @@ build() {
     $compile -o "$folder/$name" "$here/drivers/$name.cc" "$@"
 }
 
-# The driver of chrono, over the crates that Debian has.
+# The drivers of chrono and chrono-tz, over the crates that Debian has.
 build_chrono() {
     mkdir -p "$folder/chrono/src"
-    cp "$here/drivers/chrono.rs" "$folder/chrono/src/main.rs"
+    cp "$here/drivers/chrono.rs" "$here/drivers/work_chrono.rs" "$here/drivers/timed.rs" "$folder/chrono/src/"
     cp "$here/drivers/chrono.toml" "$folder/chrono/Cargo.toml"
-    (cd "$folder/chrono" && cargo build --quiet --release --offline --config 'source.crates-io.replace-with="debian"' \
+    (cd "$folder/chrono" && RUSTFLAGS="-C target-cpu=$processor" cargo build --quiet --release --offline --config 'source.crates-io.replace-with="debian"' \
         --config 'source.debian.directory="/usr/share/cargo/registry"')
 }
 
@@ -78,8 +80,11 @@ for peer in $peers; do
     case $peer in
         # shellcheck disable=SC2086
         sahvumbi)
-            build sahvumbi "$archive" "$kit/c/liblibc_c.a" && run_both "$folder/sahvumbi" &&
-                run_work python3 "$here/time_work.py"
+            build sahvumbi "$archive" "$kit/c/liblibc_c.a" && run_both "$folder/sahvumbi"
+            ;;
+        work)
+            gcc -shared -fPIC -O2 -o "$folder/processor_clock.so" "$here/drivers/processor_clock.c" &&
+                PROCESSOR_CLOCK=$folder/processor_clock.so run_work python3 "$here/time_work.py"
             ;;
         cctz)
             build cctz $absl && run_both "$folder/cctz" && build work_cctz $absl && run_work "$folder/work_cctz"
@@ -93,8 +98,11 @@ for peer in $peers; do
             ;;
         glibc) build glibc && run_both "$folder/glibc" ;;
         cpython) run_both "$python" "$here/drivers/cpython.py" && run_work "$python" "$here/drivers/work_cpython.py" ;;
-        chrono) build_chrono && run "$folder/chrono/target/release/chrono-timed" ;;
-        zoneq) run python3 "$here/time_lines.py" ;;
+        chrono)
+            build_chrono && run "$folder/chrono/target/release/chrono" && run_work "$folder/chrono/target/release/work_chrono"
+            ;;
+        lines) run python3 "$here/time_lines.py" ;;
+        dumps) run python3 "$here/time_dumps.py" ;;
         calls)
             build calls "$archive" "$kit/c/liblibc_c.a" && echo "running calls" >&2 &&
                 "$folder/calls" "$inputs" > "$outputs/calls.md"
@@ -106,9 +114,9 @@ for peer in $peers; do
         *) false ;;
     esac || echo "$peer is left out" >&2
 done
-python3 "$here/print_tables.py" "$inputs" "$outputs" > "$outputs/tables.md" || exit 1
-for part in calls misses; do
-    [ ! -f "$outputs/$part.md" ] || cat "$outputs/$part.md" >> "$outputs/tables.md"
-done
-cat "$outputs/tables.md"
-python3 "$here/draw.py" "$outputs/tables.md" "$picture"
+{
+    python3 "$here/print_tables.py" "$inputs" "$outputs" &&
+        for part in calls misses; do [ ! -f "$outputs/$part.md" ] || cat "$outputs/$part.md"; done
+} > "$outputs/tables.md" || exit 1
+cp "$outputs/tables.md" "$results"
+echo "the tables are in $results" >&2

@@ -1,5 +1,5 @@
 #!/usr/bin/env python3
-"""Times zoneq over a million lines, beside programs that read and print lines.
+"""Times zoneq over a million lines, compared with programs that read and print lines.
 
 usage: bench/time_lines.py INPUTS OUTPUTS
 
@@ -72,4 +72,5 @@ def main():
             print(name, "New_York", question, "-", f"{took:.1f}", count, sep="\t", flush=True)
 
 
-main()
+if __name__ == "__main__":
+    main()

@@ -11,14 +11,14 @@ usage: tools/check_documents.py [--write]
 - No clause of a public function cites a step of a proof (specs/Steps).
 - docs/TESTING.md ends with the list of planted bugs, which --write puts there, and each of their old texts is once in its file.
 - A lemma that nothing names is an error, and so is a page of lemmas that its proofs/Lib.antt doesn't name.
-- docs/MAP.md names each crate and each module of a library, and the libraries that crates.txt has for each crate, which --write
-  puts there.
+- docs/MAP.md has each crate with the libraries of crates.txt and the first sentence of its root, which --write puts there, and
+  each module begins with a comment that says what it is.
 - Each page that a public contract of the libraries of `zoned` cites is passed on by zoned/specs/Lib.antt, and each type that
   one cites is a name of `zoned`.
 - Each wrong definition of crates/tests_pins/wrong has its texts once in its page and names pins that there are, and docs/DEFINITIONS.md
   has each pin once, with the wrong definitions that it rejects, which --write puts there (tools/try_definitions.py).
 - No call for C requires anything: what C passes is checked, or is what the header says.
-- The numbers of tz_info::Error, 1 to 17, have the same words in docs/ZONEQ.md, in the comments of `Error`, in the texts of
+- The numbers of tz_info::Error, 1 to 17, have the same words in docs/PROGRAMS.md, in the comments of `Error`, in the texts of
   zoned_ffi, in its header and in the Python package, and these have all that C returns.
 - Turns of phrase that CONTRIBUTING.md asks to avoid aren't more often in documents and doc comments than tools/habits.py allows.
 - No document has a line that a merge left behind.
@@ -29,7 +29,7 @@ usage: tools/check_documents.py [--write]
   columns in src/, or 160 in .antt, than tools/counts.py allows. --write lowers the counts of lines to those of the day.
 - README.md names the number and the logic of the kit that `rt version` prints (if there is rt); docs/FROM_CHRONO.md has how many functions
   tests_idioms_utc and the crates like it have.
-- The tables of docs/SPEED.md have the figures of the latest file of bench/results, and README.md has those of New York.
+- The tables of docs/SPEED.md and README.md have the figures of the latest file of bench/results (bench/write_speed.py).
 
 Prints a line for each fault, with its place, and ends with status 1 if there is one.
 """
@@ -49,6 +49,9 @@ from sources import (
 from try_definitions import faults as wrong_definitions, write_rejected
 from try_documents import rattle as rattle_blocks
 
+sys.path.append(str(TOP / "bench"))
+from write_speed import latest as latest_results, written as with_figures  # noqa: E402
+
 DOCUMENTS = [*sorted(TOP.glob("*.md")), *sorted((TOP / "docs").glob("*.md"))]
 DEFINITIONS = TOP / "docs/DEFINITIONS.md"
 TESTING = TOP / "docs/TESTING.md"
@@ -58,13 +61,11 @@ KNOWN = TOP / "tools/known_words.txt"
 README = TOP / "README.md"
 FROM_CHRONO = TOP / "docs/FROM_CHRONO.md"
 SPEED = TOP / "docs/SPEED.md"
-ZONEQ = TOP / "docs/ZONEQ.md"
+PROGRAMS = TOP / "docs/PROGRAMS.md"
 ERROR = TOP / "crates/tz_base/src/error.rt"
 TEXTS = TOP / "crates/zoned_ffi/specs/Texts.antt"
 HEADER = TOP / "crates/zoned_ffi/include/zoned_ffi.h"
 PYTHON = TOP / "python/src/sahvumbi/errors.py"
-# The tables of SPEED.md, and the titles that bench/print_tables.py gives them.
-FIGURES = {"By instant, 1900 to 2099": "An instant, 1900 to 2099", "By local time, 1900 to 2099": "A wall clock, 1900 to 2099"}
 INDEX = "## Index of the words that contracts cite\n"
 PLANTED = "## The list of planted bugs\n"
 IN_PART, BY_HAND = "mutants", "mutants-by-hand"
@@ -334,30 +335,31 @@ def unlisted_pages():
 # The map, and the calls for C
 
 
-def with_uses(text):
-    """The map with the libraries of each crate in the second column of its row."""
+def head_of(path):
+    """What the head of a module says first: the first sentence of its `//!` comment."""
+    comment = re.match(r"(?:#!\[.*\]\n)*((?://!.*\n)+)", text_of(path))
+    words = re.sub(r"(?m)^//! ?", "", comment[1]).partition("\n\n")[0] if comment else ""
+    plain = re.sub(r"\[(`[^`]*`)\](?:\([^)]*\))?", r"\1", " ".join(words.split()))
+    return re.split(r"\.(?:\s|$)", plain)[0].removesuffix(":").replace("|", "/")
 
-    def row(found):
-        used = [libraries for crate, libraries in uses().items() if f"`{crate}`" in found[1]]
-        return found[1] + (", ".join(f"`{library}`" for library in used[0]) or "std") + found[3] if used else found[0]
 
-    return re.sub(r"(?m)^(\| `[^|]*\| )([^|]*)( \| )", row, text)
+def with_crates(text):
+    """The map with a row for each crate: its name, the libraries that it uses, and what its root says first."""
+
+    def row(crate):
+        root = next(path for path in (TOP / "crates" / crate / "src" / name for name in ("lib.rt", "main.rt")) if path.exists())
+        return f"| `{crate}` | {', '.join(f'`{library}`' for library in uses()[crate]) or 'std'} | {head_of(root)} |"
+
+    table = "\n".join(["| crate | uses | is |", "|---|---|---|", *map(row, crates())])
+    return re.sub(r"(?s)(<!-- crates -->\n).*?(\n<!-- end -->)", lambda found: found[1] + table + found[2], text)
 
 
 def map_faults():
-    text = text_of(MAP)
-    if with_uses(text) != text:
-        yield f"{shown(MAP)}: its libraries of a crate aren't those of crates.txt (--write puts them there)"
-    words = set(re.findall(WORD, text))
-    for crate in crates():
-        if f"`{crate}`" not in text:
-            yield f"{shown(MAP)}: it doesn't name the crate {crate}"
-        if not (TOP / "crates" / crate / "specs").exists():
-            continue
-        for path in files("src", ".rt"):
-            inside = path.relative_to(TOP / "crates").parts
-            if inside[0] == crate and path.stem not in ("lib", "main", "tests") and "tests" not in inside and path.stem not in words:
-                yield f"{shown(MAP)}: it doesn't name the module {path.stem} of {crate}"
+    if with_crates(text_of(MAP)) != text_of(MAP):
+        yield f"{shown(MAP)}: its table of crates isn't that of crates.txt and the roots (--write puts it there)"
+    for path in files("src", ".rt"):
+        if not head_of(path):
+            yield f"{shown(path)}: no comment at its head says what it is"
 
 
 def required_of_c():
@@ -379,8 +381,8 @@ def first_sentence(comment):
 
 
 def number_faults():
-    """Numbers 1 to 17 whose words differ from those of ZONEQ.md."""
-    rows = re.findall(r"(?m)^\| (\d+) \| `(\w+)` \| (.*) \|$", text_of(ZONEQ))
+    """Numbers 1 to 17 whose words differ from those of PROGRAMS.md."""
+    rows = re.findall(r"(?m)^\| (\d+) \| `(\w+)` \| (.*) \|$", text_of(PROGRAMS))
     words = {int(number): said for number, _, said in rows}
     names = {name: int(number) for number, name, _ in rows}
     error = text_of(ERROR).partition("\npub enum Error {\n")[2].partition("\n}\n")[0]
@@ -398,11 +400,11 @@ def number_faults():
     returned = {number for number in places[TEXTS] if 0 < number < 18}
     due = {ERROR: set(range(1, 18)), TEXTS: returned, HEADER: returned, PYTHON: returned | {2}}
     if sorted(words) != list(range(1, 18)) or len(returned) < 12:
-        yield f"{shown(ZONEQ)}: its table of numbers isn't read, or that of {shown(TEXTS)}"
+        yield f"{shown(PROGRAMS)}: its table of numbers isn't read, or that of {shown(TEXTS)}"
     for path, said in places.items():
         for number in sorted(due[path] | {number for number in said if number in words}):
             if said.get(number) != words.get(number):
-                yield f"{shown(path)}: {number} is {said.get(number)!r}, and {words.get(number)!r} in {shown(ZONEQ)}"
+                yield f"{shown(path)}: {number} is {said.get(number)!r}, and {words.get(number)!r} in {shown(PROGRAMS)}"
 
 
 # What README and FROM_CHRONO say of the kit and of the code
@@ -425,22 +427,11 @@ def facts_of_documents():
 # Figures
 
 
-def rows(text, title):
-    """The rows of the table below a heading: the cells of each but the last one, by the first one."""
-    table = text.partition(f"# {title}\n")[2].partition("\n#")[0]
-    cells = [re.split(r" *\| *", row) for row in re.findall(r"(?m)^\| (.*) \|$", table)]
-    return {zone: times for zone, *times, _ in cells if zone != "zone"}
-
-
 def figure_faults():
-    results = sorted((TOP / "bench/results").glob("*.md"))[-1]
-    for title, printed in FIGURES.items():
-        figures, due = rows(text_of(SPEED), title), rows(text_of(results), printed)
-        for zone in sorted(figures.keys() | due.keys()):
-            if sorted(figures.get(zone, [])) != sorted(due.get(zone, [])):
-                yield f"{shown(SPEED)}: {title}: {zone} doesn't have the figures of {shown(results)}"
-        if " | ".join(figures.get("New_York", ["none"])) not in text_of(README):
-            yield f"{shown(README)}: it doesn't have the figures of New_York in {shown(SPEED)}, {title}"
+    results = latest_results()
+    for document in (README, SPEED):
+        if with_figures(document, results) != text_of(document):
+            yield f"{shown(document)}: it doesn't have the figures of {shown(results)} (bench/write_speed.py puts them there)"
 
 
 # What a client that names `zoned` alone can cite
@@ -487,7 +478,7 @@ def main():
     if sys.argv[1:] == ["--write"]:
         write_index()
         write_planted()
-        MAP.write_text(with_uses(text_of(MAP)))
+        MAP.write_text(with_crates(text_of(MAP)))
         write_rejected()
         write_counts()
         lower_long_lines()

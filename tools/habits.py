@@ -4,7 +4,7 @@
 usage: tools/habits.py [WORD .. | --lower]
 
 HABITS has for each of them how often it may still occur in documents (README.md, CONTRIBUTING.md, docs/, python/README.md;
-without code blocks and without the index of DEFINITIONS.md) and in doc comments (`///`, `//!` and the header for C). Each count
+without code blocks, the index of DEFINITIONS.md and the table of crates) and in doc comments (`///`, `//!` and the header for C). Each count
 is the highest that is allowed: tools/check_documents.py reports an error if there are more. Lower a count when you mend a
 sentence: `--lower` does it. With words, prints each place of the habits whose name has one of them; without, the counts.
 """
@@ -18,19 +18,19 @@ INDEX = "## Index of the words that contracts cite\n"
 HEADER = TOP / "crates/zoned_ffi/include/zoned_ffi.h"
 # A habit, what to write in its place, its pattern, and the counts allowed in documents and in doc comments.
 HABITS = [
-    ("told, tells", "returned, reported, shows, says", r"\b(?:told|tells?)\b", 0, 37),
-    ("stands", "is, means, is listed", r"\b(?:stands?|stood)\b", 3, 32),
+    ("told, tells", "returned, reported, shows, says", r"\b(?:told|tells?)\b", 0, 17),
+    ("stands", "is, means, is listed", r"\b(?:stands?|stood)\b", 1, 20),
     ("anew, once more", "again", r"\b(?:anew|once more)\b", 0, 2),
     ("want of", "lack of, out of", r"\bwant of\b", 0, 0),
-    ("be they", "whether", r"\bbe (?:they|it)\b", 0, 4),
-    ("so many, such a one", "n, one", r"\b(?:so many|such a one|no more do)\b", 0, 68),
-    ("is none", "does not count, is not one", r"\b(?:is|are) none\b", 8, 13),
-    ("alone after a noun", "only", r"\balone\b", 1, 21),
-    ("beside", "with, compared with, as well as", r"\bbeside\b", 0, 11),
-    ("behind", "after", r"\bbehind\b(?! UTC)", 2, 8),
-    ("refused", "rejected, returns an error", r"\brefus\w+", 2, 25),
-    ("reading for a local time", "local time, local date-time", r"\breadings?\b", 9, 120),
-    ("TZ text", "TZ string", r"\bTZ texts?\b", 3, 46),
+    ("be they", "whether", r"\bbe (?:they|it)\b", 0, 3),
+    ("so many, such a one", "n, one", r"\b(?:so many|such a one|no more do)\b", 0, 21),
+    ("is none", "does not count, is not one", r"\b(?:is|are) none\b", 7, 13),
+    ("alone after a noun", "only", r"\balone\b", 1, 16),
+    ("beside", "with, compared with, as well as", r"\bbeside\b", 0, 9),
+    ("behind", "after", r"\bbehind\b(?! UTC)", 2, 4),
+    ("refused", "rejected, returns an error", r"\brefus\w+", 2, 21),
+    ("reading for a local time", "local time, local date-time", r"\breadings?\b", 6, 75),
+    ("TZ text", "TZ string", r"\bTZ texts?\b", 1, 26),
     ("wrong body", "planted bug", r"\bwrong bod\w+", 1, 0),
 ]
 
@@ -50,7 +50,8 @@ def counts():
 def documents():
     pages = [TOP / "README.md", TOP / "CONTRIBUTING.md", *sorted((TOP / "docs").glob("*.md")), TOP / "python/README.md"]
     for path in pages:
-        yield path, without_blocks(text_of(path).partition(INDEX)[0])
+        text = re.sub(r"(?s)<!-- crates -->.*?<!-- end -->", lambda table: "\n" * table[0].count("\n"), text_of(path))
+        yield path, without_blocks(text.partition(INDEX)[0])
 
 
 def doc_comments():

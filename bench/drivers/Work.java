@@ -23,6 +23,7 @@ public class Work {
     static final int COUNT = 100_000, MANY = 1_000_000, SLICE = 1000, PASSES = 10, SORTS = 10, DAYS = 28;
     static final long WARMING = 2_000_000_000L;
     static final DateTimeFormatter FORM = DateTimeFormatter.ofPattern("uuuu-MM-dd HH:mm:ss xxx");
+    static final long CLOCK_COST = Zones.clockCost();
     static final LocalTime HALF_PAST_TWO = LocalTime.of(2, 30);
     static long sink;
 
@@ -40,10 +41,10 @@ public class Work {
     }
 
     static double time(Call call, int from) {
-        long start = System.nanoTime(), sum = 0;
+        long start = Zones.now(), sum = 0;
         for (int i = from; i < from + SLICE; i++) sum += call.at(i);
         sink += sum;
-        return System.nanoTime() - start;
+        return Math.max(0, Zones.now() - start - CLOCK_COST);
     }
 
     /** The sum of the least times of the slices, when the compiler has seen the calls. */
@@ -72,9 +73,9 @@ public class Work {
         double least = 1e300;
         for (int pass = 0; pass < SORTS; pass++) {
             ZonedDateTime[] copy = instants.clone();
-            long start = System.nanoTime();
+            long start = Zones.now();
             Arrays.sort(copy, order);
-            least = Math.min(least, System.nanoTime() - start);
+            least = Math.min(least, Zones.now() - start);
             sink += copy[0].toEpochSecond();
         }
         figure("sort", least / instants.length, instants.length);

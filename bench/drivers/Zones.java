@@ -1,4 +1,6 @@
 import java.io.IOException;
+import java.lang.management.ManagementFactory;
+import java.lang.management.ThreadMXBean;
 import java.nio.ByteBuffer;
 import java.nio.ByteOrder;
 import java.nio.file.Files;
@@ -27,10 +29,26 @@ import java.util.Map;
 public class Zones {
     static final int CHECKED = 100_000;
     static final int PASSES = 8;
+    static final ThreadMXBean THREADS = ManagementFactory.getThreadMXBean();
     static long sink;
 
     interface Call {
         long at(int i);
+    }
+
+    /** The processor's time of this thread, in nanoseconds: not that of the compiler and of the garbage collector. */
+    static long now() {
+        return THREADS.getCurrentThreadCpuTime();
+    }
+
+    /** What reading the clock itself takes. */
+    static long clockCost() {
+        long least = Long.MAX_VALUE;
+        for (int i = 0; i < 100_000; i++) {
+            long start = now();
+            least = Math.min(least, now() - start);
+        }
+        return least;
     }
 
     static long[] seconds(Path path) throws IOException {
@@ -65,9 +83,9 @@ public class Zones {
     }
 
     static void time(String zone, String question, String years, int count, Call call) {
-        long probe = System.nanoTime();
+        long probe = now();
         for (int i = 0; i < 20_000; i++) sink += call.at(i);
-        double each = (System.nanoTime() - probe) / 20_000.0;
+        double each = Math.max(0.1, (now() - probe) / 20_000.0);
         int used = (int) Math.max(2000, Math.min(count, 0.6e9 / each));
         int slice = (int) (1e6 / each) + 1, slices = (used + slice - 1) / slice;
         double[] least = new double[slices];
@@ -75,9 +93,9 @@ public class Zones {
         for (int pass = 0; pass < PASSES; pass++)
             for (int k = 0; k < slices; k++) {
                 int end = Math.min(used, (k + 1) * slice);
-                long start = System.nanoTime();
+                long start = now();
                 for (int i = k * slice; i < end; i++) sink += call.at(i);
-                least[k] = Math.min(least[k], System.nanoTime() - start);
+                least[k] = Math.min(least[k], now() - start);
             }
         double took = Arrays.stream(least).sum() / used;
         System.out.printf("java\t%s\t%s\t%s\t%.2f\t%d%n", zone, question, years, took, used);
@@ -114,6 +132,27 @@ public class Zones {
         time(zone, "wall", years, wall.length, i -> rules.getValidOffsets(locals[i]).size());
     }
 
+    /** Times a call, and writes the first answers: the low 32 bits of each. */
+    static void ask(Path outputs, String zone, String question, int count, Call call) throws IOException {
+        int[] told = new int[CHECKED];
+        Arrays.setAll(told, i -> (int) call.at(i));
+        write(outputs, zone, question, "near", told);
+        time(zone, question, "near", count, call);
+    }
+
+    static void changes(Path inputs, Path outputs, String zone, ZoneRules rules) throws IOException {
+        long[] at = seconds(inputs.resolve("at_near.i64")), gap = seconds(inputs.resolve("gap_near.i64"));
+        Instant[] instants = new Instant[at.length], after = new Instant[at.length];
+        Arrays.setAll(instants, i -> Instant.ofEpochSecond(at[i]));
+        Arrays.setAll(after, i -> Instant.ofEpochSecond(at[i] + 1));
+        LocalDateTime[] locals = new LocalDateTime[gap.length];
+        Arrays.setAll(locals, i -> LocalDateTime.ofEpochSecond(gap[i], 0, ZoneOffset.UTC));
+        ask(outputs, zone, "next", at.length, i -> rules.nextTransition(instants[i]).toEpochSecond());
+        ask(outputs, zone, "span", at.length,
+                i -> rules.nextTransition(instants[i]).toEpochSecond() - rules.previousTransition(after[i]).toEpochSecond());
+        ask(outputs, zone, "gap", gap.length, i -> gap[i] - rules.getTransition(locals[i]).getOffsetBefore().getTotalSeconds());
+    }
+
     public static void main(String[] words) throws IOException {
         Path inputs = Path.of(words[0]), outputs = Path.of(words[1]);
         Map<String, ZoneRules> zones = new LinkedHashMap<>();
@@ -126,6 +165,8 @@ public class Zones {
         for (var zone : zones.entrySet())
             for (String years : Files.readAllLines(inputs.resolve("years")))
                 lookups(inputs, outputs, zone.getKey(), zone.getValue(), years);
+        for (String zone : List.of("New_York", "Text"))
+            if (zones.containsKey(zone)) changes(inputs, outputs, zone, zones.get(zone));
         System.err.println("sum of what was answered: " + sink);
     }
 }

@@ -35,7 +35,7 @@ template <class One, class Other> static std::pair<double, double> in_turn(const
                 one(from);
             else
                 other(from);
-            double took = now() - start, &kept = least[is_one ? 0 : 1];
+            double took = since(start), &kept = least[is_one ? 0 : 1];
             if (took < kept) kept = took;
         }
         sums[0] += least[0];

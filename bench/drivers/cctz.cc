@@ -17,26 +17,19 @@ static double least_load(const Run &run, const std::string &name, unsigned loads
         double start = now();
         absl::TimeZone again;
         absl::LoadTimeZone(path, &again);
-        double took = now() - start;
+        double took = since(start);
         if (took < least) least = took;
     }
     return least;
 }
 
 static void time_lookups(const Run &run, const std::string &name, const absl::TimeZone &zone, const std::string &years) {
-    size_t used;
-    std::vector<int32_t> told;
-    std::vector<int64_t> instants = run.seconds("at", years);
-    for (size_t i = 0; i < CHECKED; i++) told.push_back(zone.At(absl::FromUnixSeconds(instants[i])).offset);
-    run.answers(name, "at", years, told);
-    double took = least_time(instants.size(), &used,
-                             [&](size_t i) { sink = sink + zone.At(absl::FromUnixSeconds(instants[i])).offset; });
-    run.figure(name, "at", years, took, used);
+    const std::vector<int64_t> instants = run.seconds("at", years), locals = run.seconds("wall", years);
+    ask(run, name, "at", years, instants.size(), [&](size_t i) { return zone.At(absl::FromUnixSeconds(instants[i])).offset; });
 
-    std::vector<int64_t> locals = run.seconds("wall", years);
     std::vector<absl::CivilSecond> readings(locals.size());
     for (size_t i = 0; i < locals.size(); i++) readings[i] = absl::CivilSecond() + locals[i];
-    told.clear();
+    std::vector<int32_t> told;
     for (size_t i = 0; i < CHECKED; i++) {
         auto info = zone.At(readings[i]);
         bool unique = info.kind == absl::TimeZone::TimeInfo::UNIQUE, skipped = info.kind == absl::TimeZone::TimeInfo::SKIPPED;
@@ -44,8 +37,28 @@ static void time_lookups(const Run &run, const std::string &name, const absl::Ti
                   locals[i] - absl::ToUnixSeconds(info.post));
     }
     run.answers(name, "wall", years, told);
-    took = least_time(locals.size(), &used, [&](size_t i) { sink = sink + absl::ToUnixSeconds(zone.At(readings[i]).pre); });
+    size_t used;
+    double took = least_time(locals.size(), &used, [&](size_t i) { sink = sink + absl::ToUnixSeconds(zone.At(readings[i]).pre); });
     run.figure(name, "wall", years, took, used);
+}
+
+// A change comes as its two local times; its second takes another call, as the header says. A span has a change at each end.
+static void time_changes(const Run &run, const std::string &name, const absl::TimeZone &zone) {
+    const std::vector<int64_t> instants = run.seconds("at", "near"), gaps = run.seconds("gap", "near");
+    auto second = [&](const absl::TimeZone::CivilTransition &change) { return absl::ToUnixSeconds(zone.At(change.to).trans); };
+    ask(run, name, "next", "near", instants.size(), [&](size_t i) -> int64_t {
+        absl::TimeZone::CivilTransition change;
+        return zone.NextTransition(absl::FromUnixSeconds(instants[i]), &change) ? second(change) : 0;
+    });
+    ask(run, name, "span", "near", instants.size(), [&](size_t i) -> int64_t {
+        absl::TimeZone::CivilTransition begin, end;
+        bool found = zone.PrevTransition(absl::FromUnixSeconds(instants[i] + 1), &begin) &&
+                     zone.NextTransition(absl::FromUnixSeconds(instants[i]), &end);
+        return found ? second(end) - second(begin) : 0;
+    });
+    std::vector<absl::CivilSecond> readings(gaps.size());
+    for (size_t i = 0; i < gaps.size(); i++) readings[i] = absl::CivilSecond() + gaps[i];
+    ask(run, name, "gap", "near", gaps.size(), [&](size_t i) { return absl::ToUnixSeconds(zone.At(readings[i]).pre); });
 }
 
 int main(int count, char **words) {
@@ -59,5 +72,6 @@ int main(int count, char **words) {
         unsigned loads = read_file(run.inputs + "/zones/" + name).size() > 100000 ? 3 : 300;
         run.figure(name, "read", "-", least_load(run, name, loads), loads);
         for (const std::string &years : run.words("years")) time_lookups(run, name, zone, years);
+        if (is_new_york(name)) time_changes(run, name, zone);
     }
 }

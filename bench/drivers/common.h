@@ -3,21 +3,23 @@
 // usage of each driver: DRIVER INPUTS OUTPUTS, the folder of make_inputs.py and one for the answers.
 //
 // It prints a line for each figure, its fields parted by tabs:  PEER  ZONE  QUESTION  YEARS  NANOSECONDS  COUNT
-//   QUESTION     at (an instant), wall (a local time) or read (the zone)
+//   QUESTION     at (an instant), wall (a local time) or read (the zone); of New York's zones also next (the clock change after
+//                an instant), span (of an instant) and gap (the instant of a local time in a gap)
 //   YEARS        wide (1900 to 2099) or near (2020 to 2029); - of read
-//   NANOSECONDS  for one call; -1 where the peer refuses the zone
+//   NANOSECONDS  the processor's time of one call; -1 if the peer rejects the zone
 //   COUNT        how many calls were timed
-// And it writes its answers to the first CHECKED questions, as numbers of 32 bits, low byte first, into
-// OUTPUTS/PEER.ZONE.QUESTION.YEARS: of an instant the offset; of a local time how often it is shown (2: several times), and
-// the offsets at the first and the last second, 0 where there is none.
+// And it writes its answers to the first CHECKED questions, as numbers of 32 bits (of larger ones the low 32 bits), low byte
+// first, into OUTPUTS/PEER.ZONE.QUESTION.YEARS: of an instant the offset; of a local time how often it is shown (2: several
+// times), and the offsets at the first and the last second, 0 if there is none; the second of the next change; the length of
+// the span; the Unix time that the offset before the gap gives. 0 if there is none.
 #pragma once
-#include <chrono>
 #include <cstdint>
 #include <cstdio>
 #include <cstdlib>
 #include <fstream>
 #include <iterator>
 #include <string>
+#include <time.h>
 #include <vector>
 
 static const size_t CHECKED = 100000;
@@ -27,9 +29,28 @@ static const double PASS_NANOSECONDS = 0.3e9, SLICE_NANOSECONDS = 1e6;
 // What is computed and not used otherwise, so that no compiler leaves it out.
 static volatile int64_t sink;
 
+// The processor's time of this thread, in nanoseconds: what other processes take doesn't count.
 inline double now() {
-    auto since = std::chrono::steady_clock::now().time_since_epoch();
-    return (double)std::chrono::duration_cast<std::chrono::nanoseconds>(since).count();
+    struct timespec time;
+    clock_gettime(CLOCK_THREAD_CPUTIME_ID, &time);
+    return (double)time.tv_sec * 1e9 + (double)time.tv_nsec;
+}
+
+// What reading the clock itself takes.
+inline double clock_cost() {
+    double least = 1e300;
+    for (int i = 0; i < 1000; i++) {
+        double start = now(), took = now() - start;
+        if (took < least) least = took;
+    }
+    return least;
+}
+
+// The time since then, without that of reading the clock.
+inline double since(double start) {
+    static const double cost = clock_cost();
+    double took = now() - start - cost;
+    return took > 0 ? took : 0;
 }
 
 inline std::string read_file(const std::string &path) {
@@ -88,13 +109,20 @@ inline void tell_wall(std::vector<int32_t> &told, int shown, int64_t first, int6
     told.push_back(shown ? (int32_t)last : 0);
 }
 
+// Whether it is one of New York's zones, which are asked for changes, spans and gaps too.
+inline bool is_new_york(const std::string &name) { return name == "Text" || name.compare(0, 8, "New_York") == 0; }
+
 // The time of call(i), i from 0 on: slices of a millisecond, PASSES times over, and of each slice the least time, so that
 // what another process took in one pass does not show. Where a call is slow, fewer calls.
 template <class Call> double least_time(size_t count, size_t *used, Call call) {
     size_t probe = count < 64 ? count : 64;
-    double start = now();
-    for (size_t i = 0; i < probe; i++) call(i);
-    double each = (now() - start) / (double)probe;
+    double start, each = 1e300;
+    for (int pass = 0; pass < PASSES; pass++) {
+        start = now();
+        for (size_t i = 0; i < probe; i++) call(i);
+        double took = since(start) / (double)probe;
+        if (took < each) each = took;
+    }
     size_t fit = (size_t)(PASS_NANOSECONDS / (each < 0.1 ? 0.1 : each));
     if (fit < probe) fit = probe;
     *used = fit < count ? fit : count;
@@ -105,10 +133,21 @@ template <class Call> double least_time(size_t count, size_t *used, Call call) {
             size_t end = (k + 1) * slice < *used ? (k + 1) * slice : *used;
             start = now();
             for (size_t i = k * slice; i < end; i++) call(i);
-            double took = now() - start;
+            double took = since(start);
             if (took < least[k]) least[k] = took;
         }
     double sum = 0;
     for (double time : least) sum += time;
     return sum / (double)*used;
+}
+
+// Times answer(i), and writes the first answers.
+template <class Answer>
+void ask(const Run &run, const std::string &zone, const char *question, const std::string &years, size_t count, Answer answer) {
+    std::vector<int32_t> told;
+    for (size_t i = 0; i < CHECKED; i++) told.push_back((int32_t)answer(i));
+    run.answers(zone, question, years, told);
+    size_t used;
+    double took = least_time(count, &used, [&](size_t i) { sink = sink + answer(i); });
+    run.figure(zone, question, years, took, used);
 }

@@ -18,20 +18,21 @@ EPOCH = datetime(1970, 1, 1)
 
 
 def least_time(call, items, size=SLICE):
+    """The processor's time of a call, without that of the loop: of each slice the least of some passes."""
     total = 0
     for start in range(0, len(items), size):
-        part, least = items[start : start + size], float("inf")
+        part, least, empty = items[start : start + size], float("inf"), float("inf")
         for _ in range(PASSES):
-            began = time.perf_counter_ns()
+            began = time.thread_time_ns()
+            for item in part:
+                pass
+            empty = min(empty, time.thread_time_ns() - began)
+            began = time.thread_time_ns()
             for item in part:
                 call(item)
-            least = min(least, time.perf_counter_ns() - began)
-        total += least
+            least = min(least, time.thread_time_ns() - began)
+        total += max(least - empty, 0)
     return total / len(items)
-
-
-def nothing(_):
-    pass
 
 
 def readings(inputs, question, years, zone):
@@ -69,13 +70,12 @@ def main():
         tell(name, "read", "-", least_time(lambda _: ZoneInfo.from_file(io.BytesIO(file)), range(loads), 1), loads)
         for years in (inputs / "years").read_text().split():
             instants = readings(inputs, "at", years, zone)
-            empty = least_time(nothing, instants)
             offsets = [offset(zone.fromutc(instant)) for instant in instants]
-            tell(name, "at", years, least_time(zone.fromutc, instants) - empty, COUNT, offsets)
+            tell(name, "at", years, least_time(zone.fromutc, instants), COUNT, offsets)
             pairs = [(local, local.replace(fold=1)) for local in readings(inputs, "wall", years, zone)]
             triples = [number for pair in pairs for number in triple(*pair)]
             took = least_time(lambda pair: (zone.utcoffset(pair[0]), zone.utcoffset(pair[1])), pairs)
-            tell(name, "wall", years, took - empty, COUNT, triples)
+            tell(name, "wall", years, took, COUNT, triples)
 
 
 main()

@@ -8,28 +8,22 @@ static void set_zone(const std::string &zone) {
 }
 
 static void time_lookups(const Run &run, const std::string &name, const std::string &years) {
-    size_t used;
-    std::vector<int32_t> told;
-    std::vector<int64_t> instants = run.seconds("at", years);
-    auto offset_at = [&](size_t i) {
+    const std::vector<int64_t> instants = run.seconds("at", years), locals = run.seconds("wall", years);
+    ask(run, name, "at", years, instants.size(), [&](size_t i) {
         time_t second = instants[i];
         struct tm fields;
         localtime_r(&second, &fields);
         return fields.tm_gmtoff;
-    };
-    for (size_t i = 0; i < CHECKED; i++) told.push_back((int32_t)offset_at(i));
-    run.answers(name, "at", years, told);
-    double took = least_time(instants.size(), &used, [&](size_t i) { sink = sink + offset_at(i); });
-    run.figure(name, "at", years, took, used);
+    });
 
-    std::vector<int64_t> locals = run.seconds("wall", years);
     std::vector<struct tm> readings(locals.size());
     for (size_t i = 0; i < locals.size(); i++) {
         time_t second = locals[i];
         gmtime_r(&second, &readings[i]);
         readings[i].tm_isdst = -1;
     }
-    took = least_time(locals.size(), &used, [&](size_t i) {
+    size_t used;
+    double took = least_time(locals.size(), &used, [&](size_t i) {
         struct tm fields = readings[i];
         sink = sink + mktime(&fields);
     });

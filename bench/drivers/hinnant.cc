@@ -4,20 +4,14 @@
 #include <date/tz.h>
 #include <utility>
 
-template <class Zone> void time_lookups(const Run &run, const std::string &name, const Zone &zone, const std::string &years) {
-    auto at = [](int64_t second) { return date::sys_seconds{std::chrono::seconds{second}}; };
-    auto local = [](int64_t second) { return date::local_seconds{std::chrono::seconds{second}}; };
-    size_t used;
-    std::vector<int32_t> told;
-    std::vector<int64_t> instants = run.seconds("at", years);
-    for (size_t i = 0; i < CHECKED; i++) told.push_back((int32_t)zone.get_info(at(instants[i])).offset.count());
-    run.answers(name, "at", years, told);
-    double took = least_time(instants.size(), &used,
-                             [&](size_t i) { sink = sink + zone.get_info(at(instants[i])).offset.count(); });
-    run.figure(name, "at", years, took, used);
+static date::sys_seconds at(int64_t second) { return date::sys_seconds{std::chrono::seconds{second}}; }
 
-    std::vector<int64_t> locals = run.seconds("wall", years);
-    told.clear();
+static date::local_seconds local(int64_t second) { return date::local_seconds{std::chrono::seconds{second}}; }
+
+template <class Zone> void time_lookups(const Run &run, const std::string &name, const Zone &zone, const std::string &years) {
+    const std::vector<int64_t> instants = run.seconds("at", years), locals = run.seconds("wall", years);
+    ask(run, name, "at", years, instants.size(), [&](size_t i) { return zone.get_info(at(instants[i])).offset.count(); });
+    std::vector<int32_t> told;
     for (size_t i = 0; i < CHECKED; i++) {
         auto info = zone.get_info(local(locals[i]));
         bool unique = info.result == date::local_info::unique, none = info.result == date::local_info::nonexistent;
@@ -25,9 +19,22 @@ template <class Zone> void time_lookups(const Run &run, const std::string &name,
                   unique ? info.first.offset.count() : info.second.offset.count());
     }
     run.answers(name, "wall", years, told);
-    took = least_time(locals.size(), &used,
-                      [&](size_t i) { sink = sink + zone.get_info(local(locals[i])).first.offset.count(); });
+    size_t used;
+    double took = least_time(locals.size(), &used,
+                             [&](size_t i) { sink = sink + zone.get_info(local(locals[i])).first.offset.count(); });
     run.figure(name, "wall", years, took, used);
+}
+
+template <class Zone> void time_changes(const Run &run, const std::string &name, const Zone &zone) {
+    const std::vector<int64_t> instants = run.seconds("at", "near"), gaps = run.seconds("gap", "near");
+    ask(run, name, "next", "near", instants.size(),
+        [&](size_t i) -> int64_t { return zone.get_info(at(instants[i])).end.time_since_epoch().count(); });
+    ask(run, name, "span", "near", instants.size(), [&](size_t i) -> int64_t {
+        auto info = zone.get_info(at(instants[i]));
+        return (info.end - info.begin).count();
+    });
+    ask(run, name, "gap", "near", gaps.size(),
+        [&](size_t i) -> int64_t { return gaps[i] - zone.get_info(local(gaps[i])).first.offset.count(); });
 }
 
 int main(int count, char **words) {
@@ -46,5 +53,8 @@ int main(int count, char **words) {
         sink = sink + (int64_t)zone.name().size();
     });
     run.figure("Text", "read", "-", took, used);
-    for (const std::string &years : run.words("years")) time_lookups(run, "Text", Posix::time_zone{text}, years);
+    const Posix::time_zone zone{text};
+    for (const std::string &years : run.words("years")) time_lookups(run, "Text", zone, years);
+    time_changes(run, "New_York", *date::locate_zone("America/New_York"));
+    time_changes(run, "Text", zone);
 }

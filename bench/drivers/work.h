@@ -42,7 +42,7 @@ struct Work {
                 int64_t told = 0;
                 double start = now();
                 for (size_t i = from; i < from + WORK_SLICE; i++) told += call(i);
-                double took = now() - start;
+                double took = since(start);
                 sink = sink + told;
                 if (took < least) least = took;
             }
@@ -60,7 +60,7 @@ struct Work {
             std::vector<Instant> copy = instants;
             double start = now();
             std::sort(copy.begin(), copy.end(), order);
-            double took = now() - start;
+            double took = since(start);
             sink = sink + second(copy[0]);
             if (took < least) least = took;
         }

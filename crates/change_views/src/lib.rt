@@ -1,7 +1,6 @@
-//! What changes of the clocks are in words: as lines of a table, as `zdump` prints them, as JSON,
-//! and drawn as SVG.
+//! Given clock changes as text: lines of a table, lines of `zdump`, JSON, and a picture in SVG.
 //!
-//! Nothing here asks a zone: the changes, and the years that they come in, are given.
+//! Nothing here asks a zone: the caller passes the changes and the years that they come in.
 #![tactic(auto)]
 
 mod change_lines;

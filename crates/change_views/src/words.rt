@@ -1,4 +1,4 @@
-//! How types of local time and steps of the clocks are told.
+//! Local time types and steps of the clocks in words.
 
 ghost use Rattle.std.specs.Prelude.{◌≡◌, Some};
 ghost use Rattle.offset_core.specs.FixedOffset.{printed_offset};

@@ -1,4 +1,4 @@
-//! The years that changes are told of.
+//! The years in which changes are listed.
 
 ghost use Rattle.std.specs.Prelude.{◌≡◌, MatchOption, pos, ◌≤ℤ◌};
 ghost use Rattle.change_views.specs.Spans.{AreYears, IsInYears, year_second, year_until};

@@ -82,7 +82,7 @@ fn find_date(day: i64) -> YearMonthDay
     }
 }
 
-// The month from 3 to 14 and the day of the month that come so many days after 1 March.
+// The month from 3 to 14 and the day of the month that many days after 1 March.
 fn march_month(passed: u32) -> (u32, u32)
     requires { passed < 366 }
     ensures month { result.0 ≡ (5 * passed + 461) / 153 }
@@ -104,8 +104,8 @@ pub fn date_of(day: i64) -> YearMonthDay
     find_date(day)
 }
 
-/// The month and the day of the month that come so many days after the year's 1 January. Requires:
-/// fewer days than the year has.
+/// Returns the month and the day of the month of the day that comes that many days after the year's
+/// 1 January. Requires: fewer days than the year has.
 pub fn month_and_day(year: i32, day_of_year: u32) -> (u32, u32)
     requires { day_of_year < days_in_year year }
     ensures date { IsDate year result.0 result.1 }

@@ -22,7 +22,7 @@ const WEEK_SHARE: u128 = 2_635_249_153_387_078_803;
 
 const TWO_TO_64: u128 = 18_446_744_073_709_551_616;
 
-// The whole weeks of so many days, and the days left over.
+// The whole weeks of a number of days, and the days left over.
 pub(crate) fn split_weeks(days: u64) -> (u64, u32)
     requires { days < 2_000_000_000_000 }
     ensures weeks { result.0 ≡ days / 7 }

@@ -18,9 +18,9 @@ pub struct YearDay {
     pub first_weekday: u32,
 }
 
-/// The day's place in its year, and the two things that tell the year's calendar: with the weekday
-/// of its first day and whether it is a leap year, all its dates have their weekdays. Requires: a
-/// day of the years of an `i32`.
+/// Returns the day's place in its year, and the two things that determine the year's calendar: with
+/// the weekday of its first day and whether it is a leap year, all its dates have their weekdays.
+/// Requires: a day of the years of an `i32`.
 #[inline(always)]
 pub fn year_day_of(day: i64) -> YearDay
     requires { IsDay day }

@@ -37,7 +37,7 @@ pub(crate) fn year_from_base(years: u64) -> i32
     (years as i64 - BASE_YEAR) as i32
 }
 
-// The days of the first so many years of a cycle of 400 years that ends with a leap year.
+// The days of the first years of a cycle of 400 years that ends with a leap year.
 pub(crate) fn days_of_years(years: u64) -> u64
     requires { years ≤ 4_294_968_000 }
     ensures value { result ≡ days_of_years years }
@@ -80,7 +80,7 @@ fn in_century(scaled: u64) -> u32
     (scaled % 146_097) as u32 / 4 * 4 + 3
 }
 
-// How many whole years of such cycles fit into so many days, and how many days are left over.
+// How many whole years of such cycles fit into a number of days, and how many days are left over.
 pub(crate) fn split_years(days: u64) -> (u64, u64)
     requires { days < 2_000_000_000_000 }
     ensures value { days_of_years result.0 + result.1 ≡ days }

@@ -58,8 +58,8 @@ impl NaiveDate {
         day: LAST_DAY_IN_RANGE,
     };
 
-    /// The date of a year, a month from 1 and a day of the month from 1. `None` where the calendar
-    /// has no such date, or the year is not one from -262143 to 262142.
+    /// Returns the date of a year, a month from 1 and a day of the month from 1. `None` if the
+    /// calendar has no such date, or the year is not one from -262143 to 262142.
     pub fn from_ymd_opt(year: i32, month: u32, day: u32) -> Option<NaiveDate>
         ensures value { IsDateOf year month day result }
         ensures in_range { IfSome result (λ d. IsDayInRange (day_of d)) }
@@ -86,8 +86,8 @@ impl NaiveDate {
         }
     }
 
-    /// The date by its number in the common era, where 0001-01-01 is day 1 and 1970-01-01 is day
-    /// 719163. `None` where the year is not one from -262143 to 262142.
+    /// Returns the date by its number in the common era, in which 0001-01-01 is day 1 and
+    /// 1970-01-01 is day 719163. `None` if the year is not one from -262143 to 262142.
     pub fn from_num_days_from_ce_opt(days: i32) -> Option<NaiveDate>
         ensures { IsDateOfDay (days -ℤ pos 719_163) result }
     {
@@ -104,14 +104,14 @@ impl NaiveDate {
         Some(NaiveDate { day: day as i32 })
     }
 
-    /// The number of the date in the common era, where 0001-01-01 is day 1.
+    /// Returns the number of the date in the common era, in which 0001-01-01 is day 1.
     pub fn num_days_from_ce(&self) -> i32
         ensures { result ≡ day_of self.now +ℤ pos 719_163 }
     {
         self.day + EPOCH_FROM_CE as i32
     }
 
-    /// The reading of a clock at that time of this day.
+    /// Returns the local date-time of this day at that time of day.
     pub fn and_time(&self, time: NaiveTime) -> NaiveDateTime
         ensures value { reading result ≡ reading_at (day_of self.now) (second_of time)
             (fraction_of time) }
@@ -121,8 +121,8 @@ impl NaiveDate {
         NaiveDateTime::new(*self, time)
     }
 
-    /// The reading at an hour from 0 to 23, a minute and a second from 0 to 59 of this day. `None`
-    /// for any other.
+    /// Returns the local date-time of this day at an hour from 0 to 23, a minute and a second from
+    /// 0 to 59. `None` for any other.
     pub fn and_hms_opt(&self, hour: u32, min: u32, sec: u32) -> Option<NaiveDateTime>
         ensures value { IsReadingOn (day_of self.now) (IsClock hour min sec)
             (clock_second hour min sec) 0 result }

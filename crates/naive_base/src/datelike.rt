@@ -9,8 +9,9 @@ use crate::{IsoWeek, Weekday};
 
 /// A value that shows a date.
 ///
-/// A field is changed where the calendar has the new date, and its year is one from -262143 to
-/// 262142 or it is the date that the value shows anyhow. All else that the value shows stays.
+/// A `with_*` call returns `None` if the calendar doesn't have the new date, or its year is not one
+/// from -262143 to 262142, unless it is the date that the value shows already. All else that the
+/// value shows stays. An instant is returned only if it is the only one that shows the new date.
 ///
 /// ```text
 /// let date = NaiveDate::from_ymd_opt(2020, 2, 29)?;
@@ -27,83 +28,83 @@ pub trait Datelike: Sized {
     // none is given
     ghost IsOnDay: { Self → Option ℤ → Option Self → Type 0 };
 
-    /// The year, where the year 0 is the one before the year 1.
+    /// Returns the year; the year 0 is the one before the year 1.
     fn year(&self) -> i32
         ensures { result ≡ year_of (day_shown self.now) };
 
-    /// The month, from 1 to 12.
+    /// Returns the month, from 1 to 12.
     fn month(&self) -> u32
         ensures value { result ≡ month_of (day_shown self.now) }
         ensures bound { (1 ≤ result) × (result ≤ 12) };
 
-    /// The month, from 0 to 11.
+    /// Returns the month, from 0 to 11.
     fn month0(&self) -> u32
         ensures value { result + 1 ≡ month_of (day_shown self.now) }
         ensures bound { result < 12 };
 
-    /// The day of the month, from 1 to 31.
+    /// Returns the day of the month, from 1 to 31.
     fn day(&self) -> u32
         ensures value { result ≡ day_of_month (day_shown self.now) }
         ensures bound { (1 ≤ result) × (result ≤ 31) };
 
-    /// The day of the month, from 0 to 30.
+    /// Returns the day of the month, from 0 to 30.
     fn day0(&self) -> u32
         ensures value { result + 1 ≡ day_of_month (day_shown self.now) }
         ensures bound { result < 31 };
 
-    /// The day of the year, from 1 to 366.
+    /// Returns the day of the year, from 1 to 366.
     fn ordinal(&self) -> u32
         ensures value { result ≡ day_of_year (day_shown self.now) + 1 }
         ensures bound { (1 ≤ result) × (result ≤ 366) };
 
-    /// The day of the year, from 0 to 365.
+    /// Returns the day of the year, from 0 to 365.
     fn ordinal0(&self) -> u32
         ensures value { result ≡ day_of_year (day_shown self.now) }
         ensures bound { result < 366 };
 
-    /// The day of the week.
+    /// Returns the day of the week.
     fn weekday(&self) -> Weekday
         ensures { weekday_number result ≡ weekday_of (day_shown self.now) };
 
-    /// The week by the rule of ISO 8601.
+    /// Returns the week by the rule of ISO 8601.
     fn iso_week(&self) -> IsoWeek
         ensures { IsWeekOf (day_shown self.now) result };
 
-    /// The same in another year.
+    /// Returns the same in another year, or `None`.
     fn with_year(&self, year: i32) -> Option<Self>
         ensures { let day = day_shown self.now in
             IsDateGiven day_shown (IsOnDay self.now) day year (month_of day)
             (day_of_month day) result };
 
-    /// The same with another month, from 1.
+    /// Returns the same with another month, from 1, or `None`.
     fn with_month(&self, month: u32) -> Option<Self>
         ensures { let day = day_shown self.now in
             IsDateGiven day_shown (IsOnDay self.now) day (year_of day) month
             (day_of_month day) result };
 
-    /// The same with another month, from 0.
+    /// Returns the same with another month, from 0, or `None`.
     fn with_month0(&self, month0: u32) -> Option<Self>
         ensures { let day = day_shown self.now in
             IsDateGiven day_shown (IsOnDay self.now) day (year_of day) (month0 + 1)
             (day_of_month day) result };
 
-    /// The same with another day of the month, from 1.
+    /// Returns the same with another day of the month, from 1, or `None`.
     fn with_day(&self, day: u32) -> Option<Self>
         ensures { let old = day_shown self.now in
             IsDateGiven day_shown (IsOnDay self.now) old (year_of old) (month_of old) day result };
 
-    /// The same with another day of the month, from 0.
+    /// Returns the same with another day of the month, from 0, or `None`.
     fn with_day0(&self, day0: u32) -> Option<Self>
         ensures { let old = day_shown self.now in
             IsDateGiven day_shown (IsOnDay self.now) old (year_of old) (month_of old)
             (day0 + 1) result };
 
-    /// The same on another day of the year, from 1.
+    /// Returns the same on another day of the year, from 1, or `None`.
     fn with_ordinal(&self, ordinal: u32) -> Option<Self>
         ensures { let day = day_shown self.now in
             IsOrdinalGiven day_shown (IsOnDay self.now) day (year_of day) ordinal result };
 
-    /// The same on another day of the year, from 0.
+    /// Returns the same on another day of the year, from 0, or `None`.
     fn with_ordinal0(&self, ordinal0: u32) -> Option<Self>
         ensures { let day = day_shown self.now in
             IsOrdinalGiven day_shown (IsOnDay self.now) day (year_of day) (ordinal0 + 1) result };

@@ -1,4 +1,4 @@
-//! Readings of a clock.
+//! Local date-times.
 ghost use Rattle.std.specs.Prelude.{◌≡◌, ◌↔◌, ◌<◌, IsTrue, SomeIff, option_map, pos, ◌+ℤ◌, ◌-ℤ◌};
 ghost use Rattle.offset_core.specs.FixedOffset.{seconds_of};
 ghost use Rattle.naive_base.specs.Range.{IsReading, IsInRange};
@@ -16,10 +16,10 @@ use offset_core::FixedOffset;
 /// What a clock shows, without a time zone: the seconds from 1970-01-01 00:00:00, every day counted
 /// as 86,400, and nanoseconds, which from 10^9 on are those of a leap second after that second.
 ///
-/// A reading is in range in the years -262143 to 262142, or it is on a buffer day, the one before
-/// or the one after them: that is where a clock's offset may bring it. Readings compare and hash by
-/// the seconds, then the nanoseconds. A reading prints as its date, a space and its time, whatever
-/// width, fill or flags the formatter has, and by `{:?}` with a `T` between them.
+/// A local date-time is in range in the years -262143 to 262142, or it is on a buffer day, the one
+/// before or the one after them, where an offset may lead. Local date-times compare and hash by the
+/// seconds, then the nanoseconds. One prints as its date, a space and its time, whatever width,
+/// fill or flags the formatter has, and by `{:?}` with a `T` between them.
 #[derive(Clone, Copy, PartialEq, Eq, PartialOrd, Ord, Hash)]
 pub struct NaiveDateTime {
     secs: i64,
@@ -32,13 +32,14 @@ impl NaiveDateTime {
     ghost use Rattle.naive_base.specs.NaiveTime.{second_of, fraction_of};
     ghost use Rattle.naive_base.specs.NaiveDateTime.{reading, IsReadingOf};
 
-    /// The first reading in range, the start of the year -262143.
+    /// The first local date-time in range, the start of the year -262143.
     pub const MIN: NaiveDateTime = NaiveDateTime {
         secs: FIRST_SECOND,
         frac: 0,
     };
 
-    /// The last reading in range that is no leap second, the last nanosecond of the year 262142.
+    /// The last local date-time in range that is no leap second, the last nanosecond of the year
+    /// 262142.
     pub const MAX: NaiveDateTime = NaiveDateTime {
         secs: LAST_SECOND,
         frac: 999_999_999,
@@ -57,9 +58,10 @@ impl NaiveDateTime {
         }
     }
 
-    /// The reading so many seconds after 1970-01-01 00:00:00, or before it for a negative number,
-    /// and so many nanoseconds. `None` where that isn't in range, or the nanoseconds are 2*10^9 or
-    /// more, or, being 10^9 or more, don't follow the last second of a minute.
+    /// Returns the local date-time that many seconds after 1970-01-01 00:00:00, or before it for a
+    /// negative number, and that many nanoseconds later. `None` if it isn't in range, or the
+    /// nanoseconds are 2*10^9 or more, or, being 10^9 or more, don't follow the last second of a
+    /// minute.
     ///
     /// ```text
     /// from_timestamp_opt(-1, 5)                         Some(1969-12-31T23:59:59.000000005)
@@ -86,14 +88,14 @@ impl NaiveDateTime {
         Some(NaiveDateTime { secs, frac })
     }
 
-    /// The day that the clock shows.
+    /// Returns the day that the clock shows.
     pub fn date(&self) -> NaiveDate
         ensures { day_of result ≡ day_at (reading self.now) }
     {
         NaiveDate::of_second(self.secs)
     }
 
-    /// The time of day that the clock shows.
+    /// Returns the time of day that the clock shows.
     pub fn time(&self) -> NaiveTime
         ensures second { second_of result ≡ second_at (reading self.now) }
         ensures fraction { fraction_of result ≡ (reading self.now).f }
@@ -101,36 +103,36 @@ impl NaiveDateTime {
         NaiveTime::of_second(self.secs, self.frac)
     }
 
-    /// Whether the reading is in range, and not on a buffer day.
+    /// Returns whether the local date-time is in range, not on a buffer day.
     pub fn is_in_range(&self) -> bool
         ensures { IsTrue result ↔ IsInRange (reading self.now).s }
     {
         FIRST_SECOND <= self.secs && self.secs <= LAST_SECOND
     }
 
-    /// The whole seconds from 1970-01-01 00:00:00, negative before it.
+    /// Returns the whole seconds from 1970-01-01 00:00:00, negative before it.
     pub fn secs_since_epoch(&self) -> i64
         ensures { result ≡ (reading self.now).s }
     {
         self.secs
     }
 
-    /// What a clock shows that is ahead of this one by an offset. `None` where that isn't in range.
+    /// Returns the local date-time with an offset added, or `None` if that isn't in range.
     pub fn checked_add_offset(self, offset: FixedOffset) -> Option<NaiveDateTime>
         ensures { IsReadingOf (ahead (reading self) (seconds_of offset)) result }
     {
         NaiveDateTime::at_second(self.second_ahead(offset), self.frac)
     }
 
-    /// What a clock shows that is behind this one by an offset. `None` where that isn't in range.
+    /// Returns the local date-time with an offset subtracted, or `None` if that isn't in range.
     pub fn checked_sub_offset(self, offset: FixedOffset) -> Option<NaiveDateTime>
         ensures { IsReadingOf (behind (reading self) (seconds_of offset)) result }
     {
         NaiveDateTime::at_second(self.second_behind(offset), self.frac)
     }
 
-    /// What a clock shows that is ahead of this one by an offset, be it on a buffer day. Requires:
-    /// this reading is in range.
+    /// Returns the local date-time with an offset added, on a buffer day too. Requires: this local
+    /// date-time is in range.
     ///
     /// `NaiveDateTime::MAX` an hour ahead shows 00:59:59.999999999 on 262143-01-01, which is a
     /// buffer day.

@@ -30,7 +30,7 @@ impl IsoWeek {
         }
     }
 
-    /// The year that the week's Thursday lies in.
+    /// Returns the year that the week's Thursday lies in.
     pub fn year(&self) -> i32
         ensures value { result ≡ iso_year self.now }
         ensures bound { IsWideYear result }
@@ -38,7 +38,7 @@ impl IsoWeek {
         self.year
     }
 
-    /// The week's number in that year, from 1 to 53.
+    /// Returns the week's number in that year, from 1 to 53.
     pub fn week(&self) -> u32
         ensures value { result ≡ iso_number self.now }
         ensures bound { (1 ≤ result) × (result ≤ 53) }
@@ -46,7 +46,7 @@ impl IsoWeek {
         self.week
     }
 
-    /// The week's number in that year, from 0 to 52.
+    /// Returns the week's number in that year, from 0 to 52.
     pub fn week0(&self) -> u32
         ensures value { result + 1 ≡ iso_number self.now }
         ensures bound { result ≤ 52 }

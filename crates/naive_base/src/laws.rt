@@ -20,7 +20,7 @@ use crate::{NaiveDate, NaiveDateTime, NaiveTime};
 pub mod comparisons;
 
 /// The range is that of the years -262143 to 262142, by days as by seconds, and the buffer days lie
-/// in the years beside it. The inner years are all but the first and the last.
+/// in the years next to it. The inner years are all but the first and the last.
 pub fn range_law()
     ensures days { (day : ℤ) → IsDayInRange day ↔ IsYearInRange (year_of day) }
     ensures seconds { (s : ℤ) → IsInRange s ↔ IsDayInRange (floor_div s 86_400) }
@@ -30,7 +30,8 @@ pub fn range_law()
     ensures wide_seconds { (s : ℤ) → IsWide s ↔ IsWideDay (floor_div s 86_400) }
 {}
 
-/// The constants: the least reading in range, the greatest that is no leap second, and midnight.
+/// The constants: the first local date-time in range, the last that is no leap second, and
+/// midnight.
 pub fn constants() -> (NaiveDateTime, NaiveDateTime, NaiveTime)
     ensures least { reading result.0 ≡ first_reading }
     ensures greatest { reading result.1 ≡ last_reading }
@@ -47,7 +48,7 @@ pub fn first_and_last_date() -> (NaiveDate, NaiveDate)
     (NaiveDate::MIN, NaiveDate::MAX)
 }
 
-/// A reading is its day and its time, and any day and time make a reading.
+/// A local date-time is its day and its time, and any day and time make one.
 pub fn parts_law()
     ensures joined { (r : Reading) → reading_at (day_at r) (second_at r) r.f ≡ r }
     ensures parted { (day : ℤ) (second f : ℕ) → second < 86_400
@@ -55,14 +56,14 @@ pub fn parts_law()
         ≡ second) }
 {}
 
-/// The order of readings is the order of their days and, on one day, of their times.
+/// The order of local date-times is the order of their days and, on one day, of their times.
 pub fn order_law()
     ensures { (a b : Reading) → IsEarlier a b ↔ IsEarlierByDay a b }
 {}
 
 /// Away from leap seconds a move is undone by its opposite, and the difference says how far it
-/// went. Every reading, also one of a leap second, stays where it is by a move of no length, and is
-/// no time away from itself.
+/// went. A move of no length changes no local date-time, in leap seconds too, and each is no time
+/// away from itself.
 pub fn moves_law()
     ensures back { (r : Reading) (d : ℤ) → r.f < 1_000_000_000
         → ((moved r d).f < 1_000_000_000) × (moved (moved r d) (neg_ℤ d) ≡ r) }

@@ -1,4 +1,4 @@
-//! Dates, times of day and readings of a clock, without a time zone.
+//! Dates, times of day and local date-times, without a time zone.
 #![tactic(auto)]
 
 mod date;

@@ -1,13 +1,13 @@
-//! Counts of months and of days, by which dates are moved.
+//! Numbers of months and of days by which dates are moved.
 ghost use Rattle.std.specs.Prelude.{◌≡◌};
 
-/// So many months. Months compare and hash by their number.
+/// A number of months. Months compare and hash by their number.
 #[derive(Clone, Copy, PartialEq, Eq, PartialOrd, Ord, Hash, Debug)]
 pub struct Months {
     count: u32,
 }
 
-/// So many days. Days compare and hash by their number.
+/// A number of days. Days compare and hash by their number.
 #[derive(Clone, Copy, PartialEq, Eq, PartialOrd, Ord, Hash, Debug)]
 pub struct Days {
     count: u64,
@@ -16,14 +16,14 @@ pub struct Days {
 impl Months {
     ghost use Rattle.naive_base.specs.Months.{months_of};
 
-    /// So many months.
+    /// Returns that many months.
     pub fn new(num: u32) -> Months
         ensures { months_of result ≡ num }
     {
         Months { count: num }
     }
 
-    /// How many months these are.
+    /// Returns the number of months.
     pub fn as_u32(&self) -> u32
         ensures { result ≡ months_of self.now }
     {
@@ -34,7 +34,7 @@ impl Months {
 impl Days {
     ghost use Rattle.naive_base.specs.Months.{days_of};
 
-    /// So many days.
+    /// Returns that many days.
     pub fn new(num: u64) -> Days
         ensures { days_of result ≡ num }
     {

@@ -1,4 +1,4 @@
-//! How dates, times and readings print.
+//! How dates, times and local date-times print.
 ghost use Rattle.std.specs.Prelude.{◌≡◌, ◌+◌, ◌<◌, ◌≤◌, ◌++◌, length, Some};
 ghost use Rattle.std.specs.Fmt.{decimal};
 ghost use Rattle.naive_base.specs.Range.{IsWideYear};

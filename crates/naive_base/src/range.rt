@@ -1,4 +1,4 @@
-//! The ends of the range of dates and readings.
+//! The ends of the range of dates and local date-times.
 
 pub(crate) const FIRST_YEAR: i32 = -262_143;
 

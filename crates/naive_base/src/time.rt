@@ -1,4 +1,4 @@
-//! Times of the day.
+//! Times of day.
 ghost use Rattle.std.specs.Prelude.{◌≡◌, ◌+◌, ◌*◌, ◌<◌};
 ghost use Rattle.gregorian.specs.Year.{floor_mod};
 ghost use Rattle.naive_base.specs.Range.{IsTime};
@@ -14,8 +14,8 @@ use crate::day_second::day_and_second;
 /// second.
 ///
 /// Times compare and hash by the second, then the nanoseconds. A time prints as `23:59:59`, with a
-/// point and 3, 6 or 9 digits after it where the nanoseconds take them, and a leap second as
-/// `23:59:60`, whatever width, fill or flags the formatter has. `{:?}` prints the same.
+/// point and 3, 6 or 9 digits after it if there are nanoseconds, and a leap second as `23:59:60`,
+/// whatever width, fill or flags the formatter has. `{:?}` prints the same.
 #[derive(Clone, Copy, PartialEq, Eq, PartialOrd, Ord, Hash)]
 pub struct NaiveTime {
     secs: u32,
@@ -29,15 +29,16 @@ impl NaiveTime {
     /// Midnight.
     pub const MIN: NaiveTime = NaiveTime { secs: 0, frac: 0 };
 
-    /// The time at an hour from 0 to 23, a minute and a second from 0 to 59. `None` for any other.
+    /// Returns the time at an hour from 0 to 23, a minute and a second from 0 to 59. `None` for any
+    /// other.
     pub fn from_hms_opt(hour: u32, min: u32, sec: u32) -> Option<NaiveTime>
         ensures { IsTimeOf (IsClock hour min sec) (clock_second hour min sec) 0 result }
     {
         NaiveTime::from_hms_nano_opt(hour, min, sec, 0)
     }
 
-    /// The time at an hour, a minute and a second, and so many milliseconds: below 1000, or, for a
-    /// leap second after a second 59, below 2000. `None` for any other.
+    /// Returns the time at an hour, a minute, a second and a number of milliseconds: below 1000,
+    /// or, for a leap second after a second 59, below 2000. `None` for any other.
     ///
     /// `from_hms_milli_opt(23, 59, 59, 1_500)` is half a second into the leap second `23:59:60`.
     pub fn from_hms_milli_opt(hour: u32, min: u32, sec: u32, milli: u32) -> Option<NaiveTime>
@@ -48,8 +49,8 @@ impl NaiveTime {
         NaiveTime::from_hms_nano_opt(hour, min, sec, nano)
     }
 
-    /// The time at an hour, a minute and a second, and so many microseconds: below 10^6, or, for a
-    /// leap second after a second 59, below 2*10^6. `None` for any other.
+    /// Returns the time at an hour, a minute, a second and a number of microseconds: below 10^6,
+    /// or, for a leap second after a second 59, below 2*10^6. `None` for any other.
     pub fn from_hms_micro_opt(hour: u32, min: u32, sec: u32, micro: u32) -> Option<NaiveTime>
         ensures { IsTimeOf (IsClock hour min sec) (clock_second hour min sec)
             (micro * 1_000) result }
@@ -58,8 +59,8 @@ impl NaiveTime {
         NaiveTime::from_hms_nano_opt(hour, min, sec, nano)
     }
 
-    /// The time at an hour, a minute and a second, and so many nanoseconds: below 10^9, or, for a
-    /// leap second after a second 59, below 2*10^9. `None` for any other.
+    /// Returns the time at an hour, a minute, a second and a number of nanoseconds: below 10^9, or,
+    /// for a leap second after a second 59, below 2*10^9. `None` for any other.
     pub fn from_hms_nano_opt(hour: u32, min: u32, sec: u32, nano: u32) -> Option<NaiveTime>
         ensures { IsTimeOf (IsClock hour min sec) (clock_second hour min sec) nano result }
     {
@@ -69,8 +70,8 @@ impl NaiveTime {
         NaiveTime::from_num_seconds_from_midnight_opt(hour * 3600 + min * 60 + sec, nano)
     }
 
-    /// The time at a second of the day below 86400, and so many nanoseconds: below 10^9, or, for a
-    /// leap second after the last second of a minute, below 2*10^9. `None` for any other.
+    /// Returns the time at a second of the day below 86400 and a number of nanoseconds: below 10^9,
+    /// or, for a leap second after the last second of a minute, below 2*10^9. `None` for any other.
     pub fn from_num_seconds_from_midnight_opt(secs: u32, nano: u32) -> Option<NaiveTime>
         ensures { IsTimeOf (secs < 86_400) secs nano result }
     {
@@ -83,7 +84,7 @@ impl NaiveTime {
         Some(NaiveTime { secs, frac: nano })
     }
 
-    /// The second of the day.
+    /// Returns the second of the day.
     pub fn num_seconds_from_midnight(&self) -> u32
         ensures { result ≡ second_of self.now }
     {

@@ -5,9 +5,9 @@ ghost use Rattle.naive_base.specs.Fields.{TimeOfDay, IsGiven, with_hour, with_mi
 
 /// A value that shows a time of day.
 ///
-/// A field is changed where its new value is in the range that the call names; all else that the
-/// value shows stays. Nanoseconds aren't checked against the second: from 10^9 on they may follow
-/// any. An instant is answered only where it is the only one that shows the new time.
+/// A `with_*` call returns `None` if the new value is not in the range that the call names; all
+/// else that the value shows stays. Nanoseconds aren't checked against the second: from 10^9 on
+/// they may follow any. An instant is returned only if it is the only one that shows the new time.
 ///
 /// ```text
 /// let time = NaiveTime::from_hms_opt(23, 56, 4)?;
@@ -23,44 +23,45 @@ pub trait Timelike: Sized {
     // none is given
     ghost IsAtTime: { Self → Option TimeOfDay → Option Self → Type 0 };
 
-    /// The hour, from 0 to 23.
+    /// Returns the hour, from 0 to 23.
     fn hour(&self) -> u32
         ensures value { result ≡ hour_hand (time_shown self.now).second }
         ensures bound { result < 24 };
 
-    /// The minute, from 0 to 59.
+    /// Returns the minute, from 0 to 59.
     fn minute(&self) -> u32
         ensures value { result ≡ minute_hand (time_shown self.now).second }
         ensures bound { result < 60 };
 
-    /// The second of the minute, from 0 to 59, a leap second counted as the one before it.
+    /// Returns the second of the minute, from 0 to 59; in a leap second that of the second before
+    /// it.
     fn second(&self) -> u32
         ensures value { result ≡ second_hand (time_shown self.now).second }
         ensures bound { result < 60 };
 
-    /// The nanoseconds from the start of that second, from 10^9 on those of the leap second after
-    /// it.
+    /// Returns the nanoseconds from the start of that second, from 10^9 on those of the leap second
+    /// after it.
     fn nanosecond(&self) -> u32
         ensures value { result ≡ (time_shown self.now).fraction }
         ensures bound { result < 2_000_000_000 };
 
-    /// The same with another hour, from 0 to 23.
+    /// Returns the same with another hour, from 0 to 23, or `None`.
     fn with_hour(&self, hour: u32) -> Option<Self>
         ensures { IsGiven time_shown (IsAtTime self.now) (hour < 24)
             (with_hour (time_shown self.now) hour) result };
 
-    /// The same with another minute, from 0 to 59.
+    /// Returns the same with another minute, from 0 to 59, or `None`.
     fn with_minute(&self, min: u32) -> Option<Self>
         ensures { IsGiven time_shown (IsAtTime self.now) (min < 60)
             (with_minute (time_shown self.now) min) result };
 
-    /// The same with another second of the minute, from 0 to 59.
+    /// Returns the same with another second of the minute, from 0 to 59, or `None`.
     fn with_second(&self, sec: u32) -> Option<Self>
         ensures { IsGiven time_shown (IsAtTime self.now) (sec < 60)
             (with_second (time_shown self.now) sec) result };
 
-    /// The same with other nanoseconds, below 2*10^9: from 10^9 on those of a leap second, after
-    /// whatever second.
+    /// Returns the same with other nanoseconds, below 2*10^9, or `None`: from 10^9 on those of a
+    /// leap second, after whatever second.
     fn with_nanosecond(&self, nano: u32) -> Option<Self>
         ensures { IsGiven time_shown (IsAtTime self.now) (nano < 2_000_000_000)
             (with_fraction (time_shown self.now) nano) result };

@@ -80,7 +80,7 @@ impl Weekday {
         (self.num_days_from_sunday() + 7 - other.num_days_from_sunday()) % 7
     }
 
-    /// The days from the Monday before it, 0 for Monday to 6 for Sunday.
+    /// Returns the days from the Monday before it, 0 for Monday to 6 for Sunday.
     pub fn num_days_from_monday(&self) -> u32
         ensures value { result ≡ days_from_monday self.now }
         ensures bound { result < 7 }
@@ -88,7 +88,7 @@ impl Weekday {
         (self.num_days_from_sunday() + 6) % 7
     }
 
-    /// The days from the Sunday before it, 0 for Sunday to 6 for Saturday.
+    /// Returns the days from the Sunday before it, 0 for Sunday to 6 for Saturday.
     pub fn num_days_from_sunday(&self) -> u32
         ensures value { result ≡ weekday_number self.now }
         ensures bound { result < 7 }
@@ -104,7 +104,8 @@ impl Weekday {
         }
     }
 
-    /// Its number in a week that begins on Monday, as in ISO 8601: 1 for Monday to 7 for Sunday.
+    /// Returns its number in a week that begins on Monday, as in ISO 8601: 1 for Monday to 7 for
+    /// Sunday.
     pub fn number_from_monday(&self) -> u32
         ensures value { result ≡ days_from_monday self.now + 1 }
         ensures bound { (1 ≤ result) × (result ≤ 7) }
@@ -112,7 +113,7 @@ impl Weekday {
         self.num_days_from_monday() + 1
     }
 
-    /// Its number in a week that begins on Sunday: 1 for Sunday to 7 for Saturday.
+    /// Returns its number in a week that begins on Sunday: 1 for Sunday to 7 for Saturday.
     pub fn number_from_sunday(&self) -> u32
         ensures value { result ≡ weekday_number self.now + 1 }
         ensures bound { (1 ≤ result) × (result ≤ 7) }

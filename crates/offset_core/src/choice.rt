@@ -1,6 +1,6 @@
-//! What to take where clocks show a time never, or several times.
+//! Policies for gaps and folds.
 
-/// What to take in a gap, whose times no clock shows.
+/// The policy for a gap, whose times no clock shows.
 #[derive(Clone, Copy, PartialEq, Eq, Debug)]
 pub enum GapChoice {
     /// Nothing.
@@ -11,7 +11,7 @@ pub enum GapChoice {
     ShiftForward,
 }
 
-/// What to take in a fold, whose times are shown several times.
+/// The policy for a fold, whose times are shown several times.
 #[derive(Clone, Copy, PartialEq, Eq, Debug)]
 pub enum FoldChoice {
     /// Nothing.
@@ -22,7 +22,8 @@ pub enum FoldChoice {
     Latest,
 }
 
-/// What to take in a gap, and what in a fold.
+/// A policy for gaps and folds: which instant a local time selects that clocks never show, or show
+/// several times.
 ///
 /// ```text
 /// let choice = Choice { gap: GapChoice::ShiftForward, fold: FoldChoice::Earliest };

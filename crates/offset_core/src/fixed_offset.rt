@@ -1,14 +1,13 @@
-//! How far a clock stands from UTC.
+//! Fixed offsets from UTC.
 ghost use Rattle.std.specs.Prelude.{◌≡◌, neg_ℤ, ◌+◌, ◌<◌, ◌≤◌, ◌++◌, length, Some};
 ghost use Rattle.offset_core.specs.Offset.{IsWithinDay, clock_text};
 
 use crate::ShortText;
 use std::fmt;
 
-/// How many seconds a clock is ahead of UTC: a whole number, strictly between a day behind and a
-/// day ahead.
+/// How many seconds a clock is ahead of UTC: a whole number, strictly less than a day either way.
 ///
-/// It prints as `+HH:MM` or `-HH:MM`, and `:SS` after it where it isn't a whole number of minutes,
+/// It prints as `+HH:MM` or `-HH:MM`, with `:SS` after it if it isn't a whole number of minutes,
 /// whatever width, fill or flags the formatter has. `{:?}` prints the same:
 ///
 /// ```text
@@ -27,8 +26,8 @@ const SECONDS_PER_DAY: i32 = 86_400;
 impl FixedOffset {
     ghost use Rattle.offset_core.specs.FixedOffset.{seconds_of, IsOffsetOf};
 
-    /// The offset of a clock so many seconds ahead of UTC, as clocks east of Greenwich are, or
-    /// `None` where that is a day or more either way.
+    /// Returns the offset of that many seconds ahead of UTC, as clocks east of Greenwich are, or
+    /// `None` if it is a day or more either way.
     pub fn east_opt(secs: i32) -> Option<FixedOffset>
         ensures { IsOffsetOf secs result }
     {
@@ -41,16 +40,16 @@ impl FixedOffset {
         }
     }
 
-    /// The offset of a clock so many seconds behind UTC, as clocks west of Greenwich are, or `None`
-    /// where that is a day or more either way.
+    /// Returns the offset of that many seconds behind UTC, as clocks west of Greenwich are, or
+    /// `None` if it is a day or more either way.
     pub fn west_opt(secs: i32) -> Option<FixedOffset>
         ensures { IsOffsetOf (neg_ℤ secs) result }
     {
         FixedOffset::east_opt(secs.checked_neg()?)
     }
 
-    /// The offset of a clock so many seconds ahead of UTC. Requires: less than a day either way, so
-    /// that [`FixedOffset::east_opt`] has an answer.
+    /// Returns the offset of that many seconds ahead of UTC. Requires: less than a day either way,
+    /// so that [`FixedOffset::east_opt`] returns one.
     pub fn east(secs: i32) -> FixedOffset
         requires { IsWithinDay secs }
         ensures { seconds_of result ≡ secs }
@@ -60,8 +59,8 @@ impl FixedOffset {
         }
     }
 
-    /// The offset of a clock so many seconds behind UTC. Requires: less than a day either way, so
-    /// that [`FixedOffset::west_opt`] has an answer.
+    /// Returns the offset of that many seconds behind UTC. Requires: less than a day either way, so
+    /// that [`FixedOffset::west_opt`] returns one.
     pub fn west(secs: i32) -> FixedOffset
         requires { IsWithinDay secs }
         ensures { seconds_of result ≡ neg_ℤ secs }
@@ -71,14 +70,14 @@ impl FixedOffset {
         }
     }
 
-    /// The seconds to add to UTC to have the local time.
+    /// Returns the seconds to add to UTC to get the local time.
     pub fn local_minus_utc(&self) -> i32
         ensures { result ≡ seconds_of self.now }
     {
         self.local_minus_utc
     }
 
-    /// The seconds to add to the local time to have UTC.
+    /// Returns the seconds to add to the local time to get UTC.
     pub fn utc_minus_local(&self) -> i32
         ensures { result ≡ neg_ℤ (seconds_of self.now) }
     {

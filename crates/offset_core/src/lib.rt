@@ -1,5 +1,5 @@
-//! The values that every crate of zoned time speaks of: what a lookup by wall clock may answer, how
-//! far a clock stands from UTC, and lengths of time.
+//! Values that every crate of zoned time shares: the answer of a lookup by local time, fixed offsets
+//! from UTC, lengths of time, and policies for gaps and folds.
 #![tactic(auto)]
 
 mod choice;

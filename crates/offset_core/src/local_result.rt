@@ -1,10 +1,10 @@
-//! What a lookup by wall clock may answer.
+//! The answer of a lookup by local time.
 ghost use Rattle.std.specs.Prelude.{◌≡◌, IsSome};
 ghost use Rattle.offset_core.specs.LocalResult.{single_of, earliest_of, latest_of, IsMapped, IsAndThen, IsCallableOnEach, all_or_none};
 
-/// The answer of a lookup by wall clock: no value, one, or two.
+/// The answer of a lookup by local time: no value, one, or two.
 ///
-/// Where clocks are set forward there is a gap, whose times no clock shows: `None`. Where they are
+/// When clocks are set forward there is a gap, whose times no clock shows: `None`. When they are
 /// set back there is a fold, whose times are shown twice or more: `Ambiguous`, with the value at
 /// the first and the value at the last instant that shows the time.
 ///
@@ -26,11 +26,11 @@ pub enum LocalResult<T> {
     None,
 }
 
-/// Another name of [`LocalResult`], which chrono has too.
+/// Another name of [`LocalResult`], as in chrono.
 pub type MappedLocalTime<T> = LocalResult<T>;
 
 impl<T> LocalResult<T> {
-    /// The value, where there is exactly one.
+    /// Returns the value if there is exactly one, else `None`.
     pub fn single(self) -> Option<T>
     where
         T: Drop,
@@ -42,7 +42,7 @@ impl<T> LocalResult<T> {
         }
     }
 
-    /// The only value, or the first of several.
+    /// Returns the only value, or the first of several; `None` for no value.
     pub fn earliest(self) -> Option<T>
     where
         T: Drop,
@@ -55,7 +55,7 @@ impl<T> LocalResult<T> {
         }
     }
 
-    /// The only value, or the last of several.
+    /// Returns the only value, or the last of several; `None` for no value.
     pub fn latest(self) -> Option<T>
     where
         T: Drop,
@@ -68,7 +68,7 @@ impl<T> LocalResult<T> {
         }
     }
 
-    /// What `f` gives for each value. It is called with the first one first.
+    /// Returns what `f` gives for each value. It is called with the first one first.
     ///
     /// Requires: `f` may be called with each value; with the last one in the state in which the call
     /// with the first one left it.
@@ -87,8 +87,8 @@ impl<T> LocalResult<T> {
         }
     }
 
-    /// What `f` gives for each value, or `None` where it gives `None` for one of them. It is called
-    /// with the first one first, and with the last one also where it gave `None` for the first.
+    /// Returns what `f` gives for each value, or `None` if it gives `None` for one of them. It is
+    /// called with the first one first, and with the last one even if it gave `None` for the first.
     ///
     /// Requires: as [`LocalResult::map`].
     pub fn and_then<U, F: FnMut(T) -> Option<U>>(self, f: F) -> LocalResult<U>
@@ -100,7 +100,7 @@ impl<T> LocalResult<T> {
         self.map(f).all_or_none()
     }
 
-    /// The value of a `Single`. Requires: this is one, as [`LocalResult::single`] says.
+    /// Returns the value of a `Single`. Requires: this is one, as [`LocalResult::single`] shows.
     pub fn unwrap(self) -> T
         requires { IsSome (single_of self) }
         ensures { self ≡ LocalResult.Single result }

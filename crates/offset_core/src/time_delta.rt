@@ -55,8 +55,8 @@ impl TimeDelta {
     /// The least length, `-i64::MAX` milliseconds.
     pub const MIN: TimeDelta = TimeDelta { nanos: -MAX_NANOS };
 
-    /// So many seconds, and so many nanoseconds more. `None` where that is out of range, or the
-    /// nanoseconds make a second or more.
+    /// Returns the length of that many seconds and nanoseconds, or `None` if it is out of range or
+    /// the nanoseconds are 10^9 or more.
     pub fn new(secs: i64, nanos: u32) -> Option<TimeDelta>
         ensures { IsDeltaOfParts secs nanos result }
     {
@@ -77,14 +77,14 @@ impl TimeDelta {
         }
     }
 
-    /// No time at all.
+    /// Returns the length of no time.
     pub fn zero() -> TimeDelta
         ensures { nanos_of result ≡ pos 0 }
     {
         TimeDelta { nanos: 0 }
     }
 
-    /// So many nanoseconds.
+    /// Returns the length of that many nanoseconds.
     pub fn nanoseconds(nanos: i64) -> TimeDelta
         ensures { nanos_of result ≡ nanos }
     {
@@ -93,7 +93,7 @@ impl TimeDelta {
         }
     }
 
-    /// So many microseconds.
+    /// Returns the length of that many microseconds.
     pub fn microseconds(micros: i64) -> TimeDelta
         ensures { nanos_of result ≡ micros *ℤ nanos_per_microsecond }
     {
@@ -102,14 +102,16 @@ impl TimeDelta {
         }
     }
 
-    /// So many milliseconds, or `None` where that is out of range, as `i64::MIN` alone is.
+    /// Returns the length of that many milliseconds, or `None` if it is out of range, as only that
+    /// of `i64::MIN` is.
     pub fn try_milliseconds(millis: i64) -> Option<TimeDelta>
         ensures { IsDeltaOf (millis *ℤ nanos_per_millisecond) result }
     {
         TimeDelta::of_nanos(millis as i128 * NANOS_PER_MILLISECOND)
     }
 
-    /// So many milliseconds. Requires: [`TimeDelta::try_milliseconds`] has an answer.
+    /// Returns the length of that many milliseconds. Requires: [`TimeDelta::try_milliseconds`]
+    /// returns one.
     pub fn milliseconds(millis: i64) -> TimeDelta
         requires { FitsTimeDelta (millis *ℤ nanos_per_millisecond) }
         ensures { nanos_of result ≡ millis *ℤ nanos_per_millisecond }
@@ -117,14 +119,14 @@ impl TimeDelta {
         TimeDelta::try_milliseconds(millis).unwrap()
     }
 
-    /// So many seconds, or `None` where that is out of range.
+    /// Returns the length of that many seconds, or `None` if it is out of range.
     pub fn try_seconds(secs: i64) -> Option<TimeDelta>
         ensures { IsDeltaOf (secs *ℤ nanos_per_second) result }
     {
         TimeDelta::of_nanos(secs as i128 * NANOS_PER_SECOND)
     }
 
-    /// So many seconds. Requires: [`TimeDelta::try_seconds`] has an answer.
+    /// Returns the length of that many seconds. Requires: [`TimeDelta::try_seconds`] returns one.
     pub fn seconds(secs: i64) -> TimeDelta
         requires { FitsTimeDelta (secs *ℤ nanos_per_second) }
         ensures { nanos_of result ≡ secs *ℤ nanos_per_second }
@@ -132,14 +134,14 @@ impl TimeDelta {
         TimeDelta::try_seconds(secs).unwrap()
     }
 
-    /// So many minutes, or `None` where that is out of range.
+    /// Returns the length of that many minutes, or `None` if it is out of range.
     pub fn try_minutes(minutes: i64) -> Option<TimeDelta>
         ensures { IsDeltaOf (minutes *ℤ nanos_per_minute) result }
     {
         TimeDelta::of_nanos(minutes as i128 * NANOS_PER_MINUTE)
     }
 
-    /// So many minutes. Requires: [`TimeDelta::try_minutes`] has an answer.
+    /// Returns the length of that many minutes. Requires: [`TimeDelta::try_minutes`] returns one.
     pub fn minutes(minutes: i64) -> TimeDelta
         requires { FitsTimeDelta (minutes *ℤ nanos_per_minute) }
         ensures { nanos_of result ≡ minutes *ℤ nanos_per_minute }
@@ -147,14 +149,14 @@ impl TimeDelta {
         TimeDelta::try_minutes(minutes).unwrap()
     }
 
-    /// So many hours, or `None` where that is out of range.
+    /// Returns the length of that many hours, or `None` if it is out of range.
     pub fn try_hours(hours: i64) -> Option<TimeDelta>
         ensures { IsDeltaOf (hours *ℤ nanos_per_hour) result }
     {
         TimeDelta::of_nanos(hours as i128 * NANOS_PER_HOUR)
     }
 
-    /// So many hours. Requires: [`TimeDelta::try_hours`] has an answer.
+    /// Returns the length of that many hours. Requires: [`TimeDelta::try_hours`] returns one.
     pub fn hours(hours: i64) -> TimeDelta
         requires { FitsTimeDelta (hours *ℤ nanos_per_hour) }
         ensures { nanos_of result ≡ hours *ℤ nanos_per_hour }
@@ -162,14 +164,14 @@ impl TimeDelta {
         TimeDelta::try_hours(hours).unwrap()
     }
 
-    /// So many days of 86,400 seconds, or `None` where that is out of range.
+    /// Returns the length of that many days of 86,400 seconds, or `None` if it is out of range.
     pub fn try_days(days: i64) -> Option<TimeDelta>
         ensures { IsDeltaOf (days *ℤ nanos_per_day) result }
     {
         TimeDelta::of_nanos(days as i128 * NANOS_PER_DAY)
     }
 
-    /// So many days. Requires: [`TimeDelta::try_days`] has an answer.
+    /// Returns the length of that many days. Requires: [`TimeDelta::try_days`] returns one.
     pub fn days(days: i64) -> TimeDelta
         requires { FitsTimeDelta (days *ℤ nanos_per_day) }
         ensures { nanos_of result ≡ days *ℤ nanos_per_day }
@@ -177,14 +179,14 @@ impl TimeDelta {
         TimeDelta::try_days(days).unwrap()
     }
 
-    /// So many weeks of seven such days, or `None` where that is out of range.
+    /// Returns the length of that many weeks of seven such days, or `None` if it is out of range.
     pub fn try_weeks(weeks: i64) -> Option<TimeDelta>
         ensures { IsDeltaOf (weeks *ℤ nanos_per_week) result }
     {
         TimeDelta::of_nanos(weeks as i128 * NANOS_PER_WEEK)
     }
 
-    /// So many weeks. Requires: [`TimeDelta::try_weeks`] has an answer.
+    /// Returns the length of that many weeks. Requires: [`TimeDelta::try_weeks`] returns one.
     pub fn weeks(weeks: i64) -> TimeDelta
         requires { FitsTimeDelta (weeks *ℤ nanos_per_week) }
         ensures { nanos_of result ≡ weeks *ℤ nanos_per_week }
@@ -192,7 +194,7 @@ impl TimeDelta {
         TimeDelta::try_weeks(weeks).unwrap()
     }
 
-    /// The length of a duration of the standard library, or `None` where that is out of range.
+    /// Returns the length of a duration of the standard library, or `None` if it is out of range.
     pub fn from_std(duration: Duration) -> Option<TimeDelta>
         ensures { IsDeltaOf (pos (as_nanos duration)) result }
     {

@@ -1,10 +1,9 @@
-//! Changes of the clocks.
+//! Clock changes.
 
 use crate::local_time_type::LocalTimeType;
 
-/// A change of the clocks: up to the second before `at` one type of local time is in force, and
-/// from `at` on another one, which differs in its offset, in whether it is daylight saving time, or
-/// in its name.
+/// A clock change: up to the second before `at` one local time type is in force, and from `at` on
+/// another one, which differs in its offset, its DST flag or its abbreviation.
 #[derive(Clone, Copy, Debug, PartialEq, Eq)]
 pub struct Change {
     /// The first second at which the new type is in force, as a Unix time.

@@ -162,7 +162,7 @@ impl fmt::Debug for Expected {
 }
 
 /// An error of this crate and those above it. Each variant except the last says what was expected.
-/// A variant's first sentence is the text of its number (`number`) in docs/ZONEQ.md, in C and in
+/// A variant's first sentence is the text of its number (`number`) in docs/PROGRAMS.md, in C and in
 /// Python.
 #[derive(Clone, Copy, Debug, PartialEq, Eq, Error)]
 pub enum Error {

@@ -1,5 +1,5 @@
-//! What rules, files and zones are read with: errors, the cursor over bytes, names, types of local
-//! time, changes from one to another, and the spans between changes.
+//! Parts that rules, files and zones share: errors, the cursor over bytes, abbreviations, local time
+//! types, clock changes, and the spans between them.
 #![tactic(auto)]
 
 mod change;

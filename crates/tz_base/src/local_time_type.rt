@@ -1,4 +1,4 @@
-//! Types of local time.
+//! Local time types.
 
 ghost use Rattle.std.specs.Prelude.{◌≡◌, ℤ, pos, neg_ℤ, ◌-ℤ◌, ◌≤ℤ◌, MatchResult, option_map};
 ghost use Rattle.tz_base.specs.LocalTypes.{LocalType, IsUtOffset, plain_type, expected_of_type};
@@ -10,8 +10,8 @@ use crate::error::{Error, Expected};
 use crate::name::TimeZoneName;
 use std::marker::Model;
 
-/// A type of local time: how far its clock is from UTC, whether it is daylight saving time, and its
-/// name.
+/// A local time type: how far its clock is from UTC, whether it is daylight saving time, and its
+/// abbreviation.
 #[derive(Clone, Copy, Debug, PartialEq, Eq)]
 pub struct LocalTimeType {
     ut_offset: i32,

@@ -1,4 +1,4 @@
-//! Names of local time types.
+//! Abbreviations of local time types.
 
 ghost use Rattle.std.specs.Prelude.{◌≡◌, ℕ, ◌<◌, ◌≤◌, length, IfErr, ◌↔◌, IsTrue, MatchResult};
 ghost use Rattle.std.specs.Bool.{nat_eq};
@@ -11,8 +11,8 @@ use crate::error::{Error, Expected};
 use std::fmt;
 use std::marker::Model;
 
-/// The name of a local time type, such as `CET` or `-03`: three to seven letters, digits, `+` or
-/// `-` (RFC 8536 section 3.2 says that a name should have three to six).
+/// The abbreviation of a local time type, such as `CET` or `-03`: three to seven letters, digits,
+/// `+` or `-` (RFC 8536 section 3.2 says that it should have three to six).
 #[derive(Clone, Copy)]
 pub struct TimeZoneName {
     buffer: [u8; 7],

@@ -1,8 +1,8 @@
-//! Spans between changes of the clocks.
+//! Spans between clock changes.
 
 use crate::local_time_type::LocalTimeType;
 
-/// A maximal stretch of seconds in which one type of local time is in force.
+/// A maximal stretch of seconds in which one local time type is in force.
 #[derive(Clone, Copy, Debug, PartialEq, Eq)]
 pub struct Span {
     /// The type in force.

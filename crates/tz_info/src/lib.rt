@@ -1,4 +1,4 @@
-//! Time zones: the types of local time, the rules of TZ texts, and the zones made of both.
+//! Time zones parsed from TZif files and TZ strings, and their lookups.
 #![tactic(auto)]
 
 mod answers;

@@ -1,5 +1,5 @@
-//! Items that come in order of time, and the search for the latest one at a second, which counts how
-//! often it looks at an item.
+//! Lists of items sorted by time, and the search for the last item at or before a second, with
+//! counted probes.
 #![tactic(auto)]
 
 mod hints;

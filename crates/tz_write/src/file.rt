@@ -23,7 +23,7 @@ pub trait ToTzData {
     // the zone that the value is
     ghost zone: { Self → Zone };
 
-    /// The bytes of a TZif file that spells the zone, or `None` if no file does.
+    /// Returns the bytes of a TZif file that spells the zone, or `None` if no file does.
     ///
     /// # Errors
     ///
@@ -45,15 +45,15 @@ pub trait ToTzData {
 impl ToTzData for TimeZone {
     ghost zone = { λ zone. zone };
 
-    /// The bytes of a TZif file of version 2 that spells the zone (RFC 8536 section 3), or of
-    /// version 3 if no text without the extensions of section 3.3.1 spells its rule. The first
+    /// Returns the bytes of a TZif file of version 2 that spells the zone (RFC 8536 section 3), or
+    /// of version 3 if no string without the extensions of section 3.3.1 spells its rule. The first
     /// block has the least counts, there are no indicators, and types whose names are the same, or
     /// of which one ends the other, share bytes. The longest names come first, and those of one
     /// length in the order of their types. Equal zones give the same bytes.
     ///
     /// `None` if no file spells the zone, of whatever version: if a transition names a type past
-    /// 255, a count has more than 32 bits, no text spells the rule, or the names have no room in any
-    /// order: each begins at a place that one byte can name.
+    /// 255, a count has more than 32 bits, no string spells the rule, or the names have no room in
+    /// any order: each begins at a place that one byte can name.
     ///
     /// ```text
     /// if let Some(bytes) = zone.to_tz_data(alloc)? {

@@ -24,8 +24,8 @@ pub fn one_written_text()
         → IsWrittenText rule text extended → (extended ≡ true) ↔ (¬ (AreTimesOf false rule)) }
 {}
 
-/// A text gives a zone if and only if the zone is its rule alone, which a text without extensions
-/// spells, or UTC. One text is written of it then.
+/// A string gives a zone if and only if the zone has only its rule, which a string without
+/// extensions spells, or is UTC. One string is written for it then.
 pub fn one_zone_text()
     ensures given { (text : List ℕ) (z : Zone) → IsPosixZone text z → IsOfText z }
     ensures some { (z : Zone) → IsRuleOrNone z.rule → IsOfText z

@@ -1,4 +1,4 @@
-//! What the readers of `tz_info` read, written: TZ texts of rules and of zones.
+//! TZ strings of rules and of zones, and TZif files of zones, written.
 #![tactic(auto)]
 
 mod file;

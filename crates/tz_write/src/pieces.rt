@@ -1,4 +1,4 @@
-//! The pieces of a TZ text.
+//! The pieces of a TZ string.
 
 mod clock;
 pub(crate) mod day;

@@ -1,4 +1,4 @@
-//! The TZ text of a rule.
+//! The TZ string of a rule.
 
 ghost use Rattle.std.specs.Prelude.{◌≡◌, ◌∷◌, ◌++◌, List, ℕ, true, false, OnOk, IsTrue, MatchBool, ◌↔◌, MatchResult, MatchOption, IfOk, OnErr, Bool, Some, None, string_bytes};
 ghost use Rattle.tz_base.specs.Errors.{IsOutOfMemory};
@@ -17,24 +17,24 @@ use crate::pieces::offset::{push_dst_offset, push_offset};
 use std::alloc::{AllocError, Global};
 use tz_info::{AlternateTime, Error, LocalTimeType, TimeZoneName, TransitionRule};
 
-/// A TZ text that was written, and whether it is one with the extensions of RFC 8536 section 3.3.1:
-/// with hours of a time of day that are negative, or above 24.
+/// A TZ string that was written, and whether it has the extensions of RFC 8536 section 3.3.1: hours
+/// of a time of day that are negative, or above 24.
 #[derive(Debug, Drop)]
 pub struct TzText {
-    /// The text.
+    /// The string.
     pub text: String,
     /// Whether it has extensions.
     pub extended: bool,
 }
 
-/// Rules that are written as TZ texts.
+/// Rules that are written as TZ strings.
 pub trait ToTzString {
     // the rule that the value is
     ghost rule: { Self → Rule };
 
-    /// The TZ text that spells the rule, or `None` if no text does: if a type has no name, or isn't
-    /// marked as standard or daylight saving time as the text would say, or if a rule of one type
-    /// has an offset of a day or more.
+    /// Returns the TZ string that spells the rule, or `None` if no string does: if a type has no
+    /// name, or a DST flag that the string wouldn't give it, or if a rule of one type has an offset
+    /// of a day or more.
     ///
     /// ```text
     /// let text = b"<EST>+05:00<EDT>,M3.2.0/02:00:00,M11.1.0";
@@ -44,7 +44,7 @@ pub trait ToTzString {
     ///
     /// # Errors
     ///
-    /// [`Error::OutOfMemory`] if there is no memory for the text.
+    /// [`Error::OutOfMemory`] if there is no memory for the string.
     fn to_tz_string(&self, alloc: Global) -> Result<Option<TzText>, Error>
         // The text is the rule's, and the shortest; there is none only if no text spells the rule.
         ensures written { MatchResult result
@@ -64,7 +64,7 @@ pub trait ToTzString {
 impl ToTzString for TransitionRule {
     ghost rule = { λ rule. rule };
 
-    /// The shortest TZ text that spells the rule, with minutes and seconds in two digits.
+    /// Returns the shortest TZ string that spells the rule, with minutes and seconds in two digits.
     fn to_tz_string(&self, alloc: Global) -> Result<Option<TzText>, Error> {
         if !can_be_spelled(self) {
             return Ok(None);

@@ -1,4 +1,4 @@
-//! The TZ text of a zone.
+//! The TZ string of a zone.
 
 ghost use Rattle.std.specs.Prelude.{◌≡◌, [], ◌∷◌, IsTrue, ◌↔◌, MatchOption, MatchResult, IfOk, OnErr, List, ℕ, Some, None, pos, true, false, string_bytes};
 ghost use Rattle.tz_base.specs.Errors.{IsOutOfMemory};
@@ -12,14 +12,14 @@ use crate::rule_text::{has_plain_text, text_of};
 use std::alloc::Global;
 use tz_info::{Error, LocalTimeType, TimeZone, TransitionRule};
 
-/// Zones that are written as TZ texts.
+/// Zones that are written as TZ strings.
 pub trait ToPosixTz {
     // the zone that the value is
     ghost zone: { Self → Zone };
 
-    /// The TZ text that gives the zone, as `TimeZone::from_posix_tz` takes one, or `None` if no
-    /// text does: if the zone has transitions, leap seconds or other types than its rule's, or a
-    /// rule that no text without extensions spells.
+    /// Returns the TZ string that gives the zone, as `TimeZone::from_posix_tz` parses one, or
+    /// `None` if no string does: if the zone has transitions, leap seconds or other types than its
+    /// rule's, or a rule that no string without extensions spells.
     ///
     /// ```text
     /// let zone = TimeZone::from_posix_tz(alloc, "<+0530>-05:30:00")?;
@@ -28,7 +28,7 @@ pub trait ToPosixTz {
     ///
     /// # Errors
     ///
-    /// [`Error::OutOfMemory`] if there is no memory for the text.
+    /// [`Error::OutOfMemory`] if there is no memory for the string.
     fn to_posix_tz(&self, alloc: Global) -> Result<Option<String>, Error>
         // The text is the zone's, and the shortest; there is none only if no text gives the zone.
         ensures written { MatchResult result
@@ -47,8 +47,8 @@ pub trait ToPosixTz {
 impl ToPosixTz for TimeZone {
     ghost zone = { λ zone. zone };
 
-    /// The shortest TZ text that gives the zone, with minutes and seconds in two digits: that of
-    /// the rule, where the zone is its rule alone, or the empty text for the zone of UTC.
+    /// Returns the shortest TZ string that gives the zone, with minutes and seconds in two digits:
+    /// that of the rule, if the zone has only its rule, or the empty string for the zone of UTC.
     fn to_posix_tz(&self, alloc: Global) -> Result<Option<String>, Error> {
         if !is_rule_alone(self) {
             return Ok(None);

@@ -21,7 +21,7 @@
      ZONED_UNKNOWN_CHOICE  `gap` or `fold` is none of its enum
      ZONED_NOT_OPEN        the handle has no zone open
      ZONED_OTHER_SIZE      the count of answers is not the one that is stated below
-     3 .. 17               the bytes make no zone: the enum of these numbers is below, and docs/ZONEQ.md says more of each.
+     3 .. 17               the bytes make no zone: the enum of these numbers is below, and docs/PROGRAMS.md says more of each.
                            ZONED_OUT_OF_MEMORY (17) says nothing about the bytes
      ZONED_INSTANT_OUT_OF_RANGE, ZONED_NO_GAP   zoned_zone_gap only: see there
      ZONED_NO_CHANGE       zoned_zone_next_change and zoned_zone_previous_change only: there is no such change
@@ -151,7 +151,7 @@ enum {
                        and an empty string are faults */
 };
 
-/* Why the bytes make no zone. The numbers 1, 2, 4, 9 and 11 of docs/ZONEQ.md aren't returned here. */
+/* Why the bytes make no zone. The numbers 1, 2, 4, 9 and 11 of docs/PROGRAMS.md aren't returned here. */
 enum {
     ZONED_LOCAL_TIME_TYPE = 3,        /* an offset or abbreviation that no local time type can have */
     ZONED_INVALID_TZ_FILE = 5,        /* a fault in the form of a TZif file */

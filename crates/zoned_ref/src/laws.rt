@@ -1,4 +1,4 @@
-//! Theorems: what a function here does is its contract alone; never called.
+//! Theorems: a function here does only what its contract says; never called.
 ghost use Rattle.std.specs.Prelude.{◌≡◌, ◌↔◌, ℤ, IsTrue, Option};
 ghost use Rattle.std.specs.Hash as fed;
 ghost use Rattle.tz_base.specs.declared.change.Change.{Change};
@@ -36,7 +36,7 @@ pub fn zone_changes<'a>(a: &ZoneChange<'a>, b: &ZoneChange<'a>)
     ensures infallible { ⟦<ZoneChange<'a> as Clone>⟧.is_infallible a.now }
 {}
 
-/// A clone of what a wall clock tells is the same, and making it never fails.
+/// A clone of a `WallClock` is the same, and making it never fails.
 pub fn wall_clocks(a: &WallClock, b: &WallClock)
     ensures cloned { ⟦<WallClock as Clone>⟧.is_clone a.now b.now → b.now ≡ a.now }
     ensures infallible { ⟦<WallClock as Clone>⟧.is_infallible a.now }

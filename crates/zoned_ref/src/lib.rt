@@ -1,9 +1,8 @@
-//! Parsed time zones as zones of zoned time.
+//! Parsed time zones, borrowed: [`TimeZoneRef`] is a [`TimeZone`](zoned_time::TimeZone).
 //!
-//! [`TimeZoneRef`] borrows a zone that `tz_info` read from a file or a text, and is a
-//! [`TimeZone`](zoned_time::TimeZone): what `zoned_time` proves of every lawful zone holds of it,
-//! with the offsets of the types of local time in force. [`ZoneChange`] tells when its clocks change.
-//! [`WallClock`] goes the whole way, from bytes to the instants at which a clock shows a reading.
+//! It borrows a zone that `tz_info` parsed. What `zoned_time` proves of every lawful zone holds for
+//! it, with the offsets of the local time types in force. A [`ZoneChange`] is a change of its clocks.
+//! [`WallClock`] goes the whole way, from bytes to the instants at which a clock shows a local time.
 #![tactic(auto)]
 
 pub mod laws;

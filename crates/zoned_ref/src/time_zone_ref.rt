@@ -8,7 +8,7 @@ ghost use Rattle.zoned_ref.specs.Offsets.{IsNarrow, HasOneOffset, HasOffsets, Ar
 use offset_core::FixedOffset;
 
 /// A parsed time zone as a zone of [`DateTime`](zoned_time::DateTime)s: at each instant it has the
-/// offset of the type of local time that is in force then.
+/// offset of the local time type in force then.
 ///
 /// It borrows the parsed zone, and so does each instant that it gives: none of them can be used
 /// once that zone is gone. [`DateTime::fixed_offset`](zoned_time::DateTime::fixed_offset) gives an
@@ -40,8 +40,9 @@ impl<'a> TimeZoneRef<'a> {
     ghost use Rattle.zoned_ref.specs.TimeZoneRef.{zone_of, off_of};
     ghost use Rattle.zoned_ref.specs.ZoneOffset.{law_of};
 
-    /// That zone, or `None` where a type that it lists, or a type of its rule, is a day (86,400
-    /// seconds) or more away from UTC. A rule of one type may have one that the zone doesn't list.
+    /// Returns that zone, or `None` if a type that it lists, or a type of its rule, is a day
+    /// (86,400 seconds) or more away from UTC. A rule of one type may have one that the zone
+    /// doesn't list.
     pub fn new(zone: &'a tz_info::TimeZone) -> Option<TimeZoneRef<'a>>
         ensures some { IsSome result ↔ IsNarrow zone.now }
         ensures zone { IfSome result (λ r. zone_of r ≡ zone.now) }
@@ -62,7 +63,7 @@ impl<'a> TimeZoneRef<'a> {
         }
     }
 
-    /// The parsed zone.
+    /// Returns the parsed zone.
     pub fn zone(&self) -> &'a tz_info::TimeZone
         ensures zone { result.now ≡ zone_of self.now }
         ensures narrow { IsNarrow result.now }

@@ -1,4 +1,4 @@
-//! When the clocks of a zone show a reading: from the bytes of a file, or a TZ text, to the
+//! When the clocks of a zone show a local time: from the bytes of a file, or a TZ string, to the
 //! instants.
 ghost use Rattle.std.specs.Prelude.{◌≡◌, ◌⊎◌, IfOk, IfErr, MatchResult, SomeIff, option_map};
 ghost use Rattle.offset_core.specs.FixedOffset.{seconds_of};
@@ -26,26 +26,26 @@ use std::alloc::Global;
 use tz_info::{Error, LocalTimeType, Probes};
 use zoned_time::{DateTime, TimeZone};
 
-/// When the clocks of a zone show a reading.
+/// When the clocks of a zone show a local time.
 ///
-/// In New York clocks were set back from 02:00 to 01:00 on 7 November 2021. Of 01:30 that day it
-/// tells EDT and EST, and the instants `2021-11-07 01:30:00 -04:00` and
-/// `2021-11-07 01:30:00 -05:00`; of 02:30 on 14 March, which lies in a gap, that there are none.
+/// In New York clocks were set back from 02:00 to 01:00 on 7 November 2021. For 01:30 that day it
+/// has EDT and EST, and the instants `2021-11-07 01:30:00 -04:00` and `2021-11-07 01:30:00 -05:00`;
+/// for 02:30 on 14 March, which lies in a gap, no instant.
 #[derive(Clone, Copy, Debug)]
 pub struct WallClock {
     /// The types in force when they show it.
     pub types: LocalResult<LocalTimeType>,
-    /// The instants when they show it, at the offsets of those types; none at all where one of them
-    /// is out of the range of [`DateTime`]. `None` where the zone is one that [`TimeZoneRef::new`]
-    /// doesn't take.
+    /// The instants when they show it, at the offsets of those types; none if one of them is out of
+    /// the range of [`DateTime`]. `None` if an offset of the zone is a day or more, as for
+    /// [`TimeZoneRef::new`].
     pub instants: Option<LocalResult<DateTime<FixedOffset>>>,
 }
 
 impl WallClock {
     ghost use Rattle.zoned_ref.specs.WallClock.{Tells};
 
-    /// When the clocks of a TZif file's zone show a reading. Of the looks at the zone those that
-    /// find the types are counted, as [`WallClock::in_zone`] says.
+    /// Returns when the clocks of a TZif file's zone show a local time. The probes that find the
+    /// types are counted, as by [`WallClock::in_zone`].
     ///
     /// Requires: `probes` has room for more counts ([`Probes::has_room`]).
     ///
@@ -78,8 +78,8 @@ impl WallClock {
         }
     }
 
-    /// When the clocks of a TZ text's zone show a reading. Of the looks at the zone those that find
-    /// the types are counted, as [`WallClock::in_zone`] says.
+    /// Returns when the clocks of a TZ string's zone show a local time. The probes that find the
+    /// types are counted, as by [`WallClock::in_zone`].
     ///
     /// Requires: `probes` has room for more counts ([`Probes::has_room`]).
     ///
@@ -115,9 +115,9 @@ impl WallClock {
         }
     }
 
-    /// When the clocks of the zone show a reading. It takes at most 2 questions to the rule and,
-    /// with `digits` for the number of binary digits, `digits(2 * transitions + 1)` looks at pieces
-    /// of the zone's index, which `probes` counts.
+    /// Returns when the clocks of the zone show a local time. `probes` counts at most two questions
+    /// to the rule and, with `digits` for the number of binary digits, `digits(2 * transitions +
+    /// 1)` probes of pieces of the zone's index.
     ///
     /// Requires: `probes` has room for more counts ([`Probes::has_room`]).
     pub fn in_zone(

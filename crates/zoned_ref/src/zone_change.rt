@@ -17,9 +17,9 @@ use naive_base::NaiveDateTime;
 use tz_info::{Change, LocalTimeType};
 use zoned_time::{DateTime, TimeZone};
 
-/// A change of the clocks of a borrowed zone: the last second before it, and its first one.
+/// A clock change of a borrowed zone: the last second before it, and its first one.
 ///
-/// Their offsets tell what changes: how far clocks are from UTC, whether it is daylight saving
+/// Their offsets show what changes: how far clocks are from UTC, whether it is daylight saving
 /// time, or the abbreviation. Their local times are the last second that the clocks showed before,
 /// and the first one that they showed after it.
 ///
@@ -38,15 +38,15 @@ pub struct ZoneChange<'a> {
 }
 
 impl<'a> TimeZoneRef<'a> {
-    /// The first change of the clocks after an instant, which may be one of any zone. `None` if
+    /// Returns the first clock change after an instant, which may be one of any zone. `None` if
     /// none comes up to the last second of the range of [`DateTime`].
     ///
-    /// Clocks change at whole seconds, so an instant counts by its second, which
-    /// [`timestamp`](zoned_time::DateTime::timestamp) tells: a leap second by the one before it. A
+    /// Clocks change at whole seconds, so an instant counts by its
+    /// [`timestamp`](zoned_time::DateTime::timestamp): a leap second by the second before it. A
     /// change at the instant itself doesn't come after it.
     ///
-    /// A transition that changes nothing is no change, and what a rule does after the last
-    /// transition is one. It takes no memory.
+    /// A transition that changes nothing doesn't count; changes made by the rule after the last
+    /// transition do. It takes no memory.
     ///
     /// ```
     /// let new_year = Utc.timestamp(1_609_459_200, 0); // 2021-01-01 00:00:00 UTC
@@ -69,7 +69,7 @@ impl<'a> TimeZoneRef<'a> {
         self.instants_around(&change)
     }
 
-    /// The last change of the clocks at an instant or before it, which may be one of any zone.
+    /// Returns the last clock change at an instant or before it, which may be one of any zone.
     /// `None` if none comes after the first second of the range of [`DateTime`] and up to it.
     ///
     /// An instant counts by its second, as for [`TimeZoneRef::next_change`]. A change at the

@@ -20,8 +20,8 @@ use zoned_time::Offset;
 /// the zone has there: [`TimeZone::from_offset`](zoned_time::TimeZone::from_offset) leads back to
 /// the zone, and not to one that is fixed at this offset. It lives no longer than the parsed zone.
 ///
-/// It prints as its [`FixedOffset`]. Two are equal where their types of local time are: seconds,
-/// DST flag and abbreviation. Their zones are not compared.
+/// It prints as its [`FixedOffset`]. Two are equal if their local time types are: seconds, DST flag
+/// and abbreviation. Their zones are not compared.
 ///
 /// ```
 /// let fold = new_york.with_ymd_and_hms(2021, 11, 7, 1, 30, 0).earliest()?;
@@ -61,7 +61,7 @@ impl<'a> ZoneOffset<'a> {
         self.zone
     }
 
-    /// The type of local time that it is the offset of.
+    /// Returns the local time type that it is the offset of.
     pub fn local_type(&self) -> &LocalTimeType
         ensures local_type { result.now ≡ type_of self.now }
         ensures within_day { IsWithinDay result.now.offset }
@@ -69,15 +69,15 @@ impl<'a> ZoneOffset<'a> {
         &self.local_type
     }
 
-    /// The abbreviation of the type of local time, such as `EST` or `-03`. `None` where the zone gives
-    /// it none.
+    /// Returns the abbreviation of the local time type, such as `EST` or `-03`. `None` if the zone
+    /// gives it none.
     pub fn name(&self) -> Option<&TimeZoneName>
         ensures { option_map (λ n. n.now) result ≡ (type_of self.now).name }
     {
         self.local_type.name()
     }
 
-    /// Whether the type of local time is daylight saving time: its DST flag.
+    /// Returns whether it is daylight saving time: the DST flag of the local time type.
     pub fn is_dst(&self) -> bool
         ensures { result ≡ (type_of self.now).dst }
     {

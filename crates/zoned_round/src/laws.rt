@@ -40,8 +40,8 @@ pub fn rounded_instants<T: DurationRound>()
         × IsWithinHalf (total (T.instant near)) (total (T.instant value)) span }
 {}
 
-/// A reading whose nanoseconds fit a signed 64-bit number is in range: a stamp that fits has no
-/// other fault.
+/// A local date-time whose nanoseconds fit a signed 64-bit number is in range: a stamp that fits
+/// has no other fault.
 pub fn stamps_are_in_range()
     ensures { (r : Reading) → r.f < 2_000_000_000 → FitsSigned w64 (total r) → IsInRange r.s }
 {}
@@ -65,7 +65,7 @@ pub fn errors()
     ensures infallible { (a : Fault) → ⟦<RoundingError as Clone>⟧.is_infallible a }
 {}
 
-/// Of a value and a length there is one rounded reading, or one error, and never both.
+/// A value and a length have one rounded local date-time or one error, never both.
 pub fn one_rounded_value<T: DurationRound>()
     ensures rounded { (choose : ℤ → ℕ → ℤ) (value a b : T) (stamp span : ℤ)
         → IsRoundedTo choose T.fault (T.IsMoved value) stamp span value (Ok a)
@@ -80,7 +80,7 @@ pub fn one_rounded_value<T: DurationRound>()
         → IsRoundedTo choose T.fault (T.IsMoved value) stamp span value (Err e) → ⊥ }
 {}
 
-/// Rounding counts by what a value's clock shows, and moves its reading of UTC. A time of day may
+/// Rounding counts by what a value's clock shows, and moves its UTC date-time. A time of day may
 /// always be rounded to digits.
 pub fn clocks_of_values<Tz: TimeZone>(
     instant: &DateTime<Tz>,

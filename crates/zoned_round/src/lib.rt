@@ -1,5 +1,5 @@
-//! Instants, readings and times of day rounded: to digits of a second, and to multiples of a length
-//! of time.
+//! Instants, local date-times and times of day rounded to digits of a second, or to multiples of a
+//! length of time.
 #![tactic(auto)]
 
 mod durations;

@@ -1,5 +1,4 @@
-//! A wall-clock time on each day: "every day at 02:30 in New York", with each gap and fold decided
-//! by a choice.
+//! One local time on each day: "every day at 02:30 in New York", with a policy for gaps and folds.
 #![tactic(auto)]
 
 mod items;

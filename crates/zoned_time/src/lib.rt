@@ -1,5 +1,4 @@
-//! Time zones, and readings of a clock that stand in one: the traits that every zone implements,
-//! UTC and fixed offsets, and `DateTime`.
+//! Zoned time: the traits that every time zone implements, UTC and fixed offsets, and `DateTime`.
 #![tactic(auto)]
 
 mod around;

@@ -1,4 +1,4 @@
-//! Prints what the clocks of time zones do: of TZif files, or of a TZ text.
+//! Lists, compares, draws and writes the clock changes of TZif files, or of a TZ string.
 #![tactic(auto)]
 
 mod arguments;

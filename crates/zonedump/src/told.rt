@@ -1,4 +1,4 @@
-//! What is told of one zone, or why it is refused.
+//! What is printed, written or drawn of one zone, or why it is rejected.
 
 use crate::{files, words};
 use std::alloc::Global;
@@ -38,7 +38,7 @@ pub struct Asked<'a> {
     pub what: What<'a>,
 }
 
-/// What a zone is told of.
+/// What a zone is read from.
 #[derive(Clone, Copy)]
 enum Source<'a> {
     Text(&'a str),

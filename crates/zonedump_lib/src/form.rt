@@ -1,4 +1,4 @@
-//! The forms in which a zone is told.
+//! The forms in which a zone is written.
 
 ghost use Rattle.std.specs.Prelude.{◌≡◌, IfOk, string_bytes};
 ghost use Rattle.zonedump_lib.specs.Forms.{IsTold};
@@ -9,7 +9,7 @@ use change_views::Years;
 use std::alloc::{AllocError, Global};
 use tz_info::TimeZone;
 
-/// A form in which a zone is told.
+/// A form in which a zone is written.
 #[derive(Clone, Copy)]
 pub enum Form<'a> {
     /// As [`table`] has it.
@@ -18,7 +18,7 @@ pub enum Form<'a> {
     Zdump(&'a str),
 }
 
-/// The zone in those years, in that form.
+/// Returns the zone in those years, in that form.
 ///
 /// # Errors
 ///

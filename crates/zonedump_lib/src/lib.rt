@@ -1,8 +1,8 @@
-//! What the clocks of a zone do in some years, as a table, as `zdump` prints it, and as JSON.
+//! The clock changes of a zone in some years, as a table, as `zdump` prints them, as JSON, and drawn.
 //!
-//! [`tell_file`] reads the bytes of a TZif file and writes a line or two for each change of the
-//! zone's clocks in those years, in order; [`tell_text`] does so for a TZ text. Nothing is written
-//! for a file or a text that is refused. [`to_json`] tells a zone in JSON.
+//! [`tell_file`] parses the bytes of a TZif file and writes a line or two for each clock change in
+//! those years, in order; [`tell_text`] does so for a TZ string. Nothing is written for a file or a
+//! string that is rejected. [`to_json`] writes a zone as JSON.
 #![tactic(auto)]
 
 mod changes;

@@ -12,7 +12,7 @@ use tz_info::{LocalTimeType, TimeZone};
 /// step at each change, and a panel for each change of the last year, with what wall clocks skip or
 /// repeat.
 ///
-/// A name stands at each stretch of the chart's line that is wide enough for it.
+/// Each stretch of the chart's line that is wide enough for it has its abbreviation.
 ///
 /// # Errors
 ///

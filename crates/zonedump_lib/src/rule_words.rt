@@ -1,4 +1,4 @@
-//! How rules are told.
+//! Rules in words.
 
 ghost use Rattle.std.specs.Prelude.{◌≡◌, pos, int_le, int_lt, ◌&&◌, unsigned_abs, true, false, Some, MatchOption, option_map};
 ghost use Rattle.naive_base.specs.Text.{time_text};

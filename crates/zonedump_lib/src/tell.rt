@@ -1,4 +1,4 @@
-//! A file or a TZ text told in some form.
+//! The zone of a file or of a TZ string, written in some form.
 
 ghost use Rattle.std.specs.Prelude.{◌≡◌, IfErr, OnErr, OnOk, string_bytes};
 ghost use Rattle.tz_base.specs.Errors.{IsOutOfMemory};
@@ -12,8 +12,7 @@ use change_views::Years;
 use std::alloc::Global;
 use tz_info::{Error, TimeZone};
 
-/// Writes the zone of a TZif file in a form behind what `out` holds. Nothing is written for a file
-/// that is refused.
+/// Appends the zone of a TZif file to `out`, in a form. Nothing is written if the file is rejected.
 ///
 /// # Errors
 ///
@@ -42,8 +41,8 @@ pub fn tell_file(
     }
 }
 
-/// Writes the zone of a TZ text in a form behind what `out` holds. Nothing is written for a text
-/// that is refused.
+/// Appends the zone of a TZ string to `out`, in a form. Nothing is written if the string is
+/// rejected.
 ///
 /// # Errors
 ///

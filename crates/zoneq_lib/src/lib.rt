@@ -1,10 +1,10 @@
-//! Questions on a time zone, a line each, and a line of answer to each.
+//! Questions about a time zone, one on each line, and a line of answer to each.
 //!
-//! [`run`] reads lines from one end and writes an answer to each of them to the other, before it
-//! takes the next line. A line `text T` sets the zone by a TZ text, and a line `data HEX` by the
+//! [`run`] reads lines from a reader and writes an answer to each of them to a writer, before it
+//! reads the next line. A line `text T` sets the zone by a TZ string, and a line `data HEX` by the
 //! bytes of a TZif file. A line `at SECS` asks for the local time type in force at a Unix time, a
-//! line `wall Y M D h m s` for those in force when a clock shows a date and time, or with a choice
-//! `GAP/FOLD` after it for the instant that the choice takes, and a line `show SECS NANOS` for
+//! line `wall Y M D h m s` for those in force when a clock shows a date and time, or, with a policy
+//! `GAP/FOLD` after it, for the instant that the policy selects, and a line `show SECS NANOS` for
 //! what the zone's clocks show at an instant. Any other line is answered `bad line`, so that no
 //! input stops a run but its end, a failed end, or running out of memory.
 #![tactic(auto)]

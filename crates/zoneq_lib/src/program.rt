@@ -9,11 +9,11 @@ use crate::run_error::RunError;
 use crate::watched::Watched;
 use std::io::Write;
 
-/// The exit status of a program that ends after a run: 0 where every line was answered, and 1 where
-/// the run stopped before. Why it stopped is told in one line to `errors`, which is standard error.
+/// Returns the exit status of a program that ends after a run: 0 if every line was answered, and 1
+/// if the run stopped before. Then it writes the reason, one line, to `errors`, which is standard
+/// error.
 ///
-/// An end that fails takes a beginning of that line, and the status is the same: there is nowhere
-/// left to say so.
+/// If standard error fails too, a beginning of that line is written, and the status is the same.
 ///
 /// Requires: `errors` has not failed before.
 ///

@@ -19,18 +19,18 @@ use std::str;
 /// What a line asks.
 #[derive(Clone, Copy)]
 pub enum Question<'a> {
-    /// `text T`: to read this TZ text, and to take its zone from here on.
+    /// `text T`: parse this TZ string, and use its zone from here on.
     Text(&'a str),
-    /// `data HEX`: to read a TZif file, whose bytes these hex digits spell, and to take its zone
-    /// from here on.
+    /// `data HEX`: parse a TZif file, whose bytes these hex digits spell, and use its zone from
+    /// here on.
     Data(&'a [u8]),
-    /// `at SECS`: for the local time type in force at this Unix time.
+    /// `at SECS`: the local time type in force at this Unix time.
     At(i64),
-    /// `wall Y M D h m s`: for the local time types in force when a clock shows this date and time.
+    /// `wall Y M D h m s`: the local time types in force when a clock shows this date and time.
     Wall(NaiveDateTime),
-    /// `wall Y M D h m s GAP/FOLD`: for the instant that this choice takes for this date and time.
+    /// `wall Y M D h m s GAP/FOLD`: the instant that this policy selects for this date and time.
     Resolve(NaiveDateTime, Choice),
-    /// `show SECS NANOS`: for what the zone's clocks show at this Unix time, so many nanoseconds
+    /// `show SECS NANOS`: what the zone's clocks show at this Unix time and that many nanoseconds
     /// after it.
     Show(i64, u32),
 }
@@ -94,7 +94,7 @@ impl<'a> Question<'a> {
     }
 }
 
-// The question on a TZ text, which is all that is left.
+// The question about a TZ string, which is all that is left.
 #[tactic(auto, unfolding(crate::specs::Questions::text))]
 fn read_text(bytes: &[u8]) -> Result<(Question<'_>, &[u8]), BadLine>
     ensures { Gives (λ p. (query_of p.0, p.1.now)) result (scan text bytes.now) }

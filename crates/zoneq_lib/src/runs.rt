@@ -13,7 +13,7 @@ use std::io::{Read, Write};
 // How many bytes are asked of the reader at a time.
 const BLOCK: usize = 16384;
 
-/// Answers each line that the reader gives, before it takes the next one.
+/// Answers each line that the reader gives, before it reads the next one.
 ///
 /// Each answer is written at once, and all that was written is flushed before the reader is asked
 /// for more. A line ends with a newline, and one carriage return before it is no part of the line.
@@ -21,10 +21,9 @@ const BLOCK: usize = 16384;
 ///
 /// Requires: neither end has failed or ended before.
 ///
-/// What was read and written is told by the ends: the contract speaks of the bytes that a reader
-/// has left and a writer holds, where their types tell them, as `&[u8]` and `Vec<u8>` do. Standard
-/// input and output tell none, so of a run over them the contract says only which end failed, that
-/// the input ended, and that what was written was sent.
+/// The contract speaks of the bytes that a reader has left and a writer holds, if their types show
+/// them, as `&[u8]` and `Vec<u8>` do. Standard input and output don't, so of a run over them the
+/// contract says only which end failed, that the input ended, and that what was written was sent.
 ///
 /// ```
 /// let mut reader = Watched::new(b"text UTC0\nat 0\n".as_slice());

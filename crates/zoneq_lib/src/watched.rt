@@ -14,10 +14,10 @@ use std::marker::Model;
 /// It hands its calls on. A call that answers an error has failed, `Interrupted` too, and so has
 /// one that writes none of some bytes. What was written is sent once a flush succeeds.
 ///
-/// The bytes that the contracts speak of are those that the end tells of itself. So an answer that
-/// the end did not give breaks them where it gives or takes bytes, or claims the end of the input.
-/// That an error came from the end, and a flush reached it, can't be said of every end: `Read` and
-/// `Write` have no word for a call that leaves the bytes as they are.
+/// The bytes in the contracts are those that the end itself shows. So an answer that the end did
+/// not give breaks them if it gives or takes bytes, or claims the end of the input. That an error
+/// came from the end, and a flush reached it, can't be said of every end: `Read` and `Write` have
+/// no word for a call that leaves the bytes as they are.
 #[derive(Drop)]
 pub struct Watched<T> {
     end: T,

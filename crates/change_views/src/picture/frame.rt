@@ -1,4 +1,4 @@
-//! What stands around the chart and the panels.
+//! The frame around the chart and the panels.
 
 ghost use Rattle.std.specs.Prelude.{◌≡◌, OnOk, string_bytes, ◌++◌};
 ghost use Rattle.change_views.specs.PictureFrame.{opening_text, plain_style, line_style, dark_style, style_text, size_text, title_text, years_text, heading_text};
@@ -30,7 +30,7 @@ const DARK: &str = "\
     .gap .what{fill:#f778ba}.fold .band{fill:#3fb950;fill-opacity:.22}.fold .what{fill:#3fb950}}\
     </style>\n";
 
-/// Writes what a picture with so many panels begins with.
+/// Writes the beginning of a picture with that many panels.
 pub(super) fn put_opening(out: &mut String, panels: usize) -> Result<(), AllocError>
     ensures { OnOk result
         (string_bytes out.new ≡ string_bytes out.old ++ opening_text panels) }
@@ -98,7 +98,7 @@ fn put_years(out: &mut String, years: Years) -> Result<(), AllocError>
     )
 }
 
-/// Writes what stands over the panels, of which there are so many.
+/// Writes the heading of the panels, for that many.
 pub(super) fn put_heading(out: &mut String, year: i32, panels: usize) -> Result<(), AllocError>
     ensures { OnOk result
         (string_bytes out.new ≡ string_bytes out.old ++ heading_text year panels) }

@@ -77,7 +77,7 @@ impl Scale {
         self.across(start_of(year))
     }
 
-    /// How far to the right a month of a year begins, which so many months come before.
+    /// Returns how far to the right a month of a year begins, after that many months.
     pub(super) fn across_month(self, year: i32, place: u32) -> u64
         requires place { place < 12 }
         requires from { pos 1 ≤ℤ year }
@@ -109,7 +109,7 @@ impl Scale {
         self.down(shown.offset() as i64)
     }
 
-    /// How far down so many whole hours lie.
+    /// Returns how far down that many whole hours are.
     pub(super) fn down_hours(self, hours: i64) -> u64
         requires least { neg_ℤ (pos 10_000_000) <ℤ hours }
         requires most { hours <ℤ pos 10_000_000 }
@@ -120,7 +120,7 @@ impl Scale {
     }
 }
 
-// The second at which a month of a year begins, which so many months come before.
+// The second at which a month of a year begins, after that many months.
 fn month_start(year: i32, place: u32) -> i64
     requires place { place < 12 }
     requires from { pos 1 ≤ℤ year }

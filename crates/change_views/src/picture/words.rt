@@ -11,7 +11,7 @@ use std::alloc::AllocError;
 use std::fmt;
 use tz_base::{Change, LocalTimeType};
 
-/// Writes a text as it may stand in SVG.
+/// Writes a text as SVG allows it.
 pub(super) fn put_escaped(out: &mut String, text: &str) -> Result<(), AllocError>
     ensures { OnOk result
         (string_bytes out.new ≡ string_bytes out.old ++ escaped text.now) }
@@ -147,7 +147,7 @@ impl fmt::Display for Name<'_> {
     }
 }
 
-/// Years from one to another, or one year alone.
+/// The years from one to another, or only one.
 #[derive(Clone, Copy)]
 pub(super) struct Span(pub(super) Years);
 
@@ -165,7 +165,7 @@ impl fmt::Display for Span {
     }
 }
 
-/// What stands over so many panels, before the year.
+/// Writes the heading of that many panels, without the year.
 pub(super) fn heading_words(panels: usize) -> &'static str
     ensures { result.now ≡ heading_words panels }
 {

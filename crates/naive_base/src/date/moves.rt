@@ -18,9 +18,9 @@ use offset_core::TimeDelta;
 const YEARS_BEFORE: i64 = 4_294_967_296;
 
 impl NaiveDate {
-    /// The date so many months later: on the same day of the month, or on the month's last where it
-    /// has fewer days. `None` where the year is not one from -262143 to 262142, unless it is the
-    /// date itself.
+    /// Returns the date that many months later: on the same day of the month, or on the month's
+    /// last if it has fewer days. `None` if the year is not one from -262143 to 262142, unless it
+    /// is the date itself.
     ///
     /// A month after 2021-01-31 comes 2021-02-28.
     pub fn checked_add_months(self, months: Months) -> Option<NaiveDate>
@@ -29,7 +29,7 @@ impl NaiveDate {
         self.months_later(months.as_u32() as i64)
     }
 
-    /// The date so many months earlier, by the rule of [`NaiveDate::checked_add_months`].
+    /// Returns the date that many months earlier, by the rule of [`NaiveDate::checked_add_months`].
     pub fn checked_sub_months(self, months: Months) -> Option<NaiveDate>
         ensures { IsMonthsLater day_of IsDateOn (day_of self)
             (neg_ℤ (pos (months_of months))) result }
@@ -37,8 +37,8 @@ impl NaiveDate {
         self.months_later(opposite(months.as_u32()))
     }
 
-    /// The date so many days later. `None` where the year is not one from -262143 to 262142, unless
-    /// it is the date itself.
+    /// Returns the date that many days later. `None` if the year is not one from -262143 to 262142,
+    /// unless it is the date itself.
     ///
     /// ```text
     /// 2022-02-20 and 9 days    Some(2022-03-01)
@@ -50,8 +50,8 @@ impl NaiveDate {
         self.days_later(days.count() as i128)
     }
 
-    /// The date so many days earlier. `None` where the year is not one from -262143 to 262142,
-    /// unless it is the date itself.
+    /// Returns the date that many days earlier. `None` if the year is not one from -262143 to
+    /// 262142, unless it is the date itself.
     pub fn checked_sub_days(self, days: Days) -> Option<NaiveDate>
         ensures { IsDaysLater day_of IsDateOn (day_of self) (neg_ℤ (pos (days_of days))) result }
     {

@@ -1,4 +1,4 @@
-//! The fields of a reading's date and time, and readings with a field changed or moved by months
+//! The fields of a local date-time, and local date-times with a field changed or moved by months
 //! and days.
 ghost use Rattle.std.specs.Prelude.{◌≡◌, pos, neg_ℤ, option_map};
 ghost use Rattle.naive_base.specs.Months.{months_of, days_of};
@@ -117,9 +117,9 @@ impl Timelike for NaiveDateTime {
 }
 
 impl NaiveDateTime {
-    /// The reading so many months later, at the same time of day: on the same day of the month, or
-    /// on the month's last where it has fewer days. `None` where the year is not one from -262143
-    /// to 262142, unless it is the reading itself.
+    /// Returns the local date-time that many months later, at the same time of day: on the same day
+    /// of the month, or on the month's last if it has fewer days. `None` if the year is not one
+    /// from -262143 to 262142, unless nothing changes.
     pub fn checked_add_months(self, months: Months) -> Option<NaiveDateTime>
         ensures { IsMonthsLater day_shown_by (IsReadingOnDay (reading self)) (day_shown_by self)
             (pos (months_of months)) result }
@@ -131,7 +131,8 @@ impl NaiveDateTime {
         )
     }
 
-    /// The reading so many months earlier, by the rule of [`NaiveDateTime::checked_add_months`].
+    /// Returns the local date-time that many months earlier, by the rule of
+    /// [`NaiveDateTime::checked_add_months`].
     pub fn checked_sub_months(self, months: Months) -> Option<NaiveDateTime>
         ensures { IsMonthsLater day_shown_by (IsReadingOnDay (reading self)) (day_shown_by self)
             (neg_ℤ (pos (months_of months))) result }
@@ -143,8 +144,8 @@ impl NaiveDateTime {
         )
     }
 
-    /// The reading so many days later, at the same time of day. `None` where the year is not one
-    /// from -262143 to 262142, unless it is the reading itself.
+    /// Returns the local date-time that many days later, at the same time of day. `None` if the
+    /// year is not one from -262143 to 262142, unless nothing changes.
     ///
     /// A day after 2021-01-31 12:00:00 comes 2021-02-01 12:00:00.
     pub fn checked_add_days(self, days: Days) -> Option<NaiveDateTime>
@@ -154,7 +155,8 @@ impl NaiveDateTime {
         Some(self.date().checked_add_days(days)?.and_time(self.time()))
     }
 
-    /// The reading so many days earlier, by the rule of [`NaiveDateTime::checked_add_days`].
+    /// Returns the local date-time that many days earlier, by the rule of
+    /// [`NaiveDateTime::checked_add_days`].
     pub fn checked_sub_days(self, days: Days) -> Option<NaiveDateTime>
         ensures { IsDaysLater day_shown_by (IsReadingOnDay (reading self)) (day_shown_by self)
             (neg_ℤ (pos (days_of days))) result }

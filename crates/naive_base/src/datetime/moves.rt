@@ -1,4 +1,4 @@
-//! Readings moved by a length of time, and the time between two.
+//! Local date-times moved by a length of time, and the time between two.
 ghost use Rattle.std.specs.Prelude.{◌≡◌, ◌<◌, pos, neg_ℤ, ◌+ℤ◌, ◌-ℤ◌, ◌*ℤ◌};
 ghost use Rattle.offset_core.specs.Nanoseconds.{FitsTimeDelta};
 ghost use Rattle.offset_core.specs.TimeDelta.{nanos_of};
@@ -61,8 +61,8 @@ fn parts_of(total: i128) -> (i64, u32)
 }
 
 impl NaiveDateTime {
-    /// The reading so much later, or earlier for a negative length. `None` where that isn't in
-    /// range.
+    /// Returns the local date-time that much later, or earlier for a negative length. `None` if
+    /// that isn't in range.
     ///
     /// From a leap second on, that leap second is counted; no other ever is. From 23:59:59 with
     /// 1,750,500,000 nanoseconds on 2016-12-31, a move by 249,500,000 nanoseconds gives midnight,
@@ -74,10 +74,10 @@ impl NaiveDateTime {
         NaiveDateTime::at_second(secs, frac)
     }
 
-    /// The reading so much earlier, or later for a negative length. `None` where that isn't in
-    /// range.
+    /// Returns the local date-time that much earlier, or later for a negative length. `None` if
+    /// that isn't in range.
     ///
-    /// It is [`NaiveDateTime::checked_add_signed`] of the opposite length.
+    /// The same as [`NaiveDateTime::checked_add_signed`] of the opposite length.
     pub fn checked_sub_signed(self, rhs: TimeDelta) -> Option<NaiveDateTime>
         ensures { IsReadingOf (moved (reading self) (neg_ℤ (nanos_of rhs))) result }
     {
@@ -154,11 +154,11 @@ impl NaiveDateTime {
         self.secs as i128 * NANOS_PER_SECOND + within - NANOS_PER_SECOND
     }
 
-    /// The time from another reading to this one, negative where this one is earlier.
+    /// Returns the time from another local date-time to this one, negative if this one is earlier.
     ///
-    /// A reading's own leap second counts where its second of the day is less than the other's,
-    /// whatever the days: from 00:00:59 with 1,500,000,000 nanoseconds to 00:01:00 it is half a
-    /// second.
+    /// The own leap second of a local date-time counts if its second of the day is less than the
+    /// other's, whatever the days: from 00:00:59 with 1,500,000,000 nanoseconds to 00:01:00 it is
+    /// half a second.
     pub fn signed_duration_since(self, rhs: NaiveDateTime) -> TimeDelta
         ensures { nanos_of result ≡ difference (reading self) (reading rhs) }
     {

@@ -60,8 +60,8 @@ pub fn times()
     ensures infallible { (a : AnyTime) → ⟦<NaiveTime as Clone>⟧.is_infallible a }
 {}
 
-/// Readings are equal if and only if their seconds and their nanoseconds are, and compare by these
-/// in turn; a hash looks at both, and a clone is the reading.
+/// Local date-times are equal if and only if their seconds and their nanoseconds are, and compare
+/// by these in turn; a hash looks at both, and a clone is the local date-time.
 pub fn readings()
     ensures equal { (a b : AnyReading) → IsTrue (⟦<NaiveDateTime as PartialEq>⟧.eq a b)
         ↔ (((reading a).s ≡ (reading b).s) × ((reading a).f ≡ (reading b).f)) }

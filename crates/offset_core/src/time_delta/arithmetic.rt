@@ -5,14 +5,14 @@ ghost use Rattle.offset_core.specs.TimeDelta.{nanos_of, IsDeltaOf};
 use crate::TimeDelta;
 
 impl TimeDelta {
-    /// Whether this is no time at all.
+    /// Returns whether the length is 0.
     pub fn is_zero(&self) -> bool
         ensures { IsTrue result ↔ (nanos_of self.now ≡ pos 0) }
     {
         self.nanos == 0
     }
 
-    /// The length without its sign.
+    /// Returns the length without its sign.
     ///
     /// `TimeDelta::seconds(-5).abs()` is five seconds.
     pub fn abs(&self) -> TimeDelta
@@ -23,7 +23,7 @@ impl TimeDelta {
         }
     }
 
-    /// The sum of two lengths, or `None` where that is out of range.
+    /// Returns the sum of two lengths, or `None` if that is out of range.
     pub fn checked_add(&self, other: &TimeDelta) -> Option<TimeDelta>
         ensures { IsDeltaOf (nanos_of self.now +ℤ nanos_of other.now) result }
     {
@@ -37,7 +37,7 @@ impl TimeDelta {
         TimeDelta::of_nanos(self.nanos - other.nanos)
     }
 
-    /// So many times this length, or `None` where that is out of range.
+    /// Returns this length times a number, or `None` if that is out of range.
     ///
     /// ```text
     /// TimeDelta::minutes(90).checked_mul(-2)  Some(TimeDelta::hours(-3))
@@ -49,8 +49,8 @@ impl TimeDelta {
         TimeDelta::of_nanos(self.nanos.checked_mul(rhs as i128)?)
     }
 
-    /// This length divided by a number, in whole nanoseconds toward zero, or `None` for the number
-    /// 0.
+    /// Returns this length divided by a number, in whole nanoseconds toward zero, or `None` for the
+    /// number 0.
     ///
     /// ```text
     /// TimeDelta::seconds(-4).checked_div(3)  Some(TimeDelta::nanoseconds(-1_333_333_333))

@@ -13,49 +13,50 @@ use crate::{OutOfRangeError, TimeDelta};
 use std::time::Duration;
 
 impl TimeDelta {
-    /// The whole weeks of this length, toward zero.
+    /// Returns the whole weeks of this length, toward zero.
     pub fn num_weeks(&self) -> i64
         ensures { result ≡ int_div (nanos_of self.now) nanos_per_week }
     {
         self.in_units(NANOS_PER_WEEK as i64) as i64
     }
 
-    /// The whole days of 86,400 seconds of this length, toward zero.
+    /// Returns the whole days of 86,400 seconds of this length, toward zero.
     pub fn num_days(&self) -> i64
         ensures { result ≡ int_div (nanos_of self.now) nanos_per_day }
     {
         self.in_units(NANOS_PER_DAY as i64) as i64
     }
 
-    /// The whole hours of this length, toward zero.
+    /// Returns the whole hours of this length, toward zero.
     pub fn num_hours(&self) -> i64
         ensures { result ≡ int_div (nanos_of self.now) nanos_per_hour }
     {
         self.in_units(NANOS_PER_HOUR as i64) as i64
     }
 
-    /// The whole minutes of this length, toward zero.
+    /// Returns the whole minutes of this length, toward zero.
     pub fn num_minutes(&self) -> i64
         ensures { result ≡ int_div (nanos_of self.now) nanos_per_minute }
     {
         self.in_units(NANOS_PER_MINUTE as i64) as i64
     }
 
-    /// The whole seconds of this length, a part of a second left away on either side of zero.
+    /// Returns the whole seconds of this length, toward zero.
     pub fn num_seconds(&self) -> i64
         ensures { result ≡ int_div (nanos_of self.now) nanos_per_second }
     {
         self.in_units(NANOS_PER_SECOND as i64) as i64
     }
 
-    /// The whole milliseconds of this length, toward zero.
+    /// Returns the whole milliseconds of this length, toward zero.
     pub fn num_milliseconds(&self) -> i64
         ensures { result ≡ int_div (nanos_of self.now) nanos_per_millisecond }
     {
         self.in_units(NANOS_PER_MILLISECOND as i64) as i64
     }
 
-    /// The whole microseconds of this length, toward zero, or `None` where these leave an `i64`.
+    /// Returns the whole microseconds of this length, toward zero, or `None` if they leave an
+    /// `i64`.
     pub fn num_microseconds(&self) -> Option<i64>
         ensures { let micros = int_div (nanos_of self.now) nanos_per_microsecond in
             SomeIff result (FitsSigned w64 micros) micros }
@@ -63,21 +64,21 @@ impl TimeDelta {
         i64::try_from(self.in_units(NANOS_PER_MICROSECOND as i64)).ok()
     }
 
-    /// All of this length in nanoseconds, or `None` where that leaves an `i64`.
+    /// Returns all of this length in nanoseconds, or `None` if they leave an `i64`.
     pub fn num_nanoseconds(&self) -> Option<i64>
         ensures { SomeIff result (FitsSigned w64 (nanos_of self.now)) (nanos_of self.now) }
     {
         i64::try_from(self.nanos).ok()
     }
 
-    /// All of this length in nanoseconds.
+    /// Returns all of this length in nanoseconds.
     pub fn whole_nanoseconds(&self) -> i128
         ensures { result ≡ nanos_of self.now }
     {
         self.nanos
     }
 
-    /// The nanoseconds beside the whole seconds, with the sign of the length.
+    /// Returns the nanoseconds that the whole seconds leave, with the sign of the length.
     pub fn subsec_nanos(&self) -> i32
         ensures { result ≡ int_rem (nanos_of self.now) nanos_per_second }
     {

@@ -83,7 +83,7 @@ fn begins(text: &[u8], bytes: &[u8]) -> bool
     bytes.starts_with(text) && text.len() < bytes.len() && bytes[text.len()] == 0
 }
 
-/// The first place at which the text stands, or the end.
+/// Returns the first place of the text, or the end.
 pub fn place_of(text: &[u8], designations: &[u8]) -> usize
     ensures { result ≡ place_of text.now designations.now }
 {
@@ -164,7 +164,7 @@ fn has_place(designations: &[u8], local: &LocalTimeType) -> bool
     place < designations.len() && place < 256
 }
 
-/// Whether the text of each type stands in the designations, at a place that a byte can name.
+/// Returns whether the text of each type is in the designations, at a place that a byte can name.
 pub fn have_places(designations: &[u8], types: &[LocalTimeType]) -> bool
     ensures places { IsTrue result ↔ HavePlaces designations.now types.now }
 {

@@ -46,7 +46,7 @@ fn sizes_of(zone: &TimeZone, designations: &[u8]) -> Option<Sizes>
     })
 }
 
-/// What stands in the second block, if it has room for the zone.
+/// The contents of the second block, if it has room for the zone.
 pub fn room_for(zone: &TimeZone) -> Option<Room>
     ensures { MatchOption result
         (¬ (FitsBlock zone.now))

@@ -45,8 +45,8 @@ pub fn headers()
         [] }
 {}
 
-/// The names of Honolulu's file (RFC 8536 appendix B.2) stand in the order of its types, of which
-/// two have the name `HST`.
+/// The names of Honolulu's file (RFC 8536 appendix B.2) are in the order of its types, of which two
+/// have the name `HST`.
 #[tactic(auto, unfolding(crate::specs::FileLayouts::laid, crate::specs::FileLayouts::before_last, crate::specs::FileLayouts::with_texts, crate::specs::FileLayouts::with_text, crate::specs::FileDesignations::begins))]
 pub fn names()
     ensures { laid [] (

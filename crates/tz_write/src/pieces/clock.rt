@@ -1,4 +1,4 @@
-//! Numbers, and so many seconds as hours, minutes and seconds.
+//! Numbers, and seconds as hours, minutes and seconds.
 
 ghost use Rattle.std.specs.Prelude.{◌≡◌, ◌+◌, ◌<◌, [], ◌∷◌, ◌++◌, OnOk, string_bytes};
 ghost use Rattle.std.specs.Fmt.{decimal};

@@ -1,0 +1,117 @@
+#!/usr/bin/env python3
+"""Puts the tables of a run into docs/SPEED.md and README.md, and draws docs/speed.svg.
+
+usage: bench/write_speed.py [RESULTS]     RESULTS is a file of bench/results/, else the latest one
+
+Between `<!-- NAME -->` and `<!-- end -->` of both documents is what is written: PARTS says what. tools/check_documents.py
+checks that it is that of the latest file.
+"""
+
+import re
+import subprocess
+import sys
+from pathlib import Path
+
+from draw import measured, tables
+
+TOP = Path(__file__).resolve().parent.parent
+README, SPEED, PICTURE = TOP / "README.md", TOP / "docs/SPEED.md", TOP / "docs/speed.svg"
+AT, WALL = "An instant, 1900 to 2099", "A wall clock, 1900 to 2099"
+LOOKUPS = {"by instant": [AT, "An instant, 2020 to 2029"], "by local time": [WALL, "A wall clock, 2020 to 2029"]}
+CHANGES = {
+    "the next clock change": "The next clock change, 2020 to 2029",
+    "the span of an instant": "A span, 2020 to 2029",
+    "the instant of a local time in a gap": "The instant of a local time in a gap, 2020 to 2029",
+}
+DIFFER = "Answers that differ"
+WORDS = {"Sahvumbi": "Sahvumbi's", "the peer": "its answer", "peer": "library", "one of them": "for example", "in the years": "in"}
+
+
+def latest():
+    return sorted((TOP / "bench/results").glob("*.md"))[-1]
+
+
+def table(rows):
+    """A table as it was printed."""
+    heads = list(rows[0])
+    lines = [heads, ["---"] + ["--:"] * (len(heads) - 1), *(list(row.values()) for row in rows)]
+    return "\n".join("| " + " | ".join(line) + " |" for line in lines)
+
+
+def ratios(found, titles):
+    """The least and the greatest ratio of some tables."""
+    numbers = [float(row["ratio"].split()[0]) for title in titles for row in found[title] if "(" in row["ratio"]]
+    return f"{min(numbers):.2f} to {max(numbers):.2f}"
+
+
+def headline(found):
+    named = [f"a lookup {words} takes {ratios(found, titles)} of the time" for words, titles in LOOKUPS.items()]
+    return (
+        f"With one call for each question, {named[0]} of the fastest library with the same answers, and {named[1]}. "
+        f"Parsing a zone takes {ratios(found, ['Reading a zone'])} times as long as in the fastest library, and work with "
+        f"instants {ratios(found, ['Instants at work'])} times; [some rows are slower](#why-some-rows-are-slower)."
+    )
+
+
+def changes(found):
+    """The rows of New York's zones, with the question before."""
+    heads = list(dict.fromkeys(head for title in CHANGES.values() for head in found[title][0]))
+    rows = [{"question": words} | {head: row.get(head, "-") for head in heads} for words, title in CHANGES.items() for row in found[title]]
+    return table(rows)
+
+
+def differences(found):
+    """The answers that differ by instant of all years; those to other questions have the same reasons."""
+    rows = [row for row in found[DIFFER] if row["question"] == "an instant, 1900 to 2099"]
+    return table([{WORDS.get(head, head): cell for head, cell in row.items() if head != "question"} for row in rows])
+
+
+def lookup_of_new_york(found):
+    """README's two rows."""
+    rows = [{"": words} | next(row for row in found[titles[0]] if row["zone"] == "New_York") for words, titles in LOOKUPS.items()]
+    heads = [head for head in dict.fromkeys(head for row in rows for head in row) if head not in ("zone", "ratio")]
+    return table([{head: row.get(head, "-") for head in heads} for row in rows])
+
+
+def parts(results):
+    """What each place of the documents has, by its name."""
+    text = results.read_text()
+    found = tables(text)
+    return {
+        "headline": headline(found),
+        "by instant": table(found[AT]),
+        "by local time": table(found[WALL]),
+        "parsing": table(found["Reading a zone"]),
+        "at work": table(found["Instants at work"]),
+        "changes": changes(found),
+        "programs": table(found["The programs"]),
+        "differ": differences(found),
+        "measured": f"{text.splitlines()[0]} [All tables](../bench/results/{results.name}).",
+        "New York": f"{lookup_of_new_york(found)}\n\n({measured(text)}.)",
+    }
+
+
+def written(document, results):
+    """The document with these parts."""
+    text = document.read_text()
+    for name, part in parts(results).items():
+        text = re.sub(rf"(?s)(<!-- {name} -->\n).*?(\n<!-- end -->)", lambda found: found[1] + part + found[2], text)
+    return text
+
+
+def main():
+    results = Path(sys.argv[1]) if len(sys.argv) > 1 else latest()
+    for document in (README, SPEED):
+        document.write_text(written(document, results))
+    subprocess.run([sys.executable, TOP / "bench/draw.py", results, PICTURE], check=True)
+    slower = [
+        f"{title}: {next(iter(row.values()))}: {row['ratio']}"
+        for title, rows in tables(results.read_text()).items()
+        for row in rows
+        if "(" in row.get("ratio", "") and float(row["ratio"].split()[0]) > 1
+    ]
+    print("slower than the fastest:", *slower, sep="\n  ")
+
+
+if __name__ == "__main__":
+    main()
