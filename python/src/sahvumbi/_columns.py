@@ -11,6 +11,7 @@ from typing import Any, Iterator, Optional
 
 import numpy as np
 
+from ._door import COLUMN_UNITS
 from ._forms import NAT, Array, ArrayForm
 from .errors import OUT_OF_RANGE, OutOfRangeError, RowError
 
@@ -68,6 +69,11 @@ class Column:
         """Returns whether a row has the least int64."""
         return self.values.size > 0 and int(self.values.min()) == NAT
 
+    def fits_calls(self) -> bool:
+        """Returns whether the calls for C that count in units take the column as it is."""
+        # They take the least int64 for no time, which is a number in a column without NaT.
+        return self.per_second in COLUMN_UNITS and (self.has_nat or not self.has_least())
+
     def ends(self) -> tuple[int, int]:
         """Returns the least and the greatest second in which a row lies; 0 if no row has a time."""
         values = self.values
@@ -85,7 +91,8 @@ class Column:
 
     def part(self, places: Array) -> Column:
         """Returns the column of these rows."""
-        return Column(self.values[places], self.unit, self.form, places)
+        mine = places if self.places is None else self.places[places]
+        return Column(self.values[places], self.unit, self.form, mine)
 
     # Errors
 
