@@ -48,7 +48,7 @@ class Expected:
         return NAT, NAT, before, high
 
     def taken(self, gap, fold):
-        in_gap = {"shift": self.shift, "after": self.after}.get(gap, self.first)
+        in_gap = {"shift": self.shift, "after": self.after, "before": self.after}.get(gap, self.first)
         in_fold = {"earliest": self.first, "latest": self.last}.get(fold, NAT)
         return np.where(self.is_gap, in_gap, np.where(self.is_fold, in_fold, self.first))
 
@@ -85,12 +85,13 @@ def test_each_choice(expected, unit):
         is_nat = RNG.integers(0, 50, ROWS) == 0
         column = expected.times[places] * per_second + parts
         column[is_nat] = NAT
-        for gap in ("shift", "after", "nat"):
+        for gap in ("shift", "after", "before", "nat"):
             for fold in ("earliest", "latest", "nat"):
                 taken = expected.taken(gap, fold)[places]
                 answers = taken * per_second + parts
-                if gap == "after":
-                    answers -= np.where(expected.is_gap[places], parts, 0)
+                if gap in ("after", "before"):
+                    cut = parts + (gap == "before")
+                    answers -= np.where(expected.is_gap[places], cut, 0)
                 answers[is_nat | (taken == NAT)] = NAT
                 found = zone.localize(column.view(f"M8[{unit}]"), gap, fold)
                 np.testing.assert_array_equal(found.view(np.int64), answers, f"{name} {gap} {fold}")

@@ -84,6 +84,13 @@ class Column:
         least, greatest = extremes(values)
         return least // self.per_second, greatest // self.per_second
 
+    def lies_in(self, first: int, last: int) -> bool:
+        """Returns whether all rows lie in the seconds from `first` to `last`, which have 0."""
+        if first <= NAT // self.per_second and GREATEST // self.per_second <= last:
+            return True
+        least, greatest = self.ends()
+        return first <= least and greatest <= last
+
     def blocks(self, row: int = 0) -> Iterator[Block]:
         """The blocks from a row on."""
         for start in range(row, self.values.size, BLOCK):

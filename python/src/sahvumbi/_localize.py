@@ -59,7 +59,8 @@ def _left(door: Door, column: Column, choice: Choice, answers: Array) -> Iterato
 
     Yields the places of the other rows, in order, `BLOCK` at most at a time."""
     row, left, count, step = 0, [], 0, 1
-    asks = column.fits_calls()
+    # The call gives instants outside the calendar too.
+    asks = column.fits_calls() and column.lies_in(FIRST_SECOND + FAR, LAST_SECOND - FAR)
     gap, fold = GAPS.get(choice.gap, REFUSE), FOLDS.get(choice.fold, REFUSE)
     while row < len(column):
         done: int | None = 0
@@ -84,7 +85,7 @@ class Clocks:
     def __init__(self, door: Door, block: Block, choice: Choice):
         self.door, self.block, self.choice = door, block, choice
         self.shown, self.first, self.last = door.wall_clocks(block.seconds).T
-        # The rows that become NaT, those that lose what is less than a second, and those that the
+        # The rows that become NaT, those that are moved to an end of their gap, and those that the
         # order of rows decides.
         self.lost = self.cut = self.open = NO_ROWS
         self.faults: list[Fault] = []
@@ -103,7 +104,7 @@ class Clocks:
         self._fail(rows[never & (gap == "raise")], GAP)
         self._fail(rows[several & (fold == "raise")], FOLD)
         skipped = rows[never]
-        if skipped.size and gap in ("shift", "after"):
+        if skipped.size and gap in ("shift", "before", "after"):
             self._resolve(skipped)
         if fold == "given" and several.any():
             self._take_given(rows[several])
@@ -112,8 +113,8 @@ class Clocks:
         self._lose(rows[(never & (gap == "nat")) | (several & (fold == "nat"))])
 
     def _resolve(self, skipped: Array) -> None:
-        """Takes the instant of each row that clocks skipped: by the offset before the gap, or at
-        its end, which is the first second that shows a later time."""
+        """Takes the instant of each row that clocks skipped: by the offset before the gap, or the
+        first second that shows a later time."""
         local_times = self.block.seconds[skipped]
         if self.choice.gap == "shift":
             resolved = self.door.resolved(SHIFT_FORWARD, REFUSE, local_times)
@@ -159,6 +160,7 @@ class Clocks:
         misfits = self._moved(offsets, found)
         if self.cut.size:
             parts = self.block.counted[self.cut] % self.block.column.per_second
+            parts += self.choice.gap == "before"
             least = NAT + self.block.column.has_nat
             misfits = np.union1d(misfits, self.cut[found[self.cut] < least + parts])
             found[self.cut] -= parts
