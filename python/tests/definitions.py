@@ -86,6 +86,10 @@ class Lists:
             if local % step == 0 or shown.get(each - window.step, local) // step != local // step
         )
 
+    def ceil(self, instant, step, window):
+        """The first second of the window, from the instant on, at which a step of the clocks begins."""
+        return next(each for each in window if each >= instant and self.floor(each, step, window) == each)
+
     def before_gap(self, local, window):
         """The offset at the second before the first of those at which clocks show more."""
         first = next(second for second in window if second + self.offset(second) > local)

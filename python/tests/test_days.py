@@ -80,6 +80,20 @@ def test_floor(lists, instants, step):
     assert zone.floor(instants, "D").tolist() == zone.day(instants).start.tolist()
 
 
+@settings(max_examples=200)
+@given(zones(), st.lists(QUARTERS, min_size=1, max_size=4), st.sampled_from([("h", 3_600), ("3h", 10_800)]))
+def test_ceil(lists, instants, step):
+    word, seconds = step
+    zone = Zone.from_bytes(lists.file())
+    expected = [lists.ceil(instant, seconds, WINDOW) for instant in instants]
+    assert zone.ceil(instants, word).tolist() == expected
+    parts = np.array(instants, "M8[s]").astype("M8[us]") - np.timedelta64(1, "us")
+    assert zone.ceil(parts, word).astype("M8[s]").view(np.int64).tolist() == expected
+    days = zone.day(instants)
+    until = np.where(days.start == instants, instants, days.until)
+    assert zone.ceil(instants, "D").tolist() == until.tolist()
+
+
 YEARS = [
     ("America/Toronto", 1919),  # midnight of 31 March was skipped, from 23:30 on
     ("America/St_Johns", 2005),  # set back at 00:01, over midnight
@@ -127,10 +141,13 @@ def test_floor_beside_zoneinfo(name, year):
     for word, step in (("15min", 900), ("h", 3_600), ("6h", 21_600)):
         expected = [floor_in(found, second, step) for second in asked]
         assert zone.floor(np.array(asked), word).tolist() == expected
+        following = zone.ceil(np.array(asked) + 1, word).tolist()
+        assert [floor_in(found, second, step) for second in following] == following
+        assert [floor_in(found, second - 1, step) for second in following] == expected
 
 
 @pytest.mark.parametrize("step", ["h", "15min", "D"])
-def test_floor_beside_pandas(step):
+def test_floor_and_ceil_beside_pandas(step):
     """Where clocks are changed by a whole number of steps, or between two of them."""
     times = pd.Series(pd.date_range("2021-01-01", "2021-12-31", freq="433s", tz="UTC"), name="when")
     local = times.dt.tz_convert("America/New_York")
@@ -138,6 +155,11 @@ def test_floor_beside_pandas(step):
     theirs = local.dt.floor(step, ambiguous=is_dst).dt.tz_convert("UTC")
     pd.testing.assert_series_equal(NEW_YORK.floor(times, step), theirs)
     pd.testing.assert_series_equal(NEW_YORK.floor(local, step), theirs)
+    theirs = local.dt.ceil(step, ambiguous=is_dst, nonexistent="shift_forward").dt.tz_convert("UTC")
+    ours = NEW_YORK.ceil(times, step)
+    # By the DST flag of the question pandas takes the wrong one of two hours at the end of a fold.
+    is_other = NEW_YORK.types(ours)["is_dst"].to_numpy() != is_dst
+    pd.testing.assert_series_equal(ours[~is_other], theirs[~is_other])
 
 
 def test_forms():

@@ -1,4 +1,4 @@
-"""The first instant after a gap."""
+"""The first instant after a gap, and the last one before it."""
 
 from datetime import timedelta
 from zoneinfo import ZoneInfo
@@ -23,8 +23,13 @@ def after_gap(lists, local):
 
 
 @settings(max_examples=300)
-@given(COLUMNS, st.sampled_from(["s", "ms", "ns"]), st.integers(0, 999))
-def test_after(drawn, unit, part):
+@given(
+    COLUMNS,
+    st.sampled_from(["s", "ms", "ns"]),
+    st.integers(0, 999),
+    st.sampled_from(["after", "before"]),
+)
+def test_ends_of_gaps(drawn, unit, part, gap):
     lists, locals_ = drawn
     parts = {"s": 1, "ms": 10**3, "ns": 10**9}[unit]
     part = part if parts > 1 else 0
@@ -32,9 +37,9 @@ def test_after(drawn, unit, part):
     expected = []
     for local in locals_:
         seconds = lists.shown_at(local, WINDOW)
-        count = seconds[0] * parts + part if seconds else after_gap(lists, local) * parts
-        expected.append(count)
-    answers = Zone.from_bytes(lists.file()).localize(values, gap="after", fold="earliest")
+        end = None if seconds else after_gap(lists, local) * parts
+        expected.append(seconds[0] * parts + part if seconds else end - (gap == "before"))
+    answers = Zone.from_bytes(lists.file()).localize(values, gap=gap, fold="earliest")
     assert answers.view(np.int64).tolist() == expected
 
 
@@ -47,14 +52,15 @@ def around_gaps(zone):
 
 
 @pytest.mark.parametrize("name", ["America/New_York", "Europe/Paris", "America/Los_Angeles"])
-def test_after_is_shift_forward_of_pandas(name):
+def test_shifts_of_pandas(name):
     zone = Zone(name)
     locals_ = around_gaps(zone)
     assert (zone.explain(locals_)["shown"] == NEVER).any()
     folds = np.ones(len(locals_), bool)
-    theirs = locals_.dt.tz_localize(name, ambiguous=folds, nonexistent="shift_forward")
-    ours = zone.localize(locals_, gap="after", is_dst=folds)
-    pd.testing.assert_series_equal(ours, theirs.dt.tz_convert("UTC"))
+    for gap, word in (("after", "shift_forward"), ("before", "shift_backward")):
+        theirs = locals_.dt.tz_localize(name, ambiguous=folds, nonexistent=word)
+        ours = zone.localize(locals_, gap=gap, is_dst=folds)
+        pd.testing.assert_series_equal(ours, theirs.dt.tz_convert("UTC"))
 
 
 @pytest.mark.parametrize(
@@ -81,7 +87,9 @@ def test_after_beside_zoneinfo(name):
     locals_ = around_gaps(zone)
     locals_ = locals_[zone.explain(locals_)["shown"] == NEVER]
     assert len(locals_)
-    for local, instant in zip(locals_, zone.localize(locals_, gap="after")):
+    after, before = (zone.localize(locals_, gap=gap) for gap in ("after", "before"))
+    assert (after - before == pd.Timedelta(1, "ns")).all()
+    for local, instant in zip(locals_, after):
         moment = instant.to_pydatetime().astimezone(ZoneInfo("UTC"))
         before = (moment - timedelta(seconds=1)).astimezone(theirs).replace(tzinfo=None)
         assert before < local < moment.astimezone(theirs).replace(tzinfo=None)
@@ -105,6 +113,10 @@ def test_after_may_not_fit():
     assert zone.explain(skipped).shown.tolist() == [NEVER]
     with pytest.raises(sahvumbi.OutOfRangeError, match="does not fit"):
         zone.localize(skipped, gap="after")
+    first = np.array([change * 10**9 + 10**9], np.int64).view("M8[ns]")
+    zone = Zone.from_bytes(Lists([(change + 1, 1)], [0, 100]).file())
+    assert zone.localize(first, gap="after") == first
+    assert zone.localize(first, gap="before").view(np.int64) == first.view(np.int64) - 1
 
 
 def times(*values):

@@ -8,6 +8,7 @@ import tarfile
 import zipfile
 from pathlib import Path
 
+import numpy as np
 import pytest
 
 import sahvumbi
@@ -98,6 +99,23 @@ def test_the_wheel(project):
     for name in ("LICENSE", "LICENSE-APACHE"):
         assert any(other.endswith(f"dist-info/{name}") for other in names)
     assert not any(name.startswith("tests") for name in names)
+
+
+def test_the_wheel_with_numpy_alone(project, tmp_path):
+    """As it is where nothing else is installed: -S leaves out the packages of this Python."""
+    with zipfile.ZipFile(built(project, "bdist_wheel")) as files:
+        files.extractall(tmp_path)
+    (tmp_path / "numpy").symlink_to(Path(np.__file__).parent)
+    words = """
+import importlib.util, numpy, sahvumbi, sys
+print(importlib.util.find_spec("pandas"), sahvumbi.__file__.startswith(sys.argv[1]))
+twice = numpy.array(["2021-11-07T01:30"], "M8[ms]")
+print(sahvumbi.Zone("America/New_York").localize(twice, fold="latest"))
+"""
+    command = [sys.executable, "-S", "-c", words, str(tmp_path)]
+    where = {"PYTHONPATH": str(tmp_path)}
+    ran = subprocess.run(command, cwd="/", env=where, capture_output=True, text=True)
+    assert ran.stdout == "None True\n['2021-11-07T06:30:00.000']\n", ran.stderr
 
 
 def test_the_sdist_has_no_library(project):

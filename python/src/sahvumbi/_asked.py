@@ -7,16 +7,7 @@ from typing import Any, Optional
 import numpy as np
 
 from ._columns import GREATEST, Block, Column, extremes
-from ._door import (
-    COLUMN_UNITS,
-    LEAST,
-    NEVER,
-    NO_OFFSET,
-    ONCE,
-    OUT_OF_RANGE,
-    SEVERAL_TIMES,
-    Door,
-)
+from ._door import LEAST, NEVER, NO_OFFSET, ONCE, OUT_OF_RANGE, SEVERAL_TIMES, Door
 from ._forms import NAT, Array
 from ._types import LocalTypes, Spans, WallClocks
 from .errors import NO_OFFSET as HAS_NO_OFFSET
@@ -40,8 +31,7 @@ def local_times(door: Door, column: Column) -> Array:
     """Returns the local time at each instant, as int64."""
     answers = np.empty(len(column), np.int64)
     row: Optional[int] = 0
-    # The call takes the least int64 for no time, which is a number in a column without NaT.
-    if column.per_second in COLUMN_UNITS and (column.has_nat or not column.has_least()):
+    if column.fits_calls():
         row = door.local_times(column.per_second, column.values, answers)
     if row is not None:
         for block in column.blocks(row):

@@ -13,7 +13,7 @@ from ._forms import NAT, Array, Failures, SeriesForm
 from ._opening import Opened
 from .errors import FOLD, GAP, OUT_OF_RANGE, FoldError, GapError, OutOfRangeError, printable
 
-GAPS = ("raise", "shift", "after", "nat")
+GAPS = ("raise", "shift", "before", "after", "nat")
 FOLDS = ("raise", "earliest", "latest", "nat", "infer")
 KINDS = {GAP: GapError, FOLD: FoldError, OUT_OF_RANGE: OutOfRangeError}
 #: A row for which nothing is given.

@@ -11,6 +11,7 @@ from typing import Any, Iterator, Optional
 
 import numpy as np
 
+from ._door import COLUMN_UNITS
 from ._forms import NAT, Array, ArrayForm
 from .errors import OUT_OF_RANGE, OutOfRangeError, RowError
 
@@ -68,6 +69,11 @@ class Column:
         """Returns whether a row has the least int64."""
         return self.values.size > 0 and int(self.values.min()) == NAT
 
+    def fits_calls(self) -> bool:
+        """Returns whether the calls for C that count in units take the column as it is."""
+        # They take the least int64 for no time, which is a number in a column without NaT.
+        return self.per_second in COLUMN_UNITS and (self.has_nat or not self.has_least())
+
     def ends(self) -> tuple[int, int]:
         """Returns the least and the greatest second in which a row lies; 0 if no row has a time."""
         values = self.values
@@ -78,6 +84,13 @@ class Column:
         least, greatest = extremes(values)
         return least // self.per_second, greatest // self.per_second
 
+    def lies_in(self, first: int, last: int) -> bool:
+        """Returns whether all rows lie in the seconds from `first` to `last`, which have 0."""
+        if first <= NAT // self.per_second and GREATEST // self.per_second <= last:
+            return True
+        least, greatest = self.ends()
+        return first <= least and greatest <= last
+
     def blocks(self, row: int = 0) -> Iterator[Block]:
         """The blocks from a row on."""
         for start in range(row, self.values.size, BLOCK):
@@ -85,7 +98,8 @@ class Column:
 
     def part(self, places: Array) -> Column:
         """Returns the column of these rows."""
-        return Column(self.values[places], self.unit, self.form, places)
+        mine = places if self.places is None else self.places[places]
+        return Column(self.values[places], self.unit, self.form, mine)
 
     # Errors
 

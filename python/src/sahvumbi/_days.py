@@ -88,12 +88,30 @@ def days(door: Door, column: Column) -> Any:
 
 def floored(door: Door, column: Column, step: Step) -> Array:
     """Returns the first instant of the step that each instant lies in."""
-    seconds = seconds_of(step)
-    answers = np.empty(len(column), np.int64)
-    begun = Beginnings(door, column).begun if seconds == DAY else Steps(door, column, seconds).begun
+    answers, stretches = np.empty(len(column), np.int64), stretches_of(door, column, step)
     for block in column.blocks():
-        _write(block, begun(block), answers)
+        _write(block, stretches.begun(block), answers)
     return answers
+
+
+def ceiled(door: Door, column: Column, step: Step) -> Array:
+    """Returns the first instant of a step that does not come before each instant."""
+    answers, stretches = np.empty(len(column), np.int64), stretches_of(door, column, step)
+    for block in column.blocks():
+        seconds = stretches.begun(block)
+        is_within = seconds < block.seconds
+        if column.per_second > 1:
+            is_within |= block.counted % column.per_second != 0
+        if is_within.any():
+            seconds = np.where(is_within, stretches.ended(block), seconds)
+        _write(block, seconds, answers)
+    return answers
+
+
+def stretches_of(door: Door, column: Column, step: Step) -> Union[Beginnings, Steps]:
+    """Returns the days of the zone, or the shorter steps of its clocks."""
+    seconds = seconds_of(step)
+    return Beginnings(door, column) if seconds == DAY else Steps(door, column, seconds)
 
 
 def seconds_of(step: Step) -> int:
@@ -147,6 +165,10 @@ class Beginnings:
         """Returns the first second of the day that each instant lies in."""
         return self.of(self.days_at(block))
 
+    def ended(self, block: Block) -> Array:
+        """Returns the first second of the day after that."""
+        return self.of(self.days_at(block) + 1)
+
     def days_at(self, block: Block) -> Array:
         """Returns the day that each instant lies in, counted from 1970-01-01."""
         local = _local_seconds(self.door, block)
@@ -168,24 +190,54 @@ class Steps:
     def __init__(self, door: Door, column: Column, step: int):
         self.door, self.step = door, step
         least, greatest = column.ends()
-        at = self._turns(least - step, greatest + 1)["at"]
+        at = self._turns(least - step, greatest + step)["at"]
         self.is_near = at.size > 1 and int(np.diff(at).min()) < step
         self.at = at
 
     def begun(self, block: Block) -> Array:
         """Returns the first second of the stretch that each instant lies in."""
-        local = _local_seconds(self.door, block)
-        offsets = local - block.seconds
-        floors = local // self.step * self.step
+        floors, offsets = self._shown(block)
         begun: Array = floors - offsets
-        if self.is_near:
-            turns = (np.searchsorted(self.at, each, "right") for each in (block.seconds, begun))
-            late = np.flatnonzero(np.not_equal(*turns))
-        else:
-            late = np.flatnonzero(self.door.offsets(begun) != offsets)
+        late = self._apart(block, begun, offsets)
         if late.size:
             begun[late] = self._walked(block.seconds[late], floors[late], begun[late], 2 * FAR)
         return begun
+
+    def ended(self, block: Block) -> Array:
+        """Returns the first second of the stretch after that."""
+        floors, offsets = self._shown(block)
+        ended: Array = floors + self.step - offsets
+        early = self._apart(block, ended, offsets)
+        if early.size:
+            found, rows = np.unique(block.seconds[early], return_inverse=True)
+            ended[early] = np.array([self._end(second) for second in found.tolist()])[rows]
+        return ended
+
+    def _shown(self, block: Block) -> tuple[Array, Array]:
+        """The step that clocks show at each instant, and the offset."""
+        local = _local_seconds(self.door, block)
+        return local // self.step * self.step, local - block.seconds
+
+    def _apart(self, block: Block, seconds: Array, offsets: Array) -> Array:
+        """The rows in which the offset changes between an instant and another second."""
+        if not self.is_near:
+            return np.flatnonzero(self.door.offsets(seconds) != offsets)
+        turns = (np.searchsorted(self.at, each, "right") for each in (block.seconds, seconds))
+        return np.flatnonzero(np.not_equal(*turns))
+
+    def _end(self, second: int) -> int:
+        """Goes on from change to change while clocks show the same step after it."""
+        shown = None
+        while True:
+            span = self.door.span(second)
+            offset, until = int(span["type"]["offset"][0]), int(span["until"][0])
+            step, part = divmod(second + offset, self.step)
+            if shown is not None and (step != shown or part == 0):
+                return second
+            end = second - part + self.step
+            if end < until:
+                return end
+            second, shown = until, step
 
     def _walked(self, seconds: Array, floors: Array, begun: Array, window: int) -> Array:
         """Goes back from change to change while clocks show the same step before it."""
@@ -210,7 +262,7 @@ class Steps:
 
     def _turns(self, low: int, high: int) -> Array:
         """The changes of offset from a second on and before another."""
-        changes = self.door.changes(max(low, FIRST_SECOND), min(high, LAST_SECOND))
+        changes = self.door.changes(max(low, FIRST_SECOND), min(high, LAST_SECOND + DAY))
         is_turn = changes["before"]["offset"] != changes["after"]["offset"]
         turns: Array = changes[is_turn]
         return turns

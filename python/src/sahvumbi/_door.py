@@ -26,9 +26,10 @@ NO_OFFSET = -(2**31)
 #: How often a local time is shown, in the first column of `wall_clocks`.
 NEVER, ONCE, SEVERAL_TIMES, OUT_OF_RANGE = range(4)
 
-#: What `resolved` takes of a local time that clocks skipped; `REFUSE` also of one that they showed
-#: several times.
-REFUSE, SHIFT_FORWARD = range(2)
+#: What `instants` and `resolved` take of a local time that clocks skipped, and of one that they
+#: showed several times.
+REFUSE, SHIFT_FORWARD, GAP_END = range(3)
+REFUSE, EARLIEST, LATEST = range(3)
 
 #: An answer of `resolved`: 0 or why there is no instant, the offset in force there, the instant.
 RESOLVED = np.dtype([("number", np.uint32), ("offset", np.int32), ("instant", np.int64)])
@@ -41,10 +42,12 @@ CHANGE = np.dtype([("at", np.int64), ("before", LOCAL_TYPE), ("after", LOCAL_TYP
 #: comes before, until the greatest if none follows.
 SPAN = np.dtype([("from", np.int64), ("until", np.int64), ("type", LOCAL_TYPE)])
 
-#: What a second may have of a unit, for `local_times`.
+#: What a second may have of a unit, for `local_times` and `instants`.
 COLUMN_UNITS = 1, 10**3, 10**6, 10**9
 
-NO_CHANGE, NO_LOCAL_TIME = 35, 37
+NO_CHANGE = 35
+# Why a row of a column has no local time, or no instant.
+ROW_REFUSED = 37, 21, 22, 23
 LEAST = -(2**63)
 # Changes that one call has room for, and seconds that it is asked: a thousand years. Between two
 # calls Python may stop.
@@ -102,6 +105,7 @@ def _calls() -> tuple[ctypes.CDLL, ctypes.PyDLL]:
         (library.zoned_zone_local, [c_void_p, c_int64, *array, *array, c_void_p]),
         (library.zoned_zone_types, [c_void_p, *array, *array]),
         (library.zoned_zone_wall, [c_void_p, *array, *array]),
+        (library.zoned_zone_instants, [c_void_p, c_uint32, c_uint32, c_int64, *array, *array, c_void_p]),
         (library.zoned_zone_resolve, [c_void_p, c_uint32, c_uint32, *array, *array]),
         (brief.zoned_zone_first_at_or_after, [c_void_p, c_int64, c_void_p]),
         (brief.zoned_zone_span, [c_void_p, c_int64, c_void_p]),
@@ -153,16 +157,17 @@ class Door:
         up to the first row that has none, and returns that row.
 
         Units are those of `COLUMN_UNITS`. The least int64 is no time, and stays."""
-        row = c_size_t()
-        number = _LIBRARY.zoned_zone_local(
-            self._zone, per_second, *_array(instants), *_array(answers), byref(row)
-        )
-        if number == NO_LOCAL_TIME:
-            return row.value
-        self._must_be_answered(number)
-        return None
+        return self._until_row(_LIBRARY.zoned_zone_local, (per_second,), instants, answers)
 
-    # Local times, counted in seconds.
+    # Local times, counted in seconds but for those of `instants`.
+
+    def instants(
+        self, gap: int, fold: int, per_second: int, local_times: Array, answers: Array
+    ) -> Optional[int]:
+        """Writes the instant that the choice takes for each local time, counted as those of
+        `local_times` are, up to the first row that has none, and returns that row."""
+        words = gap, fold, per_second
+        return self._until_row(_LIBRARY.zoned_zone_instants, words, local_times, answers)
 
     def wall_clocks(self, local_times: Array) -> Array:
         """How often each local time is shown, and the offsets at the first and the last time."""
@@ -231,6 +236,17 @@ class Door:
         answers: Array = np.empty((asked.size, *width), dtype)
         self._must_be_answered(call(self._zone, *words, *_array(asked), *_array(answers)))
         return answers
+
+    def _until_row(
+        self, call: Any, words: tuple[int, ...], asked: Array, answers: Array
+    ) -> Optional[int]:
+        """Writes the answers up to the first row that has none, and returns that row."""
+        row = c_size_t()
+        number = call(self._zone, *words, *_array(asked), *_array(answers), byref(row))
+        if number in ROW_REFUSED:
+            return row.value
+        self._must_be_answered(number)
+        return None
 
     def _must_be_answered(self, number: int) -> None:
         if number:

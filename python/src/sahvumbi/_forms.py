@@ -84,16 +84,13 @@ class SeriesForm(ArrayForm):
     def times(self, values: Array, unit: Optional[str], zone: Any) -> Any:
         if unit is None:
             return self.numbers(values)
-        if zone is None:
-            return self.plain(values.view(f"M8[{unit}]"))
-        return self._instants(values, unit, zone)
+        return self.plain(_times_of_pandas(values, unit, zone))
 
     def numbers(self, values: Array) -> Any:
         return self.plain(_nullable(values) if self.has_nat else values)
 
-    def plain(self, values: Any, dtype: Any = None) -> Any:
-        name, index = self.of.name, self.index
-        made = self.of._constructor(values, index=index, name=name, dtype=dtype, copy=False)
+    def plain(self, values: Any) -> Any:
+        made = self.of._constructor(values, index=self.index, name=self.of.name, copy=False)
         return made.__finalize__(self.of)
 
     def table(self, columns: Any) -> Any:
@@ -101,11 +98,6 @@ class SeriesForm(ArrayForm):
 
         frame = pandas.DataFrame(columns._asdict(), index=self.index, copy=False)
         return self.of._constructor_expanddim(frame).__finalize__(self.of)
-
-    def _instants(self, values: Array, unit: str, zone: Any) -> Any:
-        import pandas
-
-        return self.plain(values, pandas.DatetimeTZDtype(unit, zone))
 
 
 class IndexForm(SeriesForm):
@@ -115,24 +107,23 @@ class IndexForm(SeriesForm):
     def index(self) -> Any:
         return self.of
 
-    def plain(self, values: Any, dtype: Any = None) -> Any:
+    def times(self, values: Array, unit: Optional[str], zone: Any) -> Any:
         import pandas
 
-        if getattr(values, "dtype", None) == "M8[ns]":
-            return pandas.DatetimeIndex(values, name=self.of.name)
+        if unit is None:
+            return self.numbers(values)
+        # Of an array of its own kind an Index is made without a look at its values.
+        return pandas.DatetimeIndex(_times_of_pandas(values, unit, zone), name=self.of.name)
+
+    def plain(self, values: Any) -> Any:
+        import pandas
+
         return pandas.Index(values, name=self.of.name)
 
     def table(self, columns: Any) -> Any:
         import pandas
 
         return pandas.DataFrame(columns._asdict(), index=self.of, copy=False)
-
-    def _instants(self, values: Array, unit: str, zone: Any) -> Any:
-        import pandas
-
-        times = values.view(f"M8[{unit}]")
-        aware = pandas.DatetimeIndex(times, tz="UTC", name=self.of.name)
-        return aware if zone == "UTC" else aware.tz_convert(zone)
 
 
 class TimestampForm(ArrayForm):
@@ -144,10 +135,7 @@ class TimestampForm(ArrayForm):
     def times(self, values: Array, unit: Optional[str], zone: Any) -> Any:
         import pandas
 
-        time = pandas.Timestamp(values.view(f"M8[{unit}]")[0])
-        if zone is None or time is pandas.NaT:
-            return time
-        return time.tz_localize("UTC").tz_convert(zone)
+        return pandas.Timestamp(int(values[0]), unit=unit, tz=zone)
 
     def lengths(self, values: Array) -> Any:
         import pandas
@@ -202,6 +190,19 @@ class Failures(NamedTuple):
         del columns["label"]
         columns["words"] = [WORDS[number] for number in self.number.tolist()]
         return pandas.DataFrame(columns, index=self.label)
+
+
+def _times_of_pandas(values: Array, unit: str, zone: Any) -> Any:
+    """Returns the array in which pandas has times, over these numbers: it copies none of them."""
+    import pandas
+
+    is_old = pandas.__version__ < "2"
+    if zone is None:
+        times = values.view(f"M8[{unit}]")
+        return pandas.arrays.DatetimeArray(times) if is_old else pandas.array(times, copy=False)
+    dtype = pandas.DatetimeTZDtype(unit, zone)
+    # Numbers are instants, and times would be taken for local times.
+    return (pandas.arrays.DatetimeArray if is_old else pandas.array)(values, dtype, copy=False)
 
 
 def _nullable(values: Array) -> Any:

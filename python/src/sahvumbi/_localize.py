@@ -1,12 +1,25 @@
-"""Local times to instants: gaps and folds of each block, by the choice of the call."""
+"""Local times to instants: gaps and folds, by the choice of the call."""
 
 from __future__ import annotations
+
+from typing import Iterator
 
 import numpy as np
 
 from ._choice import Choice, Fault
-from ._columns import FIRST_SECOND, LAST_SECOND, NO_ROWS, Block, Column
-from ._door import NEVER, ONCE, OUT_OF_RANGE, REFUSE, SEVERAL_TIMES, SHIFT_FORWARD, Door
+from ._columns import BLOCK, FIRST_SECOND, LAST_SECOND, NO_ROWS, Block, Column
+from ._door import (
+    EARLIEST,
+    GAP_END,
+    LATEST,
+    NEVER,
+    ONCE,
+    OUT_OF_RANGE,
+    REFUSE,
+    SEVERAL_TIMES,
+    SHIFT_FORWARD,
+    Door,
+)
 from ._forms import NAT, Array
 from ._order import Folds, decide
 from .errors import FOLD, GAP, WORDS
@@ -16,22 +29,54 @@ from .errors import OUT_OF_RANGE as IS_OUT_OF_RANGE
 FAR = 2**31
 OUTSIDE = "the local time is outside the years -262143 to 262142"
 
+# What the zone decides by itself.
+GAPS = {"shift": SHIFT_FORWARD, "after": GAP_END}
+FOLDS = {"earliest": EARLIEST, "latest": LATEST}
+# If fewer rows than these come between two that are left, more of them are left at a time.
+CLOSE = 64
+
 
 def localized(door: Door, column: Column, choice: Choice) -> Array:
     """Returns the instant of each row; NaT where the choice gives none."""
     answers = np.empty(len(column), np.int64)
     rows, last = [], []
-    for block in column.blocks():
-        clocks = Clocks(door, block, choice)
+    for places in _left(door, column, choice, answers):
+        part = column.part(places)
+        clocks = Clocks(door, Block(part, 0), choice.part(places))
         clocks.take()
-        clocks.write(clocks.last if choice.fold == "latest" else clocks.first, answers)
-        rows.append(clocks.open + block.start)
+        answers[places] = clocks.instants(clocks.last if choice.fold == "latest" else clocks.first)
+        rows.append(places[clocks.open])
         last.append(clocks.last_instants())
-        choice.fail(column, clocks.faults)
+        choice.fail(part, clocks.faults)
     if any(each.size for each in rows):
         folds = Folds(np.concatenate(rows), np.concatenate(last))
         decide(column, answers, folds, choice.groups)
     return answers
+
+
+def _left(door: Door, column: Column, choice: Choice, answers: Array) -> Iterator[Array]:
+    """Writes the instants that the zone gives by itself.
+
+    Yields the places of the other rows, in order, `BLOCK` at most at a time."""
+    row, left, count, step = 0, [], 0, 1
+    # The call gives instants outside the calendar too.
+    asks = column.fits_calls() and column.lies_in(FIRST_SECOND + FAR, LAST_SECOND - FAR)
+    gap, fold = GAPS.get(choice.gap, REFUSE), FOLDS.get(choice.fold, REFUSE)
+    while row < len(column):
+        done: int | None = 0
+        if asks:
+            done = door.instants(gap, fold, column.per_second, column.values[row:], answers[row:])
+        if done is None:
+            break
+        row += done
+        step = min(2 * step if done < CLOSE else 1, BLOCK - count, len(column) - row)
+        left.append(np.arange(row, row + step))
+        row, count = row + step, count + step
+        if count == BLOCK:
+            yield np.concatenate(left)
+            left, count = [], 0
+    if left:
+        yield np.concatenate(left)
 
 
 class Clocks:
@@ -40,7 +85,7 @@ class Clocks:
     def __init__(self, door: Door, block: Block, choice: Choice):
         self.door, self.block, self.choice = door, block, choice
         self.shown, self.first, self.last = door.wall_clocks(block.seconds).T
-        # The rows that become NaT, those that lose what is less than a second, and those that the
+        # The rows that become NaT, those that are moved to an end of their gap, and those that the
         # order of rows decides.
         self.lost = self.cut = self.open = NO_ROWS
         self.faults: list[Fault] = []
@@ -59,7 +104,7 @@ class Clocks:
         self._fail(rows[never & (gap == "raise")], GAP)
         self._fail(rows[several & (fold == "raise")], FOLD)
         skipped = rows[never]
-        if skipped.size and gap in ("shift", "after"):
+        if skipped.size and gap in ("shift", "before", "after"):
             self._resolve(skipped)
         if fold == "given" and several.any():
             self._take_given(rows[several])
@@ -68,8 +113,8 @@ class Clocks:
         self._lose(rows[(never & (gap == "nat")) | (several & (fold == "nat"))])
 
     def _resolve(self, skipped: Array) -> None:
-        """Takes the instant of each row that clocks skipped: by the offset before the gap, or at
-        its end, which is the first second that shows a later time."""
+        """Takes the instant of each row that clocks skipped: by the offset before the gap, or the
+        first second that shows a later time."""
         local_times = self.block.seconds[skipped]
         if self.choice.gap == "shift":
             resolved = self.door.resolved(SHIFT_FORWARD, REFUSE, local_times)
@@ -109,18 +154,20 @@ class Clocks:
 
     # Instants
 
-    def write(self, offsets: Array, answers: Array) -> None:
-        """Writes the instants by these offsets to their rows."""
-        mine = answers[self.block.rows]
-        misfits = self._moved(offsets, mine)
+    def instants(self, offsets: Array) -> Array:
+        """Returns the instants by these offsets."""
+        found = np.empty(self.block.values.size, np.int64)
+        misfits = self._moved(offsets, found)
         if self.cut.size:
             parts = self.block.counted[self.cut] % self.block.column.per_second
+            parts += self.choice.gap == "before"
             least = NAT + self.block.column.has_nat
-            misfits = np.union1d(misfits, self.cut[mine[self.cut] < least + parts])
-            mine[self.cut] -= parts
+            misfits = np.union1d(misfits, self.cut[found[self.cut] < least + parts])
+            found[self.cut] -= parts
         self._fail(misfits, IS_OUT_OF_RANGE, self.block.column.misfit_words)
         if self.lost.size:
-            mine[self.lost] = NAT
+            found[self.lost] = NAT
+        return found
 
     def last_instants(self) -> Array:
         """Returns the last instants of the open rows."""

@@ -122,6 +122,30 @@ class Stretches(Opened):
         column = taken(instants, may_be_aware=True)
         return column.instants(of_days.floored(self._door, column, step))
 
+    @overload
+    def ceil(self, instants: Rows, step: Step) -> Array: ...
+    @overload
+    def ceil(self, instants: Labelled, step: Step) -> Labelled: ...
+    @overload
+    def ceil(self, instants: Moment, step: Step) -> Moment: ...
+    @overload
+    def ceil(self, instants: Single, step: Step) -> Any: ...
+
+    def ceil(self, instants: Any, step: Step) -> Any:
+        """Returns the instant if a local day, hour or other step begins there, or the next that does.
+
+        Steps are those of `floor`, and errors are raised as there.
+
+        >>> import numpy as np
+        >>> from sahvumbi import Zone
+        >>> times = np.array(["2021-11-07T05:40", "2021-11-07T06:00"], "M8[m]")
+        >>> Zone("America/New_York").ceil(times, "h")
+        array(['2021-11-07T06:00:00', '2021-11-07T06:00:00'],
+              dtype='datetime64[s]')
+        """
+        column = taken(instants, may_be_aware=True)
+        return column.instants(of_days.ceiled(self._door, column, step))
+
     # Spans and changes
 
     @overload

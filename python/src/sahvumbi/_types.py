@@ -29,7 +29,7 @@ Labelled = TypeVar("Labelled", bound=Labels)
 #: A datetime or a Timestamp, which is answered by one.
 Moment = TypeVar("Moment", bound=datetime)
 
-Gap = Literal["raise", "shift", "after", "nat"]
+Gap = Literal["raise", "shift", "before", "after", "nat"]
 FoldWord = Literal["raise", "earliest", "latest", "nat", "infer"]
 #: A word, or 0 and 1 for each row.
 Fold = Union[FoldWord, Rows, Labels, int]

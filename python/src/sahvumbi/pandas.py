@@ -62,6 +62,10 @@ class Accessor:
         """Returns the first instant of the step of each instant, as `Zone.floor` does."""
         return zone_of(zone).floor(self._column, step)
 
+    def ceil(self, zone: ZoneLike, step: Step) -> Any:
+        """Returns each instant, or the next at which a step begins, as `Zone.ceil` does."""
+        return zone_of(zone).ceil(self._column, step)
+
     def start_of_day(self, zone: ZoneLike) -> Any:
         """Returns the first instant of the day of each date, as `Zone.start_of_day` does."""
         return zone_of(zone).start_of_day(self._column)

@@ -151,7 +151,8 @@ class Zone(Stretches):
 
         `gap` says what is taken for a local time that clocks skipped: 'raise' a `GapError`; 'shift'
         the instant by the offset before the gap, as on a clock that was not set forward; 'after'
-        the first instant after the gap, at which clocks go on; 'nat' NaT.
+        the first instant after the gap, at which clocks go on; 'before' the last one before it that
+        the column's unit can count; 'nat' NaT.
 
         `fold` says what is taken for one that clocks showed several times: 'raise' a `FoldError`;
         'earliest' the first instant that shows it; 'latest' the last one; 'nat' NaT; 'infer' the
