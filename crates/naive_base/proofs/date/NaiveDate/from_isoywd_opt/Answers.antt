@@ -1,5 +1,5 @@
-use Rattle.naive_base.proofs.Words.{FitsSigned, IsDateOfDay, rules, subst, to_z-of_z, w64, weekday_number, ℤ}
-use Rattle.naive_base.proofs.Named.{iso_answer, number_below, within_year}
+use Rattle.naive_base.proofs.Words.{FitsSigned, rules, to_z-of_z, w64, weekday_number}
+use Rattle.naive_base.proofs.Named.{iso_answer, number_below}
 use Rattle.naive_base.proofs.date.NaiveDate.from_isoywd_opt.Goals as goal
 
 pub returns-clause-value : goal.returns-clause-value
@@ -12,14 +12,3 @@ returns-clause-value c =
     let answer = simp to_z-of_z at c.in_range.ensures in
     iso_answer c.args.year c.args.week (weekday_number c.args.weekday) c.in-Some.thursday c.day_in_week.result c.in_range.result
     (number_below c.args.weekday) thursday day answer
-
-pub returns-clause-all_but_last : goal.returns-clause-all_but_last
-returns-clause-all_but_last c = λ inner first last.
-    let range = c.ranges.year in
-    let fits : FitsSigned w64 c.in-Some.thursday = search rules in
-    let fits_day : FitsSigned w64 c.day_in_week.result = search rules in
-    let within = simp to_z-of_z at c.in-Some.ensures.inner in
-    let day = simp to_z-of_z at c.day_in_week.ensures in
-    let answer = simp to_z-of_z at c.in_range.ensures in
-    within_year c.args.year c.in-Some.thursday (weekday_number c.args.weekday) c.in_range.result (number_below c.args.weekday)
-    (within inner) (subst (λ (u : ℤ). IsDateOfDay u c.in_range.result) day answer)

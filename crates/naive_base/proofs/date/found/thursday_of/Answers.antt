@@ -3,9 +3,6 @@ use Rattle.naive_base.proofs.Words.{◌∙◌, ◌≡◌}
 use Rattle.naive_base.proofs.Named.{found_thursday, only_thursday}
 use Rattle.naive_base.proofs.date.found.thursday_of.Goals as goal
 
-pub returns-then-week-eq0-clause-value : goal.returns-then-week-eq0-clause-value
-returns-then-week-eq0-clause-value c = λ t h. omega (arith, (only_thursday c.args.year c.args.week t h).0, c.if-week-eq0.true)
-
 pub returns-then-place-days_in_year-clause-value : goal.returns-then-place-days_in_year-clause-value
 returns-then-place-days_in_year-clause-value c = λ t h.
     let range = c.ranges.year in

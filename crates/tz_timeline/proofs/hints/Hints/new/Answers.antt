@@ -1,6 +1,6 @@
 use Rattle.tz_timeline.proofs.Words.{SFits, ap, arith, drop, length, length-map, length-replicate, map, pos, replicate, rules, take-append-le, take_all}
 use Rattle.tz_timeline.proofs.Words.{time_at, to_z-of_z, w64, ◌+◌, ◌-ℤ◌, ◌-◌, ◌/◌, ◌^◌, ◌∙◌, ◌≡◌}
-use Rattle.tz_timeline.proofs.HintLaws.{first_least, hints_made, slots, zeros}
+use Rattle.tz_timeline.proofs.HintLaws.{first_least, hints_made, slots}
 use Rattle.tz_timeline.proofs.SearchSteps.{time_read}
 use Rattle.tz_timeline.proofs.hints.Hints.new.Given.{Over}
 use Rattle.tz_timeline.proofs.hints.Hints.new.Goals as goal
@@ -36,9 +36,6 @@ fill-most-requires-clause-room g c = λ k h.
     let count = ap length (zeros_are g c) ∙ length-replicate (c.seconds_between-span.result / 2 ^ c.shift_for-shift.result + 2) 0 in
     simp to_z-of_z (omega arith)
 
-pub fill-most-requires-clause-none : goal.fill-most-requires-clause-none
-fill-most-requires-clause-none g c = λ b. rw (zeros_are g c) (zeros _ b)
-
 pub returns : goal.returns
 returns g c =
     let at = (goal.at.returns g c).After-deref_mut in
@@ -51,12 +48,3 @@ returns g c =
     let size = c.in_ok-places.ensures.len in
     let written = take-append-le c.in_ok-places.places.len c.fill-most.new.places (drop (length c.fill-most.new.places) c.in_ok-places.places.items) (omega arith) ∙ take_all c.in_ok-places.places.len c.fill-most.new.places (omega arith) in
     hints_made _ _ c.second-first.result c.seconds_between-span.result c.fill-most.result c.deref_mut.result.now c.requires (omega arith) c.shift_for-shift.ensures.shift (first_is g at) (span_is g at) count (rw written filled) (omega arith)
-
-pub seconds_between-span-requires : goal.seconds_between-span-requires
-seconds_between-span-requires g c =
-    let ff : SFits w64 c.second-first.result = search rules in
-    let fs : SFits w64 c.second.result = search rules in
-    let long = length-map c.args.items.now g.T.Timed.time in
-    let first = c.second-first.ensures ∙ time_read g.T.Timed.time c.args.items.now 0 c.index-items-0.result (omega arith) c.index-items-0.is in
-    let last = c.second.ensures ∙ time_read g.T.Timed.time c.args.items.now (length c.args.items.now - 1) c.index-items-count.result (omega arith) c.index-items-count.is in
-    simp to_z-of_z (rw last (first_least _ c.second-first.result (length c.args.items.now - 1) c.requires first (omega arith)))

@@ -61,9 +61,3 @@ passed_by_halves-requires-clause-left g c =
     let last : SFits w64 c.self.inside.ends.last = search rules in
     let n = c.len-count.ensures.count in
     simp to_z-of_z (rw long at (all_left _ c.args.second c.self.inside.ends c.len-count.ensures.ordered (omega arith) (omega arith) ends (omega (arith, ints))))
-
-pub returns-in-Some-clause-passed : goal.returns-in-Some-clause-passed
-returns-in-Some-clause-passed g c = let fv = c.ranges.second in simp to_z-of_z at c.passed_near.ensures.passed
-
-pub returns-in-None-clause-passed : goal.returns-in-None-clause-passed
-returns-in-None-clause-passed g c = let fv = c.ranges.second in simp to_z-of_z at c.passed_by_halves.ensures.passed

@@ -42,14 +42,3 @@ pub returns-clause-cost : goal.returns-clause-cost
 returns-clause-cost g c =
     let inv = c.loop-left.invariant in
     record { looks = inv.looks + 1; some = omega arith; within = omega (arith, inv.most); counts = c.read.ensures.count ∙ ap (λ (p : Counts). g.T.Timed.counted p 1) inv.counts ∙ g.met.T.Timed.counts_up c.args.probes.now inv.looks 1 }
-
--- a look more has room, since fewer were counted than there may be
-pub narrowed-left-requires-in-loop-left-clause-room : goal.narrowed-left-requires-in-loop-left-clause-room
-narrowed-left-requires-in-loop-left-clause-room g c =
-    let inv = c.loop-left.invariant in
-    omega (arith, c.requires.room, inv.most, ap g.T.Timed.looks inv.counts ∙ g.met.T.Timed.counts_looks c.args.probes.now inv.looks)
-
-pub read-requires-clause-room : goal.read-requires-clause-room
-read-requires-clause-room g c =
-    let inv = c.loop-left.invariant in
-    omega (arith, c.requires.room, inv.most, ap g.T.Timed.looks inv.counts ∙ g.met.T.Timed.counts_looks c.args.probes.now inv.looks)
