@@ -1,8 +1,8 @@
 -- Local times of a column: by a lookup, and by what is kept of a stretch.
 use Rattle.zoned_ffi.proofs.Words.{Choice, IsCounted, IsInRange, IsInstantOf, IsInstantTaken, IsKept, IsLocal, IsNoInstant, IsNoneTaken, IsOffsetStretch}
 use Rattle.zoned_ffi.proofs.Words.{IsRowNumber, IsTakenAs, IsWithout, Kept, LocalType, MatchOption, None, OffsetStretch, Option, Some, Taken, TypeAt, Unit}
-use Rattle.zoned_ffi.proofs.Words.{Zone, ap, arith, floor_div, floors, ints, neg_ℤ, per_second, pos, refl, second_of, subst, sym, taken_instant, uncounted, ℕ}
-use Rattle.zoned_ffi.proofs.Words.{ℤ, ◌*ℤ◌, ◌+ℤ◌, ◌-ℤ◌, ◌<ℤ◌, ◌∙◌, ◌≡◌, ◌≤ℤ◌}
+use Rattle.zoned_ffi.proofs.Words.{Zone, ap, arith, floor_div, floors, inl, inr, ints, neg_ℤ, per_second, pos, refl, second_of, subst, sym, taken_instant}
+use Rattle.zoned_ffi.proofs.Words.{uncounted, ℕ, ℤ, ◌*ℤ◌, ◌+ℤ◌, ◌-ℤ◌, ◌<ℤ◌, ◌∙◌, ◌≡◌, ◌≤ℤ◌}
 use Rattle.zoned_ffi.proofs.Resolving.{none_is}
 use Rattle.zoned_ffi.specs.declared.column.Way.TheVariants.{ToLocal}
 use Rattle.zoned_ffi.specs.declared.resolved.Taken.TheVariants.{BeforeGap, GapEnd, InForce}
