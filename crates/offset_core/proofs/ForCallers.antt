@@ -4,6 +4,7 @@ use Rattle.std.specs.Prelude.{SomeIff, option_map}
 use Rattle.offset_core.specs.declared.local_result.LocalResult.{LocalResult}
 use Rattle.offset_core.specs.declared.local_result.LocalResult.TheVariants.{Single, Ambiguous, None as none}
 use Rattle.offset_core.specs.LocalResult.{map_of, all_or_none, IsAndThen}
+pub use Rattle.offset_core.proofs.Arounds.{HoldsOfTaken, map_around, map_outcome, map_taken, one_around, one_outcome, taken_holds, taken_in_range, taken_of_images, taken_right}
 pub use Rattle.offset_core.proofs.Digits.{split_left, split_right, length-in_digits, in_digits_once, two_digits, in_digits-two_more, in_digits-three_more}
 pub use Rattle.offset_core.proofs.FixedOffsets.{one_offset}
 pub use Rattle.offset_core.proofs.WallAnswers.{HasOneValue, IsWallAnswer-map_of, one_wall_answer}

@@ -1,8 +1,10 @@
+pub mod Around
 pub mod Digits
 pub mod FixedOffset
 pub mod LengthText
 pub mod LocalResult
 pub mod Nanoseconds
 pub mod Offset
+pub mod ResolveNumbers
 pub mod TimeDelta
 pub mod WallAnswer

@@ -1,9 +1,14 @@
 -- Clocks that are set once, by an hour, at 1970-01-01 00:00:00 UTC.
-use Rattle.offset_core.specs.declared.choice.FoldChoice.TheVariants.{Earliest, Latest, Refuse as RefuseFold}
-use Rattle.offset_core.specs.declared.choice.GapChoice.TheVariants.{Refuse as RefuseGap, ShiftForward}
-use Rattle.zoned_time.specs.Choice.IsTaken.{earliest, latest, once, shifted}
-use Rattle.tests_pins.proofs.Words.{FoldChoice, GapChoice, IsBeforeGap, IsShownBetween, IsShownOnce, IsTaken, Reading, Shows, Zoned, ap, arith, first_second}
-use Rattle.tests_pins.proofs.Words.{ints, last_second, neg_ℤ, negsuc, pos, refl, set_back, set_forward, sym, ℕ, ℤ, ◌+ℤ◌, ◌-ℤ◌, ◌<ℤ◌, ◌∙◌, ◌≡◌, ◌≢◌, ◌≤ℤ◌}
+use Rattle.offset_core.specs.Around.{Takes, taken_in_fold, taken_in_gap}
+use Rattle.offset_core.specs.declared.around.Around.TheVariants.{Ambiguous, Gap, Single}
+use Rattle.offset_core.specs.declared.around.Taken.{Taken}
+use Rattle.offset_core.specs.declared.around.Taken.TheVariants.{InGap, Shown}
+use Rattle.offset_core.specs.declared.choice.Choice.{Choice}
+use Rattle.offset_core.specs.declared.resolve_error.ResolveError.TheVariants as reasons
+use Rattle.std.proofs.Common.{Err, Ok, Result}
+use Rattle.zoned_time.proofs.ForCallers.{one_taken, taken_once}
+use Rattle.tests_pins.proofs.Words.{IsBeforeGap, IsShownBetween, IsShownOnce, IsTaken, Reading, ResolveError, Shows, Zoned, arith, first_second}
+use Rattle.tests_pins.proofs.Words.{ints, last_second, neg_ℤ, negsuc, pos, refl, set_back, set_forward, sym, ℤ, ◌+ℤ◌, ◌-ℤ◌, ◌<ℤ◌, ◌∙◌, ◌≡◌, ◌≤ℤ◌}
 use Rattle.tests_pins.specs.Choices as choices
 
 -- ---- the gap
@@ -34,25 +39,18 @@ only_before_gap k h =
     let least = h.least (pos 0) (omega arith, omega arith) (omega arith) in
     h.before ∙ at_0 (h.first -ℤ pos 1) (omega (arith, ints))
 
-gap_number : GapChoice → ℕ
-gap_number RefuseGap = 0
-gap_number ShiftForward = 1
-
-refuses_gap : RefuseGap ≡ ShiftForward → ⊥
-unfolding gap_number
-refuses_gap e = let same = ap gap_number e in absurd (omega (arith, same))
+-- what each choice takes there
+pub takes_gap : (choice : Choice) (outcome : Result (Taken ℤ ℤ) ResolveError) → taken_in_gap {T = ℤ} choice.gap (pos 0) ≡ outcome
+    → Takes (Shows set_forward (pos 1_800)) (IsBeforeGap set_forward (pos 1_800)) choice outcome
+takes_gap choice outcome is = record { around = Gap (pos 0); right = before_gap; taken = is }
 
 pub taken_shifted : (k : ℤ) → IsTaken set_forward (pos 1_800) choices.shift k → k ≡ pos 0
-taken_shifted k (once o) = absurd (never o.second k o.shown)
-taken_shifted k (earliest last b _) = absurd (never b.first k b.at_first)
-taken_shifted k (latest first b _) = absurd (never b.last k b.at_last)
-taken_shifted k (shifted gap _) = only_before_gap k gap
+taken_shifted k h = taken_once set_forward (pos 1_800) choices.shift k (pos 0) h
+    (record { taken = InGap (pos 0); takes = takes_gap choices.shift (Ok (InGap (pos 0))) refl; offset = refl })
 
 pub none_taken : (k : ℤ) → ¬ (IsTaken set_forward (pos 1_800) choices.refuse k)
-none_taken k (once o) = never o.second k o.shown
-none_taken k (earliest last b _) = never b.first k b.at_first
-none_taken k (latest first b _) = never b.last k b.at_last
-none_taken k (shifted gap wants) = refuses_gap wants
+none_taken k h =
+    let one = one_taken set_forward (pos 1_800) choices.refuse (Ok h.taken) (Err reasons.Gap) h.takes (takes_gap choices.refuse (Err reasons.Gap) refl) in cc
 
 -- ---- the fold
 pub shown_first : Shows set_back (pos 1_800) (neg_ℤ (pos 1_800)) (pos 3_600)
@@ -61,62 +59,42 @@ shown_first = record { in_zone = (omega arith, omega arith); offset = refl; show
 pub shown_last : Shows set_back (pos 1_800) (pos 1_800) (pos 0)
 shown_last = record { in_zone = (omega arith, omega arith); offset = refl; shown = refl }
 
+within_fold : (u k : ℤ) → Shows set_back (pos 1_800) u k → (neg_ℤ (pos 1_800) ≤ℤ u) × (u ≤ℤ pos 1_800)
+within_fold (pos a) k s = let is = s.offset in let shown = s.shown in (omega (arith, ints), omega (arith, ints))
+within_fold (negsuc a) k s = let is = s.offset in let shown = s.shown in (omega (arith, ints), omega (arith, ints))
+
+pub fold : IsShownBetween (Shows set_back (pos 1_800)) (pos 3_600) (pos 0)
+fold = record {
+  first = neg_ℤ (pos 1_800);
+  last = pos 1_800;
+  several = omega (arith, ints);
+  at_first = shown_first;
+  at_last = shown_last;
+  not_before = λ u k s. (within_fold u k s).0;
+  not_after = λ u k s. (within_fold u k s).1;
+}
+
+pub takes_fold : (choice : Choice) (outcome : Result (Taken ℤ ℤ) ResolveError) → taken_in_fold {G = ℤ} choice.fold (pos 3_600) (pos 0) ≡ outcome
+    → Takes (Shows set_back (pos 1_800)) (IsBeforeGap set_back (pos 1_800)) choice outcome
+takes_fold choice outcome is = record { around = Ambiguous (pos 3_600) (pos 0); right = fold; taken = is }
+
+pub taken_earliest : (k : ℤ) → IsTaken set_back (pos 1_800) choices.earliest k → k ≡ pos 3_600
+taken_earliest k h = taken_once set_back (pos 1_800) choices.earliest k (pos 3_600) h
+    (record { taken = Shown (pos 3_600); takes = takes_fold choices.earliest (Ok (Shown (pos 3_600))) refl; offset = refl })
+
+pub taken_latest : (k : ℤ) → IsTaken set_back (pos 1_800) choices.latest k → k ≡ pos 0
+taken_latest k h = taken_once set_back (pos 1_800) choices.latest k (pos 0) h
+    (record { taken = Shown (pos 0); takes = takes_fold choices.latest (Ok (Shown (pos 0))) refl; offset = refl })
+
+pub none_taken_twice : (k : ℤ) → ¬ (IsTaken set_back (pos 1_800) choices.refuse k)
+none_taken_twice k h =
+    let one = one_taken set_back (pos 1_800) choices.refuse (Ok h.taken) (Err reasons.Fold) h.takes (takes_fold choices.refuse (Err reasons.Fold) refl) in cc
+
+-- ---- both ends of the range
 an_hour : (v : ℤ) → v <ℤ pos 0 → set_back v ≡ pos 3_600
 an_hour (pos a) h = absurd (omega (arith, ints))
 an_hour (negsuc a) h = refl
 
-nothing : (v : ℤ) → pos 0 ≤ℤ v → set_back v ≡ pos 0
-nothing (pos a) h = refl
-nothing (negsuc a) h = absurd (omega (arith, ints))
-
-fold_number : FoldChoice → ℕ
-fold_number RefuseFold = 0
-fold_number Earliest = 1
-fold_number Latest = 2
-
-wants_other : (a b : FoldChoice) → fold_number a ≢ fold_number b → a ≡ b → ⊥
-wants_other a b apart e = apart (ap fold_number e)
-
-not_once : (k : ℤ) → IsShownOnce (Shows set_back (pos 1_800)) k → ⊥
-not_once k o =
-    let first = o.only (neg_ℤ (pos 1_800)) (pos 3_600) shown_first in
-    let last = o.only (pos 1_800) (pos 0) shown_last in
-    absurd (omega (arith, ints))
-
-first_is : (k l : ℤ) → IsShownBetween (Shows set_back (pos 1_800)) k l → k ≡ pos 3_600
-first_is k l b =
-    let early = b.not_before (neg_ℤ (pos 1_800)) (pos 3_600) shown_first in
-    let at = b.at_first in
-    at.offset ∙ an_hour b.first (omega (arith, ints))
-
-last_is : (k l : ℤ) → IsShownBetween (Shows set_back (pos 1_800)) k l → l ≡ pos 0
-last_is k l b =
-    let late = b.not_after (pos 1_800) (pos 0) shown_last in
-    let at = b.at_last in
-    at.offset ∙ nothing b.last (omega (arith, ints))
-
-pub taken_earliest : (k : ℤ) → IsTaken set_back (pos 1_800) choices.earliest k → k ≡ pos 3_600
-unfolding fold_number
-taken_earliest k (once o) = absurd (not_once k o)
-taken_earliest k (earliest last b _) = first_is k last b
-taken_earliest k (latest first b wants) = absurd (wants_other Earliest Latest (λ e. absurd (omega (arith, e))) wants)
-taken_earliest k (shifted gap _) = absurd (gap.never (pos 1_800) (pos 0) shown_last)
-
-pub taken_latest : (k : ℤ) → IsTaken set_back (pos 1_800) choices.latest k → k ≡ pos 0
-unfolding fold_number
-taken_latest k (once o) = absurd (not_once k o)
-taken_latest k (earliest last b wants) = absurd (wants_other Latest Earliest (λ e. absurd (omega (arith, e))) wants)
-taken_latest k (latest first b _) = last_is first k b
-taken_latest k (shifted gap _) = absurd (gap.never (pos 1_800) (pos 0) shown_last)
-
-pub none_taken_twice : (k : ℤ) → ¬ (IsTaken set_back (pos 1_800) choices.refuse k)
-unfolding fold_number
-none_taken_twice k (once o) = not_once k o
-none_taken_twice k (earliest last b wants) = wants_other RefuseFold Earliest (λ e. absurd (omega (arith, e))) wants
-none_taken_twice k (latest first b wants) = wants_other RefuseFold Latest (λ e. absurd (omega (arith, e))) wants
-none_taken_twice k (shifted gap _) = gap.never (pos 1_800) (pos 0) shown_last
-
--- ---- both ends of the range
 pub shown_below : Shows set_back first_second (neg_ℤ (pos 8_334_601_232_400)) (pos 3_600)
 shown_below = record { in_zone = (omega arith, omega arith); offset = sym (an_hour (neg_ℤ (pos 8_334_601_232_400)) (omega arith)); shown = refl }
 
@@ -127,11 +105,8 @@ below_at (negsuc a) k s = let is = s.offset in let shown = s.shown in (omega (ar
 pub below_once : IsShownOnce (Shows set_back first_second) (pos 3_600)
 below_once = record { second = neg_ℤ (pos 8_334_601_232_400); shown = shown_below; only = λ u k s. (below_at u k s).0 }
 
-pub taken_below : (k : ℤ) → IsTaken set_back first_second choices.refuse k → k ≡ pos 3_600
-taken_below k (once o) = (below_at o.second k o.shown).1
-taken_below k (earliest last b _) = (below_at b.first k b.at_first).1
-taken_below k (latest first b _) = (below_at b.last k b.at_last).1
-taken_below k (shifted gap _) = absurd (gap.never (neg_ℤ (pos 8_334_601_232_400)) (pos 3_600) shown_below)
+pub is_taken_below : IsTaken set_back first_second choices.refuse (pos 3_600)
+is_taken_below = record { taken = Shown (pos 3_600); takes = record { around = Single (pos 3_600); right = below_once; taken = refl }; offset = refl }
 
 pub shown_at_last : Shows set_forward last_second (pos 8_210_266_873_199) (pos 3_600)
 shown_at_last = record { in_zone = (omega arith, omega arith); offset = refl; shown = refl }
@@ -140,11 +115,12 @@ pub last_at : (u k : ℤ) → Shows set_forward last_second u k → (u ≡ pos 8
 last_at (pos a) k s = let is = s.offset in let shown = s.shown in (omega (arith, ints), is)
 last_at (negsuc a) k s = let is = s.offset in let shown = s.shown in absurd (omega (arith, ints))
 
-pub taken_at_last : (k : ℤ) → IsTaken set_forward last_second choices.refuse k → k ≡ pos 3_600
-taken_at_last k (once o) = (last_at o.second k o.shown).1
-taken_at_last k (earliest last b _) = (last_at b.first k b.at_first).1
-taken_at_last k (latest first b _) = (last_at b.last k b.at_last).1
-taken_at_last k (shifted gap _) = absurd (gap.never (pos 8_210_266_873_199) (pos 3_600) shown_at_last)
+pub takes_last : Takes (Shows set_forward last_second) (IsBeforeGap set_forward last_second) choices.refuse (Ok (Shown (pos 3_600)))
+takes_last = record {
+  around = Single (pos 3_600);
+  right = record { second = pos 8_210_266_873_199; shown = shown_at_last; only = λ u k s. (last_at u k s).0 };
+  taken = refl;
+}
 
 -- ---- instants
 pub zoned_is : (d : Zoned ℤ) (r : Reading) (k : ℤ) → d.utc ≡ r → d.offset ≡ k → d ≡ record { utc = r; offset = k }

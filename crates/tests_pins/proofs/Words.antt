@@ -41,7 +41,7 @@ pub use Rattle.tz_info.specs.declared.zone.transition.Transition.{Transition}
 pub use Rattle.zoned_time.proofs.Words.{IsEarlier, IsFirstAtOrAfter, IsGiven, IsNeverShown, IsShownOnce, ahead, day_at, day_of_year_is}
 unfoldable pub use Rattle.zoned_time.proofs.Words.{day_number, day_of_month, month_of}
 pub use Rattle.zoned_time.specs.Years.{IsEarlierInYear, IsWholeYears}
-pub use Rattle.zoned_time.specs.declared.resolve_error.ResolveError.{ResolveError}
+pub use Rattle.offset_core.specs.declared.resolve_error.ResolveError.{ResolveError}
 pub use Rattle.zoned_round.proofs.Words.{IsRefusal, floor_mod_parts}
 pub use Rattle.zoned_round.specs.declared.error.RoundingError.{RoundingError}
 pub use Rattle.demo_own_zone.proofs.Words.{IsShownBetween, Shows, midnight}

@@ -4,10 +4,10 @@
 ghost use Rattle.std.specs.Prelude.{◌≡◌, ℤ, pos, neg_ℤ};
 ghost use Rattle.naive_base.specs.Range.{first_second, last_second, first_reading};
 ghost use Rattle.zoned_time.specs.Choice.{IsBeforeGap, IsTaken, IsResolved, IsUnresolved};
-ghost use Rattle.zoned_time.specs.ResolveNumbers.{number_of};
+ghost use Rattle.offset_core.specs.ResolveNumbers.{number_of};
 ghost use Rattle.zoned_time.specs.Zoned.{Zoned};
-ghost use Rattle.zoned_time.specs.declared.resolve_error.ResolveError.{ResolveError};
-ghost use Rattle.zoned_time.specs.declared.resolve_error.ResolveError.TheVariants.{Gap, Fold, OutOfRange};
+ghost use Rattle.offset_core.specs.declared.resolve_error.ResolveError.{ResolveError};
+ghost use Rattle.offset_core.specs.declared.resolve_error.ResolveError.TheVariants.{Gap, Fold, OutOfRange};
 ghost use Rattle.tests_pins.specs.Choices.{set_forward, set_back, forward, back, half_past, refuse, shift, earliest, latest};
 
 /// Before the gap clocks were at 0, and by no other offset 00:30 is taken.

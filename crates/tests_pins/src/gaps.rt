@@ -5,7 +5,7 @@ ghost use Rattle.tz_base.specs.LocalTypes.{LocalType};
 ghost use Rattle.tz_info.specs.Around.{IsAround};
 ghost use Rattle.tz_info.specs.Gaps.{IsShown, HasGap};
 ghost use Rattle.tz_info.specs.Zones.{TypeAt};
-ghost use Rattle.tz_info.specs.declared.zone.around.TypesAround.TheVariants.{Single, Ambiguous, Gap};
+ghost use Rattle.offset_core.specs.declared.around.Around.TheVariants.{Single, Ambiguous, Gap};
 ghost use Rattle.tests_pins.specs.NewYork.{new_york_zone, est, edt};
 
 /// 02:30 on 14 March 2021 lies in the gap at 1615705200, from EST to EDT; 01:59:59 is shown once.

@@ -1,8 +1,7 @@
 -- A local time has one answer with both sides of its gap.
-use Rattle.offset_core.specs.declared.local_result.LocalResult.TheVariants.{Ambiguous as Twice, Single as Once}
-use Rattle.tz_info.proofs.Words.{Change, HasGap, IsAround, TypeAt, TypesAround, Zone, ap, arith, ints, pos, subst, ℤ, ◌-ℤ◌, ◌≡◌}
-use Rattle.tz_info.specs.declared.zone.around.TypesAround.TheVariants.{Ambiguous, Gap, Single}
-use Rattle.tz_info.proofs.WallLaws.{one_wall_clock}
+use Rattle.tz_info.proofs.Words.{Around, Change, HasGap, IsAround, LocalType, Shows, TypeAt, Zone, arith, ints, one_around, pos, subst, ℤ, ◌-ℤ◌, ◌≡◌}
+use Rattle.tz_info.specs.Around.{Skips}
+use Rattle.tz_info.proofs.WallLaws.{shown_once}
 use Rattle.tz_info.proofs.ZoneLaws.{type_once}
 
 same_sides : (g h : Change) → g.before ≡ h.before → g.after ≡ h.after → g.at ≡ h.at → g ≡ h
@@ -18,14 +17,5 @@ one_gap z l g h a b =
     (type_once z h.at g.after h.after (subst (λ (u : ℤ). TypeAt z u g.after) same a.here) b.here)
     same
 
-pub one_around : (z : Zone) (l : ℤ) (a b : TypesAround) → IsAround (TypeAt z) l a → IsAround (TypeAt z) l b → a ≡ b
-one_around z l (Single s) (Single t) h k = let e = one_wall_clock z l (Once s) (Once t) h k in let same : s ≡ t = cc in ap Single same
-one_around z l (Single s) (Ambiguous t w) h k = let e = one_wall_clock z l (Once s) (Twice t w) h k in cc
-one_around z l (Single s) (Gap g) h k = absurd (k.never h.second s h.shown)
-one_around z l (Ambiguous s v) (Single t) h k = let e = one_wall_clock z l (Twice s v) (Once t) h k in cc
-one_around z l (Ambiguous s v) (Ambiguous t w) h k =
-    let e = one_wall_clock z l (Twice s v) (Twice t w) h k in let first : s ≡ t = cc in let last : v ≡ w = cc in cc
-one_around z l (Ambiguous s v) (Gap g) h k = absurd (k.never h.first s h.at_first)
-one_around z l (Gap g) (Single t) h k = absurd (h.never k.second t k.shown)
-one_around z l (Gap g) (Ambiguous t w) h k = absurd (h.never k.first t k.at_first)
-one_around z l (Gap g) (Gap f) h k = ap Gap (one_gap z l g f h k)
+pub one_answer_around : (z : Zone) (l : ℤ) (a b : Around LocalType Change) → IsAround (TypeAt z) l a → IsAround (TypeAt z) l b → a ≡ b
+one_answer_around z l = one_around (Shows (TypeAt z) l) (Skips (TypeAt z) l) (shown_once z l) (λ g gap. gap.never) (one_gap z l)

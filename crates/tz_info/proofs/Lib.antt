@@ -40,7 +40,7 @@ pub mod SeasonAnswers
 pub mod WindowLaws
 pub mod GapLaws
 pub mod AroundLaws
-pub mod AroundEquality
+pub mod SecondEquality
 pub mod ZoneChanges
 pub mod LeaplessChanges
 pub mod SpanLaws

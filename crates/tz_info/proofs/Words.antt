@@ -29,9 +29,10 @@ pub use Rattle.std.specs.Str.{IsAsciiWhitespaceBelow, IsAsciiWhitespaceFrom, IsT
 unfoldable pub use Rattle.std.specs.Str.{is_utf8}
 pub use borrow.Author.Count.{below_more}
 pub use mir.Syntax.{w128}
-pub use Rattle.offset_core.proofs.ForCallers.{one_wall_answer}
+pub use Rattle.offset_core.proofs.ForCallers.{one_around, one_wall_answer}
 pub use Rattle.offset_core.specs.Offset.{IsWithinDay}
 pub use Rattle.offset_core.specs.WallAnswer.{IsNeverShown, IsWallAnswer}
+pub use Rattle.offset_core.specs.declared.around.Around.{Around}
 pub use Rattle.offset_core.specs.declared.local_result.LocalResult.{LocalResult}
 pub use Rattle.naive_base.proofs.ForCallers.{date_lies, days_at_most, leap_at_most, months_all, months_step, own_start_in_range}
 pub use Rattle.naive_base.proofs.Words.{FitsSigned, IsWide, LiesIn, MatchOption, append_assoc, by_lt_z, day_of, day_of_year_is, days_at_least, days_in_month}
@@ -156,7 +157,6 @@ pub use Rattle.tz_info.specs.declared.rule.day.DayForm.{DayForm}
 pub use Rattle.tz_info.specs.declared.rule.day.DayTime.{DayTime}
 pub use Rattle.tz_info.specs.declared.rule.transition_rule.TransitionRule.{TransitionRule}
 pub use Rattle.tz_info.specs.declared.zone.all_changes.Changes.{Changes}
-pub use Rattle.tz_info.specs.declared.zone.around.TypesAround.{TypesAround}
 pub use Rattle.tz_info.specs.declared.zone.differences.Difference.{Difference}
 pub use Rattle.tz_info.specs.declared.zone.extremes.Extremes.{Extremes}
 pub use Rattle.tz_info.specs.declared.zone.leap_second.LeapSecond.{LeapSecond}

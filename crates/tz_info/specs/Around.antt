@@ -1,14 +1,16 @@
 -- What shows a local time, or the gap that it lies in.
 use Rattle.std.specs.Prelude.{ℤ}
-use Rattle.offset_core.specs.WallAnswer.{IsShownOnce, IsShownBetween}
+use Rattle.offset_core.specs.Around as any
+use Rattle.offset_core.specs.declared.around.Around.{Around}
 use Rattle.tz_base.specs.LocalTypes.{LocalType}
+use Rattle.tz_base.specs.declared.change.Change.{Change}
 use Rattle.tz_info.specs.Gaps.{HasGap}
 use Rattle.tz_info.specs.WallClocks.{Shows}
-use Rattle.tz_info.specs.declared.zone.around.TypesAround.{TypesAround}
-use Rattle.tz_info.specs.declared.zone.around.TypesAround.TheVariants.{Single, Ambiguous, Gap}
 
--- exactly one second shows the local time, or several do, or it lies in that gap
-abbrev pub IsAround : (ℤ → LocalType → Type 0) → ℤ → TypesAround → Type 0
-IsAround in_force local (Single t) = IsShownOnce (Shows in_force local) t
-IsAround in_force local (Ambiguous a b) = IsShownBetween (Shows in_force local) a b
-IsAround in_force local (Gap g) = HasGap in_force local g.before g.after g.at
+-- a change at which clocks skip the local time
+abbrev pub Skips : (ℤ → LocalType → Type 0) → ℤ → Change → Type 0
+Skips in_force local change = HasGap in_force local change.before change.after change.at
+
+-- exactly one second shows the local time, or several do, or it lies in the gap of that change
+abbrev pub IsAround : (ℤ → LocalType → Type 0) → ℤ → Around LocalType Change → Type 0
+IsAround in_force local = any.IsAround (Shows in_force local) (Skips in_force local)

@@ -4,8 +4,10 @@ use Rattle.tz_timeline.specs.Counts.{Counts, RoseWithin, RoseByPieces}
 use Rattle.tz_timeline.specs.Digits.{digits}
 use Rattle.tz_info.specs.Windows.{IsWindowCount}
 use Rattle.tz_info.specs.Zones.{Zone}
-use Rattle.tz_info.specs.declared.zone.around.TypesAround.{TypesAround}
-use Rattle.tz_info.specs.declared.zone.around.TypesAround.TheVariants.{Gap}
+use Rattle.offset_core.specs.declared.around.Around.{Around}
+use Rattle.offset_core.specs.declared.around.Around.TheVariants.{Gap}
+use Rattle.tz_base.specs.LocalTypes.{LocalType}
+use Rattle.tz_base.specs.declared.change.Change.{Change}
 
 -- by instant: the looks of one search in the transitions, and one question to the rule
 abbrev pub RoseByInstant : Zone → Counts → Counts → Type 0
@@ -26,10 +28,10 @@ pub record RoseByWalk (z : Zone) (local : ℤ) (before after : Counts) : Type 0 
   pub least : 0 < length z.transitions → before.reads < after.reads
 
 -- in a gap one transition is looked at
-abbrev pub gap_reads : TypesAround → ℕ
+abbrev pub gap_reads : Around LocalType Change → ℕ
 gap_reads (Gap gap) = 1
 gap_reads _ = 0
 
 -- by wall clock with both sides of a gap: the looks and questions of a lookup by wall clock, and in a gap at most one look at a transition
-abbrev pub RoseAround : Zone → TypesAround → Counts → Counts → Type 0
+abbrev pub RoseAround : Zone → Around LocalType Change → Counts → Counts → Type 0
 RoseAround z found before after = (looked_up : Counts) × RoseByWallClock z before looked_up × RoseWithin looked_up after (gap_reads found) 0

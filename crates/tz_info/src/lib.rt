@@ -8,11 +8,11 @@ pub mod laws;
 mod rule;
 mod zone;
 
+pub use offset_core::Around;
 pub use rule::{AlternateTime, DayForm, RuleDay, TransitionRule};
 pub use tz_base::{Change, Cursor, Error, Expected, LocalTimeType, Span, TimeZoneName};
 pub use tz_timeline::Probes;
 pub use zone::all_changes::Changes;
-pub use zone::around::TypesAround;
 pub use zone::differences::Difference;
 pub use zone::lookups::Lookups;
 pub use zone::offset_stretch::OffsetStretch;

@@ -1,7 +1,6 @@
 //! Time zones.
 
 pub(crate) mod all_changes;
-pub(crate) mod around;
 mod changes;
 pub(crate) mod differences;
 mod extremes;

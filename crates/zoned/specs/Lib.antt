@@ -1,11 +1,13 @@
 -- What the contracts cite, passed on to callers: each page of the crates below, under its name. Where two crates have a page of
 -- one name, that of the lower one keeps it.
+pub use Rattle.offset_core.specs.Around as AroundTimes
 pub use Rattle.offset_core.specs.Digits as TextDigits
 pub use Rattle.offset_core.specs.FixedOffset
 pub use Rattle.offset_core.specs.LengthText
 pub use Rattle.offset_core.specs.LocalResult
 pub use Rattle.offset_core.specs.Nanoseconds
 pub use Rattle.offset_core.specs.Offset
+pub use Rattle.offset_core.specs.ResolveNumbers
 pub use Rattle.offset_core.specs.TimeDelta
 pub use Rattle.offset_core.specs.WallAnswer
 pub use Rattle.gregorian.specs.Weekdays
@@ -76,7 +78,6 @@ pub use Rattle.tz_write.specs.FileDesignations
 pub use Rattle.tz_write.specs.FileLayouts
 pub use Rattle.tz_write.specs.FileBytes
 pub use Rattle.tz_write.specs.WrittenFiles
-pub use Rattle.zoned_time.specs.Alike
 pub use Rattle.zoned_time.specs.Choice
 pub use Rattle.zoned_time.specs.Days
 pub use Rattle.zoned_time.specs.DayEnds
@@ -84,7 +85,6 @@ pub use Rattle.zoned_time.specs.DateTime
 pub use Rattle.zoned_time.specs.Fields as InstantFields
 pub use Rattle.zoned_time.specs.Order
 pub use Rattle.zoned_time.specs.Relocal
-pub use Rattle.zoned_time.specs.ResolveNumbers
 pub use Rattle.zoned_time.specs.Stamps
 pub use Rattle.zoned_time.specs.Years
 pub use Rattle.zoned_time.specs.Zone

@@ -240,8 +240,8 @@ pub use naive_base::{
     NaiveDateWeeksIterator, NaiveTime, NaiveWeek, OutOfRange, Timelike, Weekday,
 };
 pub use offset_core::{
-    Choice, FixedOffset, FoldChoice, GapChoice, LocalResult, MappedLocalTime, OutOfRangeError,
-    TimeDelta,
+    Around, Choice, FixedOffset, FoldChoice, GapChoice, LocalResult, MappedLocalTime,
+    OutOfRangeError, ResolveError, Taken, TimeDelta,
 };
 pub use tz_base;
 pub use tz_info;
@@ -251,6 +251,5 @@ pub use zoned_ref::{TimeZoneRef, WallClock, ZoneChange, ZoneOffset};
 pub use zoned_round::{DurationRound, RoundingError, SubsecRound};
 pub use zoned_series::{DailyItems, DailySeries, SeriesError};
 pub use zoned_time::{
-    DateTime, MAX_DATETIME, MIN_DATETIME, NaiveZoned, Offset, OffsetsAround, ResolveError,
-    ShownDay, TimeZone, Utc, ZoneDays,
+    DateTime, MAX_DATETIME, MIN_DATETIME, NaiveZoned, Offset, ShownDay, TimeZone, Utc, ZoneDays,
 };

@@ -1,8 +1,9 @@
 -- Local times of a column: by a lookup, and by what is kept of a stretch.
 use Rattle.zoned_ffi.proofs.Words.{Choice, IsCounted, IsInRange, IsInstantOf, IsInstantTaken, IsKept, IsLocal, IsNoInstant, IsNoneTaken, IsOffsetStretch}
 use Rattle.zoned_ffi.proofs.Words.{IsRowNumber, IsTakenAs, IsWithout, Kept, LocalType, MatchOption, None, OffsetStretch, Option, Some, Taken, TypeAt, Unit}
-use Rattle.zoned_ffi.proofs.Words.{Zone, ap, arith, floor_div, floors, ints, neg_ℤ, per_second, pos, refl, second_of, subst, sym, taken_instant, uncounted, ℕ}
-use Rattle.zoned_ffi.proofs.Words.{ℤ, ◌*ℤ◌, ◌+ℤ◌, ◌-ℤ◌, ◌<ℤ◌, ◌∙◌, ◌≡◌, ◌≤ℤ◌}
+use Rattle.zoned_ffi.proofs.Words.{Zone, ap, arith, floor_div, floors, inl, inr, ints, neg_ℤ, per_second, pos, refl, second_of, subst, sym, taken_instant}
+use Rattle.zoned_ffi.proofs.Words.{uncounted, ℕ, ℤ, ◌*ℤ◌, ◌+ℤ◌, ◌-ℤ◌, ◌<ℤ◌, ◌∙◌, ◌≡◌, ◌≤ℤ◌}
+use Rattle.zoned_ffi.proofs.Resolving.{none_is}
 use Rattle.zoned_ffi.specs.declared.column.Way.TheVariants.{ToLocal}
 use Rattle.zoned_ffi.specs.declared.resolved.Taken.TheVariants.{BeforeGap, GapEnd, InForce}
 use Rattle.zoned_ffi.specs.declared.unit.Unit.TheVariants as units
@@ -66,8 +67,10 @@ instant_told z unit choice local taken (Some i) in_range is found = record {
 }
 
 none_number : (z : Zone) (local : ℤ) (choice : Choice) (n : ℕ) → IsNoneTaken z local choice n → IsRowNumber n
-none_number z local choice n (IsNoneTaken.gap _ _) = (omega arith, omega arith)
-none_number z local choice n (IsNoneTaken.fold _ _ _ _) = (omega arith, omega arith)
+none_number z local choice n none = elim (none_is z local choice n none) [
+  | inl gap ↦ (omega (arith, gap), omega (arith, gap))
+  | inr fold ↦ (omega (arith, fold), omega (arith, fold))
+]
 
 pub row_number : (z : Zone) (unit : Unit) (choice : Choice) (local : ℤ) (n : ℕ) → IsNoInstant z unit choice local n → IsRowNumber n
 row_number z unit choice local n (IsNoInstant.outside _) = (omega arith, omega arith)

@@ -1,7 +1,15 @@
 -- What a choice takes, told by instants.
-use Rattle.zoned_ffi.proofs.Words.{Choice, HasGap, IsBeforeGap, IsFirstAtOrAfter, IsGapEnd, IsInRange, IsOffsetAt, IsReachedAt, IsResolvedAt, IsStamp, IsTaken}
+use Rattle.offset_core.specs.ResolveNumbers.{number_of}
+use Rattle.offset_core.specs.declared.around.Around.{Around}
+use Rattle.offset_core.specs.declared.around.Taken.{Taken as Found}
+use Rattle.offset_core.specs.declared.choice.Choice as any_choice
+use Rattle.offset_core.specs.declared.resolve_error.ResolveError.{ResolveError}
+use Rattle.offset_core.specs.declared.resolve_error.ResolveError.TheVariants as reasons
+use Rattle.tz_base.specs.declared.change.Change.{Change}
+use Rattle.tz_info.specs.Around.{IsAround}
+use Rattle.zoned_ffi.proofs.Words.{Choice, IsFirstAtOrAfter, IsGapEnd, IsNoneTaken, IsInRange, IsOffsetAt, IsReachedAt, IsResolvedAt, IsStamp, IsTaken}
 use Rattle.zoned_ffi.proofs.Words.{IsTakenAs, IsUtOffset, LocalType, Resolved, Shows, TypeAt, Zone, ap, inl, inr, subst, sym, ℤ, +ℤ-neg_ℤ_cancel, ◌-ℤ◌, ◌∙◌}
-use Rattle.zoned_ffi.proofs.Words.{◌≡◌}
+use Rattle.zoned_ffi.proofs.Words.{Err, Result, TakesOf, policy_of, refl, taken_in_range, taken_of, ℕ, ◌≡◌, ◌⊎◌}
 use Rattle.zoned_ffi.specs.declared.resolved.Taken.TheVariants.{InForce}
 
 -- the instant by the offset that is taken, and the offset in force there
@@ -33,11 +41,16 @@ in_force z local u choice t offset shows taken same bound =
     let there = subst (λ v. TypeAt z (local -ℤ v) t) (sym same) (subst (λ v. TypeAt z v t) second shows.type) in
     ((t, taken, same), inl (t, there, same, subst IsUtOffset (sym same) bound))
 
-pub before_gap : (z : Zone) (local : ℤ) (before after : LocalType) (at : ℤ) → HasGap (TypeAt z) local before after at → IsBeforeGap (TypeAt z) local before
-before_gap z local before after at gap = record {
-  never = gap.never;
-  first = at;
-  more = record { type = after; here = gap.here; more = gap.more };
-  least = gap.least;
-  before = gap.earlier;
-}
+-- what is taken of the answer around the local time
+pub taken_as : (z : Zone) (local : ℤ) (choice : Choice) (a : Around LocalType Change) (p : any_choice.Choice) (r o : Result (Found LocalType Change) ResolveError)
+    → IsAround (TypeAt z) local a → p ≡ policy_of choice → r ≡ taken_of p a → r ≡ o → TakesOf z local choice o
+taken_as z local choice a p r o right policy found is = record { around = a; right = right; taken = ap (λ q. taken_of q a) (sym policy) ∙ sym found ∙ is }
+
+-- why nothing is taken, in numbers
+number_is : (choice : any_choice.Choice) (a : Around LocalType Change) (e : ResolveError) → taken_of choice a ≡ Err e → (number_of e ≡ 21) ⊎ (number_of e ≡ 22)
+number_is choice a reasons.Gap refused = inl refl
+number_is choice a reasons.Fold refused = inr refl
+number_is choice a reasons.OutOfRange refused = absurd (taken_in_range choice a refused)
+
+pub none_is : (z : Zone) (local : ℤ) (choice : Choice) (n : ℕ) → IsNoneTaken z local choice n → (n ≡ 21) ⊎ (n ≡ 22)
+none_is z local choice n (e, takes, is) = rw is (number_is (policy_of choice) takes.around e takes.taken)

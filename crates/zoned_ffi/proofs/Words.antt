@@ -61,6 +61,8 @@ pub use types.Match.{live}
 pub use types.Part.{agg, look_in, sub, whole}
 pub use types.Run.{addr, and_then, bin, blocks, branches, enter, exec, first, fld, lit, load, no_more, of_opd, returns, returns_within, skips, stop}
 pub use types.Tokens.{bor_fracture, bor_open, obor_alter}
+pub use Rattle.offset_core.proofs.ForCallers.{taken_in_range, taken_right}
+pub use Rattle.offset_core.specs.Around.{taken_of}
 pub use Rattle.offset_core.specs.declared.local_result.LocalResult.{LocalResult}
 pub use Rattle.naive_base.proofs.Words.{IsInRange}
 pub use Rattle.tz_base.specs.declared.change.Change.{Change}
@@ -82,7 +84,7 @@ pub use Rattle.zoned_ffi.specs.Instants.{AreOffsetsAt, IsOffsetAt}
 pub use Rattle.zoned_ffi.specs.Kinds.{IsZoneOf, Spells}
 pub use Rattle.zoned_ffi.specs.Owned.{boxed, held, lent, loan, shared_row}
 pub use Rattle.zoned_ffi.specs.Refusals.{IsExtendedFault, IsFault, IsFileError, IsReaderNumber, IsRefusal, IsRefusalInDetail, IsTextFault, refusal_number}
-pub use Rattle.zoned_ffi.specs.Resolved.{AreResolved, IsGapEnd, IsNoneTaken, IsReachedAt, IsResolvedAt, IsTaken}
+pub use Rattle.zoned_ffi.specs.Resolved.{AreResolved, IsGapEnd, IsNoneTaken, IsReachedAt, IsResolvedAt, IsTaken, TakesOf, policy_of}
 pub use Rattle.zoned_ffi.specs.Steps.ResolvedInstants.{IsStamp, IsTakenAs, taken_instant}
 pub use Rattle.zoned_ffi.specs.Steps.Told.{told_of}
 pub use Rattle.zoned_ffi.specs.Texts.{IsSaidOf, IsTextOf}

@@ -1,12 +1,20 @@
 -- The instants that a choice takes for local times that clocks show never, once or several times.
-use Rattle.std.specs.Prelude.{ℕ, ℤ, ◌≡◌, ◌-ℤ◌, pos, List}
+use Rattle.std.specs.Prelude.{ℕ, ℤ, ◌≡◌, ◌≢◌, ◌-ℤ◌, pos, List, Result, Ok, Err}
 use Rattle.std.specs.List.{AllZip}
 use Rattle.naive_base.specs.Range.{IsInRange}
-use Rattle.offset_core.specs.WallAnswer.{IsNeverShown, IsShownOnce, IsShownBetween}
+use Rattle.offset_core.specs.Around.{Takes}
+use Rattle.offset_core.specs.ResolveNumbers.{number_of}
+use Rattle.offset_core.specs.declared.around.Taken.{Taken}
+use Rattle.offset_core.specs.declared.around.Taken.TheVariants.{Shown, InGap}
+use Rattle.offset_core.specs.declared.choice.Choice as any_choice
 use Rattle.offset_core.specs.declared.choice.FoldChoice.{FoldChoice}
 use Rattle.offset_core.specs.declared.choice.FoldChoice.TheVariants as folds
+use Rattle.offset_core.specs.declared.choice.GapChoice as any_gap
+use Rattle.offset_core.specs.declared.choice.GapChoice.TheVariants as any_gaps
+use Rattle.offset_core.specs.declared.resolve_error.ResolveError.{ResolveError}
 use Rattle.tz_base.specs.LocalTypes.{LocalType}
-use Rattle.tz_info.specs.Gaps.{HasGap, IsBeforeGap}
+use Rattle.tz_base.specs.declared.change.Change.{Change}
+use Rattle.tz_info.specs.Around.{Skips}
 use Rattle.tz_info.specs.ShownSeconds.{IsFirstAtOrAfter}
 use Rattle.tz_info.specs.WallClocks.{Shows}
 use Rattle.tz_info.specs.Zones.{Zone, TypeAt}
@@ -34,24 +42,34 @@ IsChoiceOf gap fold choice = (gap ≡ gap_number choice.gap) × (fold ≡ fold_n
 abbrev pub IsChoice : ℕ → ℕ → Type 0
 IsChoice gap fold = (choice : Choice) × IsChoiceOf gap fold choice
 
+-- the choice between taking and refusing: the end of a gap is one way to take an instant in it
+abbrev pub gap_policy : GapChoice → any_gap.GapChoice
+gap_policy gaps.Refuse = any_gaps.Refuse
+gap_policy gaps.ShiftForward = any_gaps.ShiftForward
+gap_policy gaps.End = any_gaps.ShiftForward
+
+abbrev pub policy_of : Choice → any_choice.Choice
+policy_of choice = record { gap = gap_policy choice.gap; fold = choice.fold }
+
+-- the choice takes that of the local time, or nothing for that reason
+abbrev pub TakesOf : Zone → ℤ → Choice → Result (Taken LocalType Change) ResolveError → Type 0
+TakesOf z local choice = Takes (Shows (TypeAt z) local) (Skips (TypeAt z) local) (policy_of choice)
+
 -- the type by whose offset a choice takes the local time for an instant: that of the only second which shows it; in a fold that
 -- of the first, or of the last; in a gap the one before it
 pub data IsTaken (z : Zone) (local : ℤ) (choice : Choice) (t : LocalType) : Type 0 where
-  once : IsShownOnce (Shows (TypeAt z) local) t → IsTaken z local choice t
-  earliest : (last : LocalType) → IsShownBetween (Shows (TypeAt z) local) t last → choice.fold ≡ folds.Earliest → IsTaken z local choice t
-  latest : (first : LocalType) → IsShownBetween (Shows (TypeAt z) local) first t → choice.fold ≡ folds.Latest → IsTaken z local choice t
-  shifted : IsBeforeGap (TypeAt z) local t → choice.gap ≡ gaps.ShiftForward → IsTaken z local choice t
+  shown : TakesOf z local choice (Ok (Shown t)) → IsTaken z local choice t
+  shifted : (change : Change) → TakesOf z local choice (Ok (InGap change)) → choice.gap ≢ gaps.End → t ≡ change.before → IsTaken z local choice t
 
 -- the choice takes the second `at`, at which the gap that the local time lies in ends, and `after` is in force from then on
 pub record IsGapEnd (z : Zone) (local : ℤ) (choice : Choice) (at : ℤ) (after : LocalType) : Type 0 where
   pub before : LocalType
-  pub gap : HasGap (TypeAt z) local before after at
+  pub takes : TakesOf z local choice (Ok (InGap (record { at = at; before = before; after = after })))
   pub end : choice.gap ≡ gaps.End
 
 -- why the choice takes none, by its number: a gap, or a fold, is refused
-pub data IsNoneTaken (z : Zone) (local : ℤ) (choice : Choice) : ℕ → Type 0 where
-  gap : IsNeverShown (Shows (TypeAt z) local) → choice.gap ≡ gaps.Refuse → IsNoneTaken z local choice 21
-  fold : (first last : LocalType) → IsShownBetween (Shows (TypeAt z) local) first last → choice.fold ≡ folds.Refuse → IsNoneTaken z local choice 22
+abbrev pub IsNoneTaken : Zone → ℤ → Choice → ℕ → Type 0
+IsNoneTaken z local choice n = (e : ResolveError) × TakesOf z local choice (Err e) × (n ≡ number_of e)
 
 -- what is written where there is no instant: the number that says why
 abbrev pub unresolved : ℕ → Resolved

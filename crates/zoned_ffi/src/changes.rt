@@ -8,7 +8,7 @@ ghost use Rattle.zoned_ffi.specs.WrittenChanges.{AreFirstWritten, AreWrittenChan
 use crate::local_type::WrittenType;
 use crate::refusal::{NO_CHANGE, NO_GAP, OUT_OF_RANGE};
 use naive_base::NaiveDateTime;
-use tz_info::{Change, TimeZone, TypesAround};
+use tz_info::{Around, Change, TimeZone};
 
 /// A change of the clocks.
 #[repr(C)]
@@ -74,12 +74,12 @@ pub fn answer_gap(zone: &TimeZone, local: i64, gap: &mut WrittenChange) -> u32
         return OUT_OF_RANGE;
     };
     match zone.find_local_time_type_around(reading) {
-        TypesAround::Gap(found) => {
+        Around::Gap(found) => {
             *gap = WrittenChange::of(&found);
             0
         }
-        TypesAround::Single(_) => NO_GAP,
-        TypesAround::Ambiguous(_, _) => NO_GAP,
+        Around::Single(_) => NO_GAP,
+        Around::Ambiguous(_, _) => NO_GAP,
     }
 }
 

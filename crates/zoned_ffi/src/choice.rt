@@ -2,10 +2,10 @@
 
 ghost use Rattle.std.specs.Prelude.{◌≡◌, ◌≢◌, MatchOption};
 ghost use Rattle.offset_core.specs.declared.choice.FoldChoice.{FoldChoice as AnyFold};
-ghost use Rattle.zoned_ffi.specs.Resolved.{IsChoice, IsChoiceOf, fold_number, gap_number};
+ghost use Rattle.zoned_ffi.specs.Resolved.{IsChoice, IsChoiceOf, fold_number, gap_number, policy_of};
 ghost use Rattle.zoned_ffi.specs.declared.choice.GapChoice.{GapChoice as AnyGap};
 
-use offset_core::FoldChoice;
+use offset_core::{Choice as Policy, FoldChoice, GapChoice as GapPolicy};
 
 /// What to take of a local time in a gap.
 #[derive(Clone, Copy)]
@@ -25,6 +25,24 @@ pub struct Choice {
     pub gap: GapChoice,
     /// In folds.
     pub fold: FoldChoice,
+}
+
+impl Choice {
+    /// Returns what the library's own choice takes: it has no end of a gap, which is one way to take an
+    /// instant in it.
+    pub fn policy(&self) -> Policy
+        ensures { result ≡ policy_of self.now }
+    {
+        let gap = match self.gap {
+            GapChoice::Refuse => GapPolicy::Refuse,
+            GapChoice::ShiftForward => GapPolicy::ShiftForward,
+            GapChoice::End => GapPolicy::ShiftForward,
+        };
+        Policy {
+            gap,
+            fold: self.fold,
+        }
+    }
 }
 
 /// The choice of those numbers: of a gap 0 is refused, 1 shifts forward, and 2 takes its end; of a

@@ -10,14 +10,8 @@ use crate::choice::{Choice, GapChoice};
 use crate::instants::offset_at;
 use crate::refusal::{OTHER_SIZE, OUT_OF_RANGE};
 use naive_base::NaiveDateTime;
-use offset_core::FoldChoice;
-use tz_info::{Probes, TimeZone, TypesAround};
-
-// The local time lies in a gap, and the choice refuses gaps.
-const GAP: u32 = 21;
-
-// It lies in a fold, and the choice refuses folds.
-const FOLD: u32 = 22;
+use offset_core::Taken as Found;
+use tz_info::{Probes, TimeZone};
 
 /// The instant that a choice takes for a local time.
 #[repr(C)]
@@ -112,18 +106,15 @@ pub fn take(zone: &TimeZone, choice: Choice, local: NaiveDateTime) -> Result<Tak
         (λ n. IsNoneTaken zone.now (reading local).s choice n) }
 {
     let mut probes = Probes::new();
-    match zone.find_local_time_type_around_counted(local, &mut probes) {
-        TypesAround::Single(only) => Ok(Taken::InForce(only.offset())),
-        TypesAround::Ambiguous(first, last) => match choice.fold {
-            FoldChoice::Refuse => Err(FOLD),
-            FoldChoice::Earliest => Ok(Taken::InForce(first.offset())),
-            FoldChoice::Latest => Ok(Taken::InForce(last.offset())),
+    let around = zone.find_local_time_type_around_counted(local, &mut probes);
+    match around.take(choice.policy()) {
+        Ok(Found::Shown(only)) => Ok(Taken::InForce(only.offset())),
+        Ok(Found::InGap(change)) => match choice.gap {
+            GapChoice::End => Ok(Taken::GapEnd(change.at, change.after.offset())),
+            GapChoice::ShiftForward => Ok(Taken::BeforeGap(change.before.offset())),
+            GapChoice::Refuse => Ok(Taken::BeforeGap(change.before.offset())),
         },
-        TypesAround::Gap(gap) => match choice.gap {
-            GapChoice::Refuse => Err(GAP),
-            GapChoice::ShiftForward => Ok(Taken::BeforeGap(gap.before.offset())),
-            GapChoice::End => Ok(Taken::GapEnd(gap.at, gap.after.offset())),
-        },
+        Err(reason) => Err(u32::from(reason.number())),
     }
 }
 

@@ -13,8 +13,8 @@ ghost use Rattle.zoned_kept.specs.KeptZone.{zone_of};
 
 use crate::{KeptOffset, KeptZone};
 use naive_base::{NaiveDate, NaiveDateTime, NaiveTime};
-use offset_core::LocalResult;
-use zoned_time::{OffsetsAround, TimeZone};
+use offset_core::{Around, LocalResult};
+use zoned_time::TimeZone;
 
 impl TimeZone for KeptZone {
     type Offset = KeptOffset;
@@ -76,22 +76,16 @@ impl TimeZone for KeptZone {
         self.offset_from_local_datetime(&midnight(local))
     }
 
-    fn offsets_around(&self, local: &NaiveDateTime) -> OffsetsAround<KeptOffset>
+    fn offsets_around(&self, local: &NaiveDateTime) -> Around<KeptOffset, KeptOffset>
         ensures { AreOffsetsAround (law_of self.now) (reading local.now).s result }
     {
         match self.borrowed.offsets_around(local) {
-            OffsetsAround::Single(only) => OffsetsAround::Single(KeptOffset::of(
-                self,
-                only.local_type(),
-            )),
-            OffsetsAround::Ambiguous(first, last) => OffsetsAround::Ambiguous(
+            Around::Single(only) => Around::Single(KeptOffset::of(self, only.local_type())),
+            Around::Ambiguous(first, last) => Around::Ambiguous(
                 KeptOffset::of(self, first.local_type()),
                 KeptOffset::of(self, last.local_type()),
             ),
-            OffsetsAround::BeforeGap(before) => OffsetsAround::BeforeGap(KeptOffset::of(
-                self,
-                before.local_type(),
-            )),
+            Around::Gap(before) => Around::Gap(KeptOffset::of(self, before.local_type())),
         }
     }
 

@@ -25,7 +25,7 @@ pub use Rattle.zoned_time.proofs.Words.{home_law, in_seconds, inl, inr, instant_
 pub use Rattle.zoned_time.proofs.Words.{rules, seconds_of, subst, suc, sym, to_z-of_z, w32, w64, zero, zoned, ℕ, ℤ, [], ◌*ℤ◌, ◌++◌, ◌+ℤ◌, ◌-ℤ◌, ◌<ℤ◌, ◌↔◌, ◌∙◌}
 pub use Rattle.zoned_time.proofs.Words.{◌∷◌, ◌≡◌, ◌≤ℤ◌, ◌⊎◌}
 unfoldable pub use Rattle.zoned_time.proofs.Words.{year_of}
-pub use Rattle.zoned_time.specs.declared.resolve_error.ResolveError.{ResolveError}
+pub use Rattle.offset_core.specs.declared.resolve_error.ResolveError.{ResolveError}
 pub use Rattle.zoned_ref.specs.Instants.{AreInstantsAt, AreTypesFor}
 pub use Rattle.zoned_ref.specs.OffsetAt.{offset_at, offset_with}
 pub use Rattle.zoned_ref.specs.Offsets.{AreOffsetsOf, HasOffset, HasOffsets, HasOneOffset, IsNarrow, rule_types}

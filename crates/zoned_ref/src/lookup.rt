@@ -14,9 +14,9 @@ ghost use Rattle.zoned_ref.specs.ZoneOffset.{meaning_of, law_of, type_of};
 
 use crate::{TimeZoneRef, ZoneOffset};
 use naive_base::{NaiveDate, NaiveDateTime, NaiveTime};
-use offset_core::LocalResult;
-use tz_info::{LocalTimeType, TypesAround};
-use zoned_time::{OffsetsAround, TimeZone};
+use offset_core::{Around, LocalResult};
+use tz_info::LocalTimeType;
+use zoned_time::TimeZone;
 
 impl<'a> TimeZone for TimeZoneRef<'a> {
     type Offset = ZoneOffset<'a>;
@@ -76,16 +76,16 @@ impl<'a> TimeZone for TimeZoneRef<'a> {
         self.offset_from_local_datetime(&midnight(local))
     }
 
-    fn offsets_around(&self, local: &NaiveDateTime) -> OffsetsAround<ZoneOffset<'a>>
+    fn offsets_around(&self, local: &NaiveDateTime) -> Around<ZoneOffset<'a>, ZoneOffset<'a>>
         ensures { AreOffsetsAround (law_of self.now) (reading local.now).s result }
     {
         match self.zone().find_local_time_type_around(*local) {
-            TypesAround::Single(only) => OffsetsAround::Single(ZoneOffset::new(*self, &only)),
-            TypesAround::Ambiguous(first, last) => OffsetsAround::Ambiguous(
+            Around::Single(only) => Around::Single(ZoneOffset::new(*self, &only)),
+            Around::Ambiguous(first, last) => Around::Ambiguous(
                 ZoneOffset::new(*self, &first),
                 ZoneOffset::new(*self, &last),
             ),
-            TypesAround::Gap(gap) => OffsetsAround::BeforeGap(ZoneOffset::new(*self, &gap.before)),
+            Around::Gap(gap) => Around::Gap(ZoneOffset::new(*self, &gap.before)),
         }
     }
 

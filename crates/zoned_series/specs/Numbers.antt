@@ -1,6 +1,6 @@
 -- The numbers of refusals.
 use Rattle.std.specs.Prelude.{ℕ}
-use Rattle.zoned_time.specs.ResolveNumbers.{number_of as number_within}
+use Rattle.offset_core.specs.ResolveNumbers.{number_of as number_within}
 use Rattle.zoned_series.specs.declared.series_error.SeriesError.{SeriesError}
 use Rattle.zoned_series.specs.declared.series_error.SeriesError.TheVariants.{Date, Resolve}
 

@@ -3,7 +3,7 @@ use Rattle.std.specs.Prelude.{◌≡◌, ℕ, ◌+◌, ◌-◌, ◌<◌, ◌≤�
 use Rattle.offset_core.specs.declared.choice.Choice.{Choice}
 use Rattle.naive_base.specs.Range.{IsDayInRange}
 use Rattle.naive_base.specs.Reading.{Reading, reading_at}
-use Rattle.zoned_time.specs.declared.resolve_error.ResolveError.{ResolveError}
+use Rattle.offset_core.specs.declared.resolve_error.ResolveError.{ResolveError}
 use Rattle.zoned_time.specs.Choice.{IsResolved, IsUnresolved}
 use Rattle.zoned_time.specs.Zone.{Meaning, Law}
 use Rattle.zoned_time.specs.Zoned.{Zoned}

@@ -1,12 +1,11 @@
 -- Each choice has an answer for each reading that the wall clock has one for.
-use Rattle.offset_core.specs.declared.choice.FoldChoice.TheVariants.{Earliest, Latest, Refuse as RefuseFold}
-use Rattle.offset_core.specs.declared.choice.GapChoice.TheVariants.{Refuse as RefuseGap, ShiftForward}
+use Rattle.offset_core.specs.Around.{IsAround}
+use Rattle.offset_core.specs.declared.around.Around.TheVariants.{Ambiguous as Twice, Gap, Single as Once}
 use Rattle.offset_core.specs.declared.local_result.LocalResult.TheVariants.{Ambiguous, None, Single}
-use Rattle.zoned_time.proofs.Words.{Choice, FoldChoice, GapChoice, IsBeforeGap, IsInRange, IsNeverShown, IsTaken, IsUnresolved, IsWallAnswer, IsWide}
-use Rattle.zoned_time.proofs.Words.{IsWithinDay, IsZoneSecond, LocalResult, ResolveError, Shows, arith, by_lt_z, earliest, gap, in_range_or_not, inl, inr, ints}
-use Rattle.zoned_time.proofs.Words.{latest, once, out_of_range, pos, refl, shifted, suc, zero, ℕ, ℤ, ◌+ℤ◌, ◌-ℤ◌, ◌<ℤ◌, ◌≡◌, ◌≤ℤ◌, ◌⊎◌}
-use Rattle.zoned_time.specs.Choice.{fold}
-use Rattle.zoned_time.specs.declared.resolve_error.ResolveError.TheVariants.{Fold, Gap, OutOfRange}
+use Rattle.offset_core.specs.declared.resolve_error.ResolveError.TheVariants.{OutOfRange}
+use Rattle.zoned_time.proofs.Words.{Around, Choice, Err, IsBeforeGap, IsInRange, IsNeverShown, IsTaken, IsUnresolved, IsWallAnswer, IsWide, IsWithinDay}
+use Rattle.zoned_time.proofs.Words.{IsZoneSecond, LocalResult, Ok, ResolveError, Result, Shows, Taken, Takes, arith, by_lt_z, in_range_or_not, inl, inr, ints}
+use Rattle.zoned_time.proofs.Words.{offset_taken, out_of_range, pos, refl, refused, suc, taken_of, zero, ℕ, ℤ, ◌+ℤ◌, ◌-ℤ◌, ◌<ℤ◌, ◌≡◌, ◌≤ℤ◌, ◌⊎◌}
 
 -- the first second from a start on of which p holds, where p is decided and holds of some later second
 first_from : (p : ℤ → Type 0) → ((u : ℤ) → p u ⊎ (p u → ⊥)) → (n : ℕ) (start end : ℤ) → end ≡ start +ℤ pos n → p end
@@ -62,24 +61,19 @@ by_offset off l choice k taken = elim (in_range_or_not (l -ℤ k)) [
   | inr outside ↦ inr (OutOfRange, out_of_range k taken outside refl)
 ]
 
-in_fold : (c : FoldChoice) → (c ≡ RefuseFold) ⊎ (c ≡ Earliest) ⊎ (c ≡ Latest)
-in_fold RefuseFold = inl refl
-in_fold Earliest = inr (inl refl)
-in_fold Latest = inr (inr refl)
+by_outcome : (off : ℤ → ℤ) (l : ℤ) (choice : Choice) (outcome : Result (Taken ℤ ℤ) ResolveError) → Takes (Shows off l) (IsBeforeGap off l) choice outcome
+    → IsDecided off l choice
+by_outcome off l choice (Ok t) takes = by_offset off l choice (offset_taken t) (record { taken = t; takes = takes; offset = refl })
+by_outcome off l choice (Err e) takes = inr (e, refused takes)
 
-in_gap : (c : GapChoice) → (c ≡ RefuseGap) ⊎ (c ≡ ShiftForward)
-in_gap RefuseGap = inl refl
-in_gap ShiftForward = inr refl
+around_shown : (off : ℤ → ℤ) (l : ℤ) → ((u : ℤ) → IsZoneSecond u → IsWithinDay (off u)) → IsWide l → (shown : LocalResult ℤ) → IsWallAnswer (Shows off l) shown
+    → (a : Around ℤ ℤ) × IsAround (Shows off l) (IsBeforeGap off l) a
+around_shown off l day wide (Single k) wall = (Once k, wall)
+around_shown off l day wide (Ambiguous a b) wall = (Twice a b, wall)
+around_shown off l day wide None wall = let before = gap_has_offset off l day wide wall in (Gap before.0, before.1)
 
 pub choice_decided : (off : ℤ → ℤ) (l : ℤ) (choice : Choice) → ((u : ℤ) → IsZoneSecond u → IsWithinDay (off u)) → IsWide l
     → (shown : LocalResult ℤ) → IsWallAnswer (Shows off l) shown → IsDecided off l choice
-choice_decided off l choice day wide (Single k) wall = by_offset off l choice k (once wall)
-choice_decided off l choice day wide (Ambiguous a b) wall = elim (in_fold choice.fold) [
-  | inl refused ↦ inr (Fold, fold a b wall refused refl)
-  | inr (inl first) ↦ by_offset off l choice a (earliest b wall first)
-  | inr (inr last) ↦ by_offset off l choice b (latest a wall last)
-]
-choice_decided off l choice day wide None wall = elim (in_gap choice.gap) [
-  | inl refused ↦ inr (Gap, gap wall refused refl)
-  | inr shift ↦ let before = gap_has_offset off l day wide wall in by_offset off l choice before.0 (shifted before.1 shift)
-]
+choice_decided off l choice day wide shown wall =
+    let a = around_shown off l day wide shown wall in
+    by_outcome off l choice (taken_of choice a.0) (record { around = a.0; right = a.1; taken = refl })

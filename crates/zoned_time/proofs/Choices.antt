@@ -1,32 +1,76 @@
 -- What a choice takes for a wall clock.
-use Rattle.offset_core.specs.declared.choice.GapChoice.TheVariants.{ShiftForward}
-use Rattle.zoned_time.proofs.Words.{Choice, Err, HasInstant, IsAt, IsInRange, IsResolved, IsShiftOutOfRange, IsShifted, IsTaken, IsUnresolved, Law, MatchResult}
-use Rattle.zoned_time.proofs.Words.{Meaning, Ok, Reading, ResolveError, Result, SameLaw, Shows, Zoned, behind, home_law, instant_of, out_of_range, refl}
-use Rattle.zoned_time.proofs.Words.{shifted, subst, sym, ℤ, ◌-ℤ◌, ◌≡◌}
-use Rattle.zoned_time.specs.declared.resolve_error.ResolveError.TheVariants.{OutOfRange}
+use Rattle.offset_core.specs.declared.around.Around.TheVariants.{Ambiguous, Gap, Single}
+use Rattle.offset_core.specs.declared.around.Taken.TheVariants.{InGap, Shown}
+use Rattle.offset_core.specs.declared.resolve_error.ResolveError.TheVariants.{OutOfRange}
+use Rattle.std.specs.Prelude.{⊤}
+use Rattle.zoned_time.proofs.Words.{AreOffsetsAround, Around, Choice, Err, HasInstant, HoldsOfEach, HoldsOfTaken, IsAt, IsBeforeGap, IsInRange, IsResolved}
+use Rattle.zoned_time.proofs.Words.{IsTaken, IsUnresolved, Law, MatchResult, Meaning, Ok, Reading, ResolveError, Result, SameLaw, Shows, Taken, Takes, Zoned, behind}
+use Rattle.zoned_time.proofs.Words.{home_law, instant_of, map_outcome, map_taken, offset_taken, out_of_range, refl, refused, subst, sym, taken_holds}
+use Rattle.zoned_time.proofs.Words.{taken_of, taken_of_images, ℤ, ◌-ℤ◌, ◌≡◌}
 use Rattle.zoned_time.proofs.Relocals.{at_shown}
 
--- by an offset that clocks show
-pub taken_resolved : {O D : Type 0} {m : Meaning O} {seconds : O → ℤ} → ((o : O) → m.seconds o ≡ seconds o)
-    → (law : Law m) (l : Reading) (choice : Choice) (o : O) (show : D → Zoned O) (result : Result D ResolveError) (u : ℤ)
-    → Shows law.off l.s u (m.seconds o) → law.in_force (l.s -ℤ m.seconds o) o → SameLaw (home_law m o) law → IsTaken law.off l.s choice (m.seconds o)
+-- an offset at which clocks show the reading, in force then
+abbrev IsShownBy : {O : Type 0} {m : Meaning O} → Law m → ℤ → O → Type 0
+IsShownBy {m = m} law l o = (u : ℤ) × Shows law.off l u (m.seconds o) × law.in_force (l -ℤ m.seconds o) o × SameLaw (home_law m o) law
+
+each_shown_by : {O : Type 0} {m : Meaning O} (law : Law m) (l : ℤ) (a : Around O O) → AreOffsetsAround law l a → HoldsOfEach (IsShownBy law l) (λ _. ⊤) a
+each_shown_by law l (Single o) h = (h.wall.second, h.wall.shown, h.in_force, h.same_home)
+each_shown_by law l (Ambiguous o p) h =
+    ((h.wall.first, h.wall.at_first, h.in_force.0, h.same_home.0), (h.wall.last, h.wall.at_last, h.in_force.1, h.same_home.1))
+each_shown_by law l (Gap o) h = tt {0}
+
+-- in seconds
+takes_seconds : {O : Type 0} {m : Meaning O} (law : Law m) (l : ℤ) (choice : Choice) (a : Around O O) → AreOffsetsAround law l a
+    → Takes (Shows law.off l) (IsBeforeGap law.off l) choice (map_outcome m.seconds m.seconds (taken_of choice a))
+takes_seconds {m = m} law l choice (Single o) h = record { around = Single (m.seconds o); right = h.wall; taken = refl }
+takes_seconds {m = m} law l choice (Ambiguous o p) h =
+    record { around = Ambiguous (m.seconds o) (m.seconds p); right = h.wall; taken = taken_of_images m.seconds m.seconds choice (Ambiguous o p) }
+takes_seconds {m = m} law l choice (Gap o) h =
+    record { around = Gap (m.seconds o); right = h.0; taken = taken_of_images m.seconds m.seconds choice (Gap o) }
+
+is_taken : {O : Type 0} {m : Meaning O} (law : Law m) (l : ℤ) (choice : Choice) (a : Around O O) (t : Taken O O) → AreOffsetsAround law l a
+    → taken_of choice a ≡ Ok t → IsTaken law.off l choice (offset_taken (map_taken m.seconds m.seconds t))
+is_taken {m = m} law l choice a t h e = record {
+  taken = map_taken m.seconds m.seconds t;
+  takes = subst (λ r. Takes (Shows law.off l) (IsBeforeGap law.off l) choice (map_outcome m.seconds m.seconds r)) e (takes_seconds law l choice a h);
+  offset = refl;
+}
+
+-- by an offset at which clocks show the reading
+pub shown_resolved : {O D : Type 0} {m : Meaning O} {seconds : O → ℤ} → ((o : O) → m.seconds o ≡ seconds o)
+    → (law : Law m) (l : Reading) (choice : Choice) (a : Around O O) (o : O) (show : D → Zoned O) (result : Result D ResolveError)
+    → AreOffsetsAround law l.s a → taken_of choice a ≡ Ok (Shown o)
     → MatchResult result (λ d. HasInstant seconds l o × (show d ≡ instant_of seconds l o)) (λ e. (e ≡ OutOfRange) × ¬ (HasInstant seconds l o))
     → MatchResult result (λ d. IsResolved law l choice (show d)) (λ e. IsUnresolved law.off l.s choice e)
-taken_resolved {O} {D} {m} {seconds} told law l choice o show (Ok d) u shows there same taken h =
-    let is : show d ≡ instant_of m.seconds l o = subst (λ k. show d ≡ record { utc = behind l k; offset = o }) (sym (told o)) h.1 in record {
+shown_resolved {O} {D} {m} {seconds} told law l choice a o show (Ok d) around e h =
+    let is : show d ≡ instant_of m.seconds l o = subst (λ k. show d ≡ record { utc = behind l k; offset = o }) (sym (told o)) h.1 in
+    let there = subst (λ r. MatchResult r (HoldsOfTaken (IsShownBy law l.s) (λ _. ⊤)) (λ _. ⊤)) e
+    (taken_holds (IsShownBy law l.s) (λ _. ⊤) choice a (each_shown_by law l.s a around)) in record {
       offset = m.seconds o;
-      taken = taken;
+      taken = is_taken law l.s choice a (Shown o) around e;
       in_range = subst (λ k. IsInRange (l.s -ℤ k)) (sym (told o)) h.0;
-      at = subst (λ e. IsAt law (behind l (m.seconds o)) e) (sym is) (at_shown law l o (instant_of m.seconds l o) u shows there same refl).1;
+      at = subst (λ z. IsAt law (behind l (m.seconds o)) z) (sym is) (at_shown law l o (instant_of m.seconds l o) there.0 there.1 there.2 there.3 refl).1;
     }
-taken_resolved {O} {D} {m} {seconds} told law l choice o show (Err e) u shows there same taken h =
-    out_of_range (m.seconds o) taken (λ inside. h.1 (subst (λ k. IsInRange (l.s -ℤ k)) (told o) inside)) h.0
+shown_resolved {O} {D} {m} {seconds} told law l choice a o show (Err f) around e h =
+    out_of_range (m.seconds o) (is_taken law l.s choice a (Shown o) around e) (λ inside. h.1 (subst (λ k. IsInRange (l.s -ℤ k)) (told o) inside)) h.0
 
 -- by the offset before a gap
-pub shift_resolved : {O D : Type 0} {m : Meaning O} (law : Law m) (l : Reading) (choice : Choice) (show : D → Zoned O) (result : Result D ResolveError)
-    → choice.gap ≡ ShiftForward
-    → MatchResult result (λ d. IsShifted law l (show d)) (λ e. (e ≡ OutOfRange) × IsShiftOutOfRange law.off l.s)
+pub gap_resolved : {O D : Type 0} {m : Meaning O} {seconds : O → ℤ} → ((o : O) → m.seconds o ≡ seconds o)
+    → (law : Law m) (l : Reading) (choice : Choice) (a : Around O O) (o : O) (show : D → Zoned O) (result : Result D ResolveError)
+    → AreOffsetsAround law l.s a → taken_of choice a ≡ Ok (InGap o)
+    → MatchResult result (λ d. IsInRange (l.s -ℤ seconds o) × IsAt law (behind l (seconds o)) (show d))
+    (λ e. (e ≡ OutOfRange) × ¬ (IsInRange (l.s -ℤ seconds o)))
     → MatchResult result (λ d. IsResolved law l choice (show d)) (λ e. IsUnresolved law.off l.s choice e)
-shift_resolved law l choice show (Ok d) shift h =
-    record { offset = h.offset; taken = shifted h.before shift; in_range = h.in_range; at = h.at }
-shift_resolved law l choice show (Err e) shift h = out_of_range h.1.offset (shifted h.1.before shift) h.1.out h.0
+gap_resolved {O} {D} {m} {seconds} told law l choice a o show (Ok d) around e h = record {
+  offset = m.seconds o;
+  taken = is_taken law l.s choice a (InGap o) around e;
+  in_range = subst (λ k. IsInRange (l.s -ℤ k)) (sym (told o)) h.0;
+  at = subst (λ k. IsAt law (behind l k) (show d)) (sym (told o)) h.1;
+}
+gap_resolved {O} {D} {m} {seconds} told law l choice a o show (Err f) around e h =
+    out_of_range (m.seconds o) (is_taken law l.s choice a (InGap o) around e) (λ inside. h.1 (subst (λ k. IsInRange (l.s -ℤ k)) (told o) inside)) h.0
+
+pub refused_of : {O : Type 0} {m : Meaning O} (law : Law m) (l : ℤ) (choice : Choice) (a : Around O O) (e : ResolveError) → AreOffsetsAround law l a
+    → taken_of choice a ≡ Err e → IsUnresolved law.off l choice e
+refused_of {m = m} law l choice a e h none =
+    refused (subst (λ r. Takes (Shows law.off l) (IsBeforeGap law.off l) choice (map_outcome m.seconds m.seconds r)) none (takes_seconds law l choice a h))

@@ -7,5 +7,5 @@ pub use Rattle.zoned_time.proofs.Relocals.{relocal_shown}
 pub use Rattle.zoned_time.proofs.Walls.{wall_by_seconds, gap_by_seconds}
 -- of a zone whose offset never changes: its wall clock's answer, and that it has no gap; and that midnights are in the range
 pub use Rattle.zoned_time.proofs.Walls.{constant_wall, constant_no_gap}
-pub use Rattle.zoned_time.proofs.Once.{resolved_once, not_resolved, unresolved_once}
+pub use Rattle.zoned_time.proofs.Once.{resolved_once, not_resolved, one_taken, taken_once, unresolved_once}
 pub use Rattle.zoned_time.proofs.Stays.{stays}

@@ -11,5 +11,4 @@ pub mod Relocals
 pub mod Stays
 pub mod Walls
 mod Choices
-mod Alike
 pub mod Printed

@@ -4,11 +4,15 @@ pub use Rattle.std.proofs.lemmas.Fmt.{contents_after_writes}
 pub use Rattle.std.specs.Fmt.{DisplaysOnOk, WritesOnOk, WritesText, ◌++?◌}
 pub use Rattle.std.specs.declared.fmt.Error.{Error}
 pub use Rattle.std.specs.declared.fmt.Formatter.{Formatter}
-pub use Rattle.offset_core.proofs.ForCallers.{HasOneValue, and_then_told, map_all, one_offset, one_wall_answer}
+pub use Rattle.offset_core.proofs.ForCallers.{HasOneValue, HoldsOfTaken, and_then_told, map_all, map_outcome, map_taken, one_offset, one_outcome}
+pub use Rattle.offset_core.proofs.ForCallers.{one_wall_answer, taken_holds, taken_of_images}
+pub use Rattle.offset_core.specs.Around.{HoldsOfEach, Takes, taken_of}
 pub use Rattle.offset_core.specs.FixedOffset.{seconds_of}
 pub use Rattle.offset_core.specs.LocalResult.{IsAndThen, all_or_none, map_of, single_of}
 pub use Rattle.offset_core.specs.Offset.{IsWithinDay}
 pub use Rattle.offset_core.specs.WallAnswer.{IsNeverShown, IsShownBetween, IsShownOnce, IsWallAnswer}
+pub use Rattle.offset_core.specs.declared.around.Around.{Around}
+pub use Rattle.offset_core.specs.declared.around.Taken.{Taken}
 pub use Rattle.offset_core.specs.declared.choice.Choice.{Choice}
 pub use Rattle.offset_core.specs.declared.choice.FoldChoice.{FoldChoice}
 pub use Rattle.offset_core.specs.declared.choice.GapChoice.{GapChoice}
@@ -25,8 +29,8 @@ pub use Rattle.naive_base.specs.Range.{first_day, last_day}
 pub use Rattle.naive_base.specs.Reading.{ahead, behind}
 pub use Rattle.naive_base.specs.Stamp.{of_secs}
 pub use Rattle.naive_base.specs.declared.date.NaiveDate.{NaiveDate}
-pub use Rattle.zoned_time.specs.Alike.{AreAlike}
-pub use Rattle.zoned_time.specs.Choice.{IsBeforeGap, IsOffsetBeforeGap, IsResolved, IsTaken, IsUnresolved, earliest, gap, latest, once, out_of_range, shifted}
+pub use Rattle.zoned_time.specs.Choice.{AreOffsetsAround, IsBeforeGap, IsOffsetBeforeGap, IsResolved, IsTaken, IsUnresolved}
+pub use Rattle.zoned_time.specs.Choice.{offset_taken, out_of_range, refused}
 pub use Rattle.zoned_time.specs.DateTime.{day_shown_by, home_of, wall_of, zoned}
 pub use Rattle.zoned_time.specs.DayEnds.{AreStartsOfDays, HasNoEnd, IsEndOfDay, IsGapEnd, IsZonedEnd, NonePassed, first_of_month, first_of_year}
 pub use Rattle.zoned_time.specs.Days.{AreEndsOfDay, AreInstantsOfDay, HasReached, IsFirstAtOrAfter, IsFirstOutOfRange, IsFirstToReach, IsInDay, IsNeverOnDay}
@@ -34,10 +38,8 @@ pub use Rattle.zoned_time.specs.Days.{IsNoDay, IsOnDay, IsZonedAtOrAfter, ShowsA
 pub use Rattle.zoned_time.specs.Fields.{IsOnly, IsOnlyWhere}
 pub use Rattle.zoned_time.specs.Relocal.{AreInstantsOf, HasInstant, IsRelocal, SingleIff, instant_of}
 pub use Rattle.zoned_time.specs.Stamps.{in_utc}
-pub use Rattle.zoned_time.specs.Steps.Shifts.{IsShiftOutOfRange, IsShifted}
 pub use Rattle.zoned_time.specs.Zone.{AreOffsetsFor, Each, IsFixed, IsOffsetAt, IsZoneSecond, Law, Meaning, SameLaw, SameOffsets, Shows, home_law}
 pub use Rattle.zoned_time.specs.Zone.{law_by_seconds, meaning_by_seconds, seconds_alone}
 pub use Rattle.zoned_time.specs.Zoned.{IsAt, Zoned, in_seconds, local_of, shown}
-pub use Rattle.zoned_time.specs.declared.around.OffsetsAround.{OffsetsAround}
-pub use Rattle.zoned_time.specs.declared.resolve_error.ResolveError.{ResolveError}
+pub use Rattle.offset_core.specs.declared.resolve_error.ResolveError.{ResolveError}
 pub use Rattle.zoned_time.specs.declared.utc.Utc.{Utc}

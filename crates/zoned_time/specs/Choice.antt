@@ -1,16 +1,17 @@
 -- What is taken for a wall clock that clocks show never, once or several times. Seconds count from 1970-01-01 00:00:00.
-use Rattle.std.specs.Prelude.{◌≡◌, ℤ, pos, ◌+ℤ◌, ◌-ℤ◌, ◌≤ℤ◌, ◌<ℤ◌, Option, Some, None}
+use Rattle.std.specs.Prelude.{◌≡◌, ℤ, pos, ◌+ℤ◌, ◌-ℤ◌, ◌≤ℤ◌, ◌<ℤ◌, Option, Some, None, Ok, Err}
 use Rattle.offset_core.specs.declared.choice.Choice.{Choice}
-use Rattle.offset_core.specs.declared.choice.GapChoice.TheVariants.{Refuse as RefuseGap, ShiftForward}
-use Rattle.offset_core.specs.declared.choice.FoldChoice.TheVariants.{Refuse as RefuseFold, Earliest, Latest}
-use Rattle.offset_core.specs.WallAnswer.{IsNeverShown, IsShownOnce, IsShownBetween}
+use Rattle.offset_core.specs.Around.{Takes}
+use Rattle.offset_core.specs.WallAnswer.{IsNeverShown}
+use Rattle.offset_core.specs.declared.around.Around.{Around}
+use Rattle.offset_core.specs.declared.around.Around.TheVariants.{Single, Ambiguous, Gap}
+use Rattle.offset_core.specs.declared.around.Taken.{Taken}
+use Rattle.offset_core.specs.declared.around.Taken.TheVariants.{Shown, InGap}
+use Rattle.offset_core.specs.declared.resolve_error.ResolveError.{ResolveError}
+use Rattle.offset_core.specs.declared.resolve_error.ResolveError.TheVariants.{OutOfRange}
 use Rattle.naive_base.specs.Range.{IsInRange}
 use Rattle.naive_base.specs.Reading.{Reading, behind}
 use Rattle.offset_core.specs.declared.local_result.LocalResult.TheVariants.{Single as Once, Ambiguous as Twice}
-use Rattle.zoned_time.specs.declared.around.OffsetsAround.{OffsetsAround}
-use Rattle.zoned_time.specs.declared.around.OffsetsAround.TheVariants.{Single, Ambiguous, BeforeGap}
-use Rattle.zoned_time.specs.declared.resolve_error.ResolveError.{ResolveError}
-use Rattle.zoned_time.specs.declared.resolve_error.ResolveError.TheVariants.{Gap, Fold, OutOfRange}
 use Rattle.zoned_time.specs.Zone.{Meaning, Law, home_law, IsZoneSecond, SameLaw, Shows, AreOffsetsFor}
 use Rattle.zoned_time.specs.Zoned.{Zoned, IsAt}
 
@@ -30,18 +31,22 @@ IsOffsetBeforeGap {m = m} law l (Some o) =
 IsOffsetBeforeGap law l None = (u : ℤ) × (k : ℤ) × Shows law.off l u k
 
 -- the offsets that a zone gives for the wall clock l, or the one before the gap
-abbrev pub AreOffsetsAround : {O : Type 0} {m : Meaning O} → Law m → ℤ → OffsetsAround O → Type 0
+abbrev pub AreOffsetsAround : {O : Type 0} {m : Meaning O} → Law m → ℤ → Around O O → Type 0
 AreOffsetsAround law l (Single a) = AreOffsetsFor law l (Once a)
 AreOffsetsAround law l (Ambiguous a b) = AreOffsetsFor law l (Twice a b)
-AreOffsetsAround law l (BeforeGap a) = IsOffsetBeforeGap law l (Some a)
+AreOffsetsAround law l (Gap a) = IsOffsetBeforeGap law l (Some a)
+
+-- the offset at the instant that is taken, or the one before the gap
+abbrev pub offset_taken : Taken ℤ ℤ → ℤ
+offset_taken (Shown k) = k
+offset_taken (InGap k) = k
 
 -- the offset by which a choice takes l for an instant: that of the only second which shows l; in a fold that of the first, or
 -- of the last; in a gap the one before it
-pub data IsTaken (off : ℤ → ℤ) (l : ℤ) (choice : Choice) (k : ℤ) : Type 0 where
-  once : IsShownOnce (Shows off l) k → IsTaken off l choice k
-  earliest : (last : ℤ) → IsShownBetween (Shows off l) k last → choice.fold ≡ Earliest → IsTaken off l choice k
-  latest : (first : ℤ) → IsShownBetween (Shows off l) first k → choice.fold ≡ Latest → IsTaken off l choice k
-  shifted : IsBeforeGap off l k → choice.gap ≡ ShiftForward → IsTaken off l choice k
+pub record IsTaken (off : ℤ → ℤ) (l : ℤ) (choice : Choice) (k : ℤ) : Type 0 where
+  pub taken : Taken ℤ ℤ
+  pub takes : Takes (Shows off l) (IsBeforeGap off l) choice (Ok taken)
+  pub offset : k ≡ offset_taken taken
 
 -- the instant of the reading l under a choice: the offset is the zone's own there, which in a gap is the one after it
 pub record IsResolved {O : Type 0} {m : Meaning O} (law : Law m) (l : Reading) (choice : Choice) (d : Zoned O) : Type 0 where
@@ -50,8 +55,7 @@ pub record IsResolved {O : Type 0} {m : Meaning O} (law : Law m) (l : Reading) (
   pub in_range : IsInRange (behind l offset).s
   pub at : IsAt law (behind l offset) d
 
--- why there is none
+-- why there is none: the choice takes nothing of l, or what it takes is out of range
 pub data IsUnresolved (off : ℤ → ℤ) (l : ℤ) (choice : Choice) (e : ResolveError) : Type 0 where
-  gap : IsNeverShown (Shows off l) → choice.gap ≡ RefuseGap → e ≡ Gap → IsUnresolved off l choice e
-  fold : (first last : ℤ) → IsShownBetween (Shows off l) first last → choice.fold ≡ RefuseFold → e ≡ Fold → IsUnresolved off l choice e
+  refused : Takes (Shows off l) (IsBeforeGap off l) choice (Err e) → IsUnresolved off l choice e
   out_of_range : (k : ℤ) → IsTaken off l choice k → ¬ (IsInRange (l -ℤ k)) → e ≡ OutOfRange → IsUnresolved off l choice e

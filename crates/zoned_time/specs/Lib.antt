@@ -1,4 +1,3 @@
-pub mod Alike
 pub mod Choice
 pub mod DateTime
 pub mod Days
@@ -6,9 +5,7 @@ pub mod DayEnds
 pub mod Fields
 pub mod Order
 pub mod Relocal
-pub mod ResolveNumbers
 pub mod Stamps
-pub mod Steps
 pub mod Years
 pub mod Zone
 pub mod Zoned

@@ -16,10 +16,8 @@ ghost use Rattle.naive_base.specs.NaiveDateTime.{reading};
 ghost use Rattle.naive_base.specs.Range.{IsInRange};
 ghost use Rattle.naive_base.specs.Reading.{Reading, IsEarlier, total, of_total};
 ghost use Rattle.naive_base.specs.Stamp.{of_secs, IsStamp};
-ghost use Rattle.zoned_time.specs.declared.around.OffsetsAround.{OffsetsAround as AnyAround};
-ghost use Rattle.zoned_time.specs.declared.resolve_error.ResolveError.{ResolveError as Fault};
+ghost use Rattle.offset_core.specs.declared.resolve_error.ResolveError.{ResolveError as Fault};
 ghost use Rattle.zoned_time.specs.declared.utc.Utc.{Utc as TheUtc};
-ghost use Rattle.zoned_time.specs.Alike.{AreAlike, HoldsOfEach};
 ghost use Rattle.zoned_time.specs.Choice.{IsBeforeGap, IsResolved, IsUnresolved};
 ghost use Rattle.zoned_time.specs.Relocal.{IsRelocal, HasInstant, instant_of, SingleIff};
 ghost use Rattle.zoned_time.specs.Stamps.{millis_of, micros_of, of_millis, of_micros, in_utc};
@@ -28,7 +26,7 @@ ghost use Rattle.zoned_time.specs.Order.{compared};
 ghost use Rattle.zoned_time.specs.Zone.{Each, SameOffsets, SameLaw, seconds_alone};
 ghost use Rattle.zoned_time.specs.Zoned.{Zoned, local_of, in_seconds, IsAt, IsFixedFrom};
 
-use crate::{DateTime, Offset, OffsetsAround, ResolveError, TimeZone, Utc};
+use crate::{DateTime, Offset, TimeZone, Utc};
 use naive_base::NaiveDateTime;
 use offset_core::{Choice, FixedOffset};
 use std::hash::Hash;
@@ -151,24 +149,6 @@ pub fn one_instant_where_the_offset_is_fixed()
     ensures fixed { (zone : AnyFixed) (l : Reading) (answer : LocalResult (Zoned AnyFixed))
         → IsRelocal (⟦<FixedOffset as TimeZone>⟧.law zone) l answer
         → SingleIff answer (HasInstant seconds_of l zone) (instant_of seconds_of l zone) }
-{}
-
-/// Errors of a choice are equal where they are the same, and a clone is the error.
-pub fn resolve_errors()
-    ensures equal { (a b : Fault) → IsTrue (⟦<ResolveError as PartialEq>⟧.eq a b) ↔ (a ≡ b) }
-    ensures cloned { (a b : Fault) → ⟦<ResolveError as Clone>⟧.is_clone a b ↔ (a ≡ b) }
-    ensures infallible { (a : Fault) → ⟦<ResolveError as Clone>⟧.is_infallible a }
-{}
-
-/// What a zone gives around a local time is equal if and only if it is of one kind and its offsets are
-/// equal, and a clone is of one kind with clones of the offsets. It fails only if one of these does.
-pub fn offsets_around<O: PartialEq + Clone>()
-    ensures equal { (x y : AnyAround O) → IsTrue (⟦<OffsetsAround<O> as PartialEq>⟧.eq x y)
-        ↔ AreAlike (λ a b. IsTrue (O.PartialEq.eq a b)) x y }
-    ensures cloned { (x y : AnyAround O) → ⟦<OffsetsAround<O> as Clone>⟧.is_clone x y
-        ↔ AreAlike O.Clone.is_clone x y }
-    ensures infallible { (x : AnyAround O) → HoldsOfEach O.Clone.is_infallible x
-        → ⟦<OffsetsAround<O> as Clone>⟧.is_infallible x }
 {}
 
 /// What a zone gives for a wall clock is determined: two answers are the same instants, at offsets

@@ -1,7 +1,6 @@
 //! Zoned time: the traits that every time zone implements, UTC and fixed offsets, and `DateTime`.
 #![tactic(auto)]
 
-mod around;
 mod datetime;
 mod fixed;
 mod fixed_days;
@@ -9,16 +8,14 @@ pub mod laws;
 mod naive_zoned;
 mod offset;
 mod resolve;
-mod resolve_error;
 mod time_zone;
 mod utc;
 mod zone_days;
 
-pub use around::OffsetsAround;
 pub use datetime::{DateTime, MAX_DATETIME, MIN_DATETIME};
 pub use naive_zoned::NaiveZoned;
 pub use offset::Offset;
-pub use resolve_error::ResolveError;
+pub use offset_core::{Around, ResolveError, Taken};
 pub use time_zone::TimeZone;
 pub use utc::Utc;
 pub use zone_days::{ShownDay, ZoneDays};

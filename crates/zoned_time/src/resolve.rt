@@ -1,14 +1,16 @@
 //! The instants that a choice takes.
-ghost use Rattle.std.specs.Prelude.{◌≡◌, MatchResult, Some};
+ghost use Rattle.std.specs.Prelude.{◌≡◌, MatchResult};
+ghost use Rattle.offset_core.specs.declared.resolve_error.ResolveError.TheVariants.{OutOfRange};
 ghost use Rattle.naive_base.specs.NaiveDateTime.{reading};
-ghost use Rattle.zoned_time.specs.Choice.{IsOffsetBeforeGap};
+ghost use Rattle.naive_base.specs.Range.{IsInRange};
+ghost use Rattle.naive_base.specs.Reading.{behind};
 ghost use Rattle.zoned_time.specs.DateTime.{zoned};
 ghost use Rattle.zoned_time.specs.Relocal.{HasInstant, instant_of};
-ghost use Rattle.zoned_time.specs.Steps.Shifts.{IsShifted, IsShiftOutOfRange};
-ghost use Rattle.zoned_time.specs.declared.resolve_error.ResolveError.TheVariants.{OutOfRange};
+ghost use Rattle.zoned_time.specs.Zoned.{IsAt};
 
-use crate::{DateTime, Offset, ResolveError, TimeZone};
+use crate::{DateTime, Offset, TimeZone};
 use naive_base::NaiveDateTime;
+use offset_core::ResolveError;
 
 // The instant when a clock with that offset shows the reading, where it is in range.
 pub(crate) fn instant_by<Tz: TimeZone>(
@@ -26,16 +28,16 @@ pub(crate) fn instant_by<Tz: TimeZone>(
     }
 }
 
-// The instant by the offset before the gap, where it is in range.
+// The instant at which a clock of that offset would show the reading, by the zone's own offset there.
 pub(crate) fn shifted<Tz: TimeZone>(
     zone: &Tz,
     local: &NaiveDateTime,
     before: Tz::Offset,
 ) -> Result<DateTime<Tz>, ResolveError>
-    requires { IsOffsetBeforeGap (Tz.law zone.now) (reading local.now).s (Some before) }
-    ensures { MatchResult result
-        (λ d. IsShifted (Tz.law zone.now) (reading local.now) (zoned d))
-        (λ e. (e ≡ OutOfRange) × IsShiftOutOfRange (Tz.law zone.now).off (reading local.now).s) }
+    ensures { let utc = behind (reading local.now) (Tz.Offset.seconds before) in
+        MatchResult result
+        (λ d. IsInRange utc.s × IsAt (Tz.law zone.now) utc (zoned d))
+        (λ e. (e ≡ OutOfRange) × ¬ (IsInRange utc.s)) }
 {
     match local.checked_sub_offset(before.fix()) {
         Some(utc) => Ok(zone.from_utc_datetime(&utc)),

@@ -15,9 +15,9 @@ ghost use Rattle.zoned_time.specs.Zone.{Meaning, Law, home_law, IsFixed, IsUtc, 
 ghost use Rattle.zoned_time.specs.Zoned.{shown, IsAt};
 
 use crate::resolve::{instant_by, shifted};
-use crate::{DateTime, Offset, OffsetsAround, ResolveError, Utc};
+use crate::{DateTime, Offset, Utc};
 use naive_base::{NaiveDate, NaiveDateTime, NaiveTime};
-use offset_core::{Choice, FoldChoice, GapChoice, LocalResult};
+use offset_core::{Around, Choice, LocalResult, ResolveError, Taken};
 
 /// A time zone: an offset for each second.
 ///
@@ -73,16 +73,16 @@ pub trait TimeZone: Sized + Copy {
     fn offset_before_gap(&self, local: &NaiveDateTime) -> Option<Self::Offset>
         ensures { IsOffsetBeforeGap (law self.now) (reading local.now).s result };
 
-    /// What [`TimeZone::offset_from_local_datetime`] and [`TimeZone::offset_before_gap`] give, in
-    /// one call.
-    fn offsets_around(&self, local: &NaiveDateTime) -> OffsetsAround<Self::Offset>
+    /// Returns what [`TimeZone::offset_from_local_datetime`] and [`TimeZone::offset_before_gap`]
+    /// return, in one call: of a gap the offset before it.
+    fn offsets_around(&self, local: &NaiveDateTime) -> Around<Self::Offset, Self::Offset>
         ensures { AreOffsetsAround (law self.now) (reading local.now).s result }
     {
         match self.offset_from_local_datetime(local) {
-            LocalResult::Single(only) => OffsetsAround::Single(only),
-            LocalResult::Ambiguous(first, last) => OffsetsAround::Ambiguous(first, last),
+            LocalResult::Single(only) => Around::Single(only),
+            LocalResult::Ambiguous(first, last) => Around::Ambiguous(first, last),
             LocalResult::None => match self.offset_before_gap(local) {
-                Some(before) => OffsetsAround::BeforeGap(before),
+                Some(before) => Around::Gap(before),
                 None => unreachable!(),
             },
         }
@@ -147,17 +147,10 @@ pub trait TimeZone: Sized + Copy {
             (λ d. IsResolved (law self.now) (reading local.now) choice (shown d.datetime d.offset))
             (λ e. IsUnresolved (law self.now).off (reading local.now).s choice e) }
     {
-        match self.offsets_around(local) {
-            OffsetsAround::Single(only) => { instant_by(local, only) }
-            OffsetsAround::Ambiguous(first, last) => match choice.fold {
-                FoldChoice::Refuse => Err(ResolveError::Fold),
-                FoldChoice::Earliest => { instant_by(local, first) }
-                FoldChoice::Latest => { instant_by(local, last) }
-            },
-            OffsetsAround::BeforeGap(before) => match choice.gap {
-                GapChoice::Refuse => Err(ResolveError::Gap),
-                GapChoice::ShiftForward => shifted(self, local, before),
-            },
+        match self.offsets_around(local).take(choice) {
+            Ok(Taken::Shown(offset)) => instant_by(local, offset),
+            Ok(Taken::InGap(before)) => shifted(self, local, before),
+            Err(refused) => Err(refused),
         }
     }
 

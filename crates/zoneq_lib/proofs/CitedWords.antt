@@ -34,7 +34,7 @@ unfoldable pub use Rattle.tz_info.proofs.Words.{exact_at}
 pub use Rattle.tz_info.specs.declared.zone.time_zone.TimeZone.{TimeZone}
 pub use Rattle.zoned_time.proofs.Words.{IsResolved, MatchResult, behind, by_lt_z, in_range_or_not, neg_ℤ}
 pub use Rattle.zoned_time.specs.Stamps.{IsAtWhere}
-pub use Rattle.zoned_time.specs.declared.resolve_error.ResolveError.{ResolveError}
+pub use Rattle.offset_core.specs.declared.resolve_error.ResolveError.{ResolveError}
 pub use Rattle.zoned_ref.proofs.ForCallers.{choice_covered, zone_has_offsets}
 pub use Rattle.zoned_ref.proofs.Words.{All, All-append, AreOffsetsOf, Bool, FitsSigned, IsInRange, IsNarrow, IsRuleOrNone, IsTaken, IsUnresolved, IsValid}
 pub use Rattle.zoned_ref.proofs.Words.{IsWide, IsWithinDay, IsZoneSecond, Law, List, LocalType, Meaning, Reading, Zone, Zoned, ap, arith, false, get_or}

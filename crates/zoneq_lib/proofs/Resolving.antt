@@ -1,5 +1,5 @@
 -- Every reading has an answer under each choice.
-use Rattle.zoned_time.specs.ResolveNumbers.{number_of}
+use Rattle.offset_core.specs.ResolveNumbers.{number_of}
 use Rattle.zoneq_lib.proofs.CitedWords.{AnswersResolve, AreOffsetsOf, Choice, IsInRange, IsNarrow, IsResolved, IsRuleOrNone, IsTaken, IsUnresolved, IsValid}
 use Rattle.zoneq_lib.proofs.CitedWords.{IsWide, Law, List, Meaning, Reading, ResolveError, Some, Zone, Zoned, arith, behind, choice_covered, codes, in_seconds}
 use Rattle.zoneq_lib.proofs.CitedWords.{inl, inr, instant_text, ints, law_by, refl, refusal_text, same_itself, ℕ, ℤ, ◌-ℤ◌}

@@ -18,10 +18,10 @@ use Rattle.tz_info.specs.Zones.{Zone, IsValid, TypeAt, IsTypeRefused}
 use Rattle.tz_info.specs.declared.rule.transition_rule.TransitionRule.{TransitionRule}
 use Rattle.tz_info.specs.declared.rule.transition_rule.TransitionRule.TheVariants as rules
 use Rattle.zoned_time.specs.Choice.{IsResolved, IsUnresolved}
-use Rattle.zoned_time.specs.ResolveNumbers.{number_of as resolve_number}
+use Rattle.offset_core.specs.ResolveNumbers.{number_of as resolve_number}
 use Rattle.zoned_time.specs.Zone.{Meaning, Law, meaning_by_seconds, law_by_seconds}
 use Rattle.zoned_time.specs.Zoned.{Zoned}
-use Rattle.zoned_time.specs.declared.resolve_error.ResolveError.{ResolveError}
+use Rattle.offset_core.specs.declared.resolve_error.ResolveError.{ResolveError}
 use Rattle.zoned_ref.specs.Offsets.{IsNarrow, AreOffsetsOf}
 use Rattle.naive_base.specs.Stamp.{IsStamp, of_secs}
 use Rattle.zoneq_lib.specs.Questions.{Query, Text, Data, At, Wall, Resolve, Show, Asks, IsBadLine}

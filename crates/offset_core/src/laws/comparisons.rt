@@ -3,18 +3,24 @@
 ghost use Rattle.std.specs.Prelude.{◌≡◌, ◌↔◌, IsTrue, ◌<ℤ◌, pos, neg_ℤ};
 ghost use Rattle.std.specs.Ordering.{int_cmp};
 ghost use Rattle.std.specs.Hash as fed;
+ghost use Rattle.offset_core.specs.declared.around.Around.{Around as AnyAround};
 ghost use Rattle.offset_core.specs.declared.choice.Choice.{Choice as AnyChoice};
 ghost use Rattle.offset_core.specs.declared.choice.FoldChoice.{FoldChoice as AnyFoldChoice};
 ghost use Rattle.offset_core.specs.declared.choice.GapChoice.{GapChoice as AnyGapChoice};
 ghost use Rattle.offset_core.specs.declared.fixed_offset.FixedOffset.{FixedOffset as AnyOffset};
 ghost use Rattle.offset_core.specs.declared.local_result.LocalResult.{LocalResult as AnyResult};
+ghost use Rattle.offset_core.specs.declared.resolve_error.ResolveError.{ResolveError as AnyReason};
 ghost use Rattle.offset_core.specs.declared.time_delta.TimeDelta.{TimeDelta as AnyDelta};
 ghost use Rattle.offset_core.specs.declared.time_delta.out_of_range.OutOfRangeError.{OutOfRangeError as AnyFault};
+ghost use Rattle.offset_core.specs.Around as around;
 ghost use Rattle.offset_core.specs.FixedOffset.{seconds_of};
 ghost use Rattle.offset_core.specs.LocalResult.{AreAlike, HoldsOfEach, fed_of};
 ghost use Rattle.offset_core.specs.TimeDelta.{nanos_of};
 
-use crate::{Choice, FixedOffset, FoldChoice, GapChoice, LocalResult, OutOfRangeError, TimeDelta};
+use crate::{
+    Around, Choice, FixedOffset, FoldChoice, GapChoice, LocalResult, OutOfRangeError, ResolveError,
+    TimeDelta,
+};
 use std::hash::Hash;
 
 /// Offsets are equal if and only if their seconds are; a hash looks at the seconds, and a clone is
@@ -82,4 +88,23 @@ pub fn choices()
     ensures gap_infallible { (a : AnyGapChoice) → ⟦<GapChoice as Clone>⟧.is_infallible a }
     ensures fold_infallible { (a : AnyFoldChoice) → ⟦<FoldChoice as Clone>⟧.is_infallible a }
     ensures infallible { (a : AnyChoice) → ⟦<Choice as Clone>⟧.is_infallible a }
+{}
+
+/// Reasons why a choice takes nothing are equal if and only if they are the same, and a clone is the reason.
+pub fn resolve_errors()
+    ensures equal { (a b : AnyReason) → IsTrue (⟦<ResolveError as PartialEq>⟧.eq a b) ↔ (a ≡ b) }
+    ensures cloned { (a b : AnyReason) → ⟦<ResolveError as Clone>⟧.is_clone a b ↔ (a ≡ b) }
+    ensures infallible { (a : AnyReason) → ⟦<ResolveError as Clone>⟧.is_infallible a }
+{}
+
+/// What zones give around local times is equal if and only if it is of one kind and the values, or
+/// the gaps, are equal; a clone is of one kind with clones of these, and fails only if one of these does.
+pub fn arounds<T: PartialEq + Clone, G: PartialEq + Clone>()
+    ensures equal { (x y : AnyAround T G) → IsTrue (⟦<Around<T, G> as PartialEq>⟧.eq x y)
+        ↔ around.AreAlike (λ a b. IsTrue (T.PartialEq.eq a b)) (λ a b. IsTrue (G.PartialEq.eq a b)) x y }
+    ensures cloned { (x y : AnyAround T G) → ⟦<Around<T, G> as Clone>⟧.is_clone x y
+        ↔ around.AreAlike T.Clone.is_clone G.Clone.is_clone x y }
+    ensures infallible { (x : AnyAround T G)
+        → around.HoldsOfEach T.Clone.is_infallible G.Clone.is_infallible x
+        → ⟦<Around<T, G> as Clone>⟧.is_infallible x }
 {}

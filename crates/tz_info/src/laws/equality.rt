@@ -6,7 +6,6 @@ ghost use Rattle.tz_info.specs.ChangesLeft.{changes_left};
 ghost use Rattle.tz_info.specs.Zones.{Zone};
 ghost use Rattle.tz_info.specs.declared.rule.day.DayForm.{DayForm};
 ghost use Rattle.tz_info.specs.declared.rule.transition_rule.TransitionRule.{TransitionRule as Rule};
-ghost use Rattle.tz_info.specs.declared.zone.around.TypesAround.{TypesAround as Around};
 ghost use Rattle.tz_info.specs.declared.zone.differences.Difference.{Difference as Differing};
 ghost use Rattle.tz_info.specs.declared.zone.leap_second.LeapSecond.{LeapSecond as Leap};
 ghost use Rattle.tz_info.specs.declared.zone.shown_seconds.ShownSeconds.{ShownSeconds as Seconds};
@@ -15,7 +14,6 @@ ghost use Rattle.tz_info.specs.declared.zone.transition.Transition.{Transition a
 
 use crate::rule::{AlternateTime, RuleDay, TransitionRule};
 use crate::zone::all_changes::Changes;
-use crate::zone::around::TypesAround;
 use crate::zone::differences::Difference;
 use crate::zone::shown_seconds::{ShownSeconds, TypedSecond};
 use crate::zone::{LeapSecond, TimeZone, Transition};
@@ -65,14 +63,6 @@ pub fn transition_rules()
 /// Zones are equal if and only if their transitions, types, leap seconds and rules are.
 pub fn zones()
     ensures { (a b : Zone) → IsTrue (⟦<TimeZone as PartialEq>⟧.eq a b) ↔ (a ≡ b) }
-{}
-
-/// What shows a local time is equal if and only if the types, or the changes of the gap, are. A clone is the
-/// value, and does not fail.
-pub fn types_around()
-    ensures equal { (a b : Around) → IsTrue (⟦<TypesAround as PartialEq>⟧.eq a b) ↔ (a ≡ b) }
-    ensures clone { (a b : Around) → ⟦<TypesAround as Clone>⟧.is_clone a b ↔ (b ≡ a) }
-    ensures infallible { (a : Around) → ⟦<TypesAround as Clone>⟧.is_infallible a }
 {}
 
 /// A clone of a list of changes has the same changes left, and does not fail.

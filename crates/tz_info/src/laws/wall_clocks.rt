@@ -4,13 +4,14 @@
 ghost use Rattle.std.specs.Prelude.{◌≡◌, ℕ, ℤ, ◌+ℤ◌, FitsSigned};
 ghost use Rattle.std.specs.Int.{w64};
 ghost use Rattle.offset_core.specs.WallAnswer.{IsWallAnswer};
+ghost use Rattle.offset_core.specs.declared.around.Around.{Around};
 ghost use Rattle.offset_core.specs.declared.local_result.LocalResult.{LocalResult};
 ghost use Rattle.tz_base.specs.LocalTypes.{LocalType};
+ghost use Rattle.tz_base.specs.declared.change.Change.{Change};
 ghost use Rattle.tz_info.specs.Around.{IsAround};
 ghost use Rattle.tz_info.specs.WallClocks.{Shows, AreShown, IsAmongShown};
 ghost use Rattle.tz_info.specs.Windows.{IsWindowCount};
 ghost use Rattle.tz_info.specs.Zones.{Zone, IsValid, IsRuleOrNone, TypeAt};
-ghost use Rattle.tz_info.specs.declared.zone.around.TypesAround.{TypesAround};
 
 /// Each local time has an answer in each zone.
 pub fn decided()
@@ -40,8 +41,8 @@ pub fn one_wall_clock_law()
 
 /// And it has one answer with both sides of its gap.
 pub fn one_answer_around_law()
-    ensures { (z : Zone) (local : ℤ) (a b : TypesAround) → IsAround (TypeAt z) local a
-        → IsAround (TypeAt z) local b → a ≡ b }
+    ensures { (z : Zone) (local : ℤ) (a b : Around LocalType Change)
+        → IsAround (TypeAt z) local a → IsAround (TypeAt z) local b → a ≡ b }
 {}
 
 /// A local time has one count of the transitions that come near it.

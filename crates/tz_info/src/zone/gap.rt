@@ -20,12 +20,11 @@ ghost use Rattle.tz_info.specs.declared.rule.transition_rule.TransitionRule.TheV
 
 use crate::answers::second_showing;
 use crate::rule::{AlternateTime, TransitionRule};
-use crate::zone::around::TypesAround;
 use crate::zone::shown::{Jump, Shown};
 use crate::zone::starts::{first_second, later};
 use crate::zone::time_zone::TimeZone;
 use naive_base::NaiveDateTime;
-use offset_core::MappedLocalTime;
+use offset_core::{Around, MappedLocalTime};
 use tz_base::{Change, LocalTimeType};
 use tz_timeline::Probes;
 
@@ -38,13 +37,13 @@ struct Reach {
 }
 
 impl TimeZone {
-    /// The types in force at the instants at which a clock of this zone shows the reading; in a gap
-    /// the types before and after it, and the second at which clocks jumped over the reading: of
-    /// all seconds the first at which they show more.
+    /// Returns the local time types in force at the instants at which a clock of this zone shows the
+    /// local time; in a gap the clock change that skips it, at the first second at which clocks show
+    /// more.
     ///
-    /// In New York clocks were set forward from 02:00 to 03:00 on 14 March 2021. Of 02:30 that day
-    /// it tells EST, EDT and 1615705200; of 03:30 EDT alone.
-    pub fn find_local_time_type_around(&self, local: NaiveDateTime) -> TypesAround
+    /// In New York clocks were set forward from 02:00 to 03:00 on 14 March 2021. For 02:30 that day
+    /// it returns the change at 1615705200 from EST to EDT, and for 03:30 EDT.
+    pub fn find_local_time_type_around(&self, local: NaiveDateTime) -> Around<LocalTimeType, Change>
         ensures { IsAround (TypeAt self.now) (reading local).s result }
     {
         self.find_local_time_type_around_counted(local, &mut Probes::new())
@@ -62,7 +61,7 @@ impl TimeZone {
         &self,
         local: NaiveDateTime,
         probes: &mut Probes,
-    ) -> TypesAround
+    ) -> Around<LocalTimeType, Change>
         requires { HasRoom probes.old }
         ensures found { IsAround (TypeAt self.now) (reading local).s result }
         ensures cost { RoseAround self.now result probes.old probes.new }
@@ -72,9 +71,9 @@ impl TimeZone {
         let second = local.secs_since_epoch();
         let (shown, answer) = self.wall_answer_of(second, probes);
         match answer {
-            MappedLocalTime::None => TypesAround::Gap(self.gap_at(second, shown, probes)),
-            MappedLocalTime::Single(only) => TypesAround::Single(only),
-            MappedLocalTime::Ambiguous(first, last) => TypesAround::Ambiguous(first, last),
+            MappedLocalTime::None => Around::Gap(self.gap_at(second, shown, probes)),
+            MappedLocalTime::Single(only) => Around::Single(only),
+            MappedLocalTime::Ambiguous(first, last) => Around::Ambiguous(first, last),
         }
     }
 
@@ -90,9 +89,9 @@ impl TimeZone {
             (λ t. IsBeforeGap (TypeAt self.now) (reading local).s t) }
     {
         match self.find_local_time_type_around(local) {
-            TypesAround::Gap(gap) => Some(gap.before),
-            TypesAround::Single(_) => None,
-            TypesAround::Ambiguous(_, _) => None,
+            Around::Gap(gap) => Some(gap.before),
+            Around::Single(_) => None,
+            Around::Ambiguous(_, _) => None,
         }
     }
 

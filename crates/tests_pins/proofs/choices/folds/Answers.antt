@@ -1,20 +1,17 @@
-use Rattle.zoned_time.specs.Choice.IsUnresolved.{fold, gap, out_of_range}
-use Rattle.zoned_time.specs.declared.resolve_error.ResolveError.TheVariants.{Fold}
-use Rattle.tests_pins.proofs.Words.{IsUnresolved, ResolveError, ap, behind, half_past, neg_ℤ, pos, refuse, set_back, ◌∙◌, ◌≡◌}
-use Rattle.tests_pins.proofs.SetClocks.{none_taken_twice, shown_last, taken_earliest, taken_latest, zoned_is}
+use Rattle.offset_core.specs.declared.resolve_error.ResolveError.TheVariants.{Fold}
+use Rattle.std.proofs.Common.{Err, refl}
+use Rattle.zoned_time.proofs.ForCallers.{unresolved_once}
+use Rattle.zoned_time.specs.Choice.{refused}
+use Rattle.tests_pins.proofs.Words.{ap, behind, half_past, neg_ℤ, pos, refuse, set_back, ◌∙◌, ◌≡◌}
+use Rattle.tests_pins.proofs.SetClocks.{none_taken_twice, taken_earliest, taken_latest, takes_fold, zoned_is}
 use Rattle.tests_pins.proofs.choices.folds.Goals as goal
-
-why : (e : ResolveError) → IsUnresolved set_back (pos 1_800) refuse e → e ≡ Fold
-why e (gap none _ _) = absurd (none (pos 1_800) (pos 0) shown_last)
-why e (fold first last b _ is) = is
-why e (out_of_range k taken _ _) = absurd (none_taken_twice k taken)
 
 pub returns : goal.returns
 returns c = record {
   first = taken_earliest;
   last = taken_latest;
   refused = none_taken_twice;
-  why = why;
+  why = λ e h. unresolved_once set_back (pos 1_800) refuse e Fold h (refused (takes_fold refuse (Err Fold) refl));
   instant = λ d h.
       let offset : h.offset ≡ pos 3_600 = taken_earliest h.offset h.taken in
       let back = ap (behind half_past) offset in

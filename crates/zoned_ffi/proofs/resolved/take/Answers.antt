@@ -1,48 +1,48 @@
-use Rattle.zoned_ffi.proofs.Words.{FitsSigned, IsGapEnd, IsNoneTaken, IsTaken, rules, to_z-of_z, w32, w64, ◌∙◌}
-use Rattle.zoned_ffi.proofs.Resolving.{before_gap, in_force}
+use Rattle.offset_core.specs.declared.around.Taken.TheVariants.{InGap, Shown}
+use Rattle.tz_info.specs.Around.{Skips}
+use Rattle.zoned_ffi.proofs.Words.{Err, FitsSigned, IsGapEnd, IsTaken, Ok, Shows, TypeAt, ap, policy_of, refl, rules, taken_right, to_z-of_z, w32, w64, ◌∙◌}
+use Rattle.zoned_ffi.proofs.Resolving.{in_force, taken_as}
 use Rattle.zoned_ffi.proofs.resolved.take.Goals as goal
 
-pub returns-in-Single : goal.returns-in-Single
-returns-in-Single c =
+pub returns-in-Ok-Shown : goal.returns-in-Ok-Shown
+returns-in-Ok-Shown c =
     let fits : FitsSigned w32 c.offset.result = search rules in
-    let once = c.in-Single.ensures.found in
-    in_force c.args.zone.now c.args.local.secs once.second c.args.choice c.in-Single.only _ once.shown (IsTaken.once once) (to_z-of_z fits ∙ c.offset.ensures.value) c.offset.ensures.bound
-
-pub returns-in-Refuse : goal.returns-in-Refuse
-returns-in-Refuse c =
-    let fold = c.in-Ambiguous in
-    IsNoneTaken.fold fold.first fold.last fold.ensures.found c.in-Refuse.is
-
-pub returns-in-Earliest : goal.returns-in-Earliest
-returns-in-Earliest c =
-    let fits : FitsSigned w32 c.offset-in-Earliest.result = search rules in
-    let fold = c.in-Ambiguous in
-    let between = fold.ensures.found in
-    in_force c.args.zone.now c.args.local.secs between.first c.args.choice fold.first _ between.at_first (IsTaken.earliest fold.last between c.in-Earliest.is) (to_z-of_z fits ∙ c.offset-in-Earliest.ensures.value) c.offset-in-Earliest.ensures.bound
-
-pub returns-in-Latest : goal.returns-in-Latest
-returns-in-Latest c =
-    let fits : FitsSigned w32 c.offset-in-Latest.result = search rules in
-    let fold = c.in-Ambiguous in
-    let between = fold.ensures.found in
-    in_force c.args.zone.now c.args.local.secs between.last c.args.choice fold.last _ between.at_last (IsTaken.latest fold.first between c.in-Latest.is) (to_z-of_z fits ∙ c.offset-in-Latest.ensures.value) c.offset-in-Latest.ensures.bound
-
-pub returns-in-Refuse-gap : goal.returns-in-Refuse-gap
-returns-in-Refuse-gap c =
-    let gap = c.in-Gap.ensures.found in
-    IsNoneTaken.gap gap.never c.in-Refuse-gap.is
-
-pub returns-in-ShiftForward : goal.returns-in-ShiftForward
-returns-in-ShiftForward c =
-    let fits : FitsSigned w32 c.offset-in-ShiftForward.result = search rules in
-    let gap = c.in-Gap.gap in
-    let before = before_gap c.args.zone.now c.args.local.secs gap.before gap.after gap.at c.in-Gap.ensures.found in
-    (gap.before, IsTaken.shifted before c.in-ShiftForward.is, to_z-of_z fits ∙ c.offset-in-ShiftForward.ensures.value)
+    let z = c.args.zone.now in let l = c.args.local.secs in let found = c.find_local_time_type_around_counted-around in let only = c.in-Ok-Shown.only in
+    let takes = taken_as z l c.args.choice found.result c.policy.result c.take.result (Ok (Shown only)) found.ensures.found c.policy.ensures c.take.ensures
+    (c.in-Ok-Shown.is ∙ ap Ok c.in-Ok-Shown.field-0-is) in
+    let shown = taken_right (Shows (TypeAt z) l) (Skips (TypeAt z) l) (policy_of c.args.choice) (Shown only) takes in
+    in_force z l shown.0 c.args.choice only _ shown.1 (IsTaken.shown takes) (to_z-of_z fits ∙ c.offset.ensures.value) c.offset.ensures.bound
 
 pub returns-in-End : goal.returns-in-End
 returns-in-End c =
     let fits : FitsSigned w32 c.offset-in-End.result = search rules in
-    let at : FitsSigned w64 c.in-Gap.gap.at = search rules in
-    let gap = c.in-Gap.gap in
-    let end : IsGapEnd c.args.zone.now c.args.local.secs c.args.choice gap.at gap.after = record { before = gap.before; gap = c.in-Gap.ensures.found; end = c.in-End.is } in
-    simp to_z-of_z (gap.after, end, c.offset-in-End.ensures.value)
+    let change = c.in-Ok-InGap.change in
+    let at : FitsSigned w64 change.at = search rules in
+    let z = c.args.zone.now in let l = c.args.local.secs in let found = c.find_local_time_type_around_counted-around in
+    let takes = taken_as z l c.args.choice found.result c.policy.result c.take.result (Ok (InGap change)) found.ensures.found c.policy.ensures c.take.ensures
+    (c.in-Ok-InGap.is ∙ ap Ok c.in-Ok-InGap.field-0-is) in
+    let end : IsGapEnd z l c.args.choice change.at change.after = record { before = change.before; takes = takes; end = c.in-End.is } in
+    simp to_z-of_z (change.after, end, c.offset-in-End.ensures.value)
+
+pub returns-in-ShiftForward : goal.returns-in-ShiftForward
+returns-in-ShiftForward c =
+    let fits : FitsSigned w32 c.offset-in-ShiftForward.result = search rules in
+    let z = c.args.zone.now in let l = c.args.local.secs in let found = c.find_local_time_type_around_counted-around in let change = c.in-Ok-InGap.change in
+    let takes = taken_as z l c.args.choice found.result c.policy.result c.take.result (Ok (InGap change)) found.ensures.found c.policy.ensures c.take.ensures
+    (c.in-Ok-InGap.is ∙ ap Ok c.in-Ok-InGap.field-0-is) in
+    (change.before, IsTaken.shifted change takes (λ end. let is = c.in-ShiftForward.is in cc) refl, to_z-of_z fits ∙ c.offset-in-ShiftForward.ensures.value)
+
+pub returns-in-Refuse : goal.returns-in-Refuse
+returns-in-Refuse c =
+    let fits : FitsSigned w32 c.offset-in-Refuse.result = search rules in
+    let z = c.args.zone.now in let l = c.args.local.secs in let found = c.find_local_time_type_around_counted-around in let change = c.in-Ok-InGap.change in
+    let takes = taken_as z l c.args.choice found.result c.policy.result c.take.result (Ok (InGap change)) found.ensures.found c.policy.ensures c.take.ensures
+    (c.in-Ok-InGap.is ∙ ap Ok c.in-Ok-InGap.field-0-is) in
+    (change.before, IsTaken.shifted change takes (λ end. let is = c.in-Refuse.is in cc) refl, to_z-of_z fits ∙ c.offset-in-Refuse.ensures.value)
+
+pub returns-in-Err : goal.returns-in-Err
+returns-in-Err c =
+    let z = c.args.zone.now in let l = c.args.local.secs in let found = c.find_local_time_type_around_counted-around in
+    let takes = taken_as z l c.args.choice found.result c.policy.result c.take.result (Err c.in-Err.reason) found.ensures.found c.policy.ensures c.take.ensures c.in-Err.is in
+    let widened = c.from.ensures in let number = c.number.ensures in
+    (c.in-Err.reason, takes, cc)

@@ -1,4 +1,4 @@
-use Rattle.tz_info.proofs.AroundEquality.{difference_exact}
+use Rattle.tz_info.proofs.SecondEquality.{difference_exact}
 use Rattle.tz_info.proofs.laws.equality.differences.Goals as goal
 
 pub returns-clause-equal : goal.returns-clause-equal

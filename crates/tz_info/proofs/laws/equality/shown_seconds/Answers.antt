@@ -1,4 +1,4 @@
-use Rattle.tz_info.proofs.AroundEquality.{shown_seconds_exact}
+use Rattle.tz_info.proofs.SecondEquality.{shown_seconds_exact}
 use Rattle.tz_info.proofs.laws.equality.shown_seconds.Goals as goal
 
 pub returns-clause-equal : goal.returns-clause-equal

@@ -1,4 +1,4 @@
-use Rattle.tz_info.proofs.AroundEquality.{typed_second_exact}
+use Rattle.tz_info.proofs.SecondEquality.{typed_second_exact}
 use Rattle.tz_info.proofs.laws.equality.typed_seconds.Goals as goal
 
 pub returns-clause-equal : goal.returns-clause-equal

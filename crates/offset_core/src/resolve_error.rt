@@ -1,6 +1,6 @@
 //! Why a wall clock gives no instant under a choice.
 ghost use Rattle.std.specs.Prelude.{◌≡◌};
-ghost use Rattle.zoned_time.specs.ResolveNumbers.{number_of};
+ghost use Rattle.offset_core.specs.ResolveNumbers.{number_of};
 
 use thiserror::Error;
 

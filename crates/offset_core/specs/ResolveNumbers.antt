@@ -1,7 +1,7 @@
 -- The numbers of refusals.
 use Rattle.std.specs.Prelude.{ℕ}
-use Rattle.zoned_time.specs.declared.resolve_error.ResolveError.{ResolveError}
-use Rattle.zoned_time.specs.declared.resolve_error.ResolveError.TheVariants.{Gap, Fold, OutOfRange}
+use Rattle.offset_core.specs.declared.resolve_error.ResolveError.{ResolveError}
+use Rattle.offset_core.specs.declared.resolve_error.ResolveError.TheVariants.{Gap, Fold, OutOfRange}
 
 -- the number of an error of a choice
 abbrev pub number_of : ResolveError → ℕ

@@ -1,2 +1,0 @@
--- Steps of the proofs: what private functions ensure. No public contract cites a page of this folder.
-pub mod Shifts
