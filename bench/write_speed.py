@@ -74,28 +74,33 @@ def lookup_of_new_york(found):
 
 
 def parts(results):
-    """What each place of the documents has, by its name."""
+    """What each place of the documents has, by its name; those that need a table which wasn't measured stay as they are."""
     text = results.read_text()
     found = tables(text)
-    return {
-        "headline": headline(found),
-        "by instant": table(found[AT]),
-        "by local time": table(found[WALL]),
-        "parsing": table(found["Reading a zone"]),
-        "at work": table(found["Instants at work"]),
-        "changes": changes(found),
-        "programs": table(found["The programs"]),
-        "differ": differences(found),
-        "measured": f"{text.splitlines()[0]} [All tables](../bench/results/{results.name}).",
-        "New York": f"{lookup_of_new_york(found)}\n\n({measured(text)}.)",
+    made = {
+        "headline": lambda: headline(found),
+        "by instant": lambda: table(found[AT]),
+        "by local time": lambda: table(found[WALL]),
+        "parsing": lambda: table(found["Reading a zone"]),
+        "at work": lambda: table(found["Instants at work"]),
+        "changes": lambda: changes(found),
+        "programs": lambda: table(found["The programs"]),
+        "differ": lambda: differences(found),
+        "measured": lambda: f"{text.splitlines()[0]} [All tables](../bench/results/{results.name}).",
+        "New York": lambda: f"{lookup_of_new_york(found)}\n\n({measured(text)}.)",
     }
+    for name, part in made.items():
+        try:
+            yield name, part()
+        except KeyError:
+            continue
 
 
 def written(document, results):
     """The document with these parts."""
     text = document.read_text()
-    for name, part in parts(results).items():
-        text = re.sub(rf"(?s)(<!-- {name} -->\n).*?(\n<!-- end -->)", lambda found: found[1] + part + found[2], text)
+    for name, part in parts(results):
+        text = re.sub(rf"(?s)(<!-- {name} -->\n).*?(<!-- end -->)", lambda found: found[1] + part + "\n" + found[2], text)
     return text
 
 
