@@ -34,7 +34,8 @@ def latest():
 def table(rows):
     """A table as it was printed."""
     heads = list(rows[0])
-    lines = [heads, ["---"] + ["--:"] * (len(heads) - 1), *(list(row.values()) for row in rows)]
+    numbers = [all(re.match(r"-?(\d[\d.,]*( .*)?)?$", row[head]) for row in rows) for head in heads]
+    lines = [heads, ["--:" if number else "---" for number in numbers], *(list(row.values()) for row in rows)]
     return "\n".join("| " + " | ".join(line) + " |" for line in lines)
 
 
@@ -45,9 +46,10 @@ def ratios(found, titles):
 
 
 def headline(found):
-    named = [f"a lookup {words} takes {ratios(found, titles)} of the time" for words, titles in LOOKUPS.items()]
+    at, wall = (ratios(found, titles) for titles in LOOKUPS.values())
     return (
-        f"With one call for each question, {named[0]} of the fastest library with the same answers, and {named[1]}. "
+        f"With one call for each question, a lookup by instant takes {at} of the time of the fastest library with the same "
+        f"answers, and a lookup by local time {wall}. "
         f"Parsing a zone takes {ratios(found, ['Reading a zone'])} times as long as in the fastest library, and work with "
         f"instants {ratios(found, ['Instants at work'])} times; [some rows are slower](#why-some-rows-are-slower)."
     )
@@ -73,6 +75,12 @@ def lookup_of_new_york(found):
     return table([{head: row.get(head, "-") for head in heads} for row in rows])
 
 
+def listed(found):
+    """README's sentence on zonedump."""
+    times = {row["program"]: row["processor's time for each"] for row in found["The programs"]}
+    return f"To list the clock changes of a zone, 1900 to 2037, `zonedump` takes {times['`zonedump --zdump`']} on average, `zdump` {times['`zdump -v`']}."
+
+
 def parts(results):
     """What each place of the documents has, by its name; those that need a table which wasn't measured stay as they are."""
     text = results.read_text()
@@ -85,6 +93,7 @@ def parts(results):
         "at work": lambda: table(found["Instants at work"]),
         "changes": lambda: changes(found),
         "programs": lambda: table(found["The programs"]),
+        "listed": lambda: listed(found),
         "differ": lambda: differences(found),
         "measured": lambda: f"{text.splitlines()[0]} [All tables](../bench/results/{results.name}).",
         "New York": lambda: f"{lookup_of_new_york(found)}\n\n({measured(text)}.)",
