@@ -321,7 +321,7 @@ def print_lines(figures):
         ours = found.get((question, next(iter(programs))))
         for program, words in programs.items():
             if took := found.get((question, program)):
-                print(f"| {LINE_KINDS[question]} | {words} | {spelled(took)} | {ours / took:.3g} |")
+                print(f"| {LINE_KINDS[question]} | {words} | {spelled(took)} | {ours / took:.2g} |")
 
 
 def main():

@@ -2,13 +2,13 @@
 # Times lookups of this library, what it does with instants and its programs, compared with other libraries and programs, and
 # writes the tables into bench/results/, with the date as its name. `bench/write_speed.py` puts them into the documents then.
 #
-# usage: bench/run.sh [PEER ..]     of sahvumbi work cctz hinnant java glibc cpython chrono lines dumps calls misses (else all)
+# usage: bench/run.sh [PART ..]     of sahvumbi work cctz hinnant java glibc cpython chrono lines dumps calls kept misses (else all)
 #
 # First `rt lib` in crates/zoned_ffi builds the archive, and `rt run` in crates/zoneq, crates/zonedump and crates/bench_instants
 # the programs. Debian has the peers:
 #   apt-get install g++ pkg-config libabsl-dev libhowardhinnant-date-dev openjdk-17-jdk-headless mawk python3 tzdata valgrind \
 #     cargo librust-chrono-dev librust-chrono-tz-dev
-# A peer that is not there is left out. All times are the processor's. `misses` counts in a simulation, by valgrind.
+# A part that lacks something is left out. All times are the processor's. `misses` counts in a simulation, by valgrind.
 #
 #   BENCH_DIR   where inputs, programs and figures are kept (else sahvumbi-bench in the folder for temporary files)
 #   KEEP=1      keep the figures of earlier runs too: of each figure the least of all runs counts
@@ -21,7 +21,7 @@ folder=${BENCH_DIR:-${TMPDIR:-/tmp}/sahvumbi-bench}
 kit=$(dirname "$(rt doc)")
 archive=${ARCHIVE:-$here/../crates/zoned_ffi/out/libzoned_ffi.a}
 results=${RESULTS:-$here/results/$(date -u +%Y-%m-%d).md}
-peers=${*:-sahvumbi work cctz hinnant java glibc cpython chrono lines dumps calls misses}
+parts=${*:-sahvumbi work cctz hinnant java glibc cpython chrono lines dumps calls kept misses}
 python=${PYTHON:-python3}
 # As `rt lib` compiles the library.
 processor=x86-64-v2
@@ -76,8 +76,8 @@ run_java_work() {
     done
 }
 
-for peer in $peers; do
-    case $peer in
+for part in $parts; do
+    case $part in
         # shellcheck disable=SC2086
         sahvumbi)
             build sahvumbi "$archive" "$kit/c/liblibc_c.a" && run_both "$folder/sahvumbi"
@@ -107,16 +107,20 @@ for peer in $peers; do
             build calls "$archive" "$kit/c/liblibc_c.a" && echo "running calls" >&2 &&
                 "$folder/calls" "$inputs" > "$outputs/calls.md"
             ;;
+        kept)
+            echo "running time_instants.py" >&2 &&
+                python3 "$here/time_instants.py" "$inputs/zones/New_York" > "$outputs/kept.md"
+            ;;
         misses)
             build ask "$archive" "$kit/c/liblibc_c.a" && echo "running count_misses.py" >&2 &&
                 python3 "$here/count_misses.py" "$folder/ask" "$inputs" > "$outputs/misses.md"
             ;;
         *) false ;;
-    esac || echo "$peer is left out" >&2
+    esac || echo "$part is left out" >&2
 done
 {
     python3 "$here/print_tables.py" "$inputs" "$outputs" &&
-        for part in calls misses; do [ ! -f "$outputs/$part.md" ] || cat "$outputs/$part.md"; done
+        for part in calls kept misses; do [ ! -f "$outputs/$part.md" ] || cat "$outputs/$part.md"; done
 } > "$outputs/tables.md" || exit 1
 cp "$outputs/tables.md" "$results"
 echo "the tables are in $results" >&2

@@ -1,10 +1,10 @@
 #!/usr/bin/env python3
-"""Times instants of a kept zone beside those of a borrowed one: `bench_instants` over New York's file.
+"""Times instants of a kept zone and of a borrowed one: `bench_instants` over New York's file.
 
 usage: bench/time_instants.py [ZONE_FILE]
 
-It prints a row for each kind of zone and question: the processor's time for a question, the least of five runs, with the time
-of a run without a question taken off. `rt run` in crates/bench_instants builds the program.
+It prints a table with a row for each question: the processor's time for a question, the least of five runs, less that of a run
+without a question. `rt run` in crates/bench_instants builds the program.
 """
 
 import resource
@@ -31,11 +31,11 @@ def processor_time(words):
 
 def main():
     path = sys.argv[1] if len(sys.argv) > 1 else FILE
-    print("| question | borrowed | kept |\n|---|--:|--:|")
+    print("\n### Instants of a kept zone, compared with a borrowed one\n\n| question | borrowed | kept |\n|---|--:|--:|")
     questions = (
         ("instant", "an instant, and its offset"),
         ("wall", "a wall clock, and its instants"),
-        ("gap", "a reading in a gap, shifted"),
+        ("gap", "a local time in a gap, shifted"),
     )
     for question, name in questions:
         times, sums = [], set()

@@ -34,7 +34,8 @@ def latest():
 def table(rows):
     """A table as it was printed."""
     heads = list(rows[0])
-    lines = [heads, ["---"] + ["--:"] * (len(heads) - 1), *(list(row.values()) for row in rows)]
+    numbers = [all(re.match(r"-?(\d[\d.,]*( .*)?)?$", row[head]) for row in rows) for head in heads]
+    lines = [heads, ["--:" if number else "---" for number in numbers], *(list(row.values()) for row in rows)]
     return "\n".join("| " + " | ".join(line) + " |" for line in lines)
 
 
@@ -45,9 +46,10 @@ def ratios(found, titles):
 
 
 def headline(found):
-    named = [f"a lookup {words} takes {ratios(found, titles)} of the time" for words, titles in LOOKUPS.items()]
+    at, wall = (ratios(found, titles) for titles in LOOKUPS.values())
     return (
-        f"With one call for each question, {named[0]} of the fastest library with the same answers, and {named[1]}. "
+        f"With one call for each question, a lookup by instant takes {at} of the time of the fastest library with the same "
+        f"answers, and a lookup by local time {wall}. "
         f"Parsing a zone takes {ratios(found, ['Reading a zone'])} times as long as in the fastest library, and work with "
         f"instants {ratios(found, ['Instants at work'])} times; [some rows are slower](#why-some-rows-are-slower)."
     )
@@ -73,29 +75,41 @@ def lookup_of_new_york(found):
     return table([{head: row.get(head, "-") for head in heads} for row in rows])
 
 
+def listed(found):
+    """README's sentence on zonedump."""
+    times = {row["program"]: row["processor's time for each"] for row in found["The programs"]}
+    return f"To list the clock changes of a zone, 1900 to 2037, `zonedump` takes {times['`zonedump --zdump`']} on average, `zdump` {times['`zdump -v`']}."
+
+
 def parts(results):
-    """What each place of the documents has, by its name."""
+    """What each place of the documents has, by its name; those that need a table which wasn't measured stay as they are."""
     text = results.read_text()
     found = tables(text)
-    return {
-        "headline": headline(found),
-        "by instant": table(found[AT]),
-        "by local time": table(found[WALL]),
-        "parsing": table(found["Reading a zone"]),
-        "at work": table(found["Instants at work"]),
-        "changes": changes(found),
-        "programs": table(found["The programs"]),
-        "differ": differences(found),
-        "measured": f"{text.splitlines()[0]} [All tables](../bench/results/{results.name}).",
-        "New York": f"{lookup_of_new_york(found)}\n\n({measured(text)}.)",
+    made = {
+        "headline": lambda: headline(found),
+        "by instant": lambda: table(found[AT]),
+        "by local time": lambda: table(found[WALL]),
+        "parsing": lambda: table(found["Reading a zone"]),
+        "at work": lambda: table(found["Instants at work"]),
+        "changes": lambda: changes(found),
+        "programs": lambda: table(found["The programs"]),
+        "listed": lambda: listed(found),
+        "differ": lambda: differences(found),
+        "measured": lambda: f"{text.splitlines()[0]} [All tables](../bench/results/{results.name}).",
+        "New York": lambda: f"{lookup_of_new_york(found)}\n\n({measured(text)}.)",
     }
+    for name, part in made.items():
+        try:
+            yield name, part()
+        except KeyError:
+            continue
 
 
 def written(document, results):
     """The document with these parts."""
     text = document.read_text()
-    for name, part in parts(results).items():
-        text = re.sub(rf"(?s)(<!-- {name} -->\n).*?(\n<!-- end -->)", lambda found: found[1] + part + found[2], text)
+    for name, part in parts(results):
+        text = re.sub(rf"(?s)(<!-- {name} -->\n).*?(<!-- end -->)", lambda found: found[1] + part + "\n" + found[2], text)
     return text
 
 

@@ -25,7 +25,7 @@ impl fmt::Display for OffsetWords {
     }
 }
 
-/// A type of local time: `-05:00 std EST`.
+/// A local time type: `-05:00 std EST`.
 #[derive(Clone, Copy)]
 pub struct TypeWords<'a>(pub &'a LocalTimeType);
 

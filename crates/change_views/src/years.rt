@@ -18,8 +18,8 @@ pub struct Years {
 }
 
 impl Years {
-    /// The years from `first` to `last`. `None` if `first` comes after `last`, or if one of them is
-    /// not from 1 to 9999.
+    /// Returns the years from `first` to `last`. `None` if `first` comes after `last`, or if one of
+    /// them is not one from 1 to 9999.
     pub fn new(first: i32, last: i32) -> Option<Years>
         ensures { MatchOption result (¬ (AreYears first last))
             (λ y. AreYears first last × (y.first ≡ first) × (y.last ≡ last)) }
@@ -30,7 +30,7 @@ impl Years {
         Some(Years { first, last })
     }
 
-    /// The first second of the first year, as a Unix time.
+    /// Returns the first second of the first year, as a Unix time.
     pub fn from(self) -> i64
         ensures value { result ≡ year_second self.first }
         ensures bound { IsInYears result }
@@ -38,7 +38,7 @@ impl Years {
         start_of(self.first)
     }
 
-    /// The first second after the last year, as a Unix time.
+    /// Returns the first second after the last year, as a Unix time.
     pub fn until(self) -> i64
         ensures value { result ≡ year_until self.last }
         ensures bound { IsInYears result }

@@ -13,12 +13,12 @@ use crate::{IsoWeek, Weekday};
 /// from -262143 to 262142, unless it is the date that the value shows already. All else that the
 /// value shows stays. An instant is returned only if it is the only one that shows the new date.
 ///
-/// ```text
+/// ```
 /// let date = NaiveDate::from_ymd_opt(2020, 2, 29)?;
-/// date.weekday() == Weekday::Sat
-/// date.iso_week().week() == 9
-/// date.with_month(3) == NaiveDate::from_ymd_opt(2020, 3, 29)
-/// date.with_year(2021) == None
+/// let weekday = date.weekday(); // Sat
+/// let week = date.iso_week().week(); // 9
+/// let in_march = date.with_month(3); // Some(2020-03-29)
+/// let none = date.with_year(2021); // None
 /// ```
 pub trait Datelike: Sized {
     // the day that it shows

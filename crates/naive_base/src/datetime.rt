@@ -63,10 +63,10 @@ impl NaiveDateTime {
     /// nanoseconds are 2*10^9 or more, or, being 10^9 or more, don't follow the last second of a
     /// minute.
     ///
-    /// ```text
-    /// from_timestamp_opt(-1, 5)                         Some(1969-12-31T23:59:59.000000005)
-    /// from_timestamp_opt(1_483_228_799, 1_500_000_000)  Some(2016-12-31T23:59:60.500)
-    /// from_timestamp_opt(0, 1_000_000_000)              None
+    /// ```
+    /// let before = NaiveDateTime::from_timestamp_opt(-1, 5); // Some(1969-12-31T23:59:59.000000005)
+    /// let leap_second = NaiveDateTime::from_timestamp_opt(1_483_228_799, 1_500_000_000); // 2016-12-31T23:59:60.500
+    /// let none = NaiveDateTime::from_timestamp_opt(0, 1_000_000_000); // None
     /// ```
     pub fn from_timestamp_opt(secs: i64, nsecs: u32) -> Option<NaiveDateTime>
         ensures { let r = of_secs secs nsecs in SomeIff (option_map reading result) (IsStamp r) r }

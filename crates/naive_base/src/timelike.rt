@@ -9,11 +9,11 @@ ghost use Rattle.naive_base.specs.Fields.{TimeOfDay, IsGiven, with_hour, with_mi
 /// else that the value shows stays. Nanoseconds aren't checked against the second: from 10^9 on
 /// they may follow any. An instant is returned only if it is the only one that shows the new time.
 ///
-/// ```text
+/// ```
 /// let time = NaiveTime::from_hms_opt(23, 56, 4)?;
-/// time.minute() == 56
-/// time.with_hour(7) == NaiveTime::from_hms_opt(7, 56, 4)
-/// time.with_second(60) == None
+/// let minute = time.minute(); // 56
+/// let at_seven = time.with_hour(7); // Some(07:56:04)
+/// let none = time.with_second(60); // None
 /// ```
 pub trait Timelike: Sized {
     // the time that it shows

@@ -14,10 +14,10 @@ use std::ops::RangeInclusive;
 /// Weeks compare and hash by their first days. At either end of the range a week may have days that
 /// no [`NaiveDate`] is.
 ///
-/// ```text
+/// ```
 /// let week = NaiveDate::from_ymd_opt(2022, 4, 18)?.week(Weekday::Sun);
-/// week.first_day()  2022-04-17
-/// week.last_day()   2022-04-23
+/// let first = week.checked_first_day(); // Some(2022-04-17)
+/// let last = week.checked_last_day(); // Some(2022-04-23)
 /// ```
 #[derive(Clone, Copy, PartialEq, Eq, Hash, Debug)]
 pub struct NaiveWeek {

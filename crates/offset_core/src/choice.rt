@@ -25,7 +25,7 @@ pub enum FoldChoice {
 /// A policy for gaps and folds: which instant a local time selects that clocks never show, or show
 /// several times.
 ///
-/// ```text
+/// ```
 /// let choice = Choice { gap: GapChoice::ShiftForward, fold: FoldChoice::Earliest };
 /// ```
 #[derive(Clone, Copy, PartialEq, Eq, Debug)]

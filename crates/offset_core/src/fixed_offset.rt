@@ -10,10 +10,10 @@ use std::fmt;
 /// It prints as `+HH:MM` or `-HH:MM`, with `:SS` after it if it isn't a whole number of minutes,
 /// whatever width, fill or flags the formatter has. `{:?}` prints the same:
 ///
-/// ```text
-/// FixedOffset::east_opt(19_800)  Some(+05:30)
-/// FixedOffset::west_opt(86_399)  Some(-23:59:59)
-/// FixedOffset::west_opt(86_400)  None
+/// ```
+/// let india = FixedOffset::east_opt(19_800); // Some(+05:30)
+/// let last = FixedOffset::west_opt(86_399); // Some(-23:59:59)
+/// let none = FixedOffset::west_opt(86_400); // None
 /// ```
 #[derive(Clone, Copy, PartialEq, Eq, Hash)]
 pub struct FixedOffset {

@@ -11,10 +11,10 @@ ghost use Rattle.offset_core.specs.LocalResult.{single_of, earliest_of, latest_o
 /// In New York clocks were set back from 02:00 to 01:00 on 2021-11-07, from four hours behind UTC
 /// to five. So the offset at 01:30 that day was
 ///
-/// ```text
+/// ```
 /// let offsets = LocalResult::Ambiguous(FixedOffset::west(14_400), FixedOffset::west(18_000));
-/// offsets.single() == None
-/// offsets.earliest() == Some(FixedOffset::west(14_400))
+/// let only = offsets.single(); // None
+/// let first = offsets.earliest(); // Some(-04:00)
 /// ```
 #[derive(Clone, Copy, Drop, PartialEq, Eq, Hash, Debug)]
 pub enum LocalResult<T> {

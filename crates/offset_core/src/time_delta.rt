@@ -19,10 +19,10 @@ use std::time::Duration;
 /// Lengths compare and hash by their nanoseconds. A length prints in seconds, in the form of ISO 8601,
 /// whatever width, fill or flags the formatter has:
 ///
-/// ```text
-/// TimeDelta::zero()               P0D
-/// TimeDelta::days(42)             PT3628800S
-/// TimeDelta::milliseconds(-1500)  -PT1.5S
+/// ```
+/// let nothing = TimeDelta::zero(); // P0D
+/// let six_weeks = TimeDelta::days(42); // PT3628800S
+/// let back = TimeDelta::milliseconds(-1500); // -PT1.5S
 /// ```
 #[derive(Clone, Copy, PartialEq, Eq, PartialOrd, Ord, Hash)]
 pub struct TimeDelta {

@@ -35,9 +35,9 @@ impl LocalTimeType {
     /// Returns the type of that offset, in seconds east of UTC, with that DST flag, and with that
     /// name or none.
     ///
-    /// ```text
+    /// ```
     /// let summer = LocalTimeType::new(7_200, true, Some(b"CEST".as_slice()))?;
-    /// let seconds = summer.offset();    // 7200
+    /// let seconds = summer.offset(); // 7200
     /// ```
     ///
     /// # Errors

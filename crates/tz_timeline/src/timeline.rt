@@ -16,7 +16,7 @@ use crate::probes::Probes;
 use std::alloc::{AllocError, Global};
 use std::marker::Model;
 
-/// What comes at a second.
+/// An item that has a time.
 pub trait Timed: Drop {
     ghost use Rattle.std.specs.Prelude.{ℤ};
 
@@ -29,7 +29,7 @@ pub trait Timed: Drop {
     // how many looks there were
     ghost looks: { Counts → ℕ };
 
-    /// The second at which it comes.
+    /// Returns its time, a second.
     fn second(&self) -> i64
         ensures { result ≡ time self.now };
 
@@ -60,7 +60,7 @@ struct Ends {
     last: i64,
 }
 
-/// How many items have come, and the last of them.
+/// How many items come at or before a second, and the last of them.
 #[derive(Drop)]
 pub struct Passed<'a, T> {
     pub count: usize,

@@ -55,9 +55,9 @@ impl ToTzData for TimeZone {
     /// 255, a count has more than 32 bits, no string spells the rule, or the names have no room in
     /// any order: each begins at a place that one byte can name.
     ///
-    /// ```text
+    /// ```
     /// if let Some(bytes) = zone.to_tz_data(alloc)? {
-    ///     let again = TimeZone::from_tz_data(alloc, &bytes)?;    // equal to zone
+    ///     let again = TimeZone::from_tz_data(alloc, &bytes)?; // equal to zone
     /// }
     /// ```
     fn to_tz_data(&self, alloc: Global) -> Result<Option<Vec<u8>>, Error> {

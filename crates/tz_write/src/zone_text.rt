@@ -21,9 +21,9 @@ pub trait ToPosixTz {
     /// `None` if no string does: if the zone has transitions, leap seconds or other types than its
     /// rule's, or a rule that no string without extensions spells.
     ///
-    /// ```text
+    /// ```
     /// let zone = TimeZone::from_posix_tz(alloc, "<+0530>-05:30:00")?;
-    /// let written = zone.to_posix_tz(alloc)?;    // <+0530>-5:30
+    /// let written = zone.to_posix_tz(alloc)?; // <+0530>-5:30
     /// ```
     ///
     /// # Errors

@@ -18,7 +18,7 @@ use zoned_time::{DateTime, TimeZone};
 /// Outside leap seconds, `duration_trunc` gives an instant that isn't later than the value,
 /// `duration_round_up` one that isn't earlier, and each is less than the length away.
 /// `duration_round` gives one of the two instants, at most half the length away. (All in
-/// nanoseconds of UTC, or of the reading where the value has no offset.)
+/// nanoseconds of UTC, or of the local date-time if the value has no offset.)
 pub fn rounded_instants<T: DurationRound>()
     ensures trunc { (value answer : T) (span : ℤ) → (T.instant value).f < 1_000_000_000
         → IsRoundedTo multiple_below T.fault (T.IsMoved value) (total (T.clock value)) span value
@@ -58,7 +58,7 @@ pub fn multiples()
         → apart n (nearest_multiple n span) ≡ apart n m → m ≤ℤ nearest_multiple n span }
 {}
 
-/// Errors are equal where they are the same, and so is a clone.
+/// Errors are equal if and only if they are the same, and a clone is the error.
 pub fn errors()
     ensures equal { (a b : Fault) → IsTrue (⟦<RoundingError as PartialEq>⟧.eq a b) ↔ (a ≡ b) }
     ensures cloned { (a b : Fault) → ⟦<RoundingError as Clone>⟧.is_clone a b ↔ (a ≡ b) }

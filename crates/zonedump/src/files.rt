@@ -15,7 +15,7 @@ const TRIES: u32 = 1000;
 // bytes.
 const NAME: usize = 60;
 
-/// The bytes of a file, or nothing where there are more than 64 MiB of them.
+/// Returns the bytes of a file, or nothing if there are more than 64 MiB of them.
 ///
 /// # Errors
 ///

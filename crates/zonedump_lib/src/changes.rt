@@ -9,7 +9,7 @@ use change_views::Years;
 use std::alloc::{AllocError, Global};
 use tz_info::{Change, TimeZone};
 
-/// The changes of the clocks from the first second of the first year to the last second of the last
+/// Returns the clock changes from the first second of the first year to the last second of the last
 /// year, in UTC, in order.
 ///
 /// # Errors

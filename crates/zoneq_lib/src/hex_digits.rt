@@ -3,7 +3,7 @@
 ghost use Rattle.std.specs.Prelude.{◌≡◌};
 ghost use Rattle.zoneq_lib.specs.Hex.{spells_bytes};
 
-/// Whether these are hex digits of either case, two for each of some bytes.
+/// Returns whether these are hex digits of either case, two for each of some bytes.
 pub fn spell_bytes(digits: &[u8]) -> bool
     ensures { result ≡ spells_bytes digits.now }
 {

@@ -3,7 +3,7 @@
 ghost use Rattle.std.specs.Prelude.{◌≡◌, ◌∷◌, ◌++◌, MatchOption};
 ghost use Rattle.zoneq_lib.specs.Lines.{HasNoNewline, without_return};
 
-/// The bytes before the first newline and those after it, if there is a newline.
+/// Returns the bytes before the first newline and those after it, if there is a newline.
 pub fn split_line(bytes: &[u8]) -> Option<(&[u8], &[u8])>
     ensures { MatchOption result (HasNoNewline bytes.now)
         (λ p. HasNoNewline p.0.now × (bytes.now ≡ p.0.now ++ 10 ∷ p.1.now)) }
@@ -16,7 +16,7 @@ pub fn split_line(bytes: &[u8]) -> Option<(&[u8], &[u8])>
     None
 }
 
-/// The bytes before a newline without the one carriage return that they may end with.
+/// Returns the bytes before a newline without the one carriage return that they may end with.
 pub fn without_return(piece: &[u8]) -> &[u8]
     ensures { result.now ≡ without_return piece.now }
 {

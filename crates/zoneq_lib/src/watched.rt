@@ -9,7 +9,7 @@ use std::io;
 use std::io::{Read, Write};
 use std::marker::Model;
 
-/// A reader or a writer, with what became of it so far.
+/// A reader or a writer, with a record of its failures, its end and what is unsent.
 ///
 /// It hands its calls on. A call that answers an error has failed, `Interrupted` too, and so has
 /// one that writes none of some bytes. What was written is sent once a flush succeeds.
@@ -59,35 +59,35 @@ impl<T> Watched<T> {
         }
     }
 
-    /// Whether a call has failed.
+    /// Returns whether a call has failed.
     pub fn failed(&self) -> bool
         ensures { result ≡ self.now.failed }
     {
         self.has_failed
     }
 
-    /// Whether a read has given no byte for some room.
+    /// Returns whether a read has given no byte for some room.
     pub fn ended(&self) -> bool
         ensures { result ≡ self.now.ended }
     {
         self.has_ended
     }
 
-    /// Whether bytes were written since the last flush that succeeded.
+    /// Returns whether bytes were written since the last flush that succeeded.
     pub fn unsent(&self) -> bool
         ensures { result ≡ self.now.unsent }
     {
         self.has_unsent
     }
 
-    /// How many reads were made. The count stays at `u64::MAX` once it is there.
+    /// Returns how many reads were made. The count stays at `u64::MAX` once it is there.
     pub fn reads(&self) -> u64
         ensures { result ≡ self.now.reads }
     {
         self.read_count
     }
 
-    /// The end itself.
+    /// Returns the reader or writer itself.
     pub fn into_inner(self) -> T
         ensures { result ≡ self.inner }
     {

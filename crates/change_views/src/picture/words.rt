@@ -48,7 +48,7 @@ impl fmt::Display for Local<'_> {
     }
 }
 
-/// A number of seconds, in the greatest of hours, minutes and seconds that leaves no rest.
+/// A number of seconds, in the greatest of hours, minutes and seconds that divides it.
 #[derive(Clone, Copy)]
 pub(super) struct Length(pub(super) u32);
 
@@ -103,7 +103,7 @@ pub(super) fn kind_of(change: &Change) -> &'static str
     }
 }
 
-/// What becomes of the wall clocks between both sides.
+/// What happens to the wall clocks between both sides.
 pub(super) fn band_of(change: &Change) -> &'static str
     ensures { result.now ≡ band_words change.now.before.offset change.now.after.offset }
 {
@@ -134,7 +134,7 @@ impl fmt::Display for Hours {
     }
 }
 
-/// The name of a type of local time, or `-` if it has none.
+/// The abbreviation of a local time type, or `-` if it has none.
 #[derive(Clone, Copy)]
 pub(super) struct Name<'a>(pub(super) &'a LocalTimeType);
 

@@ -71,8 +71,10 @@ impl NaiveDate {
     /// Returns this date and each day after it, in order. As in chrono, the last day in range
     /// doesn't come.
     ///
-    /// ```text
-    /// for date in first.iter_days().take(7) { .. }
+    /// ```
+    /// for date in first.iter_days().take(7) {
+    ///     days.push(date)?; // 2022-04-17, 2022-04-18, .. 2022-04-23
+    /// }
     /// ```
     pub fn iter_days(&self) -> NaiveDateDaysIterator
         ensures { days_from result ≡ day_of self.now }

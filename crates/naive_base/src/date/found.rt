@@ -14,9 +14,9 @@ impl NaiveDate {
     /// Returns the n-th day of a year, counted from 1. `None` if the year has no such day, or is
     /// not one from -262143 to 262142.
     ///
-    /// ```text
-    /// from_yo_opt(2015, 100)  Some(2015-04-10)
-    /// from_yo_opt(2015, 366)  None
+    /// ```
+    /// let in_april = NaiveDate::from_yo_opt(2015, 100); // Some(2015-04-10)
+    /// let none = NaiveDate::from_yo_opt(2015, 366); // None
     /// ```
     pub fn from_yo_opt(year: i32, ordinal: u32) -> Option<NaiveDate>
         ensures value { SomeIff (option_map day_of result)
@@ -37,8 +37,8 @@ impl NaiveDate {
     /// Returns the n-th Monday, Tuesday or other day of the week in a month from 1, counted from 1.
     /// `None` if the month has no such day, or the year is not one from -262143 to 262142.
     ///
-    /// ```text
-    /// from_weekday_of_month_opt(2017, 3, Weekday::Fri, 2)  Some(2017-03-10)
+    /// ```
+    /// let friday = NaiveDate::from_weekday_of_month_opt(2017, 3, Weekday::Fri, 2); // Some(2017-03-10)
     /// ```
     pub fn from_weekday_of_month_opt(
         year: i32,
@@ -71,10 +71,10 @@ impl NaiveDate {
     /// Returns the day of a week by the rule of ISO 8601, whose weeks are counted from 1. `None` if
     /// the year has no such week, or the day is out of range.
     ///
-    /// ```text
-    /// from_isoywd_opt(2014, 53, Weekday::Mon)  None
-    /// from_isoywd_opt(2015, 1, Weekday::Mon)   Some(2014-12-29)
-    /// from_isoywd_opt(2015, 53, Weekday::Sun)  Some(2016-01-03)
+    /// ```
+    /// let none = NaiveDate::from_isoywd_opt(2014, 53, Weekday::Mon); // None
+    /// let monday = NaiveDate::from_isoywd_opt(2015, 1, Weekday::Mon); // Some(2014-12-29)
+    /// let sunday = NaiveDate::from_isoywd_opt(2015, 53, Weekday::Sun); // Some(2016-01-03)
     /// ```
     pub fn from_isoywd_opt(year: i32, week: u32, weekday: Weekday) -> Option<NaiveDate>
         ensures value { MatchOption result

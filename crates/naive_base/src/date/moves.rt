@@ -40,9 +40,10 @@ impl NaiveDate {
     /// Returns the date that many days later. `None` if the year is not one from -262143 to 262142,
     /// unless it is the date itself.
     ///
-    /// ```text
-    /// 2022-02-20 and 9 days    Some(2022-03-01)
-    /// +262142-12-31 and 1 day  None
+    /// ```
+    /// let date = NaiveDate::from_ymd_opt(2022, 2, 20)?;
+    /// let later = date.checked_add_days(Days::new(9)); // Some(2022-03-01)
+    /// let none = NaiveDate::MAX.checked_add_days(Days::new(1)); // None
     /// ```
     pub fn checked_add_days(self, days: Days) -> Option<NaiveDate>
         ensures { IsDaysLater day_of IsDateOn (day_of self) (pos (days_of days)) result }

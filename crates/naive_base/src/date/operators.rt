@@ -14,10 +14,10 @@ use std::ops::{Add, AddAssign, Sub, SubAssign};
 
 /// [`NaiveDate::checked_add_signed`], which must return a date.
 ///
-/// ```text
-/// first + TimeDelta::days(45)  the date 45 days later
-/// first + Days::new(45)        the same
-/// (first + Days::new(45)) - first  45 days, as a `TimeDelta`
+/// ```
+/// let later = first + TimeDelta::days(45); // 45 days later
+/// let same = first + Days::new(45);
+/// let length = later - first; // a TimeDelta of 45 days
 /// ```
 impl Add<TimeDelta> for NaiveDate {
     type Output = NaiveDate;

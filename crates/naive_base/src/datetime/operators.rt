@@ -14,10 +14,10 @@ use std::ops::{Add, AddAssign, Sub, SubAssign};
 
 /// [`NaiveDateTime::checked_add_signed`], which must return a value.
 ///
-/// ```text
-/// start + TimeDelta::minutes(90)              an hour and a half later
-/// (start + TimeDelta::minutes(90)) - start    90 minutes
-/// start + Days::new(1)                        the same time on the next day
+/// ```
+/// let later = start + TimeDelta::minutes(90); // an hour and a half later
+/// let length = later - start; // 90 minutes
+/// let tomorrow = start + Days::new(1); // the same time on the next day
 /// ```
 impl Add<TimeDelta> for NaiveDateTime {
     type Output = NaiveDateTime;

@@ -18,10 +18,11 @@ impl NaiveTime {
     ///
     /// A leap second counts as in [`NaiveDateTime::checked_add_signed`].
     ///
-    /// ```text
-    /// 03:04:05 and 11 hours  (14:04:05, 0)
-    /// 03:04:05 and 23 hours  (02:04:05, 86_400)
-    /// 03:04:05 and -7 hours  (20:04:05, -86_400)
+    /// ```
+    /// let time = NaiveTime::from_hms_opt(3, 4, 5)?;
+    /// let later = time.overflowing_add_signed(TimeDelta::hours(11)); // (14:04:05, 0)
+    /// let next_day = time.overflowing_add_signed(TimeDelta::hours(23)); // (02:04:05, 86_400)
+    /// let day_before = time.overflowing_add_signed(TimeDelta::hours(-7)); // (20:04:05, -86_400)
     /// ```
     pub fn overflowing_add_signed(&self, rhs: TimeDelta) -> (NaiveTime, i64)
         ensures time { let day = reading_at (pos 0) (second_of self.now) (fraction_of self.now) in

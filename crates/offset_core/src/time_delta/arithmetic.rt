@@ -39,9 +39,9 @@ impl TimeDelta {
 
     /// Returns this length times a number, or `None` if that is out of range.
     ///
-    /// ```text
-    /// TimeDelta::minutes(90).checked_mul(-2)  Some(TimeDelta::hours(-3))
-    /// TimeDelta::MAX.checked_mul(2)           None
+    /// ```
+    /// let back = TimeDelta::minutes(90).checked_mul(-2); // three hours, negative
+    /// let none = TimeDelta::MAX.checked_mul(2); // None
     /// ```
     pub fn checked_mul(&self, rhs: i32) -> Option<TimeDelta>
         ensures { IsDeltaOf (nanos_of self.now *ℤ rhs) result }
@@ -52,9 +52,9 @@ impl TimeDelta {
     /// Returns this length divided by a number, in whole nanoseconds toward zero, or `None` for the
     /// number 0.
     ///
-    /// ```text
-    /// TimeDelta::seconds(-4).checked_div(3)  Some(TimeDelta::nanoseconds(-1_333_333_333))
-    /// TimeDelta::seconds(-4).checked_div(0)  None
+    /// ```
+    /// let third = TimeDelta::seconds(-4).checked_div(3); // -1_333_333_333 nanoseconds
+    /// let none = TimeDelta::seconds(-4).checked_div(0); // None
     /// ```
     pub fn checked_div(&self, rhs: i32) -> Option<TimeDelta>
         ensures { SomeIff (option_map nanos_of result) (rhs ≢ pos 0)

@@ -9,10 +9,10 @@ use std::ops::{Add, AddAssign, Div, Mul, Neg, Sub, SubAssign};
 
 /// [`TimeDelta::checked_add`], which must return a sum.
 ///
-/// ```text
-/// TimeDelta::hours(1) + TimeDelta::minutes(30)  90 minutes
-/// TimeDelta::hours(1) * 3 - TimeDelta::hours(1)  two hours
-/// -TimeDelta::seconds(4) / 3                     -1_333_333_333 nanoseconds
+/// ```
+/// let both = TimeDelta::hours(1) + TimeDelta::minutes(30); // 90 minutes
+/// let two_hours = TimeDelta::hours(1) * 3 - TimeDelta::hours(1);
+/// let third = -TimeDelta::seconds(4) / 3; // -1_333_333_333 nanoseconds
 /// ```
 impl Add for TimeDelta {
     type Output = TimeDelta;

@@ -65,7 +65,7 @@ impl Designations {
     }
 }
 
-/// The name of a type, or nothing where it has none.
+/// The name of a type, or nothing if it has none.
 pub fn text_of(local: &LocalTimeType) -> &[u8]
     ensures text { result.now ≡ text_of local.now }
     ensures sound { IsNameOrNone local.now.name }
