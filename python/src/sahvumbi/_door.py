@@ -10,7 +10,7 @@ import ctypes
 import platform
 from ctypes import byref, c_char_p, c_int64, c_size_t, c_uint32, c_void_p
 from pathlib import Path
-from typing import Any, Optional
+from typing import Any, Callable, Optional
 
 import numpy as np
 import numpy.typing as npt
@@ -157,17 +157,17 @@ class Door:
         up to the first row that has none, and returns that row.
 
         Units are those of `COLUMN_UNITS`. The least int64 is no time, and stays."""
-        return self._until_row(_LIBRARY.zoned_zone_local, (per_second,), instants, answers)
+        return self._rows(_LIBRARY.zoned_zone_local, (per_second,), instants, answers)(0)
 
     # Local times, counted in seconds but for those of `instants`.
 
     def instants(
         self, gap: int, fold: int, per_second: int, local_times: Array, answers: Array
-    ) -> Optional[int]:
-        """Writes the instant that the choice takes for each local time, counted as those of
-        `local_times` are, up to the first row that has none, and returns that row."""
+    ) -> Callable[[int], Optional[int]]:
+        """Returns a call that writes the instant that the choice takes for each local time, from a
+        row on and up to the next one that has none, and returns that row."""
         words = gap, fold, per_second
-        return self._until_row(_LIBRARY.zoned_zone_instants, words, local_times, answers)
+        return self._rows(_LIBRARY.zoned_zone_instants, words, local_times, answers)
 
     def wall_clocks(self, local_times: Array) -> Array:
         """How often each local time is shown, and the offsets at the first and the last time."""
@@ -237,16 +237,22 @@ class Door:
         self._must_be_answered(call(self._zone, *words, *_array(asked), *_array(answers)))
         return answers
 
-    def _until_row(
+    def _rows(
         self, call: Any, words: tuple[int, ...], asked: Array, answers: Array
-    ) -> Optional[int]:
-        """Writes the answers up to the first row that has none, and returns that row."""
-        row = c_size_t()
-        number = call(self._zone, *words, *_array(asked), *_array(answers), byref(row))
-        if number in ROW_REFUSED:
-            return row.value
-        self._must_be_answered(number)
-        return None
+    ) -> Callable[[int], Optional[int]]:
+        """Returns what asks about the rows of two arrays of int64, from one of them on."""
+        (first, size), (out, _), row = _array(asked), _array(answers), c_size_t()
+
+        def ask(begin: int) -> Optional[int]:
+            left, skipped = size - begin, 8 * begin
+            arrays = first + skipped, left, out + skipped, left
+            number = call(self._zone, *words, *arrays, byref(row))
+            if number in ROW_REFUSED:
+                return begin + row.value
+            self._must_be_answered(number)
+            return None
+
+        return ask
 
     def _must_be_answered(self, number: int) -> None:
         if number:

@@ -33,7 +33,7 @@ OUTSIDE = "the local time is outside the years -262143 to 262142"
 GAPS = {"shift": SHIFT_FORWARD, "after": GAP_END}
 FOLDS = {"earliest": EARLIEST, "latest": LATEST}
 # If fewer rows than these come between two that are left, more of them are left at a time.
-CLOSE = 64
+CLOSE = 128
 
 
 def localized(door: Door, column: Column, choice: Choice) -> Array:
@@ -58,20 +58,20 @@ def _left(door: Door, column: Column, choice: Choice, answers: Array) -> Iterato
     """Writes the instants that the zone gives by itself.
 
     Yields the places of the other rows, in order, `BLOCK` at most at a time."""
-    row, left, count, step = 0, [], 0, 1
-    # The call gives instants outside the calendar too.
-    asks = column.fits_calls() and column.lies_in(FIRST_SECOND + FAR, LAST_SECOND - FAR)
+    left, count, row, step, size = [], 0, 0, 1, len(column)
     gap, fold = GAPS.get(choice.gap, REFUSE), FOLDS.get(choice.fold, REFUSE)
-    while row < len(column):
-        done: int | None = 0
-        if asks:
-            done = door.instants(gap, fold, column.per_second, column.values[row:], answers[row:])
-        if done is None:
+    asked = door.instants(gap, fold, column.per_second, column.values, answers)
+    # The call gives instants outside the calendar too.
+    if not (column.fits_calls() and column.lies_in(FIRST_SECOND + FAR, LAST_SECOND - FAR)):
+        asked = int
+    while row < size:
+        found = asked(row)
+        if found is None:
             break
-        row += done
-        step = min(2 * step if done < CLOSE else 1, BLOCK - count, len(column) - row)
-        left.append(np.arange(row, row + step))
-        row, count = row + step, count + step
+        step = min(2 * step, BLOCK) if found - row < CLOSE else 1
+        row = min(found + step, found + BLOCK - count, size)
+        left.append(np.arange(found, row))
+        count += row - found
         if count == BLOCK:
             yield np.concatenate(left)
             left, count = [], 0
