@@ -97,15 +97,16 @@ def _calls() -> tuple[ctypes.CDLL, ctypes.PyDLL]:
     brief = ctypes.PyDLL(str(LIBRARY))
     bytes_: list[Any] = [c_uint32, c_char_p, c_size_t]
     array: list[Any] = [c_void_p, c_size_t]
+    column: list[Any] = [c_int64, *array, *array, c_void_p]
     for call, arguments in (
         (library.zoned_fault, bytes_),
         (library.zoned_open, [*bytes_, c_void_p]),
         (library.zoned_close, [c_void_p]),
         (library.zoned_zone_at, [c_void_p, *array, *array]),
-        (library.zoned_zone_local, [c_void_p, c_int64, *array, *array, c_void_p]),
+        (library.zoned_zone_local, [c_void_p, *column]),
         (library.zoned_zone_types, [c_void_p, *array, *array]),
         (library.zoned_zone_wall, [c_void_p, *array, *array]),
-        (library.zoned_zone_instants, [c_void_p, c_uint32, c_uint32, c_int64, *array, *array, c_void_p]),
+        (library.zoned_zone_instants, [c_void_p, c_uint32, c_uint32, *column]),
         (library.zoned_zone_resolve, [c_void_p, c_uint32, c_uint32, *array, *array]),
         (brief.zoned_zone_first_at_or_after, [c_void_p, c_int64, c_void_p]),
         (brief.zoned_zone_span, [c_void_p, c_int64, c_void_p]),

@@ -5,6 +5,7 @@ from __future__ import annotations
 import sys
 from datetime import datetime, timedelta, timezone
 from typing import Any, NamedTuple, Optional
+from zoneinfo import ZoneInfo
 
 import numpy as np
 import numpy.typing as npt
@@ -158,7 +159,9 @@ class DatetimeForm(ArrayForm):
         if zone is None:
             return moment
         aware = moment.replace(tzinfo=timezone.utc)
-        return aware if zone == "UTC" else aware.astimezone(zone)
+        if zone == "UTC":
+            return aware
+        return aware.astimezone(ZoneInfo(zone) if isinstance(zone, str) else zone)
 
     def lengths(self, values: Array) -> Any:
         return timedelta(seconds=int(values[0].astype(np.int64)))
