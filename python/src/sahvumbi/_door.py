@@ -49,8 +49,9 @@ NO_CHANGE = 35
 # Why a row of a column has no local time, or no instant.
 ROW_REFUSED = 37, 21, 22, 23
 LEAST = -(2**63)
-# Changes that one call has room for, and seconds that it is asked: a thousand years. Between two
-# calls Python may stop.
+# Rows that one call is asked; changes that it has room for, and seconds: a thousand years. Between
+# two calls Python may stop.
+ROWS = 1 << 22
 ROOM = 2_048
 STRETCH = 1_000 * 31_556_952
 
@@ -245,12 +246,14 @@ class Door:
         (first, size), (out, _), row = _array(asked), _array(answers), c_size_t()
 
         def ask(begin: int) -> Optional[int]:
-            left, skipped = size - begin, 8 * begin
-            arrays = first + skipped, left, out + skipped, left
-            number = call(self._zone, *words, *arrays, byref(row))
-            if number in ROW_REFUSED:
-                return begin + row.value
-            self._must_be_answered(number)
+            while begin < size:
+                rows = min(size - begin, ROWS)
+                arrays = first + 8 * begin, rows, out + 8 * begin, rows
+                number = call(self._zone, *words, *arrays, byref(row))
+                if number in ROW_REFUSED:
+                    return begin + row.value
+                self._must_be_answered(number)
+                begin += rows
             return None
 
         return ask

@@ -199,13 +199,12 @@ def _times_of_pandas(values: Array, unit: str, zone: Any) -> Any:
     """Returns the array in which pandas has times, over these numbers: it copies none of them."""
     import pandas
 
-    is_old = pandas.__version__ < "2"
+    made: Any = pandas.arrays.DatetimeArray if pandas.__version__ < "2" else pandas.array
     if zone is None:
-        times = values.view(f"M8[{unit}]")
-        return pandas.arrays.DatetimeArray(times) if is_old else pandas.array(times, copy=False)
-    dtype = pandas.DatetimeTZDtype(unit, zone)
+        values = values.view(f"M8[{unit}]")
+        return made(values, values.dtype, copy=False)
     # Numbers are instants, and times would be taken for local times.
-    return (pandas.arrays.DatetimeArray if is_old else pandas.array)(values, dtype, copy=False)
+    return made(values, pandas.DatetimeTZDtype(unit, zone), copy=False)
 
 
 def _nullable(values: Array) -> Any:

@@ -62,10 +62,9 @@ def _left(door: Door, column: Column, choice: Choice, answers: Array) -> Iterato
     gap, fold = GAPS.get(choice.gap, REFUSE), FOLDS.get(choice.fold, REFUSE)
     asked = door.instants(gap, fold, column.per_second, column.values, answers)
     # The call gives instants outside the calendar too.
-    if not (column.fits_calls() and column.lies_in(FIRST_SECOND + FAR, LAST_SECOND - FAR)):
-        asked = int
+    asks = column.fits_calls() and column.lies_in(FIRST_SECOND + FAR, LAST_SECOND - FAR)
     while row < size:
-        found = asked(row)
+        found = asked(row) if asks else row
         if found is None:
             break
         step = min(2 * step, BLOCK) if found - row < CLOSE else 1
@@ -131,7 +130,7 @@ class Clocks:
         """Takes what a column of the caller says of the rows that clocks showed several times."""
         given = self.choice.given
         assert given is not None
-        values = given.values[self.block.start + rows]
+        values = given.values[rows]
         first, last = self.first[rows], self.last[rows]
         local_times = self.block.seconds[rows]
         if given.name == "fold":
@@ -204,5 +203,5 @@ class Clocks:
         if places.size:
             places = np.setdiff1d(places, self.lost)
         if places.size:
-            self.faults.append(Fault(self.block.start + places, number, words))
+            self.faults.append(Fault(places, number, words))
             self._lose(places)
