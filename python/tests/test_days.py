@@ -87,11 +87,24 @@ def test_ceil(lists, instants, step):
     zone = Zone.from_bytes(lists.file())
     expected = [lists.ceil(instant, seconds, WINDOW) for instant in instants]
     assert zone.ceil(instants, word).tolist() == expected
-    parts = np.array(instants, "M8[s]").astype("M8[us]") - np.timedelta64(1, "us")
-    assert zone.ceil(parts, word).astype("M8[s]").view(np.int64).tolist() == expected
+    part, times = np.timedelta64(1, "us"), np.array(instants, "M8[s]").astype("M8[us]")
+    assert zone.ceil(times - part, word).astype("M8[s]").view(np.int64).tolist() == expected
+    following = [lists.ceil(instant + QUARTER, seconds, WINDOW) for instant in instants]
+    assert zone.ceil(times + part, word).astype("M8[s]").view(np.int64).tolist() == following
     days = zone.day(instants)
     until = np.where(days.start == instants, instants, days.until)
     assert zone.ceil(instants, "D").tolist() == until.tolist()
+
+
+def test_clocks_that_are_changed_twice_in_an_hour():
+    """From 10:15 to 12:15, and a quarter of an hour later back from 12:30 to 10:30."""
+    zone = Zone.from_bytes(Lists([(36_900, 1), (37_800, 0)], [0, 7_200]).file())
+    assert zone.floor([36_899, 36_900, 37_799, 37_800, 38_700], "h").tolist() == [
+        36_000, 36_900, 36_900, 37_800, 37_800,
+    ]
+    assert zone.ceil([36_000, 36_001, 36_901, 37_801], "h").tolist() == [
+        36_000, 36_900, 37_800, 39_600,
+    ]
 
 
 YEARS = [

@@ -93,6 +93,8 @@ def test_a_datetime():
     assert NEW_YORK.explain(FOLD).first == datetime(2021, 11, 7, 5, 30, tzinfo=timezone.utc)
     assert NEW_YORK.localize(FOLD, fold=1) == datetime(2021, 11, 7, 6, 30, tzinfo=timezone.utc)
     assert NEW_YORK.localize(local, tz=THEIRS).tzinfo is THEIRS
+    assert NEW_YORK.localize(local, tz="America/New_York") == NEW_YORK.localize(local, tz=THEIRS)
+    assert NEW_YORK.localize(local, tz="Asia/Tokyo").tzinfo is ZoneInfo("Asia/Tokyo")
     with pytest.raises(TypeError, match="a local time has no zone"):
         NEW_YORK.localize(instant)
     with pytest.raises(ValueError, match="datetime has no NaT"):

@@ -7,7 +7,7 @@ import numpy as np
 import pytest
 
 import sahvumbi
-from sahvumbi import Zone
+from sahvumbi import Zone, _door
 from sahvumbi._columns import BLOCK
 
 NAT = np.iinfo(np.int64).min
@@ -122,6 +122,18 @@ def test_each_row_of_a_fold_and_all_failures(expected):
             row = int(np.flatnonzero(bad[places])[0])
             assert (raised.value.row, raised.value.number) == (row, number)
             assert raised.value.value == column[row]
+
+
+def test_a_column_in_many_calls(monkeypatch):
+    """As one of millions of rows is asked."""
+    monkeypatch.setattr(_door, "ROWS", 777)
+    zone = Zone("Europe/Dublin")
+    for name, places in columns(DUBLIN):
+        taken = DUBLIN.taken("shift", "latest")[places]
+        found = zone.localize(DUBLIN.times[places], "shift", "latest")
+        np.testing.assert_array_equal(found, taken, name)
+        local = np.array([DUBLIN.local(each) for each in DUBLIN.taken("shift", "latest").tolist()])
+        np.testing.assert_array_equal(zone.to_local(taken), local[places], name)
 
 
 def test_infer_by_key_in_a_long_column():

@@ -1,5 +1,6 @@
 """Zones by name, of the tz database and of the package tzdata; files that are none."""
 
+import importlib.util
 import os
 import pickle
 import sys
@@ -78,6 +79,18 @@ def test_names_of_the_package_tzdata(tmp_path, monkeypatch, folders):
         with pytest.raises(sahvumbi.ZoneNotFoundError):
             Zone(name)
     forget_tzdata()
+
+
+def test_no_tz_database(folders):
+    """As in a container that has no /usr/share/zoneinfo, nor the package."""
+    folders()
+    forget_tzdata()
+    if importlib.util.find_spec("tzdata"):
+        pytest.skip("the package tzdata is installed")
+    assert sahvumbi.zones() == []
+    with pytest.raises(sahvumbi.ZoneNotFoundError, match="no tz database is in TZPATH"):
+        Zone("America/New_York")
+    assert Zone.from_text("EST5").offsets([0]).tolist() == [-18_000]
 
 
 def forget_tzdata():

@@ -10,7 +10,7 @@ import ctypes
 import platform
 from ctypes import byref, c_char_p, c_int64, c_size_t, c_uint32, c_void_p
 from pathlib import Path
-from typing import Any, Optional
+from typing import Any, Callable, Optional
 
 import numpy as np
 import numpy.typing as npt
@@ -49,8 +49,9 @@ NO_CHANGE = 35
 # Why a row of a column has no local time, or no instant.
 ROW_REFUSED = 37, 21, 22, 23
 LEAST = -(2**63)
-# Changes that one call has room for, and seconds that it is asked: a thousand years. Between two
-# calls Python may stop.
+# Rows that one call is asked; changes that it has room for, and seconds: a thousand years. Between
+# two calls Python may stop.
+ROWS = 1 << 22
 ROOM = 2_048
 STRETCH = 1_000 * 31_556_952
 
@@ -97,15 +98,16 @@ def _calls() -> tuple[ctypes.CDLL, ctypes.PyDLL]:
     brief = ctypes.PyDLL(str(LIBRARY))
     bytes_: list[Any] = [c_uint32, c_char_p, c_size_t]
     array: list[Any] = [c_void_p, c_size_t]
+    column: list[Any] = [c_int64, *array, *array, c_void_p]
     for call, arguments in (
         (library.zoned_fault, bytes_),
         (library.zoned_open, [*bytes_, c_void_p]),
         (library.zoned_close, [c_void_p]),
         (library.zoned_zone_at, [c_void_p, *array, *array]),
-        (library.zoned_zone_local, [c_void_p, c_int64, *array, *array, c_void_p]),
+        (library.zoned_zone_local, [c_void_p, *column]),
         (library.zoned_zone_types, [c_void_p, *array, *array]),
         (library.zoned_zone_wall, [c_void_p, *array, *array]),
-        (library.zoned_zone_instants, [c_void_p, c_uint32, c_uint32, c_int64, *array, *array, c_void_p]),
+        (library.zoned_zone_instants, [c_void_p, c_uint32, c_uint32, *column]),
         (library.zoned_zone_resolve, [c_void_p, c_uint32, c_uint32, *array, *array]),
         (brief.zoned_zone_first_at_or_after, [c_void_p, c_int64, c_void_p]),
         (brief.zoned_zone_span, [c_void_p, c_int64, c_void_p]),
@@ -157,17 +159,17 @@ class Door:
         up to the first row that has none, and returns that row.
 
         Units are those of `COLUMN_UNITS`. The least int64 is no time, and stays."""
-        return self._until_row(_LIBRARY.zoned_zone_local, (per_second,), instants, answers)
+        return self._rows(_LIBRARY.zoned_zone_local, (per_second,), instants, answers)(0)
 
     # Local times, counted in seconds but for those of `instants`.
 
     def instants(
         self, gap: int, fold: int, per_second: int, local_times: Array, answers: Array
-    ) -> Optional[int]:
-        """Writes the instant that the choice takes for each local time, counted as those of
-        `local_times` are, up to the first row that has none, and returns that row."""
+    ) -> Callable[[int], Optional[int]]:
+        """Returns a call that writes the instant that the choice takes for each local time, from a
+        row on and up to the next one that has none, and returns that row."""
         words = gap, fold, per_second
-        return self._until_row(_LIBRARY.zoned_zone_instants, words, local_times, answers)
+        return self._rows(_LIBRARY.zoned_zone_instants, words, local_times, answers)
 
     def wall_clocks(self, local_times: Array) -> Array:
         """How often each local time is shown, and the offsets at the first and the last time."""
@@ -237,16 +239,24 @@ class Door:
         self._must_be_answered(call(self._zone, *words, *_array(asked), *_array(answers)))
         return answers
 
-    def _until_row(
+    def _rows(
         self, call: Any, words: tuple[int, ...], asked: Array, answers: Array
-    ) -> Optional[int]:
-        """Writes the answers up to the first row that has none, and returns that row."""
-        row = c_size_t()
-        number = call(self._zone, *words, *_array(asked), *_array(answers), byref(row))
-        if number in ROW_REFUSED:
-            return row.value
-        self._must_be_answered(number)
-        return None
+    ) -> Callable[[int], Optional[int]]:
+        """Returns what asks about the rows of two arrays of int64, from one of them on."""
+        (first, size), (out, _), row = _array(asked), _array(answers), c_size_t()
+
+        def ask(begin: int) -> Optional[int]:
+            while begin < size:
+                rows = min(size - begin, ROWS)
+                arrays = first + 8 * begin, rows, out + 8 * begin, rows
+                number = call(self._zone, *words, *arrays, byref(row))
+                if number in ROW_REFUSED:
+                    return begin + row.value
+                self._must_be_answered(number)
+                begin += rows
+            return None
+
+        return ask
 
     def _must_be_answered(self, number: int) -> None:
         if number:

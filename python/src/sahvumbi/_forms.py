@@ -5,6 +5,7 @@ from __future__ import annotations
 import sys
 from datetime import datetime, timedelta, timezone
 from typing import Any, NamedTuple, Optional
+from zoneinfo import ZoneInfo
 
 import numpy as np
 import numpy.typing as npt
@@ -158,7 +159,9 @@ class DatetimeForm(ArrayForm):
         if zone is None:
             return moment
         aware = moment.replace(tzinfo=timezone.utc)
-        return aware if zone == "UTC" else aware.astimezone(zone)
+        if zone == "UTC":
+            return aware
+        return aware.astimezone(ZoneInfo(zone) if isinstance(zone, str) else zone)
 
     def lengths(self, values: Array) -> Any:
         return timedelta(seconds=int(values[0].astype(np.int64)))
@@ -196,13 +199,12 @@ def _times_of_pandas(values: Array, unit: str, zone: Any) -> Any:
     """Returns the array in which pandas has times, over these numbers: it copies none of them."""
     import pandas
 
-    is_old = pandas.__version__ < "2"
+    made: Any = pandas.arrays.DatetimeArray if pandas.__version__ < "2" else pandas.array
     if zone is None:
-        times = values.view(f"M8[{unit}]")
-        return pandas.arrays.DatetimeArray(times) if is_old else pandas.array(times, copy=False)
-    dtype = pandas.DatetimeTZDtype(unit, zone)
+        values = values.view(f"M8[{unit}]")
+        return made(values, values.dtype, copy=False)
     # Numbers are instants, and times would be taken for local times.
-    return (pandas.arrays.DatetimeArray if is_old else pandas.array)(values, dtype, copy=False)
+    return made(values, pandas.DatetimeTZDtype(unit, zone), copy=False)
 
 
 def _nullable(values: Array) -> Any:

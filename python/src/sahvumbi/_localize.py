@@ -33,7 +33,7 @@ OUTSIDE = "the local time is outside the years -262143 to 262142"
 GAPS = {"shift": SHIFT_FORWARD, "after": GAP_END}
 FOLDS = {"earliest": EARLIEST, "latest": LATEST}
 # If fewer rows than these come between two that are left, more of them are left at a time.
-CLOSE = 64
+CLOSE = 128
 
 
 def localized(door: Door, column: Column, choice: Choice) -> Array:
@@ -58,20 +58,19 @@ def _left(door: Door, column: Column, choice: Choice, answers: Array) -> Iterato
     """Writes the instants that the zone gives by itself.
 
     Yields the places of the other rows, in order, `BLOCK` at most at a time."""
-    row, left, count, step = 0, [], 0, 1
+    left, count, row, step, size = [], 0, 0, 1, len(column)
+    gap, fold = GAPS.get(choice.gap, REFUSE), FOLDS.get(choice.fold, REFUSE)
+    asked = door.instants(gap, fold, column.per_second, column.values, answers)
     # The call gives instants outside the calendar too.
     asks = column.fits_calls() and column.lies_in(FIRST_SECOND + FAR, LAST_SECOND - FAR)
-    gap, fold = GAPS.get(choice.gap, REFUSE), FOLDS.get(choice.fold, REFUSE)
-    while row < len(column):
-        done: int | None = 0
-        if asks:
-            done = door.instants(gap, fold, column.per_second, column.values[row:], answers[row:])
-        if done is None:
+    while row < size:
+        found = asked(row) if asks else row
+        if found is None:
             break
-        row += done
-        step = min(2 * step if done < CLOSE else 1, BLOCK - count, len(column) - row)
-        left.append(np.arange(row, row + step))
-        row, count = row + step, count + step
+        step = min(2 * step, BLOCK) if found - row < CLOSE else 1
+        row = min(found + step, found + BLOCK - count, size)
+        left.append(np.arange(found, row))
+        count += row - found
         if count == BLOCK:
             yield np.concatenate(left)
             left, count = [], 0
@@ -131,7 +130,7 @@ class Clocks:
         """Takes what a column of the caller says of the rows that clocks showed several times."""
         given = self.choice.given
         assert given is not None
-        values = given.values[self.block.start + rows]
+        values = given.values[rows]
         first, last = self.first[rows], self.last[rows]
         local_times = self.block.seconds[rows]
         if given.name == "fold":
@@ -204,5 +203,5 @@ class Clocks:
         if places.size:
             places = np.setdiff1d(places, self.lost)
         if places.size:
-            self.faults.append(Fault(self.block.start + places, number, words))
+            self.faults.append(Fault(places, number, words))
             self._lose(places)

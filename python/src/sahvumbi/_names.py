@@ -110,6 +110,9 @@ def _not_found(key: str) -> str:
         return f"{shown}: Zone.from_file opens a path"
     if "," in key:
         return f"{shown}: Zone.from_text reads a TZ string"
-    places = ", ".join([*zoneinfo.TZPATH, "the package tzdata"])
-    near = difflib.get_close_matches(key[:40], zones(), 1)
-    return f"{shown} in {places}" + "".join(f"; is it {name!r}?" for name in near)
+    folders, names = ", ".join(zoneinfo.TZPATH) or "TZPATH", zones()
+    if not names:
+        return f"{shown}: no tz database is in {folders}, and pip install tzdata brings one"
+    near = difflib.get_close_matches(key[:40], names, 1)
+    hint = f"; is it {near[0]!r}?" if near else ""
+    return f"{shown} in {folders}, the package tzdata{hint}"

@@ -132,7 +132,7 @@ class Stretches(Opened):
     def ceil(self, instants: Single, step: Step) -> Any: ...
 
     def ceil(self, instants: Any, step: Step) -> Any:
-        """Returns the instant if a local day, hour or other step begins there, or the next that does.
+        """Returns the first instant, from each on, at which a local day, hour or other step begins.
 
         Steps are those of `floor`, and errors are raised as there.
 

@@ -63,7 +63,7 @@ class Accessor:
         return zone_of(zone).floor(self._column, step)
 
     def ceil(self, zone: ZoneLike, step: Step) -> Any:
-        """Returns each instant, or the next at which a step begins, as `Zone.ceil` does."""
+        """Returns the first instant from each on at which a step begins, as `Zone.ceil` does."""
         return zone_of(zone).ceil(self._column, step)
 
     def start_of_day(self, zone: ZoneLike) -> Any:
