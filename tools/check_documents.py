@@ -297,7 +297,7 @@ def unused_lemmas():
     taken, whole = set(), {}
     for path in readers:
         text = without_comments(text_of(path), "//" if path.suffix == ".rt" else "--")
-        for page, there in re.findall(r"using\(crate::proofs::([\w:]+)::([\w-]+)\)", text):
+        for page, there in re.findall(r"\bcrate::proofs::([\w:]+)::([\w-]+)", text):
             crate = path.relative_to(TOP / "crates").parts[0]
             taken.add((f"Rattle.{crate}.proofs.{page.replace('::', '.')}", there))
         for here, (page, there) in imports_of(text).items():

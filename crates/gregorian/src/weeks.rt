@@ -19,6 +19,7 @@ pub fn thursday_of_week(day: i64) -> i64
 
 /// Each day lies in one week: there is one Thursday from three days before it to three days after
 /// it.
+#[tactic(auto, using(crate::proofs::WeekdayLaws::some_thursday))]
 pub fn weeks_law()
     ensures found { (day : ℤ) → (thursday : ℤ) × IsThursdayOf day thursday }
     ensures once { (day a b : ℤ) → IsThursdayOf day a → IsThursdayOf day b → a ≡ b }

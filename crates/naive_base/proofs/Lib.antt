@@ -5,7 +5,6 @@ pub mod Digits
 pub mod Readings
 pub mod Alike
 pub mod Values
-pub mod Orders
 pub mod IsoWeeks
 pub mod Named
 pub mod MonthDates

@@ -1,10 +1,9 @@
 -- Days of ISO weeks, and the n-th weekday of a month.
-use Rattle.naive_base.proofs.Words.{IsDate, IsDateOf, IsDateOfDay, IsDayInRange, IsDayOfIsoWeek, IsInnerDay, IsSome, IsThursdayOf, IsThursdayOfWeek}
-use Rattle.naive_base.proofs.Words.{IsWeekdayOfMonth, IsYearInRange, LiesIn, MatchOption, NaiveDate, None, Option, Some, Weekday, ap, arith, date_is, date_only}
-use Rattle.naive_base.proofs.Words.{day_number, day_of, day_of_month, day_of_year, day_of_year_is, days_in_year, false, floor_mod_parts, floors}
-use Rattle.naive_base.proofs.Words.{is_earlier_in_year, is_leap, lies_in, month_bounds, month_of, number_at, one_year, pos, refl, subst, sym, true}
-use Rattle.naive_base.proofs.Words.{weekday_below, weekday_later, weekday_number, weekday_of, whole_years, year_of, year_start, year_step, ℕ, ℤ, ◌%◌, ◌*◌, ◌+ℤ◌}
-use Rattle.naive_base.proofs.Words.{◌+◌, ◌-ℤ◌, ◌-◌, ◌/◌, ◌<◌, ◌∙◌, ◌≡◌, ◌≤◌}
+use Rattle.naive_base.proofs.Words.{IsDate, IsDateOf, IsDateOfDay, IsDayInRange, IsDayOfIsoWeek, IsThursdayOf, IsThursdayOfWeek, IsWeekdayOfMonth}
+use Rattle.naive_base.proofs.Words.{IsYearInRange, LiesIn, MatchOption, NaiveDate, None, Option, Some, Weekday, ap, arith, date_is, date_only, day_number}
+use Rattle.naive_base.proofs.Words.{day_of, day_of_month, day_of_year, day_of_year_is, days_in_year, false, floor_mod_parts, floors, is_earlier_in_year}
+use Rattle.naive_base.proofs.Words.{lies_in, month_of, number_at, one_year, pos, refl, subst, sym, true, weekday_below, weekday_later, weekday_number}
+use Rattle.naive_base.proofs.Words.{weekday_of, whole_years, year_of, year_start, year_step, ℕ, ℤ, ◌%◌, ◌*◌, ◌+ℤ◌, ◌+◌, ◌-ℤ◌, ◌-◌, ◌/◌, ◌<◌, ◌∙◌, ◌≡◌, ◌≤◌}
 use Rattle.naive_base.specs.declared.weekday.Weekday.TheVariants.{Fri, Mon, Sat, Sun, Thu, Tue, Wed}
 
 -- the day of the month of the n-th weekday w, where the month begins on the weekday f
@@ -138,13 +137,6 @@ pub nth_answer : (y : ℤ) (m w n : ℕ) (answer : Option NaiveDate) → w < 7 �
 nth_answer y m w n (Some d) h k is = (is.0, subst (λ (day : ℤ). IsWeekdayOfMonth y m w n day) (sym is.2) (found_nth y m w n h k is.1))
 nth_answer y m w n None h k is = λ fits day only. is fits (only_nth y m w n day only).0
 
-pub first_four : (y : ℤ) (m w n : ℕ) (answer : Option NaiveDate) → 1 ≤ m → m ≤ 12 → 1 ≤ n → n ≤ 4 → IsYearInRange y
-    → IsDateOf y m (nth_day (weekday_of (day_number y m 1)) w n) answer → IsSome answer
-first_four y m w n (Some d) a b c e fits is = refl
-first_four y m w n None a b c e fits is =
-    let days = month_bounds (is_leap y) m in
-    absurd (is fits (a, b, omega arith, omega (arith, days.0)))
-
 pub iso_answer : (y : ℤ) (n w : ℕ) (t day : ℤ) (answer : Option NaiveDate) → w < 7 → IsThursdayOfWeek y n t
     → day ≡ t -ℤ pos 3 +ℤ pos ((w + 6) % 7) → IsDateOfDay day answer
     → MatchOption answer ((other : ℤ) → IsDayInRange other → IsDayOfIsoWeek y n w other → ⊥)
@@ -162,8 +154,3 @@ iso_answer y n w t day None h k e is = λ other inside in_week.
     let day_is : t -ℤ pos 3 +ℤ pos ((w + 6) % 7) ≡ other =
     subst (λ (u : ℤ). u -ℤ pos 3 +ℤ pos ((w + 6) % 7) ≡ other) same (only_day other in_week.thursday w in_week.weekday in_week.in_week) in
     is (subst IsDayInRange (sym (e ∙ day_is)) inside)
-
-pub within_year : (y t : ℤ) (w : ℕ) (answer : Option NaiveDate) → w < 7 → IsInnerDay t
-    → IsDateOfDay (t -ℤ pos 3 +ℤ pos ((w + 6) % 7)) answer → IsSome answer
-within_year y t w (Some d) h inner is = refl
-within_year y t w None h inner is = absurd (is (omega (arith, floors, inner.0), omega (arith, floors, inner.1)))

@@ -1,7 +1,6 @@
 -- Dates, times and readings are what they show.
-use Rattle.naive_base.proofs.Words.{IsReading, IsTime, IsWideDay, IsWideYear, IsoWeek, NaiveDate, NaiveDateTime, NaiveTime, Weekday, ap, day_of, fraction_of}
-use Rattle.naive_base.proofs.Words.{iso_number, iso_year, props, reading, refl, second_of, subst, suc, sym, weekday_number, zero, ℕ, ℤ, ◌∙◌, ◌≡◌, ◌≤◌}
-use Rattle.naive_base.specs.declared.weekday.Weekday.TheVariants.{Fri, Mon, Sat, Sun, Thu, Tue, Wed}
+use Rattle.naive_base.proofs.Words.{IsReading, IsTime, IsWideDay, IsWideYear, IsoWeek, NaiveDate, NaiveDateTime, NaiveTime, ap, day_of, fraction_of, iso_number}
+use Rattle.naive_base.proofs.Words.{iso_year, props, reading, second_of, subst, ℕ, ℤ, ◌≡◌, ◌≤◌}
 
 IsWideDay-once : (day : ℤ) → IsProp (IsWideDay day)
 IsWideDay-once day = hlevel props
@@ -29,28 +28,6 @@ same_reading a b seconds fractions =
     let SameAt : ℤ → ℕ → Type 0 = λ s f. (is_reading : IsReading s f) → a ≡ record { secs = s; frac = f; in_range = is_reading } in
     let at_a : SameAt (reading a).s (reading a).f = λ is_reading. ap (λ r. record a { in_range = r }) (IsReading-once (reading a).s (reading a).f a.in_range is_reading) in
     subst (λ (s : ℤ). SameAt s (reading b).f) seconds (subst (SameAt (reading a).s) fractions at_a) b.in_range
-
-weekday_at : ℕ → Weekday
-weekday_at zero = Sun
-weekday_at (suc zero) = Mon
-weekday_at (suc (suc zero)) = Tue
-weekday_at (suc (suc (suc zero))) = Wed
-weekday_at (suc (suc (suc (suc zero)))) = Thu
-weekday_at (suc (suc (suc (suc (suc zero))))) = Fri
-weekday_at (suc (suc (suc (suc (suc (suc n)))))) = Sat
-
-weekday_back : (w : Weekday) → weekday_at (weekday_number w) ≡ w
-unfolding weekday_at
-weekday_back Mon = refl
-weekday_back Tue = refl
-weekday_back Wed = refl
-weekday_back Thu = refl
-weekday_back Fri = refl
-weekday_back Sat = refl
-weekday_back Sun = refl
-
-pub same_weekday : (a b : Weekday) → weekday_number a ≡ weekday_number b → a ≡ b
-same_weekday a b numbers = sym (weekday_back a) ∙ ap weekday_at numbers ∙ weekday_back b
 
 InYear-once : (year : ℤ) (week : ℕ) → IsProp (IsWideYear year × (1 ≤ week) × (week ≤ 53))
 InYear-once year week = hlevel props

@@ -33,6 +33,7 @@ use std::hash::Hash;
 
 /// Dates are equal if and only if their days are, and compare by these; a hash looks at the day,
 /// and a clone is the date.
+#[tactic(auto, using(crate::proofs::Values::same_date))]
 pub fn dates()
     ensures equal { (a b : AnyDate) → IsTrue (⟦<NaiveDate as PartialEq>⟧.eq a b)
         ↔ (day_of a ≡ day_of b) }
@@ -45,6 +46,7 @@ pub fn dates()
 
 /// Times are equal if and only if their seconds of the day and their nanoseconds are, and compare
 /// by these in turn; a hash looks at both, and a clone is the time.
+#[tactic(auto, using(crate::proofs::Values::same_time))]
 pub fn times()
     ensures equal { (a b : AnyTime) → IsTrue (⟦<NaiveTime as PartialEq>⟧.eq a b)
         ↔ ((second_of a ≡ second_of b) × (fraction_of a ≡ fraction_of b)) }
@@ -62,6 +64,7 @@ pub fn times()
 
 /// Local date-times are equal if and only if their seconds and their nanoseconds are, and compare
 /// by these in turn; a hash looks at both, and a clone is the local date-time.
+#[tactic(auto, using(crate::proofs::Values::same_reading))]
 pub fn readings()
     ensures equal { (a b : AnyReading) → IsTrue (⟦<NaiveDateTime as PartialEq>⟧.eq a b)
         ↔ (((reading a).s ≡ (reading b).s) × ((reading a).f ≡ (reading b).f)) }
@@ -113,6 +116,7 @@ pub fn weekdays()
 
 /// ISO weeks are equal if and only if their years and their numbers are, and compare by these in
 /// turn; a hash looks at both, and a clone is the week.
+#[tactic(auto, using(crate::proofs::Values::same_week))]
 pub fn iso_weeks()
     ensures equal { (a b : AnyWeek) → IsTrue (⟦<IsoWeek as PartialEq>⟧.eq a b)
         ↔ ((iso_year a ≡ iso_year b) × (iso_number a ≡ iso_number b)) }
