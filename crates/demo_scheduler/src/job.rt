@@ -6,7 +6,7 @@ use zoned_kept::KeptZone;
 use zoned_time::DateTime;
 
 /// A job that runs by the clocks of its zone.
-#[derive(Clone, Copy, Debug, PartialEq, Eq, Hash)]
+#[derive(Debug, PartialEq, Eq, Hash, Drop)]
 pub struct Job {
     pub name: &'static str,
     pub zone: KeptZone,
@@ -14,7 +14,7 @@ pub struct Job {
 }
 
 impl Job {
-    /// A job by the clocks of a TZif file.
+    /// Returns a job by the clocks of a TZif file.
     pub fn by_file(
         alloc: Global,
         name: &'static str,
@@ -30,7 +30,7 @@ impl Job {
         })
     }
 
-    /// Returns when it runs next after an instant.
+    /// Returns when it runs next after an instant; `None` if it never runs again.
     pub fn next_fire(&self, after: &DateTime<KeptZone>) -> Option<DateTime<KeptZone>> {
         self.schedule.next_fire(&self.zone, after)
     }

@@ -23,6 +23,7 @@ pub struct Queue {
 }
 
 impl Queue {
+    /// Returns a queue without jobs.
     pub fn new(alloc: Global) -> Queue {
         Queue {
             jobs: Vec::new(alloc),
@@ -30,7 +31,7 @@ impl Queue {
         }
     }
 
-    /// Queues a job, to run after an instant.
+    /// Adds a job, which runs after that instant.
     pub fn add(&mut self, job: Job, now: &DateTime<KeptZone>) -> Result<(), SchedulerError> {
         let place = self.jobs.len();
         let next = job.next_fire(now);
@@ -41,13 +42,14 @@ impl Queue {
         Ok(())
     }
 
-    /// Returns when the next job runs.
+    /// Returns when the next job runs; `None` if none does.
     pub fn next_due(&self) -> Option<DateTime<KeptZone>> {
         let Reverse(fire) = self.fires.peek().copied()?;
         Some(fire.at)
     }
 
-    /// Takes the next job that is due by an instant, and queues its run after that.
+    /// Takes the next run that is due at an instant, and queues the job's next one; `None` if no run is
+    /// due.
     pub fn take_due(&mut self, now: &DateTime<KeptZone>) -> Result<Option<Fire>, SchedulerError> {
         if self.next_due().is_none_or(|at| at > *now) {
             return Ok(None);
@@ -63,7 +65,7 @@ impl Queue {
         Ok(Some(fire))
     }
 
-    /// Takes each run that is due by an instant, in order, up to a limit.
+    /// Takes the runs that are due at an instant, the earliest first, at most as many as the limit.
     pub fn take_all_due(
         &mut self,
         alloc: Global,
@@ -80,6 +82,7 @@ impl Queue {
         Ok(taken)
     }
 
+    /// Returns the job of a run.
     pub fn job(&self, fire: &Fire) -> Option<&Job> {
         self.jobs.get(fire.job)
     }

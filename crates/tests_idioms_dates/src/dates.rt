@@ -97,6 +97,22 @@ pub fn is_due(next: Option<NaiveDate>, until: NaiveDate) -> bool {
     next.is_some_and(|next| next <= until)
 }
 
+/// The same by a reference, over which the guard is covered.
+pub fn due_by_guard(next: Option<NaiveDate>, until: NaiveDate) -> Option<NaiveDate> {
+    match &next {
+        Some(next) if *next <= until => Some(*next),
+        _ => None,
+    }
+}
+
+/// The same by an `if` in the arm.
+pub fn due_by_if(next: Option<NaiveDate>, until: NaiveDate) -> Option<NaiveDate> {
+    match next {
+        Some(next) => { if next <= until { Some(next) } else { None } }
+        None => None,
+    }
+}
+
 /// The same by `let .. else`.
 pub fn due_date(next: Option<NaiveDate>, until: NaiveDate) -> Option<NaiveDate> {
     let Some(next) = next else {

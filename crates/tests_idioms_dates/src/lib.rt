@@ -8,9 +8,9 @@ mod times;
 mod weekdays;
 
 pub use dates::{
-    When, days_until, due, due_date, first_sunday, has_leap_day, is_due, last_thursday, leap_day,
-    month_end, next_day, previous_day, single_day, six_weeks_later, six_weeks_on, thanksgiving,
-    thanksgiving_of_2024, week_from, weeks_from, year_day,
+    When, days_until, due, due_by_guard, due_by_if, due_date, first_sunday, has_leap_day, is_due,
+    last_thursday, leap_day, month_end, next_day, previous_day, single_day, six_weeks_later,
+    six_weeks_on, thanksgiving, thanksgiving_of_2024, week_from, weeks_from, year_day,
 };
 pub use lengths::{
     as_duration, halved, hour_and_a_half, longer, millis_past_the_second, nothing, shown,
