@@ -1,5 +1,6 @@
 -- Spans by the transitions on both sides of a second, and by the moments of a rule near it.
-use Rattle.tz_info.proofs.Words.{Alternate as AlternateRule, AlternateAt, AreComeAt, Change, ChangesWith, ComesAt, HasNoChange, HasType, IsAhead, IsBegin}
+use Rattle.tz_info.proofs.Words.{Alternate as AlternateRule, AlternateAt, AreComeAt, Change, ChangesWith, ComesAt, HasNoChange, HasNoneAt, HasType, MatchOption}
+use Rattle.tz_info.proofs.Words.{IsAhead, IsBegin}
 use Rattle.tz_info.proofs.Words.{IsByRule, IsChange, IsFirstChange, IsInTable, IsLastChange, IsLaterOf, IsNearest, IsNearestChange, IsRuleOrNone, IsRuleTime}
 use Rattle.tz_info.proofs.Words.{IsSpanAt, IsValid, LocalType, None, Option, RuleOrElse, SFits, Some, Transition, TransitionRule, TypeAt, Zone, ap, arith}
 use Rattle.tz_info.proofs.Words.{false, floor_div, get_or, index_of, inl, inr, ints, least_time, length, lies_in, option_map, pos, refl, segment_of, subst, sym}
@@ -49,12 +50,18 @@ table_over z u valid come d is inside =
     omega arith
 
 -- ---- the types that the transitions list
-pub changes_with : (z : Zone) (place : ℕ) (t : Transition) (before after : LocalType) → IsValid z → length z.leaps ≡ 0 → place < length z.transitions → t ≡ get_or z.transitions place t
+pub changes_with : (z : Zone) (place : ℕ) (t : Transition) (before after : LocalType) → IsValid z → length z.leaps ≡ 0 → place < length z.transitions
+    → t ≡ get_or z.transitions place t
     → ¬ (t.unix_leap_time ≡ least_time) → SFits w64 t.unix_leap_time → HasType z (index_of z.transitions place) before → HasType z t.type_index after → before ≢ after → ChangesWith z place t.unix_leap_time
 changes_with z place t before after valid none some item not_least fits has_before has_after differ =
-    let index : index_of z.transitions (place + 1) ≡ t.type_index = index_next z.transitions place t some ∙ ap (λ (d : Transition). d.type_index) (sym item) in
     let found = made z place t before after (Some (record { at = t.unix_leap_time; before = before; after = after })) valid none some item not_least fits has_before has_after (differ, refl) in
-    record { before = before; after = after; listed = rw index has_after; is = found.0; comes = found.1 }
+    record { before = before; after = after; is = found.0; comes = found.1 }
+
+pub second_of_change : (z : Zone) (place : ℕ) (found : Option Change)
+    → MatchOption found (HasNoneAt z place) (λ c. IsChange (TypeAt z) c × ComesAt z place c.at)
+    → MatchOption (option_map (λ c. c.at) found) (Unit {0}) (ChangesWith z place)
+second_of_change z place None h = tt
+second_of_change z place (Some c) h = record { before = c.before; after = c.after; is = h.0; comes = h.1 }
 
 abbrev its_change : {z : Zone} {place : ℕ} (at : ℤ) → ChangesWith z place at → Change
 its_change at c = record { at = at; before = c.before; after = c.after }
@@ -75,32 +82,32 @@ later_span z u from until k t valid limits fits some table come has b c =
     (last_with z u (k - 1) (its_change from b) valid (no_rule_yet z u k valid table come) back b.is b.comes) (next_with z u k (its_change until c) valid table come c.is c.comes)
 
 -- ---- from the last transition on, without a rule of two types
-steady_type : (rule : Option TransitionRule) (z : Zone) (u v : ℤ) (i : ℕ) (t : LocalType) → IsSteady rule → RuleOrElse rule u (HasType z i t) t → RuleOrElse rule v (HasType z i t) t
+steady_type : (rule : Option TransitionRule) (z : Zone) (u v : ℤ) (i : ℕ) (t : LocalType) → IsSteady rule → RuleOrElse rule u (HasType z i t) t
+    → RuleOrElse rule v (HasType z i t) t
 steady_type None z u v i t steady h = h
 steady_type (Some (Fixed f)) z u v i t steady h = h
 steady_type (Some (Alternate a)) z u v i t steady h = absurd steady
 
-pub last_span : (z : Zone) (u from : ℤ) (n : ℕ) (t : LocalType) → IsValid z → IsRuleOrNone z.rule → SFits w64 u → n ≡ length z.transitions → 0 < n
+pub last_span : (z : Zone) (u : ℤ) (n : ℕ) (c : Change) → IsValid z → IsRuleOrNone z.rule → SFits w64 u → n ≡ length z.transitions → 0 < n
     → AreComeAt z u (length z.transitions) → ((a : AlternateRule) → z.rule ≡ Some (Alternate a) → ⊥)
-    → HasType z (index_of z.transitions n) t → ChangesWith z (n - 1) from → IsSpanAt (TypeAt z) u (record { local_time_type = t; from = Some from; until = None })
-last_span z u from n t valid limits fits e some come not has c =
-    let all : n - 1 + 1 ≡ n = omega arith in
-    let same : c.after ≡ t = some_once _ c.after t (rw all at c.listed) has in
+    → IsChange (TypeAt z) c → ComesAt z (n - 1) c.at → IsSpanAt (TypeAt z) u (record { local_time_type = c.after; from = Some c.at; until = None })
+last_span z u n c valid limits fits e some come not is comes =
     let count = come.is in
-    let most = segment_most z from valid.transitions.rising in
-    let begun = (c.comes from c.is.after.leap_time (time_of z from c.after (omega arith) c.is.after)).1 (omega (arith, ints)) in
-    let at : segment_of z from ≡ length z.transitions = omega arith in
-    let said = type_from z from c.after valid.transitions.rising (record { type = c.is.after; segment = at }) in
+    let most = segment_most z c.at valid.transitions.rising in
+    let begun = (comes c.at is.after.leap_time (time_of z c.at c.after (omega arith) is.after)).1 (omega (arith, ints)) in
+    let at : segment_of z c.at ≡ length z.transitions = omega arith in
+    let said = type_from z c.at c.after valid.transitions.rising (record { type = is.after; segment = at }) in
     let l = come.of_second in
     let b = segment_at z u (length z.transitions) valid.transitions.rising (sym count) in
-    let here = (type_in_from z u come.leap_time c.after l (rw (← l.sum) at b) (steady_type z.rule z from u (index_of z.transitions (length z.transitions)) c.after (not_alternate z.rule not) said)).type in
+    let here = (type_in_from z u come.leap_time c.after l (rw (← l.sum) at b) (steady_type z.rule z c.at u (index_of z.transitions (length z.transitions)) c.after (not_alternate z.rule not) said)).type in
     let back : AreComeAt z u (n - 1 + 1) = record { leap_time = come.leap_time; of_second = l; is = omega arith } in
-    span_between z u t (Some (its_change from c)) None valid limits fits (subst (TypeAt z u) same here)
-    (last_with z u (n - 1) (its_change from c) valid (steady z (λ v. v ≤ℤ u) valid not) back c.is c.comes)
+    span_between z u c.after (Some c) None valid limits fits here
+    (last_with z u (n - 1) c valid (steady z (λ v. v ≤ℤ u) valid not) back is comes)
     (rule_first z (λ v. u <ℤ v) None valid (table_over z u valid come) (steady z (λ v. u <ℤ v) valid not))
 
 -- ---- from the last transition on, by a rule of two types
-pub by_turns : (z : Zone) (a : AlternateRule) (u begin : ℤ) (b : Change) (next : Option Change) → IsValid z → IsRuleOrNone z.rule → SFits w64 u → z.rule ≡ Some (Alternate a) → AreComeAt z u (length z.transitions) → IsBegin z begin
+pub by_turns : (z : Zone) (a : AlternateRule) (u begin : ℤ) (b : Change) (next : Option Change) → IsValid z → IsRuleOrNone z.rule → SFits w64 u
+    → z.rule ≡ Some (Alternate a) → AreComeAt z u (length z.transitions) → IsBegin z begin
     → IsRuleTime u → IsNearestChange false (AlternateAt a) (IsAhead false u) b → IsNearest true (AlternateAt a) (IsAhead true u) next → begin <ℤ b.at → IsSpanAt (TypeAt z) u (record { local_time_type = b.after; from = Some b.at; until = option_map (λ c. c.at) next })
 by_turns z a u begin b next valid limits fits rule come begins time last first late =
     let t = typed in

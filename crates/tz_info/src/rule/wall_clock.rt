@@ -1,6 +1,6 @@
 //! The wall clock of a rule.
 
-ghost use Rattle.std.specs.Prelude.{◌≢◌, ◌-ℤ◌, IsTrue};
+ghost use Rattle.std.specs.Prelude.{◌≢◌, ◌-ℤ◌, IsTrue, MatchOption, ⊤};
 ghost use Rattle.std.specs.Result.{IsOkAnd};
 ghost use Rattle.naive_base.specs.NaiveDateTime.{reading};
 ghost use Rattle.naive_base.specs.Range.{IsWide};
@@ -9,6 +9,7 @@ ghost use Rattle.tz_base.specs.LocalTypes.{IsUtOffset};
 ghost use Rattle.tz_timeline.specs.Counts.{RoseWithin, HasRoomFor};
 ghost use Rattle.tz_info.specs.RuleTypes.{RuleAt};
 ghost use Rattle.tz_info.specs.Rules.{IsAlternateRule};
+ghost use Rattle.tz_info.specs.Steps.Gaps.{IsNeverFrom, IsRuleGap};
 ghost use Rattle.tz_info.specs.Steps.RuleSeconds.{TypeFrom, IsAskedSince, IsAskedFrom, IsAmidFrom, AreUtOffsets};
 ghost use Rattle.tz_info.specs.Steps.Seasons.{IsSeason};
 ghost use Rattle.tz_info.specs.Steps.Walk.{IsAskedLast};
@@ -20,7 +21,7 @@ use crate::rule::alternate::{AlternateTime, Season};
 use crate::rule::transition_rule::TransitionRule;
 use naive_base::NaiveDateTime;
 use offset_core::MappedLocalTime;
-use tz_base::{Error, LocalTimeType};
+use tz_base::{Change, Error, LocalTimeType};
 use tz_timeline::Probes;
 
 impl TransitionRule {
@@ -170,6 +171,38 @@ impl AlternateTime {
         } else {
             answer_of_two(self.std(), is_std, self.dst(), is_dst)
         }
+    }
+
+    // The gap that the local time lies in, among the seconds from that one on, if the season's
+    // moments decide at both seconds that could show it.
+    //
+    // At the earlier of these two the type of the lesser offset is in force, and at the later one
+    // the other type, since neither shows the local time. So one moment lies between them.
+    pub(crate) fn gap_from(&self, from: i64, local: i64) -> Option<Change>
+        requires local { IsWide local }
+        requires never { IsNeverFrom self.now from local }
+        ensures { MatchOption result ⊤ (IsRuleGap self.now from local) }
+    {
+        let standard = self.std();
+        let daylight = self.dst();
+        let by_std = second_showing(local, standard.offset());
+        let by_dst = second_showing(local, daylight.offset());
+        let season = self.season(local);
+        if !are_amid(season, from, by_std, by_dst) {
+            return None;
+        }
+        if by_dst < by_std {
+            return Some(Change {
+                at: season.turns.start,
+                before: *standard,
+                after: *daylight,
+            });
+        }
+        Some(Change {
+            at: season.turns.end,
+            before: *daylight,
+            after: *standard,
+        })
     }
 
     // Asks for the one second that could show the local time at the offset, unless it comes before

@@ -1,7 +1,7 @@
 //! Spans: the type in force at an instant, since which change, and until which one.
 //!
-//! In a zone without leap seconds one search finds a span, if the transitions on both sides of the
-//! second change the type, or the rule's moments near it do.
+//! One search finds a span, if the transitions on both sides of the second change the type, or the
+//! rule's moments near it do.
 
 ghost use Rattle.std.specs.Prelude.{◌≡◌, ◌≢◌, ◌<◌, ◌≤◌, length, option_map, MatchOption, MatchResult, Some, ⊤};
 ghost use Rattle.tz_info.specs.Rules.{Alternate as AlternateRule};
@@ -38,11 +38,9 @@ impl TimeZone {
         ensures { MatchResult result (IsSpanAt (TypeAt self.now) unix_time)
             (IsTypeError self.now unix_time) }
     {
-        if self.leap_seconds.is_empty() {
-            match self.span_by_search(unix_time) {
-                Some(span) => return Ok(span),
-                None => {}
-            }
+        match self.span_by_search(unix_time) {
+            Some(span) => return Ok(span),
+            None => {}
         }
         match self.find_local_time_type(unix_time) {
             Ok(local) => Ok(self.span_by_changes(unix_time, *local)),
@@ -66,11 +64,12 @@ impl TimeZone {
     // The span of the second by one search, if it ends at a transition or a moment of the rule next
     // to it.
     fn span_by_search(&self, unix_time: i64) -> Option<Span>
-        requires { length self.now.leaps ≡ 0 }
         ensures { MatchOption result ⊤ (IsSpanAt (TypeAt self.now) unix_time) }
     {
         let _ = &self.table;
-        let passed = self.come_without_leaps(unix_time);
+        let Some(passed) = self.come_by(unix_time) else {
+            return None;
+        };
         if passed < self.transition_count() {
             return self.span_in_table(unix_time, passed);
         }
@@ -80,20 +79,9 @@ impl TimeZone {
         }
     }
 
-    // How many transitions have come at the second.
-    #[inline(always)]
-    fn come_without_leaps(&self, second: i64) -> usize
-        requires { length self.now.leaps ≡ 0 }
-        ensures { AreComeAt self.now second result }
-    {
-        let mut probes = Probes::new();
-        self.passed_count(second, &mut probes)
-    }
-
     // The span of a second before the last transition, at which that number of them have come.
     #[inline(always)]
     fn span_in_table(&self, unix_time: i64, passed: usize) -> Option<Span>
-        requires leaps { length self.now.leaps ≡ 0 }
         requires come { AreComeAt self.now unix_time passed }
         requires table { passed < length self.now.transitions }
         ensures { MatchOption result ⊤ (IsSpanAt (TypeAt self.now) unix_time) }
@@ -122,7 +110,6 @@ impl TimeZone {
 
     // The span of a second from the last transition on, without a rule of two types.
     fn span_at_end(&self, unix_time: i64) -> Option<Span>
-        requires leaps { length self.now.leaps ≡ 0 }
         requires come { AreComeAt self.now unix_time (length self.now.transitions) }
         requires rule { (a : AlternateRule) → self.now.rule ≢ Some (Alternate a) }
         ensures { MatchOption result ⊤ (IsSpanAt (TypeAt self.now) unix_time) }
@@ -132,20 +119,32 @@ impl TimeZone {
         if count == 0 {
             return None;
         }
-        let Some(from) = self.change_second(count - 1) else {
+        let Some(change) = self.change_with(count - 1) else {
             return None;
         };
         Some(Span {
-            local_time_type: *self.type_after(count),
-            from: Some(from),
+            local_time_type: change.after,
+            from: Some(change.at),
             until: None,
         })
     }
 
-    // The second of the change with the transition at that place, if the types before it and from it
-    // on differ.
+    // The second of the change with the transition at that place, if it changes the type.
     #[inline(always)]
     fn change_second(&self, place: usize) -> Option<i64>
+        requires { place < length self.now.transitions }
+        ensures { MatchOption result ⊤ (ChangesWith self.now place) }
+    {
+        if self.leap_seconds.is_empty() {
+            self.second_without_leaps(place)
+        } else {
+            second_of(self.change_with(place))
+        }
+    }
+
+    // That second without leap seconds, by the transition and the one before it.
+    #[inline(always)]
+    fn second_without_leaps(&self, place: usize) -> Option<i64>
         requires place { place < length self.now.transitions }
         requires leaps { length self.now.leaps ≡ 0 }
         ensures { MatchOption result ⊤ (ChangesWith self.now place) }
