@@ -1,20 +1,17 @@
 -- Spans by the transitions on both sides of a second, and by the moments of a rule near it.
-use Rattle.tz_info.proofs.Words.{Alternate as AlternateRule, AlternateAt, AreComeAt, Change, ChangesWith, ComesAt, HasNoChange, HasNoneAt, HasType, MatchOption}
-use Rattle.tz_info.proofs.Words.{IsAhead, IsBegin}
-use Rattle.tz_info.proofs.Words.{IsByRule, IsChange, IsFirstChange, IsInTable, IsLastChange, IsLaterOf, IsNearest, IsNearestChange, IsRuleOrNone, IsRuleTime}
-use Rattle.tz_info.proofs.Words.{IsSpanAt, IsValid, LocalType, None, Option, RuleOrElse, SFits, Some, Transition, TransitionRule, TypeAt, Zone, ap, arith}
-use Rattle.tz_info.proofs.Words.{false, floor_div, get_or, index_of, inl, inr, ints, least_time, length, lies_in, option_map, pos, refl, segment_of, subst, sym}
-use Rattle.tz_info.proofs.Words.{true, w64, year_of, ℕ, ℤ, ◌+◌, ◌-ℤ◌, ◌-◌, ◌<ℤ◌, ◌<◌, ◌∙◌, ◌≡◌, ◌≢◌, ◌≤ℤ◌, ◌≤◌}
+use Rattle.tz_info.proofs.Words.{Alternate as AlternateRule, AlternateAt, AreComeAt, Change, ComesAt, HasNoChange, HasType, IsAhead, IsBegin, IsByRule}
+use Rattle.tz_info.proofs.Words.{IsChange, IsFirstChange, IsInTable, IsLastChange, IsLaterOf, IsNearest, IsNearestChange, IsRuleOrNone, IsRuleTime, IsSpanAt}
+use Rattle.tz_info.proofs.Words.{IsValid, LocalType, None, Option, RuleOrElse, SFits, Some, TransitionRule, TypeAt, Zone, arith, cases_lt, false, floor_div}
+use Rattle.tz_info.proofs.Words.{index_of, inl, inr, ints, length, lies_in, option_map, pos, refl, segment_of, sym, true, w64, year_of, ℕ, ℤ, ◌+◌, ◌-ℤ◌, ◌-◌}
+use Rattle.tz_info.proofs.Words.{◌<ℤ◌, ◌<◌, ◌≡◌, ◌≤ℤ◌, ◌≤◌}
 use Rattle.tz_info.specs.declared.rule.transition_rule.TransitionRule.TheVariants.{Alternate, Fixed}
 use Rattle.tz_info.proofs.ChangeSearch.{first_nearest, last_after, last_nearest}
 use Rattle.tz_info.proofs.GapLaws.{IsSteady}
-use Rattle.tz_info.proofs.LeaplessChanges.{made}
 use Rattle.tz_info.proofs.RuleLaws.{alternate_decided, rule_year}
-use Rattle.tz_info.proofs.SegmentLaws.{index_next, segment_at, segment_most, segments_rise, type_from, type_in_before, type_in_from}
+use Rattle.tz_info.proofs.SegmentLaws.{segment_at, segment_most, segments_rise, type_before, type_from, type_in_before, type_in_from}
 use Rattle.tz_info.proofs.SpanLaws.{last_type, span_between}
 use Rattle.tz_info.proofs.ZoneChanges.{ahead_first, ahead_none, behind_first, from_rule, not_alternate, rule_first, rule_found, rule_is_last, rule_until}
 use Rattle.tz_info.proofs.ZoneChanges.{steady, table_first, table_found, table_is_last, table_last, time_of}
-use Rattle.tz_info.proofs.ZoneLaws.{some_once}
 
 -- ---- beside a second at which k transitions have come
 -- the type in force, if there are more
@@ -49,37 +46,34 @@ table_over z u valid come d is inside =
     let r = segments_rise z u (d.at -ℤ pos 1) valid.transitions.rising valid.leaps (omega (arith, ints)) in
     omega arith
 
--- ---- the types that the transitions list
-pub changes_with : (z : Zone) (place : ℕ) (t : Transition) (before after : LocalType) → IsValid z → length z.leaps ≡ 0 → place < length z.transitions
-    → t ≡ get_or z.transitions place t
-    → ¬ (t.unix_leap_time ≡ least_time) → SFits w64 t.unix_leap_time → HasType z (index_of z.transitions place) before → HasType z t.type_index after → before ≢ after → ChangesWith z place t.unix_leap_time
-changes_with z place t before after valid none some item not_least fits has_before has_after differ =
-    let found = made z place t before after (Some (record { at = t.unix_leap_time; before = before; after = after })) valid none some item not_least fits has_before has_after (differ, refl) in
-    record { before = before; after = after; is = found.0; comes = found.1 }
+-- the type before the change that comes with the next transition is in force
+type_until : (z : Zone) (u : ℤ) (k : ℕ) (c : Change) → IsValid z → k < length z.transitions → AreComeAt z u k → IsChange (TypeAt z) c → ComesAt z k c.at
+    → TypeAt z u c.before
+type_until z u k c valid some come is comes =
+    let later = (next_with z u k c valid some come is comes).inside in
+    let n = come.is in
+    let rises = segments_rise z u (c.at -ℤ pos 1) valid.transitions.rising valid.leaps (omega (arith, ints)) in
+    let begun = comes (c.at -ℤ pos 1) is.before.leap_time (time_of z (c.at -ℤ pos 1) c.before (omega arith) is.before) in
+    let at : segment_of z (c.at -ℤ pos 1) ≡ k = elim (cases_lt k (segment_of z (c.at -ℤ pos 1))) [
+      | inl l ↦ let b = begun.0 l in absurd (omega (arith, ints))
+      | inr m ↦ omega arith
+    ] in
+    let has = type_before z k (c.at -ℤ pos 1) c.before valid.transitions.rising (record { type = is.before; segment = at }) some in
+    type_then z u k c.before valid some come has
 
-pub second_of_change : (z : Zone) (place : ℕ) (found : Option Change)
-    → MatchOption found (HasNoneAt z place) (λ c. IsChange (TypeAt z) c × ComesAt z place c.at)
-    → MatchOption (option_map (λ c. c.at) found) (Unit {0}) (ChangesWith z place)
-second_of_change z place None h = tt
-second_of_change z place (Some c) h = record { before = c.before; after = c.after; is = h.0; comes = h.1 }
-
-abbrev its_change : {z : Zone} {place : ℕ} (at : ℤ) → ChangesWith z place at → Change
-its_change at c = record { at = at; before = c.before; after = c.after }
-
-pub first_span : (z : Zone) (u until : ℤ) (t : LocalType) → IsValid z → IsRuleOrNone z.rule → SFits w64 u → 0 < length z.transitions → AreComeAt z u 0
-    → HasType z (index_of z.transitions 0) t → ChangesWith z 0 until
-    → IsSpanAt (TypeAt z) u (record { local_time_type = t; from = None; until = Some until })
-first_span z u until t valid limits fits some come has c =
+pub first_span : (z : Zone) (u : ℤ) (c : Change) → IsValid z → IsRuleOrNone z.rule → SFits w64 u → 0 < length z.transitions → AreComeAt z u 0
+    → IsChange (TypeAt z) c → ComesAt z 0 c.at → IsSpanAt (TypeAt z) u (record { local_time_type = c.before; from = None; until = Some c.at })
+first_span z u c valid limits fits some come is comes =
     let none = table_is_last z (λ v. v ≤ℤ u) None valid (no_rule_yet z u 0 valid some come) (ahead_none z u (ahead_first z u 0 valid come)) in
-    span_between z u t None (Some (its_change until c)) valid limits fits (type_then z u 0 t valid some come has) none (next_with z u 0 (its_change until c) valid some come c.is c.comes)
+    span_between z u c.before None (Some c) valid limits fits (type_until z u 0 c valid some come is comes) none (next_with z u 0 c valid some come is comes)
 
-pub later_span : (z : Zone) (u from until : ℤ) (k : ℕ) (t : LocalType) → IsValid z → IsRuleOrNone z.rule → SFits w64 u → 0 < k
-    → k < length z.transitions → AreComeAt z u k → HasType z (index_of z.transitions k) t
-    → ChangesWith z (k - 1) from → ChangesWith z k until → IsSpanAt (TypeAt z) u (record { local_time_type = t; from = Some from; until = Some until })
-later_span z u from until k t valid limits fits some table come has b c =
+pub later_span : (z : Zone) (u : ℤ) (k : ℕ) (b c : Change) → IsValid z → IsRuleOrNone z.rule → SFits w64 u → 0 < k → k < length z.transitions → AreComeAt z u k
+    → IsChange (TypeAt z) b × ComesAt z (k - 1) b.at → IsChange (TypeAt z) c × ComesAt z k c.at
+    → IsSpanAt (TypeAt z) u (record { local_time_type = c.before; from = Some b.at; until = Some c.at })
+later_span z u k b c valid limits fits some table come previous next =
     let back : AreComeAt z u (k - 1 + 1) = let n = come.is in record { leap_time = come.leap_time; of_second = come.of_second; is = omega arith } in
-    span_between z u t (Some (its_change from b)) (Some (its_change until c)) valid limits fits (type_then z u k t valid table come has)
-    (last_with z u (k - 1) (its_change from b) valid (no_rule_yet z u k valid table come) back b.is b.comes) (next_with z u k (its_change until c) valid table come c.is c.comes)
+    span_between z u c.before (Some b) (Some c) valid limits fits (type_until z u k c valid table come next.0 next.1)
+    (last_with z u (k - 1) b valid (no_rule_yet z u k valid table come) back previous.0 previous.1) (next_with z u k c valid table come next.0 next.1)
 
 -- ---- from the last transition on, without a rule of two types
 steady_type : (rule : Option TransitionRule) (z : Zone) (u v : ℤ) (i : ℕ) (t : LocalType) → IsSteady rule → RuleOrElse rule u (HasType z i t) t

@@ -1,12 +1,13 @@
 -- The way to the first second at which clocks show more than a local time that they never show.
-use Rattle.std.specs.Prelude.{◌≡◌, ℤ, pos, ◌+ℤ◌, ◌-ℤ◌, ◌≤ℤ◌, ◌<ℤ◌}
+use Rattle.std.specs.Prelude.{◌≡◌, not, ℤ, pos, ◌+ℤ◌, ◌-ℤ◌, ◌≤ℤ◌, ◌<ℤ◌}
 use Rattle.tz_base.specs.LocalTypes.{LocalType}
 use Rattle.tz_base.specs.declared.change.Change.{Change}
 use Rattle.tz_info.specs.Leaps.{IsNear}
-use Rattle.tz_info.specs.Moments.{AlternateAt}
+use Rattle.tz_info.specs.Moments.{AlternateAt, type_when}
 use Rattle.tz_info.specs.Rules.{Alternate}
 use Rattle.tz_info.specs.Steps.Runs.{IsWindowOf}
 use Rattle.tz_info.specs.Zones.{Zone, TypeAt}
+use Rattle.tz_info.specs.declared.rule.wall_clock.Moment.{Moment}
 
 -- clocks show less at each near second up to s
 abbrev pub AreLess : Zone → ℤ → ℤ → Type 0
@@ -29,3 +30,7 @@ pub record IsRuleGap (a : Alternate) (from local : ℤ) (c : Change) : Type 0 wh
   pub after : AlternateAt a c.at c.after
   pub more : local <ℤ (c.at +ℤ c.after.offset)
   pub less : (u : ℤ) (t : LocalType) → from ≤ℤ u → u <ℤ c.at → AlternateAt a u t → (u +ℤ t.offset) <ℤ local
+
+-- the change at that moment
+abbrev pub change_at : Alternate → Moment → Change
+change_at a m = record { at = m.at; before = type_when a (not m.to_dst); after = type_when a m.to_dst }

@@ -133,7 +133,7 @@ impl TimeZone {
             return self.gap_by_search(local);
         };
         match turns.gap_from(self.index.rule_from(), local) {
-            Some(gap) => gap,
+            Some(moment) => turns.change_of(moment),
             None => self.gap_by_search(local),
         }
     }

@@ -3,20 +3,16 @@
 //! One search finds a span, if the transitions on both sides of the second change the type, or the
 //! rule's moments near it do.
 
-ghost use Rattle.std.specs.Prelude.{◌≡◌, ◌≢◌, ◌<◌, ◌≤◌, length, option_map, MatchOption, MatchResult, Some, ⊤};
+ghost use Rattle.std.specs.Prelude.{◌≡◌, ◌≢◌, ◌<◌, length, option_map, MatchOption, MatchResult, Some, ⊤};
 ghost use Rattle.tz_info.specs.Rules.{Alternate as AlternateRule};
 ghost use Rattle.tz_info.specs.Spans.{IsSpanAt};
 ghost use Rattle.tz_info.specs.Steps.Changes.{AreComeAt};
-ghost use Rattle.tz_info.specs.Steps.Segments.{index_of};
-ghost use Rattle.tz_info.specs.Steps.Spans.{ChangesWith};
-ghost use Rattle.tz_info.specs.Zones.{HasType, TypeAt, IsTypeError};
+ghost use Rattle.tz_info.specs.Zones.{TypeAt, IsTypeError};
 ghost use Rattle.tz_info.specs.declared.rule.transition_rule.TransitionRule.TheVariants.{Alternate};
 
-use crate::change::is_same_type;
 use crate::rule::{AlternateTime, Beside};
 use crate::zone::time_zone::TimeZone;
 use tz_base::{Change, Error, LocalTimeType, Span};
-use tz_timeline::Probes;
 
 impl TimeZone {
     /// Returns the span of the second of Unix time: the local time type in force, the clock change
@@ -87,24 +83,23 @@ impl TimeZone {
         ensures { MatchOption result ⊤ (IsSpanAt (TypeAt self.now) unix_time) }
     {
         let _ = &self.table;
-        let Some(until) = self.change_second(passed) else {
+        let Some(next) = self.change_with(passed) else {
             return None;
         };
-        let local_time_type = *self.type_after(passed);
         if passed == 0 {
             return Some(Span {
-                local_time_type,
+                local_time_type: next.before,
                 from: None,
-                until: Some(until),
+                until: Some(next.at),
             });
         }
-        let Some(from) = self.change_second(passed - 1) else {
+        let Some(previous) = self.change_with(passed - 1) else {
             return None;
         };
         Some(Span {
-            local_time_type,
-            from: Some(from),
-            until: Some(until),
+            local_time_type: next.before,
+            from: Some(previous.at),
+            until: Some(next.at),
         })
     }
 
@@ -127,50 +122,6 @@ impl TimeZone {
             from: Some(change.at),
             until: None,
         })
-    }
-
-    // The second of the change with the transition at that place, if it changes the type.
-    #[inline(always)]
-    fn change_second(&self, place: usize) -> Option<i64>
-        requires { place < length self.now.transitions }
-        ensures { MatchOption result ⊤ (ChangesWith self.now place) }
-    {
-        if self.leap_seconds.is_empty() {
-            self.second_without_leaps(place)
-        } else {
-            second_of(self.change_with(place))
-        }
-    }
-
-    // That second without leap seconds, by the transition and the one before it.
-    #[inline(always)]
-    fn second_without_leaps(&self, place: usize) -> Option<i64>
-        requires place { place < length self.now.transitions }
-        requires leaps { length self.now.leaps ≡ 0 }
-        ensures { MatchOption result ⊤ (ChangesWith self.now place) }
-    {
-        let _ = &self.table;
-        let mut probes = Probes::new();
-        let here = self.transition(place, &mut probes);
-        if here.unix_leap_time == i64::MIN {
-            return None;
-        }
-        if is_same_type(self.type_after(place), self.listed(here.type_index)) {
-            return None;
-        }
-        Some(here.unix_leap_time)
-    }
-
-    // The type of the last of the first transitions, of which there are that many; the first type
-    // before all of them.
-    #[inline(always)]
-    fn type_after(&self, passed: usize) -> &LocalTimeType
-        requires { passed ≤ length self.now.transitions }
-        ensures { HasType self.now (index_of self.now.transitions passed) result.now }
-    {
-        let mut probes = Probes::new();
-        let latest = self.latest(passed, &mut probes);
-        self.listed(latest.type_index)
     }
 
     // The span of a second from the last transition on, by a rule of two types.

@@ -25,8 +25,8 @@ known c =
     let gd : SFits w32 c.offset-2.result = search rules in
     let vs = simp to_z-of_z at c.second_showing-by_std.ensures.value in
     let vd = simp to_z-of_z at c.second_showing-by_dst.ensures.value in
-    let es = c.offset.ensures.value ∙ ap (λ (t : LocalType). t.offset) c.std-standard.ensures.value in
-    let ed = c.offset-2.ensures.value ∙ ap (λ (t : LocalType). t.offset) c.dst-daylight.ensures.value in
+    let es = c.offset.ensures.value ∙ ap (λ (t : LocalType). t.offset) c.std.ensures.value in
+    let ed = c.offset-2.ensures.value ∙ ap (λ (t : LocalType). t.offset) c.dst.ensures.value in
     let wide = c.requires.local in
     let amid = simp to_z-of_z at (c.are_amid.ensures c.if-not-are_amid.false) in
     record {
@@ -46,8 +46,8 @@ returns-then-by_dst-by_std c =
     let k = known (goal.at.returns-then-by_dst-by_std c).Else-not-are_amid in
     let fs = k.fits_std in let fd = k.fits_dst in
     let fm : SFits w64 c.season-season.result.turns.start = search rules in
-    simp to_z-of_z (rw (c.std-standard.ensures.value, c.dst-daylight.ensures.value) (gap_at_start c.args.self.now c.season-season.result c.args.from c.args.local c.second_showing-by_dst.result c.second_showing-by_std.result c.season-season.ensures
-    k.near_dst k.near_std k.amid_dst k.amid_std (omega (arith, ints)) k.shown_dst k.shown_std c.requires.never))
+    simp to_z-of_z (gap_at_start c.args.self.now c.season-season.result c.args.from c.args.local c.second_showing-by_dst.result c.second_showing-by_std.result c.season-season.ensures
+    k.near_dst k.near_std k.amid_dst k.amid_std (omega (arith, ints)) k.shown_dst k.shown_std c.requires.never)
 
 pub returns : goal.returns
 returns c =
@@ -55,5 +55,5 @@ returns c =
     let k = known (goal.at.returns c).Else-not-are_amid in
     let fs = k.fits_std in let fd = k.fits_dst in
     let fm : SFits w64 c.season-season.result.turns.end = search rules in
-    simp to_z-of_z (rw (c.std-standard.ensures.value, c.dst-daylight.ensures.value) (gap_at_end c.args.self.now c.season-season.result c.args.from c.args.local c.second_showing-by_std.result c.second_showing-by_dst.result c.season-season.ensures
-    k.near_std k.near_dst k.amid_std k.amid_dst (omega (arith, ints)) k.shown_std k.shown_dst c.requires.never))
+    simp to_z-of_z (gap_at_end c.args.self.now c.season-season.result c.args.from c.args.local c.second_showing-by_std.result c.second_showing-by_dst.result c.season-season.ensures
+    k.near_std k.near_dst k.amid_std k.amid_dst (omega (arith, ints)) k.shown_std k.shown_dst c.requires.never)
