@@ -1,6 +1,7 @@
 -- The least and the greatest of some offsets.
 use Rattle.tz_info.proofs.Words.{All, All-append, All-contains, AreExtremes, AreExtremesUntil, AreJoined, AreJoinedByRule, Contains, Contains-append_left}
-use Rattle.tz_info.proofs.Words.{Contains-append_right, Contains-push, Extremes, IsGreatest, IsLeast, IsTypeOf, List, LocalType, None, Option, Some}
+use Rattle.tz_info.proofs.Words.{Contains-append_right, Contains-push, Extremes, IsEnd, IsGreatest, IsLeast, IsTypeOf, IsWindowOf, List, SFits, subst, w32}
+use Rattle.tz_info.proofs.Words.{◌-ℤ◌, LocalType, None, Option, Some}
 use Rattle.tz_info.proofs.Words.{TransitionRule, TypeAt, Zone, ap, append-nil, append_assoc, arith, cases_lt, get_or, get_or-map, get_or_default, inl, inr}
 use Rattle.tz_info.proofs.Words.{ints, length, length-map, offsets, offsets_of, refl, rule_offsets, slice_get, slice_get-get_or, sym, ℕ, ℤ, [], ◌++◌, ◌+◌, ◌<◌}
 use Rattle.tz_info.proofs.Words.{◌∙◌, ◌∷◌, ◌≡◌, ◌≤ℤ◌, ◌≤◌, ◌⊎◌}
@@ -38,7 +39,8 @@ either_among : (xs : List ℤ) (x o y : ℤ) → Contains xs x → Contains xs o
 either_among xs x o y c h (inl e) = rw e c
 either_among xs x o y c h (inr e) = rw e h
 
-pub first_until : (types : List LocalType) (d : LocalType) (e : Extremes) → 0 < length types → e.greatest ≡ (get_or types 0 d).offset → e.least ≡ (get_or types 0 d).offset → AreExtremesUntil types 0 e
+pub first_until : (types : List LocalType) (d : LocalType) (e : Extremes) → 0 < length types → e.greatest ≡ (get_or types 0 d).offset
+    → e.least ≡ (get_or types 0 d).offset → AreExtremesUntil types 0 e
 first_until types d e h g l = record {
   greatest_among = rw g (type_among types 0 d h);
   least_among = rw l (type_among types 0 d h);
@@ -47,7 +49,8 @@ first_until types d e h g l = record {
 }
 
 -- one type more
-pub more_until : (types : List LocalType) (n : ℕ) (d : LocalType) (e r : Extremes) → n < length types → AreExtremesUntil types n e → AreJoined e (get_or types n d).offset r → AreExtremesUntil types (n + 1) r
+pub more_until : (types : List LocalType) (n : ℕ) (d : LocalType) (e r : Extremes) → n < length types → AreExtremesUntil types n e
+    → AreJoined e (get_or types n d).offset r → AreExtremesUntil types (n + 1) r
 more_until types n d e r h a j = record {
   greatest_among = either_among (offsets_of types) e.greatest (get_or types n d).offset r.greatest a.greatest_among (type_among types n d h) j.greatest_from;
   least_among = either_among (offsets_of types) e.least (get_or types n d).offset r.least a.least_among (type_among types n d h) j.least_from;
@@ -72,16 +75,19 @@ all_until types n e h a = record {
 }
 
 -- ---- with the rule's
-pub none_joined : (types : List LocalType) (rule : Option TransitionRule) (e : Extremes) → rule ≡ None → AreExtremes (offsets_of types) e → AreExtremes (offsets types rule) e
+pub none_joined : (types : List LocalType) (rule : Option TransitionRule) (e : Extremes) → rule ≡ None → AreExtremes (offsets_of types) e
+    → AreExtremes (offsets types rule) e
 none_joined types rule e is a = rw (is, append-nil) a
 
-by_rule : (types : List LocalType) (rule : TransitionRule) (e r : Extremes) → AreExtremes (offsets_of types) e → AreJoinedByRule e rule r → AreExtremes (offsets types (Some rule)) r
+by_rule : (types : List LocalType) (rule : TransitionRule) (e r : Extremes) → AreExtremes (offsets_of types) e → AreJoinedByRule e rule r
+    → AreExtremes (offsets types (Some rule)) r
 by_rule types (Fixed t) e r h j = joined (offsets_of types) e t.offset r h j
 by_rule types (Alternate a) e r h (one, f, g) =
     let s = joined (offsets_of types ++ a.std.offset ∷ []) one a.dst.offset r (joined (offsets_of types) e a.std.offset one h f) g in
     rw append_assoc at s
 
-pub rule_joined : (types : List LocalType) (rule : Option TransitionRule) (some : TransitionRule) (e r : Extremes) → rule ≡ Some some → AreExtremes (offsets_of types) e → AreJoinedByRule e some r → AreExtremes (offsets types rule) r
+pub rule_joined : (types : List LocalType) (rule : Option TransitionRule) (some : TransitionRule) (e r : Extremes) → rule ≡ Some some
+    → AreExtremes (offsets_of types) e → AreJoinedByRule e some r → AreExtremes (offsets types rule) r
 rule_joined types rule some e r is h j = rw is (by_rule types some e r h j)
 
 -- ---- the offset of a type in force is one of them
@@ -110,3 +116,15 @@ at_most_greatest z u g t h a = All-contains (λ x. x ≤ℤ g) (offsets z.types 
 
 pub at_least_least : (z : Zone) (u g : ℤ) (t : LocalType) → IsLeast (offsets z.types z.rule) g → TypeAt z u t → g ≤ℤ t.offset
 at_least_least z u g t h a = All-contains (λ x. g ≤ℤ x) (offsets z.types z.rule) t.offset h.fewest (in_force_among z u t a)
+
+-- the seconds by the greatest offset and by the least
+pub window_made : (z : Zone) (from until g h : ℤ) → IsEnd from → IsEnd until → SFits w32 g → SFits w32 h → IsGreatest (offsets z.types z.rule) g
+    → IsLeast (offsets z.types z.rule) h → IsWindowOf z from until (from -ℤ g) (until -ℤ h)
+window_made z from until g h first last fits_g fits_h greatest least = record {
+  greatest = subst (IsGreatest (offsets z.types z.rule)) (back from g) greatest;
+  least = subst (IsLeast (offsets z.types z.rule)) (back until h) least;
+  near_low = (omega (arith, ints, first), omega (arith, ints, first));
+  near_high = (omega (arith, ints, last), omega (arith, ints, last));
+} where
+  back : (x y : ℤ) → y ≡ x -ℤ (x -ℤ y)
+  back x y = omega (arith, ints)

@@ -1,7 +1,8 @@
 -- The passed entries, by halves.
 use Rattle.std.specs.List.Sorted.{IsPartitionedBy}
-use Rattle.tz_info.proofs.Words.{AreLeapSeconds, IsLeapTime, LeapSecond, List, arith, by_lt_z, cases_lt, false, get_or, inl, inr, int_lt, ints, length, lt_true}
-use Rattle.tz_info.proofs.Words.{nat_tests, passed_count, pos, true, ℕ, ℤ, ◌+ℤ◌, ◌+◌, ◌-◌, ◌/◌, ◌<ℤ◌, ◌<◌, ◌==◌, ◌≡◌, ◌≤ℤ◌, ◌≤◌}
+use Rattle.tz_info.proofs.Words.{AreLeapSeconds, IsLeapTime, LeapSecond, List, arith, by_lt_z, cases_lt, false, get_or, inl, inr, int_le, int_lt, ints, le_is}
+use Rattle.tz_info.proofs.Words.{le_true, length, lt_true}
+use Rattle.tz_info.proofs.Words.{nat_tests, passed_count, pos, true, ℕ, ℤ, ◌+ℤ◌, ◌<ℤ◌, ◌<◌, ◌↔◌, ◌==◌, ◌≡◌, ◌≤ℤ◌, ◌≤◌}
 use Rattle.tz_info.proofs.LeapEntries.{follow, threshold_at}
 use Rattle.tz_info.proofs.LeapOrder.{bounded, none_counted, split}
 use Rattle.tz_info.proofs.LeapStarts.{correction_behind, passed_at_most, times_rise}
@@ -22,26 +23,21 @@ pub all_between : (es : List LeapSecond) (u : ℤ) (n : ℕ) → n ≡ length es
 all_between es u n e = let m = passed_at_most es u in record { least = omega arith; most = omega arith; within = omega arith }
 
 -- an entry is passed just where its time has come with the correction before it
-pub passed_here : (es : List LeapSecond) (u : ℤ) (k : ℕ) (d : LeapSecond) → AreLeapSeconds es → k < length es → (get_or es k d).unix_leap_time ≤ℤ (u +ℤ correction_behind es k) → k < passed_count es u
-passed_here es u k d valid h come = elim (cases_lt k (passed_count es u)) [
-  | inl l ↦ l
-  | inr m ↦
-      let s = (split (pos 0) u es k (follow es valid) h).not_passed m in
-      let t = threshold_at (pos 0) es k d (pos 0) h in
-      absurd (omega (arith, ints))
-]
-
-pub not_passed_here : (es : List LeapSecond) (u : ℤ) (k : ℕ) (d : LeapSecond) → AreLeapSeconds es → k < length es → (u +ℤ correction_behind es k) <ℤ (get_or es k d).unix_leap_time → passed_count es u ≤ k
-not_passed_here es u k d valid h later = elim (cases_lt k (passed_count es u)) [
-  | inl l ↦
-      let s = (split (pos 0) u es k (follow es valid) h).passed l in
-      let t = threshold_at (pos 0) es k d (pos 0) h in
-      absurd (omega (arith, ints))
-  | inr m ↦ m
-]
+pub passed_here : (es : List LeapSecond) (u v : ℤ) (k : ℕ) (d : LeapSecond) → AreLeapSeconds es → k < length es → v ≡ correction_behind es k
+    → (int_le (get_or es k d).unix_leap_time (u +ℤ v) ≡ true) ↔ (k < passed_count es u)
+passed_here es u v k d valid h e =
+    let s = split (pos 0) u es k (follow es valid) h in
+    let t = threshold_at (pos 0) es k d (pos 0) h in (
+      λ come. let c = le_is (get_or es k d).unix_leap_time (u +ℤ v) come in elim (cases_lt k (passed_count es u)) [
+        | inl l ↦ l
+        | inr m ↦ let n = s.not_passed m in absurd (omega (arith, ints))
+      ],
+      λ l. let p = s.passed l in le_true (get_or es k d).unix_leap_time (u +ℤ v) (omega (arith, ints)),
+    )
 
 -- where there is room, the sum is the leap time
-pub leap_time_by : (es : List LeapSecond) (u x : ℤ) (n : ℕ) → AreLeapSeconds es → pos 0 ≤ℤ u → u ≤ℤ pos 4_611_686_018_427_387_904 → n ≡ passed_count es u → x ≡ u +ℤ correction_behind es n → IsLeapTime es u x
+pub leap_time_by : (es : List LeapSecond) (u x : ℤ) (n : ℕ) → AreLeapSeconds es → pos 0 ≤ℤ u → u ≤ℤ pos 4_611_686_018_427_387_904 → n ≡ passed_count es u
+    → x ≡ u +ℤ correction_behind es n → IsLeapTime es u x
 leap_time_by es u x n valid low high e f = record {
   sum = rw e at f;
   fits = λ k l.
@@ -52,22 +48,6 @@ leap_time_by es u x n valid low high e f = record {
 
 pub is_none : (n : ℕ) → (n == 0) ≡ true → n ≡ 0
 is_none n h = grind (arith, nat_tests)
-
--- the entry in the middle is passed
-pub passed_more : (es : List LeapSecond) (u : ℤ) (first count : ℕ) (v : ℤ) (d : LeapSecond) → AreLeapSeconds es → ArePassedBetween es u first (first + count) → 0 < count → v ≡ correction_behind es (first + count / 2)
-    → (get_or es (first + count / 2) d).unix_leap_time ≤ℤ (u +ℤ v) → ArePassedBetween es u (first + count / 2 + 1) (first + count / 2 + 1 + (count - count / 2 - 1))
-passed_more es u first count v d valid between some e come =
-    let w = between.within in let m = between.most in
-    let p = passed_here es u (first + count / 2) d valid (omega arith) (rw (← e) come) in
-    record { least = omega arith; most = omega arith; within = omega arith }
-
--- or it is not
-pub passed_less : (es : List LeapSecond) (u : ℤ) (first count : ℕ) (v : ℤ) (d : LeapSecond) → AreLeapSeconds es → ArePassedBetween es u first (first + count) → 0 < count → v ≡ correction_behind es (first + count / 2)
-    → (u +ℤ v) <ℤ (get_or es (first + count / 2) d).unix_leap_time → ArePassedBetween es u first (first + count / 2)
-passed_less es u first count v d valid between some e later =
-    let w = between.within in let l = between.least in
-    let p = not_passed_here es u (first + count / 2) d valid (omega arith) (rw (← e) later) in
-    record { least = l; most = p; within = omega arith }
 
 -- ---- the entries before a leap time
 pub lt_is_not : (a b : ℤ) → int_lt a b ≡ false → b ≤ℤ a

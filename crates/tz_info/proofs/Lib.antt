@@ -7,6 +7,7 @@ pub mod NextMoments
 pub mod KindLaws
 pub mod SeasonLaws
 pub mod RuleChanges
+pub mod RuleGaps
 pub mod ChangeSearch
 pub mod SeasonChanges
 pub mod Prefixes

@@ -1,19 +1,17 @@
 -- Spans by the transitions on both sides of a second, and by the moments of a rule near it.
-use Rattle.tz_info.proofs.Words.{Alternate as AlternateRule, AlternateAt, AreComeAt, Change, ChangesWith, ComesAt, HasNoChange, HasType, IsAhead, IsBegin}
-use Rattle.tz_info.proofs.Words.{IsByRule, IsChange, IsFirstChange, IsInTable, IsLastChange, IsLaterOf, IsNearest, IsNearestChange, IsRuleOrNone, IsRuleTime}
-use Rattle.tz_info.proofs.Words.{IsSpanAt, IsValid, LocalType, None, Option, RuleOrElse, SFits, Some, Transition, TransitionRule, TypeAt, Zone, ap, arith}
-use Rattle.tz_info.proofs.Words.{false, floor_div, get_or, index_of, inl, inr, ints, least_time, length, lies_in, option_map, pos, refl, segment_of, subst, sym}
-use Rattle.tz_info.proofs.Words.{true, w64, year_of, ℕ, ℤ, ◌+◌, ◌-ℤ◌, ◌-◌, ◌<ℤ◌, ◌<◌, ◌∙◌, ◌≡◌, ◌≢◌, ◌≤ℤ◌, ◌≤◌}
+use Rattle.tz_info.proofs.Words.{Alternate as AlternateRule, AlternateAt, AreComeAt, Change, ComesAt, HasNoChange, HasType, IsAhead, IsBegin, IsByRule}
+use Rattle.tz_info.proofs.Words.{IsChange, IsFirstChange, IsInTable, IsLastChange, IsLaterOf, IsNearest, IsNearestChange, IsRuleOrNone, IsRuleTime, IsSpanAt}
+use Rattle.tz_info.proofs.Words.{IsValid, LocalType, None, Option, RuleOrElse, SFits, Some, TransitionRule, TypeAt, Zone, arith, cases_lt, false, floor_div}
+use Rattle.tz_info.proofs.Words.{index_of, inl, inr, ints, length, lies_in, option_map, pos, refl, segment_of, sym, true, w64, year_of, ℕ, ℤ, ◌+◌, ◌-ℤ◌, ◌-◌}
+use Rattle.tz_info.proofs.Words.{◌<ℤ◌, ◌<◌, ◌≡◌, ◌≤ℤ◌, ◌≤◌}
 use Rattle.tz_info.specs.declared.rule.transition_rule.TransitionRule.TheVariants.{Alternate, Fixed}
 use Rattle.tz_info.proofs.ChangeSearch.{first_nearest, last_after, last_nearest}
 use Rattle.tz_info.proofs.GapLaws.{IsSteady}
-use Rattle.tz_info.proofs.LeaplessChanges.{made}
 use Rattle.tz_info.proofs.RuleLaws.{alternate_decided, rule_year}
-use Rattle.tz_info.proofs.SegmentLaws.{index_next, segment_at, segment_most, segments_rise, type_from, type_in_before, type_in_from}
+use Rattle.tz_info.proofs.SegmentLaws.{segment_at, segment_most, segments_rise, type_before, type_from, type_in_before, type_in_from}
 use Rattle.tz_info.proofs.SpanLaws.{last_type, span_between}
 use Rattle.tz_info.proofs.ZoneChanges.{ahead_first, ahead_none, behind_first, from_rule, not_alternate, rule_first, rule_found, rule_is_last, rule_until}
 use Rattle.tz_info.proofs.ZoneChanges.{steady, table_first, table_found, table_is_last, table_last, time_of}
-use Rattle.tz_info.proofs.ZoneLaws.{some_once}
 
 -- ---- beside a second at which k transitions have come
 -- the type in force, if there are more
@@ -48,59 +46,62 @@ table_over z u valid come d is inside =
     let r = segments_rise z u (d.at -ℤ pos 1) valid.transitions.rising valid.leaps (omega (arith, ints)) in
     omega arith
 
--- ---- the types that the transitions list
-pub changes_with : (z : Zone) (place : ℕ) (t : Transition) (before after : LocalType) → IsValid z → length z.leaps ≡ 0 → place < length z.transitions → t ≡ get_or z.transitions place t
-    → ¬ (t.unix_leap_time ≡ least_time) → SFits w64 t.unix_leap_time → HasType z (index_of z.transitions place) before → HasType z t.type_index after → before ≢ after → ChangesWith z place t.unix_leap_time
-changes_with z place t before after valid none some item not_least fits has_before has_after differ =
-    let index : index_of z.transitions (place + 1) ≡ t.type_index = index_next z.transitions place t some ∙ ap (λ (d : Transition). d.type_index) (sym item) in
-    let found = made z place t before after (Some (record { at = t.unix_leap_time; before = before; after = after })) valid none some item not_least fits has_before has_after (differ, refl) in
-    record { before = before; after = after; listed = rw index has_after; is = found.0; comes = found.1 }
+-- the type before the change that comes with the next transition is in force
+type_until : (z : Zone) (u : ℤ) (k : ℕ) (c : Change) → IsValid z → k < length z.transitions → AreComeAt z u k → IsChange (TypeAt z) c → ComesAt z k c.at
+    → TypeAt z u c.before
+type_until z u k c valid some come is comes =
+    let later = (next_with z u k c valid some come is comes).inside in
+    let n = come.is in
+    let rises = segments_rise z u (c.at -ℤ pos 1) valid.transitions.rising valid.leaps (omega (arith, ints)) in
+    let begun = comes (c.at -ℤ pos 1) is.before.leap_time (time_of z (c.at -ℤ pos 1) c.before (omega arith) is.before) in
+    let at : segment_of z (c.at -ℤ pos 1) ≡ k = elim (cases_lt k (segment_of z (c.at -ℤ pos 1))) [
+      | inl l ↦ let b = begun.0 l in absurd (omega (arith, ints))
+      | inr m ↦ omega arith
+    ] in
+    let has = type_before z k (c.at -ℤ pos 1) c.before valid.transitions.rising (record { type = is.before; segment = at }) some in
+    type_then z u k c.before valid some come has
 
-abbrev its_change : {z : Zone} {place : ℕ} (at : ℤ) → ChangesWith z place at → Change
-its_change at c = record { at = at; before = c.before; after = c.after }
-
-pub first_span : (z : Zone) (u until : ℤ) (t : LocalType) → IsValid z → IsRuleOrNone z.rule → SFits w64 u → 0 < length z.transitions → AreComeAt z u 0
-    → HasType z (index_of z.transitions 0) t → ChangesWith z 0 until
-    → IsSpanAt (TypeAt z) u (record { local_time_type = t; from = None; until = Some until })
-first_span z u until t valid limits fits some come has c =
+pub first_span : (z : Zone) (u : ℤ) (c : Change) → IsValid z → IsRuleOrNone z.rule → SFits w64 u → 0 < length z.transitions → AreComeAt z u 0
+    → IsChange (TypeAt z) c → ComesAt z 0 c.at → IsSpanAt (TypeAt z) u (record { local_time_type = c.before; from = None; until = Some c.at })
+first_span z u c valid limits fits some come is comes =
     let none = table_is_last z (λ v. v ≤ℤ u) None valid (no_rule_yet z u 0 valid some come) (ahead_none z u (ahead_first z u 0 valid come)) in
-    span_between z u t None (Some (its_change until c)) valid limits fits (type_then z u 0 t valid some come has) none (next_with z u 0 (its_change until c) valid some come c.is c.comes)
+    span_between z u c.before None (Some c) valid limits fits (type_until z u 0 c valid some come is comes) none (next_with z u 0 c valid some come is comes)
 
-pub later_span : (z : Zone) (u from until : ℤ) (k : ℕ) (t : LocalType) → IsValid z → IsRuleOrNone z.rule → SFits w64 u → 0 < k
-    → k < length z.transitions → AreComeAt z u k → HasType z (index_of z.transitions k) t
-    → ChangesWith z (k - 1) from → ChangesWith z k until → IsSpanAt (TypeAt z) u (record { local_time_type = t; from = Some from; until = Some until })
-later_span z u from until k t valid limits fits some table come has b c =
+pub later_span : (z : Zone) (u : ℤ) (k : ℕ) (b c : Change) → IsValid z → IsRuleOrNone z.rule → SFits w64 u → 0 < k → k < length z.transitions → AreComeAt z u k
+    → IsChange (TypeAt z) b × ComesAt z (k - 1) b.at → IsChange (TypeAt z) c × ComesAt z k c.at
+    → IsSpanAt (TypeAt z) u (record { local_time_type = c.before; from = Some b.at; until = Some c.at })
+later_span z u k b c valid limits fits some table come previous next =
     let back : AreComeAt z u (k - 1 + 1) = let n = come.is in record { leap_time = come.leap_time; of_second = come.of_second; is = omega arith } in
-    span_between z u t (Some (its_change from b)) (Some (its_change until c)) valid limits fits (type_then z u k t valid table come has)
-    (last_with z u (k - 1) (its_change from b) valid (no_rule_yet z u k valid table come) back b.is b.comes) (next_with z u k (its_change until c) valid table come c.is c.comes)
+    span_between z u c.before (Some b) (Some c) valid limits fits (type_until z u k c valid table come next.0 next.1)
+    (last_with z u (k - 1) b valid (no_rule_yet z u k valid table come) back previous.0 previous.1) (next_with z u k c valid table come next.0 next.1)
 
 -- ---- from the last transition on, without a rule of two types
-steady_type : (rule : Option TransitionRule) (z : Zone) (u v : ℤ) (i : ℕ) (t : LocalType) → IsSteady rule → RuleOrElse rule u (HasType z i t) t → RuleOrElse rule v (HasType z i t) t
+steady_type : (rule : Option TransitionRule) (z : Zone) (u v : ℤ) (i : ℕ) (t : LocalType) → IsSteady rule → RuleOrElse rule u (HasType z i t) t
+    → RuleOrElse rule v (HasType z i t) t
 steady_type None z u v i t steady h = h
 steady_type (Some (Fixed f)) z u v i t steady h = h
 steady_type (Some (Alternate a)) z u v i t steady h = absurd steady
 
-pub last_span : (z : Zone) (u from : ℤ) (n : ℕ) (t : LocalType) → IsValid z → IsRuleOrNone z.rule → SFits w64 u → n ≡ length z.transitions → 0 < n
+pub last_span : (z : Zone) (u : ℤ) (n : ℕ) (c : Change) → IsValid z → IsRuleOrNone z.rule → SFits w64 u → n ≡ length z.transitions → 0 < n
     → AreComeAt z u (length z.transitions) → ((a : AlternateRule) → z.rule ≡ Some (Alternate a) → ⊥)
-    → HasType z (index_of z.transitions n) t → ChangesWith z (n - 1) from → IsSpanAt (TypeAt z) u (record { local_time_type = t; from = Some from; until = None })
-last_span z u from n t valid limits fits e some come not has c =
-    let all : n - 1 + 1 ≡ n = omega arith in
-    let same : c.after ≡ t = some_once _ c.after t (rw all at c.listed) has in
+    → IsChange (TypeAt z) c → ComesAt z (n - 1) c.at → IsSpanAt (TypeAt z) u (record { local_time_type = c.after; from = Some c.at; until = None })
+last_span z u n c valid limits fits e some come not is comes =
     let count = come.is in
-    let most = segment_most z from valid.transitions.rising in
-    let begun = (c.comes from c.is.after.leap_time (time_of z from c.after (omega arith) c.is.after)).1 (omega (arith, ints)) in
-    let at : segment_of z from ≡ length z.transitions = omega arith in
-    let said = type_from z from c.after valid.transitions.rising (record { type = c.is.after; segment = at }) in
+    let most = segment_most z c.at valid.transitions.rising in
+    let begun = (comes c.at is.after.leap_time (time_of z c.at c.after (omega arith) is.after)).1 (omega (arith, ints)) in
+    let at : segment_of z c.at ≡ length z.transitions = omega arith in
+    let said = type_from z c.at c.after valid.transitions.rising (record { type = is.after; segment = at }) in
     let l = come.of_second in
     let b = segment_at z u (length z.transitions) valid.transitions.rising (sym count) in
-    let here = (type_in_from z u come.leap_time c.after l (rw (← l.sum) at b) (steady_type z.rule z from u (index_of z.transitions (length z.transitions)) c.after (not_alternate z.rule not) said)).type in
+    let here = (type_in_from z u come.leap_time c.after l (rw (← l.sum) at b) (steady_type z.rule z c.at u (index_of z.transitions (length z.transitions)) c.after (not_alternate z.rule not) said)).type in
     let back : AreComeAt z u (n - 1 + 1) = record { leap_time = come.leap_time; of_second = l; is = omega arith } in
-    span_between z u t (Some (its_change from c)) None valid limits fits (subst (TypeAt z u) same here)
-    (last_with z u (n - 1) (its_change from c) valid (steady z (λ v. v ≤ℤ u) valid not) back c.is c.comes)
+    span_between z u c.after (Some c) None valid limits fits here
+    (last_with z u (n - 1) c valid (steady z (λ v. v ≤ℤ u) valid not) back is comes)
     (rule_first z (λ v. u <ℤ v) None valid (table_over z u valid come) (steady z (λ v. u <ℤ v) valid not))
 
 -- ---- from the last transition on, by a rule of two types
-pub by_turns : (z : Zone) (a : AlternateRule) (u begin : ℤ) (b : Change) (next : Option Change) → IsValid z → IsRuleOrNone z.rule → SFits w64 u → z.rule ≡ Some (Alternate a) → AreComeAt z u (length z.transitions) → IsBegin z begin
+pub by_turns : (z : Zone) (a : AlternateRule) (u begin : ℤ) (b : Change) (next : Option Change) → IsValid z → IsRuleOrNone z.rule → SFits w64 u
+    → z.rule ≡ Some (Alternate a) → AreComeAt z u (length z.transitions) → IsBegin z begin
     → IsRuleTime u → IsNearestChange false (AlternateAt a) (IsAhead false u) b → IsNearest true (AlternateAt a) (IsAhead true u) next → begin <ℤ b.at → IsSpanAt (TypeAt z) u (record { local_time_type = b.after; from = Some b.at; until = option_map (λ c. c.at) next })
 by_turns z a u begin b next valid limits fits rule come begins time last first late =
     let t = typed in

@@ -115,7 +115,7 @@ pub use Rattle.tz_info.specs.Steps.FileLists.{HasLengths, Reads, pieces_of, zone
 unfoldable pub use Rattle.tz_info.specs.Steps.FileLists.{file_at, lists_in, pieces_at, with_rule, with_types}
 pub use Rattle.tz_info.specs.Steps.FooterReading.{footer_of, is_between_newlines, is_no_text, rule_or_none, trimmed_back, trimmed_front, unless_space}
 unfoldable pub use Rattle.tz_info.specs.Steps.FooterReading.{footer_at, rule_in, trimmed}
-pub use Rattle.tz_info.specs.Steps.Gaps.{AreLess, IsBehindTable, IsPassed, IsReach, IsTurn}
+pub use Rattle.tz_info.specs.Steps.Gaps.{AreLess, HasReach, IsNeverFrom, IsRuleGap, change_at}
 unfoldable pub use Rattle.tz_info.specs.Steps.KindPlaces.{place_by, places_by_kind}
 pub use Rattle.tz_info.specs.Steps.Kinds.{is_calm, is_calm_kind, is_inside, kind_place, second_at, second_in}
 unfoldable pub use Rattle.tz_info.specs.Steps.Kinds.{are_calm, margin_of, seconds_by_kind}
@@ -126,11 +126,10 @@ pub use Rattle.tz_info.specs.Steps.Pieces.{zone_in}
 pub use Rattle.tz_info.specs.Steps.RuleDays.{closed_day_is, julian_is, julian_place, number_after, weekday_at, weekday_is, weekday_place}
 unfoldable pub use Rattle.tz_info.specs.Steps.RuleDays.{closed_day}
 pub use Rattle.tz_info.specs.Steps.RuleSeconds.{AreUtOffsets, IsAmidFrom, IsAskedFrom, IsAskedSince, IsSecondFrom, TypeFrom}
-pub use Rattle.tz_info.specs.Steps.Runs.{AreNoneBefore, AreNoneFrom, IsBeyondJumps, IsRunSince, IsRunUntil, IsWindowOf, IsWithinRun}
+pub use Rattle.tz_info.specs.Steps.Runs.{AreNoneBefore, AreNoneFrom, IsBeyondJumps, IsEnd, IsRunSince, IsRunUntil, IsWindowOf, IsWithinRun}
 pub use Rattle.tz_info.specs.Steps.Seasons.{IsAmid, IsDecidedIn, IsLimit, IsSeason}
 pub use Rattle.tz_info.specs.Steps.Segments.{begin_of, index_of}
 pub use Rattle.tz_info.specs.Steps.Shown.{together}
-pub use Rattle.tz_info.specs.Steps.Spans.{ChangesWith}
 pub use Rattle.tz_info.specs.Steps.Starts.{HaveCome, IsCut, IsLeapless, IsReachedFrom}
 pub use Rattle.tz_info.specs.Steps.Turns.{is_between, is_dst_by_one, is_in_three}
 pub use Rattle.tz_info.specs.Steps.Validity.{Stands}

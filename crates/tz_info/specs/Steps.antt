@@ -22,7 +22,6 @@ pub mod FileLists
 pub mod Gaps
 pub mod Changes
 pub mod ChangeLists
-pub mod Spans
 pub mod Beside
 pub mod Held
 pub mod Runs

@@ -139,7 +139,7 @@ impl AlternateTime {
 
     // The type of daylight saving time, or of standard time.
     #[inline(always)]
-    fn type_when(&self, is_dst: bool) -> &LocalTimeType
+    pub(super) fn type_when(&self, is_dst: bool) -> &LocalTimeType
         ensures { result.now ≡ type_when self.now is_dst }
     {
         if is_dst { self.dst() } else { self.std() }

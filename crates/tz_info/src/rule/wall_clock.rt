@@ -1,14 +1,16 @@
 //! The wall clock of a rule.
 
-ghost use Rattle.std.specs.Prelude.{◌≢◌, ◌-ℤ◌, IsTrue};
+ghost use Rattle.std.specs.Prelude.{◌≡◌, ◌≢◌, ◌-ℤ◌, IsTrue, MatchOption, not, ⊤};
 ghost use Rattle.std.specs.Result.{IsOkAnd};
 ghost use Rattle.naive_base.specs.NaiveDateTime.{reading};
 ghost use Rattle.naive_base.specs.Range.{IsWide};
 ghost use Rattle.offset_core.specs.WallAnswer.{IsWallAnswer};
 ghost use Rattle.tz_base.specs.LocalTypes.{IsUtOffset};
 ghost use Rattle.tz_timeline.specs.Counts.{RoseWithin, HasRoomFor};
+ghost use Rattle.tz_info.specs.Moments.{type_when};
 ghost use Rattle.tz_info.specs.RuleTypes.{RuleAt};
 ghost use Rattle.tz_info.specs.Rules.{IsAlternateRule};
+ghost use Rattle.tz_info.specs.Steps.Gaps.{IsNeverFrom, IsRuleGap, change_at};
 ghost use Rattle.tz_info.specs.Steps.RuleSeconds.{TypeFrom, IsAskedSince, IsAskedFrom, IsAmidFrom, AreUtOffsets};
 ghost use Rattle.tz_info.specs.Steps.Seasons.{IsSeason};
 ghost use Rattle.tz_info.specs.Steps.Walk.{IsAskedLast};
@@ -20,8 +22,15 @@ use crate::rule::alternate::{AlternateTime, Season};
 use crate::rule::transition_rule::TransitionRule;
 use naive_base::NaiveDateTime;
 use offset_core::MappedLocalTime;
-use tz_base::{Error, LocalTimeType};
+use tz_base::{Change, Error, LocalTimeType};
 use tz_timeline::Probes;
+
+// A second at which daylight saving time starts, or ends.
+#[derive(Clone, Copy)]
+pub(crate) struct Moment {
+    pub(crate) at: i64,
+    pub(crate) to_dst: bool,
+}
 
 impl TransitionRule {
     /// The types in force at the instants at which a clock by this rule shows the reading.
@@ -169,6 +178,50 @@ impl AlternateTime {
             answer_of_two(self.dst(), is_dst, self.std(), is_std)
         } else {
             answer_of_two(self.std(), is_std, self.dst(), is_dst)
+        }
+    }
+
+    // The moment at which clocks jump over the local time, among the seconds from that one on, if
+    // the moments of its year decide at both seconds that could show it.
+    //
+    // At the earlier of these two the type of the lesser offset is in force, and at the later one
+    // the other type, since neither shows the local time. So one moment lies between them.
+    #[inline(always)]
+    pub(crate) fn gap_from(&self, from: i64, local: i64) -> Option<Moment>
+        requires local { IsWide local }
+        requires never { IsNeverFrom self.now from local }
+        ensures { MatchOption result ⊤
+            (λ m. IsRuleGap self.now from local (change_at self.now m)) }
+    {
+        let by_std = second_showing(local, self.std().offset());
+        let by_dst = second_showing(local, self.dst().offset());
+        let season = self.season(local);
+        if !are_amid(season, from, by_std, by_dst) {
+            return None;
+        }
+        if by_dst < by_std {
+            return Some(Moment {
+                at: season.turns.start,
+                to_dst: true,
+            });
+        }
+        Some(Moment {
+            at: season.turns.end,
+            to_dst: false,
+        })
+    }
+
+    // The change at that moment.
+    #[inline(always)]
+    pub(crate) fn change_of(&self, moment: Moment) -> Change
+        ensures at { result.at ≡ moment.at }
+        ensures before { result.before ≡ type_when self.now (not moment.to_dst) }
+        ensures after { result.after ≡ type_when self.now moment.to_dst }
+    {
+        Change {
+            at: moment.at,
+            before: *self.type_when(!moment.to_dst),
+            after: *self.type_when(moment.to_dst),
         }
     }
 

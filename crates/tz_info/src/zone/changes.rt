@@ -7,15 +7,17 @@
 ghost use Rattle.std.specs.Prelude.{◌≡◌, ◌≢◌, ◌<◌, length, ℤ, pos, neg_ℤ, ◌<ℤ◌, ◌-ℤ◌, ◌≤ℤ◌, ◌↔◌, FitsSigned, MatchOption, Some};
 ghost use Rattle.std.specs.Int.{w64};
 ghost use Rattle.tz_info.specs.Changes.{IsChange, HasNoChange, IsFirst, IsLast};
-ghost use Rattle.tz_info.specs.Leaps.{AreLeapSeconds, IsLeapTime};
+ghost use Rattle.tz_info.specs.Leaps.{AreLeapSeconds, IsLeapTime, IsLeapTimeRefused};
 ghost use Rattle.tz_info.specs.Rules.{Alternate as AlternateRule};
-ghost use Rattle.tz_info.specs.Steps.Changes.{AreComeOrAll, ComesAt, HasNoneAt, IsBegin, IsByRule, IsInTable};
+ghost use Rattle.tz_info.specs.Steps.Changes.{AreComeAt, AreComeOrAll, ComesAt, HasNoneAt};
+ghost use Rattle.tz_info.specs.Steps.Changes.{IsBegin, IsByRule, IsInTable};
 ghost use Rattle.tz_info.specs.Zones.{HasType, TypeAt};
 ghost use Rattle.tz_info.specs.declared.rule.transition_rule.TransitionRule.TheVariants.{Alternate};
 
 use crate::change::{change_between, if_after};
 use crate::rule::{AlternateTime, TransitionRule, later_of};
 use crate::zone::leap_second::LeapSecond;
+use crate::zone::leap_time::leap_time;
 use crate::zone::starts::{correction_behind, entries_come};
 use crate::zone::time_zone::TimeZone;
 use tz_base::{Change, LocalTimeType};
@@ -116,9 +118,21 @@ impl TimeZone {
     pub(super) fn come_at(&self, second: i64) -> usize
         ensures { AreComeOrAll self.now second result }
     {
-        match self.unix_time_to_unix_leap_time(second) {
-            Ok(leap_time) => self.passed_count(leap_time, &mut Probes::new()),
-            Err(_) => self.transition_count(),
+        match self.come_by(second) {
+            Some(count) => count,
+            None => self.transition_count(),
+        }
+    }
+
+    // How many transitions have come at the second, if it has a leap time.
+    #[inline(always)]
+    pub(super) fn come_by(&self, second: i64) -> Option<usize>
+        ensures { MatchOption result (IsLeapTimeRefused self.now.leaps second)
+            (AreComeAt self.now second) }
+    {
+        match leap_time(&self.leap_seconds, second) {
+            Ok(leap_time) => Some(self.passed_count(leap_time, &mut Probes::new())),
+            Err(_) => None,
         }
     }
 

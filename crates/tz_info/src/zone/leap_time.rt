@@ -1,6 +1,6 @@
 //! Leap times of Unix times, and Unix times of leap times.
 
-ghost use Rattle.std.specs.Prelude.{◌≡◌, pos, ◌≤ℤ◌, ◌≤◌, length, take, MatchResult};
+ghost use Rattle.std.specs.Prelude.{◌≡◌, pos, ◌≤ℤ◌, ◌≤◌, ◌<◌, ◌↔◌, length, take, IsTrue, MatchResult};
 ghost use Rattle.tz_base.specs.declared.error.Error.TheVariants.{OutOfRange};
 ghost use Rattle.tz_base.specs.declared.error.Expected.TheVariants.{LeapTimeOf64Bits};
 ghost use Rattle.tz_info.specs.Leaps.{AreLeapSeconds, IsLeapTime, IsLeapTimeRefused, IsUnixTime, IsUnixTimeRefused, expected_of_leap_time, correction_before, corrections, passed_count};
@@ -48,7 +48,7 @@ fn leap_time_among(entries: &[LeapSecond], unix_time: i64) -> Result<i64, Error>
     Ok(unix_time + correction_after(entries, passed) as i64)
 }
 
-// How many entries are passed at the Unix time.
+// How many entries are passed at the Unix time: mostly all of them.
 fn passed_at(entries: &[LeapSecond], unix_time: i64) -> usize
     requires leaps { AreLeapSeconds entries.now }
     requires some { pos 0 ≤ℤ unix_time }
@@ -57,17 +57,31 @@ fn passed_at(entries: &[LeapSecond], unix_time: i64) -> usize
 {
     let mut first = 0;
     let mut count = entries.len();
+    if count > 0 && is_passed(entries, count - 1, unix_time) {
+        return count;
+    }
     while count > 0 {
         let half = count / 2;
-        let middle = first + half;
-        if entries[middle].unix_leap_time <= unix_time + correction_after(entries, middle) as i64 {
-            first = middle + 1;
+        if is_passed(entries, first + half, unix_time) {
+            first = first + half + 1;
             count = count - half - 1;
         } else {
             count = half;
         }
     }
     first
+}
+
+// Whether the entry at that place is passed at the Unix time.
+#[inline(always)]
+fn is_passed(entries: &[LeapSecond], place: usize, unix_time: i64) -> bool
+    requires leaps { AreLeapSeconds entries.now }
+    requires place { place < length entries.now }
+    requires some { pos 0 ≤ℤ unix_time }
+    requires room { unix_time ≤ℤ pos 4_611_686_018_427_387_904 }
+    ensures { IsTrue result ↔ (place < passed_count entries.now unix_time) }
+{
+    entries[place].unix_leap_time <= unix_time + correction_after(entries, place) as i64
 }
 
 // The correction after that many entries.

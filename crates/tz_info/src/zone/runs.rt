@@ -1,6 +1,6 @@
 //! Runs: from a second on, or up to it, how long the type that is in force then stays in force.
 
-ghost use Rattle.std.specs.Prelude.{pos, neg_ℤ, ◌+ℤ◌, ◌<ℤ◌, ◌≤ℤ◌};
+ghost use Rattle.std.specs.Prelude.{◌<ℤ◌, ◌≤ℤ◌};
 ghost use Rattle.tz_info.specs.Leaps.{IsNear};
 ghost use Rattle.tz_info.specs.Steps.Runs.{IsFirstOfRun, IsLastOfRun, IsRunSince, IsRunUntil};
 ghost use Rattle.tz_info.specs.Zones.{TypeAt};
@@ -62,15 +62,13 @@ pub(super) fn first_of_run(start: i64, end: i64, from: i64, until: i64) -> Optio
     }
 }
 
-// The last second of a run, whose last one is given, that is `from` or later and comes before
-// `until`.
-pub(super) fn last_of_run(start: i64, last: i64, from: i64, until: i64) -> Option<i64>
-    requires { neg_ℤ (pos 9_000_000_000_000_000_000) ≤ℤ until }
-    ensures { IsLastOfRun start (last +ℤ pos 1) from until result }
+// The last second of a run that is `from` or later and comes before `until`.
+pub(super) fn last_of_run(start: i64, end: i64, from: i64, until: i64) -> Option<i64>
+    ensures { IsLastOfRun start end from until result }
 {
-    let greatest = if last < until { last } else { until - 1 };
-    if start <= greatest && from <= greatest {
-        Some(greatest)
+    let beyond = if until < end { until } else { end };
+    if start < beyond && from < beyond {
+        Some(beyond - 1)
     } else {
         None
     }

@@ -93,8 +93,15 @@ impl TimeZone {
         ensures { IsFirstAtOrAfter (TypeAt self.now) (reading local).s
             result.at result.local_time_type }
     {
+        self.first_at_or_after(local.secs_since_epoch())
+    }
+
+    // The first second at which a clock shows that local time or a later one.
+    pub(super) fn first_at_or_after(&self, from: i64) -> TypedSecond
+        requires { IsWide from }
+        ensures { IsFirstAtOrAfter (TypeAt self.now) from result.at result.local_time_type }
+    {
         let _ = &self.table;
-        let from = local.secs_since_epoch();
         let until = self.beyond_jumps(from);
         let window = self.window_of(from, until);
         match self.first_within(from, until, window) {
@@ -182,7 +189,7 @@ impl TimeZone {
             let start = self.run_since(last, window.low);
             let since = second_by(from, local_type.offset());
             let before = second_by(until, local_type.offset());
-            if let Some(greatest) = last_of_run(start, last, since, before) {
+            if let Some(greatest) = last_of_run(start, end, since, before) {
                 return Some(TypedSecond {
                     at: greatest,
                     local_time_type: *local_type,

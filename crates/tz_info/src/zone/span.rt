@@ -1,22 +1,18 @@
 //! Spans: the type in force at an instant, since which change, and until which one.
 //!
-//! In a zone without leap seconds one search finds a span, if the transitions on both sides of the
-//! second change the type, or the rule's moments near it do.
+//! One search finds a span, if the transitions on both sides of the second change the type, or the
+//! rule's moments near it do.
 
-ghost use Rattle.std.specs.Prelude.{◌≡◌, ◌≢◌, ◌<◌, ◌≤◌, length, option_map, MatchOption, MatchResult, Some, ⊤};
+ghost use Rattle.std.specs.Prelude.{◌≡◌, ◌≢◌, ◌<◌, length, option_map, MatchOption, MatchResult, Some, ⊤};
 ghost use Rattle.tz_info.specs.Rules.{Alternate as AlternateRule};
 ghost use Rattle.tz_info.specs.Spans.{IsSpanAt};
 ghost use Rattle.tz_info.specs.Steps.Changes.{AreComeAt};
-ghost use Rattle.tz_info.specs.Steps.Segments.{index_of};
-ghost use Rattle.tz_info.specs.Steps.Spans.{ChangesWith};
-ghost use Rattle.tz_info.specs.Zones.{HasType, TypeAt, IsTypeError};
+ghost use Rattle.tz_info.specs.Zones.{TypeAt, IsTypeError};
 ghost use Rattle.tz_info.specs.declared.rule.transition_rule.TransitionRule.TheVariants.{Alternate};
 
-use crate::change::is_same_type;
 use crate::rule::{AlternateTime, Beside};
 use crate::zone::time_zone::TimeZone;
 use tz_base::{Change, Error, LocalTimeType, Span};
-use tz_timeline::Probes;
 
 impl TimeZone {
     /// Returns the span of the second of Unix time: the local time type in force, the clock change
@@ -38,11 +34,9 @@ impl TimeZone {
         ensures { MatchResult result (IsSpanAt (TypeAt self.now) unix_time)
             (IsTypeError self.now unix_time) }
     {
-        if self.leap_seconds.is_empty() {
-            match self.span_by_search(unix_time) {
-                Some(span) => return Ok(span),
-                None => {}
-            }
+        match self.span_by_search(unix_time) {
+            Some(span) => return Ok(span),
+            None => {}
         }
         match self.find_local_time_type(unix_time) {
             Ok(local) => Ok(self.span_by_changes(unix_time, *local)),
@@ -66,11 +60,12 @@ impl TimeZone {
     // The span of the second by one search, if it ends at a transition or a moment of the rule next
     // to it.
     fn span_by_search(&self, unix_time: i64) -> Option<Span>
-        requires { length self.now.leaps ≡ 0 }
         ensures { MatchOption result ⊤ (IsSpanAt (TypeAt self.now) unix_time) }
     {
         let _ = &self.table;
-        let passed = self.come_without_leaps(unix_time);
+        let Some(passed) = self.come_by(unix_time) else {
+            return None;
+        };
         if passed < self.transition_count() {
             return self.span_in_table(unix_time, passed);
         }
@@ -80,49 +75,36 @@ impl TimeZone {
         }
     }
 
-    // How many transitions have come at the second.
-    #[inline(always)]
-    fn come_without_leaps(&self, second: i64) -> usize
-        requires { length self.now.leaps ≡ 0 }
-        ensures { AreComeAt self.now second result }
-    {
-        let mut probes = Probes::new();
-        self.passed_count(second, &mut probes)
-    }
-
     // The span of a second before the last transition, at which that number of them have come.
     #[inline(always)]
     fn span_in_table(&self, unix_time: i64, passed: usize) -> Option<Span>
-        requires leaps { length self.now.leaps ≡ 0 }
         requires come { AreComeAt self.now unix_time passed }
         requires table { passed < length self.now.transitions }
         ensures { MatchOption result ⊤ (IsSpanAt (TypeAt self.now) unix_time) }
     {
         let _ = &self.table;
-        let Some(until) = self.change_second(passed) else {
+        let Some(next) = self.change_with(passed) else {
             return None;
         };
-        let local_time_type = *self.type_after(passed);
         if passed == 0 {
             return Some(Span {
-                local_time_type,
+                local_time_type: next.before,
                 from: None,
-                until: Some(until),
+                until: Some(next.at),
             });
         }
-        let Some(from) = self.change_second(passed - 1) else {
+        let Some(previous) = self.change_with(passed - 1) else {
             return None;
         };
         Some(Span {
-            local_time_type,
-            from: Some(from),
-            until: Some(until),
+            local_time_type: next.before,
+            from: Some(previous.at),
+            until: Some(next.at),
         })
     }
 
     // The span of a second from the last transition on, without a rule of two types.
     fn span_at_end(&self, unix_time: i64) -> Option<Span>
-        requires leaps { length self.now.leaps ≡ 0 }
         requires come { AreComeAt self.now unix_time (length self.now.transitions) }
         requires rule { (a : AlternateRule) → self.now.rule ≢ Some (Alternate a) }
         ensures { MatchOption result ⊤ (IsSpanAt (TypeAt self.now) unix_time) }
@@ -132,46 +114,14 @@ impl TimeZone {
         if count == 0 {
             return None;
         }
-        let Some(from) = self.change_second(count - 1) else {
+        let Some(change) = self.change_with(count - 1) else {
             return None;
         };
         Some(Span {
-            local_time_type: *self.type_after(count),
-            from: Some(from),
+            local_time_type: change.after,
+            from: Some(change.at),
             until: None,
         })
-    }
-
-    // The second of the change with the transition at that place, if the types before it and from it
-    // on differ.
-    #[inline(always)]
-    fn change_second(&self, place: usize) -> Option<i64>
-        requires place { place < length self.now.transitions }
-        requires leaps { length self.now.leaps ≡ 0 }
-        ensures { MatchOption result ⊤ (ChangesWith self.now place) }
-    {
-        let _ = &self.table;
-        let mut probes = Probes::new();
-        let here = self.transition(place, &mut probes);
-        if here.unix_leap_time == i64::MIN {
-            return None;
-        }
-        if is_same_type(self.type_after(place), self.listed(here.type_index)) {
-            return None;
-        }
-        Some(here.unix_leap_time)
-    }
-
-    // The type of the last of the first transitions, of which there are that many; the first type
-    // before all of them.
-    #[inline(always)]
-    fn type_after(&self, passed: usize) -> &LocalTimeType
-        requires { passed ≤ length self.now.transitions }
-        ensures { HasType self.now (index_of self.now.transitions passed) result.now }
-    {
-        let mut probes = Probes::new();
-        let latest = self.latest(passed, &mut probes);
-        self.listed(latest.type_index)
     }
 
     // The span of a second from the last transition on, by a rule of two types.

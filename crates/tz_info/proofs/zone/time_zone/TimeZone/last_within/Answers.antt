@@ -1,4 +1,4 @@
-use Rattle.tz_info.proofs.Words.{SFits, arith, ints, pos, rules, to_z, to_z-of_z, w32, w64, ◌+ℤ◌, ◌-ℤ◌, ◌≡◌}
+use Rattle.tz_info.proofs.Words.{SFits, arith, ints, pos, rules, to_z, to_z-of_z, w32, w64, ◌-ℤ◌}
 use Rattle.tz_info.proofs.ShownSecondLaws.{last_begins, last_ends, last_found, last_goes_on}
 use Rattle.tz_info.proofs.zone.time_zone.TimeZone.last_within.Goals as goal
 
@@ -41,8 +41,6 @@ loop-end-preserved c =
     let fo : SFits w64 (to_z w64 c.loop-end.end-bits -ℤ pos 1) = omega (arith, ints) in
     let fe : SFits w64 c.run_since-start.result = search rules in
     let run = simp to_z-of_z at c.run_since-start.ensures in
-    let back : (to_z w64 c.loop-end.end-bits -ℤ pos 1) +ℤ pos 1 ≡ to_z w64 c.loop-end.end-bits = omega (arith, ints) in
-    let fp : SFits w64 ((to_z w64 c.loop-end.end-bits -ℤ pos 1) +ℤ pos 1) = omega (arith, ints) in
     let here = simp to_z-of_z at c.type_at-local_type.ensures in
     let fs : SFits w64 c.second_by-since.result = search rules in
     let fb : SFits w64 c.second_by-before.result = search rules in
@@ -50,7 +48,7 @@ loop-end-preserved c =
     let g2 : SFits w32 c.offset-in-loop-end.result = search rules in
     let since = simp to_z-of_z at c.second_by-since.ensures.value in
     let before = simp to_z-of_z at c.second_by-before.ensures.value in
-    let none = rw (back, since, before, c.offset.ensures.value, c.offset-in-loop-end.ensures.value) at (simp to_z-of_z at c.in_default.ensures) in
+    let none = rw (since, before, c.offset.ensures.value, c.offset-in-loop-end.ensures.value) at (simp to_z-of_z at c.in_default.ensures) in
     simp to_z-of_z (last_goes_on c.args.self.now c.args.from c.args.until c.args.window.low c.args.window.high _ c.run_since-start.result c.type_at-local_type.result.now all run here none)
 
 pub returns-in-Some : goal.returns-in-Some
@@ -67,8 +65,6 @@ returns-in-Some c =
     let fo : SFits w64 (to_z w64 c.loop-end.end-bits -ℤ pos 1) = omega (arith, ints) in
     let fe : SFits w64 c.run_since-start.result = search rules in
     let run = simp to_z-of_z at c.run_since-start.ensures in
-    let back : (to_z w64 c.loop-end.end-bits -ℤ pos 1) +ℤ pos 1 ≡ to_z w64 c.loop-end.end-bits = omega (arith, ints) in
-    let fp : SFits w64 ((to_z w64 c.loop-end.end-bits -ℤ pos 1) +ℤ pos 1) = omega (arith, ints) in
     let here = simp to_z-of_z at c.type_at-local_type.ensures in
     let fs : SFits w64 c.second_by-since.result = search rules in
     let fb : SFits w64 c.second_by-before.result = search rules in
@@ -77,7 +73,7 @@ returns-in-Some c =
     let since = simp to_z-of_z at c.second_by-since.ensures.value in
     let before = simp to_z-of_z at c.second_by-before.ensures.value in
     let fi : SFits w64 c.in-Some.greatest = search rules in
-    let found = rw (back, since, before, c.offset.ensures.value, c.offset-in-loop-end.ensures.value) at (simp to_z-of_z at c.in-Some.ensures) in
+    let found = rw (since, before, c.offset.ensures.value, c.offset-in-loop-end.ensures.value) at (simp to_z-of_z at c.in-Some.ensures) in
     simp to_z-of_z (last_found c.args.self.now c.args.from c.args.until c.args.window.low c.args.window.high _ c.run_since-start.result c.in-Some.greatest c.type_at-local_type.result.now fi all run here found.0 found.1)
 
 pub returns : goal.returns

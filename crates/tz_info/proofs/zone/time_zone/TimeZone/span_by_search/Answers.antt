@@ -6,10 +6,10 @@ pub span_by_turns-requires-clause-come : goal.span_by_turns-requires-clause-come
 span_by_turns-requires-clause-come c =
     let fu = c.ranges.unix_time in
     let n = c.transition_count.ensures in
-    simp to_z-of_z (come_all c.args.self.now c.args.unix_time c.come_without_leaps-passed.result (rw (← c.self.view_is) c.self.invariant.valid) (simp to_z-of_z at c.come_without_leaps-passed.ensures) (omega arith))
+    simp to_z-of_z (come_all c.args.self.now c.args.unix_time c.in-Some.passed (rw (← c.self.view_is) c.self.invariant.valid) (simp to_z-of_z at c.in-Some.ensures) (omega arith))
 
 pub span_at_end-requires-clause-come : goal.span_at_end-requires-clause-come
 span_at_end-requires-clause-come c =
     let fu = c.ranges.unix_time in
     let n = c.transition_count.ensures in
-    simp to_z-of_z (come_all c.args.self.now c.args.unix_time c.come_without_leaps-passed.result (rw (← c.self.view_is) c.self.invariant.valid) (simp to_z-of_z at c.come_without_leaps-passed.ensures) (omega arith))
+    simp to_z-of_z (come_all c.args.self.now c.args.unix_time c.in-Some.passed (rw (← c.self.view_is) c.self.invariant.valid) (simp to_z-of_z at c.in-Some.ensures) (omega arith))
