@@ -41,7 +41,8 @@ minutes_writes m s rest a b stops = elim ((m == 0) && (s == 0)) as (λ t. ((m ==
   | false ↦ λ e.
       let stop = seconds_stop s rest stops in
       let seconds : Writes (Then tz.seconds (λ t. Nothing (m, t))) (seconds_text s) (m, s) rest = writes_last (seconds_writes s rest b stops) (refl, refl) in
-      writes_colon (two_digits m (seconds_text s ++ rest) (omega arith) stop) (writes_then (pair_writes clock_max m (seconds_text s ++ rest) (omega arith) (omega arith) stop) seconds)
+      writes_colon (two_digits m (seconds_text s ++ rest) (omega arith) stop)
+      (writes_then (pair_writes clock_max m (seconds_text s ++ rest) (omega arith) (omega arith) stop) seconds)
 ] refl
 
 minutes_stop : (m s : ℕ) (rest : List ℕ) → Stops rest → NoneFirst is_digit (minutes_text m s ++ rest)
@@ -64,7 +65,8 @@ minutes_front bytes m s rest pairs h =
 hours_writes : (h m s : ℕ) (rest : List ℕ) → h < 1000 → m ≤ 59 → s ≤ 59 → Stops rest → Writes tz.hours_minutes_seconds (clock_text_of h m s) (h, m, s) rest
 unfolding tz.hours_minutes_seconds
 hours_writes h m s rest l a b stops =
-    writes_then (number_writes clock_max h (minutes_text m s ++ rest) l (omega arith) (minutes_stop m s rest stops)) (writes_last (minutes_writes m s rest a b stops) (refl, refl))
+    writes_then (number_writes clock_max h (minutes_text m s ++ rest) l (omega arith) (minutes_stop m s rest stops))
+    (writes_last (minutes_writes m s rest a b stops) (refl, refl))
 
 hours_front : (bytes : List ℕ) (h m s : ℕ) (rest : List ℕ) → h < 1000 → AreInPairs bytes → Spells tz.hours_minutes_seconds bytes (h, m, s) rest → Front (clock_text_of h m s) bytes rest
 unfolding tz.hours_minutes_seconds
@@ -77,11 +79,13 @@ hours_front bytes h m s rest l pairs (x, after, hours, (t, end, others, (value, 
 abbrev signed : Bool → ℕ → ℤ
 signed negative n = cond negative (neg_ℤ (pos n)) (pos n)
 
-pub duration_writes : (limit : ℕ) (negative : Bool) (n : ℕ) (z : ℤ) (rest : List ℕ) → n / 3600 ≤ limit → limit < 1000 → signed negative n ≡ z → Stops rest → Writes (tz.duration limit negative) (clock_text n) z rest
+pub duration_writes : (limit : ℕ) (negative : Bool) (n : ℕ) (z : ℤ) (rest : List ℕ) → n / 3600 ≤ limit → limit < 1000 → signed negative n ≡ z → Stops rest
+    → Writes (tz.duration limit negative) (clock_text n) z rest
 unfolding clock_text tz.duration
 duration_writes limit negative n z rest l k v stops =
     let e : 3600 * (n / 3600) + 60 * (n / 60 % 60) + n % 60 ≡ n = omega arith in
-    writes_last (hours_writes (n / 3600) (n / 60 % 60) (n % 60) rest (omega arith) (omega arith) (omega arith) stops) ((l, omega arith, omega arith), rw e (sym v), refl)
+    writes_last (hours_writes (n / 3600) (n / 60 % 60) (n % 60) rest (omega arith) (omega arith) (omega arith) stops)
+    ((l, omega arith, omega arith), rw e (sym v), refl)
 
 abs_neg : (n : ℕ) → unsigned_abs (neg_ℤ (pos n)) ≡ n
 abs_neg zero = refl
@@ -154,7 +158,8 @@ signed_front false negative n bytes unsigned rest h f need = elim h [
   ]
 ]
 
-signed_writes : {X : Type 0} {f : Bool → Grammar X} (negative : Bool) (n : ℕ) (x : X) (rest : List ℕ) → n / 3600 < 1000 → Writes (f negative) (clock_text n) x rest → Writes (Then tz.sign f) (signed_text negative n) x rest
+signed_writes : {X : Type 0} {f : Bool → Grammar X} (negative : Bool) (n : ℕ) (x : X) (rest : List ℕ) → n / 3600 < 1000
+    → Writes (f negative) (clock_text n) x rest → Writes (Then tz.sign f) (signed_text negative n) x rest
 unfolding tz.sign
 signed_writes true n x rest l p = record {
   spelled = (true, clock_text n ++ rest, inr ((λ e. absurd (omega arith)), inl (clock_text n ++ rest, refl, (refl, refl))), p.spelled);
@@ -180,7 +185,8 @@ offset_hours (negsuc n) h = let a = h.0 in let b : suc n < 86400 = omega (arith,
 pub offset_writes : (east : ℤ) (rest : List ℕ) → IsWithinDay east → Stops rest → Writes tz.offset (offset_text east) east rest
 unfolding offset_text tz.offset
 offset_writes east rest h stops = let l = offset_hours east h in
-    signed_writes (is_positive east) (unsigned_abs east) east rest (omega arith) (duration_writes 23 (not (is_positive east)) (unsigned_abs east) east rest l (omega arith) (offset_value east) stops)
+    signed_writes (is_positive east) (unsigned_abs east) east rest (omega arith)
+    (duration_writes 23 (not (is_positive east)) (unsigned_abs east) east rest l (omega arith) (offset_value east) stops)
 
 needs_minus : (is_minus : Bool) (h m s : ℕ) (east : ℤ) → seconds_of (not is_minus) h m s ≡ east → is_positive east ≡ true → is_minus ≡ true
 needs_minus true h m s east v e = refl
@@ -221,7 +227,8 @@ time_hours (negsuc n) h = let a = h.0 in let b : suc n < 604800 = omega (arith, 
 pub time_writes : (extended : Bool) (time : ℤ) (rest : List ℕ) → IsTimeOf extended time → Stops rest → Writes (tz.time extended) (time_text time) time rest
 unfolding time_text tz.time tz.time_sign
 time_writes true time rest h stops = let l = time_hours time h in
-    signed_writes (is_negative time) (unsigned_abs time) time rest (omega arith) (duration_writes 167 (is_negative time) (unsigned_abs time) time rest l (omega arith) (time_value time) stops)
+    signed_writes (is_negative time) (unsigned_abs time) time rest (omega arith)
+    (duration_writes 167 (is_negative time) (unsigned_abs time) time rest l (omega arith) (time_value time) stops)
 time_writes false (pos n) rest h stops =
     let a = h.1 in let b : n < 90_000 = omega (arith, ints) in
     let d = duration_writes 24 false n (pos n) rest (omega arith) (omega arith) refl stops in

@@ -41,7 +41,8 @@ date_writes (Julian0 n) rest h none =
 date_writes (MonthWeekday m w d) rest h none =
     let a = h.1 in let b = h.3 in let c = h.4 in
     writes_mark refl (writes_then (number_writes date_max m _ (omega arith) (omega arith) refl) (writes_byte refl
-    (writes_then (number_writes date_max w _ (omega arith) (omega arith) refl) (writes_byte refl (writes_last (number_writes date_max d rest (omega arith) (omega arith) none) (h, refl, refl))))))
+    (writes_then (number_writes date_max w _ (omega arith) (omega arith) refl)
+    (writes_byte refl (writes_last (number_writes date_max d rest (omega arith) (omega arith) none) (h, refl, refl))))))
 
 month_front : (bytes : List ℕ) (rest : List ℕ) (m w d : ℕ) (at_week at_weekday : List ℕ) → IsRuleDay (MonthWeekday m w d) → IsNumber date_max bytes m (dot ∷ at_week) → IsNumber date_max at_week w (dot ∷ at_weekday) → IsNumber date_max at_weekday d rest → Front (decimal m ++ (dot ∷ decimal w ++ (dot ∷ decimal d))) bytes rest
 month_front bytes rest m w d at_week at_weekday h x y z =
@@ -68,7 +69,8 @@ date_front bytes form rest (inr (_, inr (_, (n, end, number, (test, value, same)
 is_two : (time : ℤ) → int_eq time (pos 7_200) ≡ true → time ≡ pos 7_200
 is_two time e = (Decides-int_eq time (pos 7_200)).0 e
 
-after_writes : (extended : Bool) (time : ℤ) (rest : List ℕ) → IsTimeOf extended time → IsEndOrComma rest → Writes (tz.optional_time extended) (time_after time) time rest
+after_writes : (extended : Bool) (time : ℤ) (rest : List ℕ) → IsTimeOf extended time → IsEndOrComma rest
+    → Writes (tz.optional_time extended) (time_after time) time rest
 unfolding tz.optional_time
 after_writes extended time rest h c = elim (int_eq time (pos 7_200)) as (λ t. int_eq time (pos 7_200) ≡ t → Writes (tz.optional_time extended) (cond t [] (slash ∷ time_text time)) time rest) [
   | true ↦ λ e. writes_other (no_slash rest c) (writes_nothing (is_two time e))
@@ -95,9 +97,11 @@ after_plain bytes time rest h = elim h [
 ]
 
 -- ---- days
-pub day_writes : (extended : Bool) (d : DayTime) (rest : List ℕ) → IsRuleDay d.day → IsTimeOf extended d.time → IsEndOrComma rest → Writes (tz.day extended) (day_text d) d rest
+pub day_writes : (extended : Bool) (d : DayTime) (rest : List ℕ) → IsRuleDay d.day → IsTimeOf extended d.time → IsEndOrComma rest
+    → Writes (tz.day extended) (day_text d) d rest
 unfolding tz.day
-day_writes extended d rest h t c = writes_then (date_writes d.day (time_after d.time ++ rest) h (after_stops d.time rest c)) (writes_last (after_writes extended d.time rest t c) (refl, refl))
+day_writes extended d rest h t c = writes_then (date_writes d.day (time_after d.time ++ rest) h (after_stops d.time rest c))
+    (writes_last (after_writes extended d.time rest t c) (refl, refl))
 
 pub day_front : (extended : Bool) (bytes : List ℕ) (d : DayTime) (rest : List ℕ) → AreInPairs bytes → Spells (tz.day extended) bytes d rest → Front (day_text d) bytes rest
 unfolding tz.day
@@ -136,7 +140,8 @@ dst_offset_writes {f = f} std dst after x rest h p = elim (int_eq dst (std +ℤ 
       let given : Spells tz.given_offset (offset_text dst ++ (comma ∷ (after ++ rest))) dst (after ++ rest) =
       (tt, _, inr (some_offset dst (comma ∷ (after ++ rest)) h, (refl, refl)), (dst, comma ∷ (after ++ rest), o.spelled, (tt, _, inr ((λ e. cc), (refl, refl)), (tt, after ++ rest, refl, (refl, refl))))) in
       record {
-        spelled = rw (append_assoc (offset_text dst) (comma ∷ after) rest) (dst, after ++ rest, inr (no_comma dst (comma ∷ (after ++ rest)) h, given), p.spelled);
+        spelled = rw (append_assoc (offset_text dst) (comma ∷ after) rest)
+            (dst, after ++ rest, inr (no_comma dst (comma ∷ (after ++ rest)) h, given), p.spelled);
         bytes = all_append is_text_byte (offset_text dst) (comma ∷ after) o.bytes (refl, p.bytes);
         pairs = λ r. rw (append_assoc (offset_text dst) (comma ∷ after) rest) (o.pairs ((λ e. absurd (omega arith)), p.pairs r));
       }

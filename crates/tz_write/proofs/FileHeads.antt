@@ -7,12 +7,14 @@ use Rattle.tz_write.proofs.FileNumbers.{number_is}
 
 -- counts of four bytes
 abbrev pub CountsFit : Counts → Type 0
-CountsFit c = (c.ut_local < 2 ^ 32) × (c.standard_wall < 2 ^ 32) × (c.leap_seconds < 2 ^ 32) × (c.transitions < 2 ^ 32) × (c.types < 2 ^ 32) × (c.designations < 2 ^ 32)
+CountsFit c = (c.ut_local < 2 ^ 32) × (c.standard_wall < 2 ^ 32) × (c.leap_seconds < 2 ^ 32) × (c.transitions < 2 ^ 32) × (c.types < 2 ^ 32)
+    × (c.designations < 2 ^ 32)
 
 record IsSpelled {X : Type 0} (g : Grammar X) (bytes : List ℕ) (x : X) (rest : List ℕ) : Type 0 where
   pub spelled : Spells g bytes x rest
 
-count_then : {X : Type 0} {f : ℕ → Grammar X} {x : X} {rest : List ℕ} (n : ℕ) (after : List ℕ) → n < 2 ^ 32 → IsSpelled (f n) after x rest → IsSpelled (Then be_u32 f) (number_bytes n ++ after) x rest
+count_then : {X : Type 0} {f : ℕ → Grammar X} {x : X} {rest : List ℕ} (n : ℕ) (after : List ℕ) → n < 2 ^ 32 → IsSpelled (f n) after x rest
+    → IsSpelled (Then be_u32 f) (number_bytes n ++ after) x rest
 count_then n after fits more = record { spelled = (n, after, number_is n after fits, more.spelled) }
 
 counts_are : (c : Counts) (rest : List ℕ) → CountsFit c → Spells six_counts (counts_bytes c ++ rest) c rest

@@ -38,7 +38,8 @@ text_found designations text none h =
     ap before_zero gone ∙ front_is text s.after none
 
 -- ---- the place of a type whose key is the greatest
-greatest : (key : LocalType → ℕ) (t : LocalType) (ts : List LocalType) → (place : ℕ) × (place < length (t ∷ ts)) × ((d : LocalType) → All (λ x. key x ≤ key (get_or (t ∷ ts) place d)) (t ∷ ts))
+greatest : (key : LocalType → ℕ) (t : LocalType) (ts : List LocalType) → (place : ℕ) × (place < length (t ∷ ts))
+    × ((d : LocalType) → All (λ x. key x ≤ key (get_or (t ∷ ts) place d)) (t ∷ ts))
 greatest key t [] = (0, omega arith, λ d. All-cons (λ x. key x ≤ key t) t [] (omega arith) (All-nil (λ x. key x ≤ key t)))
 greatest key t (u ∷ us) =
     let (place, inside, above) = greatest key u us in
@@ -94,7 +95,8 @@ where_is bytes m t sm st top =
 
 -- ---- laid with that text as the last
 kept_low : (designations other text : List ℕ) → In designations text → place_of text (with_text designations other) ≤ place_of text designations
-kept_low designations other text h = by_text (λ d. place_of text d ≤ place_of text designations) designations other (omega arith) (λ _ _. place_kept text designations (other ++ 0 ∷ []) h)
+kept_low designations other text h = by_text (λ d. place_of text d ≤ place_of text designations) designations other (omega arith)
+    (λ _ _. place_kept text designations (other ++ 0 ∷ []) h)
 
 -- a text has its place in what is laid, if it stands before the last one, or else in what that ends
 in_place : (designations last : List ℕ) (t : LocalType) → length designations ≤ 256 → In designations (text_of t) → HasPlace (with_text designations last) t
@@ -162,7 +164,8 @@ places_with bytes types m sm s top =
     let given : All (Given (text_of m) sm.stands.before) types = λ i d l. given_before bytes m sm (get_or types i d) (s i d l) (top i d l) in
     let p = before_passed (text_of m) sm.stands.before types given in
     let inside = p.inside (omega (arith, sm.stands.at, sm.low)) in
-    λ i d l. laid_place bytes (before_last (text_of m) types) m (get_or types i d) sm (s i d l) p.room (before_filled (text_of m) types) (inside i d l) (where_is bytes m (get_or types i d) sm (s i d l) (top i d l))
+    λ i d l. laid_place bytes (before_last (text_of m) types) m (get_or types i d) sm (s i d l) p.room (before_filled (text_of m) types) (inside i d l)
+    (where_is bytes m (get_or types i d) sm (s i d l) (top i d l))
 
 -- ---- the texts stand in what is laid in order
 with_last : List ℕ → List ℕ → List ℕ
@@ -253,7 +256,8 @@ none_laid (t ∷ ts) bytes named names unplaced none =
     let found = in_order_in bytes types m sm s above place t inside in
     let text = text_found (laid [] types) (text_of m) sm.stands.ends found in
     elim ((name_size m.name sm.named).1) [
-      | inl nothing_there ↦ unplaced (subst (λ (x : List ℕ). HavePlaces (laid x types) types) (nothing (text_of m) nothing_there) (places_with bytes types m sm s above))
+      | inl nothing_there ↦ unplaced (subst (λ (x : List ℕ). HavePlaces (laid x types) types) (nothing (text_of m) nothing_there)
+          (places_with bytes types m sm s above))
       | inr three ↦ none (place_of (text_of m) (laid [] types)) found (record {
         name = omega (arith, three, ap length text);
         placed = subst (λ (x : List ℕ). ArePlaced (laid x types) types) (sym text) (placed_with bytes types m sm s above found);
@@ -347,7 +351,8 @@ laid_of types bytes some names named = elim (places_or_not (laid [] types) types
 
 -- ---- they have room
 size_with : (designations text : List ℕ) → length designations ≤ 263 → length (with_text designations text) ≤ 263
-size_with designations text h = by_text (λ d. length d ≤ 263) designations text h (λ _ room. omega (arith, room, length-append designations (text ++ 0 ∷ []), length-append text (0 ∷ [])))
+size_with designations text h = by_text (λ d. length d ≤ 263) designations text h
+    (λ _ room. omega (arith, room, length-append designations (text ++ 0 ∷ []), length-append text (0 ∷ [])))
 
 size_laid : (last : List ℕ) (types : List LocalType) → length (laid last types) ≤ 263
 unfolding laid

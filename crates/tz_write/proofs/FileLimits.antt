@@ -65,7 +65,8 @@ counts_fit bytes c rest (_, r, h, (_, s, i, (leaps, t, j, (transitions, u, k, (t
 header_fits : (place : Place) (bytes : List ℕ) (h : Header) (rest : List ℕ) → Spells (header place) bytes h rest → Bytes bytes → Fit h.counts
 unfolding header
 header_fits place bytes h rest (_, at_version, magic, (v, at_unused, stands, (unused, at_counts, fifteen, (c, end, counts, (_, value, _))))) b =
-    let at_counts_bytes = left (Exact 15) at_unused unused at_counts fifteen (left (version place) at_version v at_unused stands (left tzif bytes _ at_version magic b)) in
+    let at_counts_bytes = left (Exact 15) at_unused unused at_counts fifteen
+    (left (version place) at_version v at_unused stands (left tzif bytes _ at_version magic b)) in
     rw value (counts_fit at_counts c end counts at_counts_bytes)
 
 -- ---- blocks and pieces
@@ -74,7 +75,8 @@ record Limits (p : FilePieces) : Type 0 where
   pub indexes : Bytes p.parts.type_indexes
   pub types : Bytes p.parts.types
 
-block_limits : (extended : Bool) (time_size : ℕ) (c : Counts) (bytes : List ℕ) (p : Parts) (rest : List ℕ) (footer : Option (List ℕ)) → Fit c → Spells (block time_size c) bytes p rest → Bytes bytes
+block_limits : (extended : Bool) (time_size : ℕ) (c : Counts) (bytes : List ℕ) (p : Parts) (rest : List ℕ) (footer : Option (List ℕ)) → Fit c
+    → Spells (block time_size c) bytes p rest → Bytes bytes
     → Limits (record { extended = extended; time_size = time_size; counts = c; parts = p; footer = footer })
 unfolding block
 block_limits extended time_size c bytes p rest footer fit (times, r, h, (indexes, s, i, (types, t, j, (_, _, _, (_, _, _, (_, _, _, (_, _, _, (value, _)))))))) b =

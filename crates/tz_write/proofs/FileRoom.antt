@@ -77,17 +77,20 @@ not_less_again : (a b : ℕ) → b ≤ a → nat_lt a b ≡ false
 not_less_again a b h = grind (arith, nat_tests)
 
 -- a text that isn't there is put in if there is room for it; else all stays as it is
-pub put_is : (designations text : List ℕ) → length designations ≤ place_of text designations → length designations + length text < 263 → with_text designations text ≡ designations ++ (text ++ 0 ∷ [])
+pub put_is : (designations text : List ℕ) → length designations ≤ place_of text designations → length designations + length text < 263
+    → with_text designations text ≡ designations ++ (text ++ 0 ∷ [])
 unfolding with_text
 put_is designations text out room = rw (not_less_again _ _ out, less_again (length designations + length text) 263 room) refl
 
 pub by_text : (P : List ℕ → Type 0) (designations text : List ℕ) → P designations
-    → (length designations ≤ place_of text designations → length designations + length text < 263 → P (designations ++ (text ++ 0 ∷ []))) → P (with_text designations text)
+    → (length designations ≤ place_of text designations → length designations + length text < 263 → P (designations ++ (text ++ 0 ∷ [])))
+    → P (with_text designations text)
 unfolding with_text
 by_text P designations text same put = elim (cases_lt (place_of text designations) (length designations)) [
   | inl there ↦ rw (less_again (place_of text designations) (length designations) there) same
   | inr out ↦ elim (cases_lt (length designations + length text) 263) [
-    | inl room ↦ rw (not_less_again (place_of text designations) (length designations) out, less_again (length designations + length text) 263 room) (put out room)
+    | inl room ↦ rw (not_less_again (place_of text designations) (length designations) out, less_again (length designations + length text) 263 room)
+        (put out room)
     | inr full ↦ rw (not_less_again (place_of text designations) (length designations) out, not_less_again (length designations + length text) 263 full) same
   ]
 ]
@@ -112,7 +115,8 @@ pub record Given (last others : List ℕ) (t : LocalType) : Type 0 where
 abbrev Turn : List ℕ → ℕ → LocalType → Type 0
 Turn last size t = (length (text_of t) ≡ size) × (Ends last (text_of t) → ⊥)
 
-by_turn : (P : List ℕ → Type 0) (last : List ℕ) (size : ℕ) (designations : List ℕ) (t : LocalType) → P designations → (Turn last size t → P (with_text designations (text_of t))) → P (with_text_of last size designations t)
+by_turn : (P : List ℕ → Type 0) (last : List ℕ) (size : ℕ) (designations : List ℕ) (t : LocalType) → P designations
+    → (Turn last size t → P (with_text designations (text_of t))) → P (with_text_of last size designations t)
 by_turn P last size designations t same put = elim (length (text_of t) == size) as (λ p. (length (text_of t) == size) ≡ p → P (cond (p && not (ends last (text_of t))) (with_text designations (text_of t)) designations)) [
   | false ↦ λ _. same
   | true ↦ λ e. elim (ends last (text_of t)) as (λ q. ends last (text_of t) ≡ q → P (cond (not q) (with_text designations (text_of t)) designations)) [
@@ -121,44 +125,54 @@ by_turn P last size designations t same put = elim (length (text_of t) == size) 
   ] refl
 ] refl
 
-by_types : (P : List ℕ → Type 0) (last : List ℕ) (size : ℕ) (types : List LocalType) (designations : List ℕ) → All (λ t. (d : List ℕ) → P d → P (with_text_of last size d t)) types → P designations
+by_types : (P : List ℕ → Type 0) (last : List ℕ) (size : ℕ) (types : List LocalType) (designations : List ℕ)
+    → All (λ t. (d : List ℕ) → P d → P (with_text_of last size d t)) types → P designations
     → P (fold (with_text_of last size) designations types)
 by_types P last size [] designations step h = h
 by_types P last size (t ∷ ts) designations step h =
     by_types P last size ts (with_text_of last size designations t) (λ i d l. step (suc i) d (omega (arith, l))) (step 0 t (omega arith) designations h)
 
-keeps_all : (P : List ℕ → Type 0) → ((d text : List ℕ) → P d → P (with_text d text)) → (last : List ℕ) (size : ℕ) (types : List LocalType) (designations : List ℕ) → P designations → P (fold (with_text_of last size) designations types)
-keeps_all P step last size types designations h = by_types P last size types designations (λ i e l d k. by_turn P last size d (get_or types i e) k (λ _. step d _ k)) h
+keeps_all : (P : List ℕ → Type 0) → ((d text : List ℕ) → P d → P (with_text d text))
+    → (last : List ℕ) (size : ℕ) (types : List LocalType) (designations : List ℕ) → P designations → P (fold (with_text_of last size) designations types)
+keeps_all P step last size types designations h = by_types P last size types designations
+    (λ i e l d k. by_turn P last size d (get_or types i e) k (λ _. step d _ k)) h
 
-type_room : (last designations others : List ℕ) (size : ℕ) (t : LocalType) → Given last others t → Room last designations others size → Room last (with_text_of last size designations t) others size
+type_room : (last designations others : List ℕ) (size : ℕ) (t : LocalType) → Given last others t → Room last designations others size
+    → Room last (with_text_of last size designations t) others size
 type_room last designations others size t g r = by_turn (λ d. Room last d others size) last size designations t r (λ turn.
-    by_text (λ d. Room last d others size) designations (text_of t) r (λ out room. put_room last designations others (text_of t) size g.none turn.0 turn.1 (g.stands turn.1) out r))
+    by_text (λ d. Room last d others size) designations (text_of t) r (λ out room. put_room last designations others (text_of t) size g.none turn.0 turn.1
+    (g.stands turn.1) out r))
 
 put_all : (last others : List ℕ) (size : ℕ) (types : List LocalType) (designations : List ℕ) → length others ≤ 263 → All (Given last others) types → Room last designations others size
     → All (λ t. Turn last size t → In (fold (with_text_of last size) designations types) (text_of t)) types
 put_all last others size [] designations short g r i d l turn = absurd (omega (arith, l))
 put_all last others size (t ∷ ts) designations short g r (suc i) d l turn =
-    put_all last others size ts (with_text_of last size designations t) short (λ k e m. g (suc k) e (omega (arith, m))) (type_room last designations others size t (g 0 t (omega arith)) r) i d (omega (arith, l)) turn
+    put_all last others size ts (with_text_of last size designations t) short (λ k e m. g (suc k) e (omega (arith, m)))
+    (type_room last designations others size t (g 0 t (omega arith)) r) i d (omega (arith, l)) turn
 put_all last others size (t ∷ ts) designations short g r zero d l turn =
     let given = g 0 t (omega arith) in
     let first : In (with_text_of last size designations t) (text_of t) =
     rw (same_again (length (text_of t)) size turn.0, false_unless (ends last (text_of t)) (λ e. turn.1 (ends_of last (text_of t) e)))
-    (put designations (text_of t) (λ out. omega (arith, room_of last designations others (text_of t) size r given.none (inl (omega (arith, turn.0))) (given.stands turn.1) out, short))) in
+    (put designations (text_of t) (λ out.
+    omega (arith, room_of last designations others (text_of t) size r given.none (inl (omega (arith, turn.0))) (given.stands turn.1) out, short))) in
     keeps_all (λ d. In d (text_of t)) (λ d other. kept d other (text_of t)) last size ts (with_text_of last size designations t) first
 
 -- ---- in front of the last
 -- the others have room for the texts of that size, and the longer ones have been put in
 pub record Passed (last others : List ℕ) (types : List LocalType) (size : ℕ) (designations : List ℕ) : Type 0 where
   pub room : Room last designations others size
-  pub inside : length others ≤ 263 → All (λ t. size ≤ length (text_of t) → length (text_of t) ≤ 7 → (Ends last (text_of t) → ⊥) → In designations (text_of t)) types
+  pub inside : length others ≤ 263
+      → All (λ t. size ≤ length (text_of t) → length (text_of t) ≤ 7 → (Ends last (text_of t) → ⊥) → In designations (text_of t)) types
 
-pass : (last others : List ℕ) (types : List LocalType) → All (Given last others) types → (size : ℕ) (designations : List ℕ) → Passed last others types (suc size) designations
+pass : (last others : List ℕ) (types : List LocalType) → All (Given last others) types → (size : ℕ) (designations : List ℕ)
+    → Passed last others types (suc size) designations
     → Passed last others types size (fold (with_text_of last size) designations types)
 pass last others types g size designations p =
     let r = smaller last designations others (suc size) size (omega arith) p.room in record {
       room = by_types (λ d. Room last d others size) last size types designations (λ i e l d k. type_room last d others size (get_or types i e) (g i e l) k) r;
       inside = λ short i e l low high free. let text = text_of (get_or types i e) in elim (cases_lt size (length text)) [
-        | inl more ↦ keeps_all (λ d. In d text) (λ d other. kept d other text) last size types designations (p.inside short i e l (omega (arith, more)) high free)
+        | inl more ↦ keeps_all (λ d. In d text) (λ d other. kept d other text) last size types designations
+            (p.inside short i e l (omega (arith, more)) high free)
         | inr same ↦ put_all last others size types designations short g r i e l (omega (arith, low, same), free)
       ];
     }
@@ -167,7 +181,8 @@ pub before_passed : (last others : List ℕ) (types : List LocalType) → All (G
 unfolding before_last with_texts
 before_passed last others types g =
     let step = pass last others types g in
-    step 3 _ (step 4 _ (step 5 _ (step 6 _ (step 7 [] (record { room = none_put last others 8; inside = λ short i e l low high free. absurd (omega (arith, low, high)) })))))
+    step 3 _ (step 4 _ (step 5 _ (step 6 _
+    (step 7 [] (record { room = none_put last others 8; inside = λ short i e l low high free. absurd (omega (arith, low, high)) })))))
 
 pub before_keeps : (P : List ℕ → Type 0) → ((d text : List ℕ) → P d → P (with_text d text)) → (last : List ℕ) (types : List LocalType) → P [] → P (before_last last types)
 unfolding before_last with_texts
@@ -180,4 +195,5 @@ abbrev Filled : List ℕ → Type 0
 Filled designations = (designations ≡ []) ⊎ In designations []
 
 pub before_filled : (last : List ℕ) (types : List LocalType) → Filled (before_last last types)
-before_filled last types = before_keeps Filled (λ d text h. by_text Filled d text h (λ _ _. inr (put_in d text [] (record { front = text; is = sym (append-nil text) })))) last types (inl refl)
+before_filled last types = before_keeps Filled (λ d text h. by_text Filled d text h
+    (λ _ _. inr (put_in d text [] (record { front = text; is = sym (append-nil text) })))) last types (inl refl)

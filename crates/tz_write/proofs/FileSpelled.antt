@@ -123,7 +123,8 @@ unfolding file_bytes first_half header_bytes counts_bytes number_bytes file
 file_pieces extended text d z size counts some places = (
   record { version = version_of extended; counts = least_counts },
   least_block ++ second_half extended text d z,
-  header_is First extended least_counts (least_block ++ second_half extended text d z) (omega arith, omega arith, omega arith, omega arith, omega arith, omega arith) ((counts_test least_counts).decides.0 refl),
+  header_is First extended least_counts (least_block ++ second_half extended text d z)
+      (omega arith, omega arith, omega arith, omega arith, omega arith, omega arith) ((counts_test least_counts).decides.0 refl),
   (least_parts, second_half extended text d z, first_block (second_half extended text d z), after_is extended least_counts least_parts (second_half extended text d z) (pieces_of extended text d z) (second_is extended text d z size counts some places)),
 )
 

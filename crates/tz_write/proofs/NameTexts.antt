@@ -42,9 +42,11 @@ pub name_writes : (name rest : List ℕ) → IsName name → NoneFirst is_letter
 unfolding tz.name tz.quoted
 name_writes name rest h none = elim (list_all is_letter name) as (λ t. list_all is_letter name ≡ t → Writes tz.name (cond t name (less ∷ name ++ (greater ∷ []))) name rest) [
   | true ↦ λ e. let each = all_from is_letter name e in let l = h.0 in
-      writes_other (not_less name rest (omega arith) each) (record { spelled = record { whole = refl; each = each; longest = none }; bytes = bytes; pairs = name_bytes_pairs name rest all })
+      writes_other (not_less name rest (omega arith) each)
+      (record { spelled = record { whole = refl; each = each; longest = none }; bytes = bytes; pairs = name_bytes_pairs name rest all })
   | false ↦ λ e. writes_mark refl (record {
-    spelled = rw (append_assoc name (greater ∷ []) rest) (name, greater ∷ rest, record { whole = refl; each = none_greater name all; longest = refl }, (tt, rest, refl, (refl, refl)));
+    spelled = rw (append_assoc name (greater ∷ []) rest)
+        (name, greater ∷ rest, record { whole = refl; each = none_greater name all; longest = refl }, (tt, rest, refl, (refl, refl)));
     bytes = all_append is_text_byte name (greater ∷ []) bytes (refl, tt);
     pairs = λ r. rw (append_assoc name (greater ∷ []) rest) (name_bytes_pairs name (greater ∷ rest) all ((λ e. absurd (omega arith)), r));
   })

@@ -62,13 +62,15 @@ type_is name dst t h = rw (← h.flag, ← h.named) refl
 name_some : (name more : List ℕ) → IsName name → (name_text name ++ more) ++ [] ≢ []
 name_some name more h = λ e. let f = name_first name more h in let is = f.2 in let none = sym (append-nil (name_text name ++ more)) ∙ e in cc
 
-days_write : (extended : Bool) (a : Alternate) → IsAlternateRule a → IsTimeOf extended a.start.time → IsTimeOf extended a.end.time → Writes (tz.days extended) (days_of a) (a.start, a.end) []
+days_write : (extended : Bool) (a : Alternate) → IsAlternateRule a → IsTimeOf extended a.start.time → IsTimeOf extended a.end.time
+    → Writes (tz.days extended) (days_of a) (a.start, a.end) []
 unfolding tz.days
 days_write extended a h start end =
     writes_then (day_writes extended a.start (comma ∷ (day_text a.end ++ [])) h.start_day start (inr (day_text a.end ++ [], refl)))
     (writes_byte refl (writes_last (day_writes extended a.end [] h.end_day end (inl refl)) (refl, refl)))
 
-rule_writes : (extended : Bool) (rule : TransitionRule) → IsRule rule → CanBeSpelled rule → AreTimesOf extended rule → Writes (tz.text extended) (text_of rule) rule []
+rule_writes : (extended : Bool) (rule : TransitionRule) → IsRule rule → CanBeSpelled rule → AreTimesOf extended rule
+    → Writes (tz.text extended) (text_of rule) rule []
 unfolding tz.text tz.rule tz.fixed tz.alternate tz.named tz.end
 rule_writes extended (rules.Fixed t) fits ((name, h), w) times =
     let n : name_of t ≡ name = ap name_or_none h.named in
@@ -89,8 +91,10 @@ alternate_front : (extended : Bool) (bytes : List ℕ) (a : Alternate) → AreIn
 alternate_front extended bytes a pairs h =
     let n : name_of a.dst ≡ h.dst_name = ap name_or_none h.dst_named.named in
     let std = type_front a.std h.std_name bytes h.after_std_name h.after_std h.std_named.named pairs h.std_name_spelled h.std_offset_spelled in
-    front_whole (alternate_text a) bytes (rw n (front_on pairs std (λ p. front_on p (name_front h.after_std h.dst_name h.after_dst_name h.dst_name_spelled) (λ p.
-    front_on p (dst_offset_front a.std.offset h.after_dst_name a.dst.offset h.at_start p h.dst_offset_spelled) (λ p. front_cons comma (days_of a) (comma ∷ h.at_start) h.at_start [] refl
+    front_whole (alternate_text a) bytes
+    (rw n (front_on pairs std (λ p. front_on p (name_front h.after_std h.dst_name h.after_dst_name h.dst_name_spelled) (λ p.
+    front_on p (dst_offset_front a.std.offset h.after_dst_name a.dst.offset h.at_start p h.dst_offset_spelled)
+    (λ p. front_cons comma (days_of a) (comma ∷ h.at_start) h.at_start [] refl
     (front_on p.1 (day_front extended h.at_start a.start (comma ∷ h.at_end) p.1 h.start_spelled) (λ p. front_cons comma (day_text a.end) (comma ∷ h.at_end) h.at_end [] refl
     (day_front extended h.at_end a.end [] p.1 h.end_spelled))))))))
 
@@ -100,7 +104,8 @@ times_extended (rules.Fixed t) fits = tt
 times_extended (rules.Alternate a) fits = (fits.within.start_time, fits.within.end_time)
 
 pub rule_spelled : (extended : Bool) (rule : TransitionRule) → IsRule rule → CanBeSpelled rule → AreTimesOf extended rule → IsTzText extended (text_of rule) rule
-rule_spelled extended rule fits h times = subst (λ bytes. IsTzText extended bytes rule) (append-nil (text_of rule)) (rule_writes extended rule fits h times).spelled
+rule_spelled extended rule fits h times = subst (λ bytes. IsTzText extended bytes rule) (append-nil (text_of rule))
+    (rule_writes extended rule fits h times).spelled
 
 pub rule_pairs : (rule : TransitionRule) → IsRule rule → CanBeSpelled rule → AreInPairs (text_of rule)
 rule_pairs rule fits h = subst AreInPairs (append-nil (text_of rule)) ((rule_writes true rule fits h (times_extended rule fits)).pairs tt)
@@ -113,7 +118,8 @@ pub text_first : (rule : TransitionRule) → CanBeSpelled rule → (b : ℕ) × 
 text_first (rules.Fixed t) ((name, h), _) = let n : name_of t ≡ name = ap name_or_none h.named in rw n (name_first name (offset_text t.offset) h.allowed)
 text_first (rules.Alternate a) ((name, h), _) =
     let n : name_of a.std ≡ name = ap name_or_none h.named in
-    rw (append_assoc (name_text (name_of a.std)) (offset_text a.std.offset) (from_name a), n) (name_first name (offset_text a.std.offset ++ from_name a) h.allowed)
+    rw (append_assoc (name_text (name_of a.std)) (offset_text a.std.offset) (from_name a), n)
+    (name_first name (offset_text a.std.offset ++ from_name a) h.allowed)
 
 pub rule_best : (extended : Bool) (bytes : List ℕ) (rule : TransitionRule) → AreInPairs bytes → IsTzText extended bytes rule → Best (text_of rule) bytes
 rule_best extended bytes (rules.Fixed t) pairs h = fixed_front bytes t pairs (parts_of extended bytes (rules.Fixed t) h)

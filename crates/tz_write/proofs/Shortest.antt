@@ -64,11 +64,13 @@ pub pairs_after : (a bytes rest : List ℕ) → Front a bytes rest → AreInPair
 pairs_after a bytes rest p h = pairs_rest p.front rest (subst AreInPairs p.whole h)
 
 -- the next text, of bytes whose digits are in pairs as well
-pub front_on : {a b bytes middle rest : List ℕ} → AreInPairs bytes → Front a bytes middle → (AreInPairs middle → Front b middle rest) → Front (a ++ b) bytes rest
+pub front_on : {a b bytes middle rest : List ℕ} → AreInPairs bytes → Front a bytes middle → (AreInPairs middle → Front b middle rest)
+    → Front (a ++ b) bytes rest
 front_on {a = a} {b = b} {bytes = bytes} {middle = middle} {rest = rest} pairs p q = front_then a b bytes middle rest p (q (pairs_after a bytes middle p pairs))
 
 -- a piece that may be left out, and is if the test passes
-pub front_optional : {X : Type 0} (tag : ℕ) (v : X) (g : Grammar X) {x : X} {text bytes rest : List ℕ} (b : Bool) → ((after : List ℕ) → bytes ≡ tag ∷ after → Spells g after x rest → Front text bytes rest)
+pub front_optional : {X : Type 0} (tag : ℕ) (v : X) (g : Grammar X) {x : X} {text bytes rest : List ℕ} (b : Bool)
+    → ((after : List ℕ) → bytes ≡ tag ∷ after → Spells g after x rest → Front text bytes rest)
     → (b ≡ false → x ≡ v → ⊥) → Spells (Optional tag v g) bytes x rest → Front (cond b [] text) bytes rest
 front_optional tag v g {text = text} {bytes = bytes} {rest = rest} true given other (inl (after, is, p)) = front_any text bytes rest (given after is p)
 front_optional tag v g {bytes = bytes} {rest = rest} true given other (inr (_, (_, same))) = front_nothing bytes rest same

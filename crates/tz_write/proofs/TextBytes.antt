@@ -36,7 +36,8 @@ pub record Writes {X : Type 0} (g : Grammar X) (text : List ℕ) (x : X) (rest :
 pub writes_nothing : {X : Type 0} {v x : X} {rest : List ℕ} → x ≡ v → Writes (Nothing v) [] x rest
 writes_nothing same = record { spelled = (same, refl); bytes = tt; pairs = λ r. r }
 
-pub writes_then : {X Y : Type 0} {g : Grammar X} {f : X → Grammar Y} {a b : List ℕ} {x : X} {y : Y} {rest : List ℕ} → Writes g a x (b ++ rest) → Writes (f x) b y rest → Writes (Then g f) (a ++ b) y rest
+pub writes_then : {X Y : Type 0} {g : Grammar X} {f : X → Grammar Y} {a b : List ℕ} {x : X} {y : Y} {rest : List ℕ} → Writes g a x (b ++ rest)
+    → Writes (f x) b y rest → Writes (Then g f) (a ++ b) y rest
 writes_then {a = a} {b = b} {x = x} {rest = rest} p q = record {
   spelled = rw (append_assoc a b rest) (x, b ++ rest, p.spelled, q.spelled);
   bytes = all_append is_text_byte a b p.bytes q.bytes;
@@ -44,7 +45,8 @@ writes_then {a = a} {b = b} {x = x} {rest = rest} p q = record {
 }
 
 -- what comes last has no bytes
-pub writes_last : {X Y : Type 0} {g : Grammar X} {f : X → Grammar Y} {a : List ℕ} {x : X} {y : Y} {rest : List ℕ} → Writes g a x rest → Spells (f x) rest y rest → Writes (Then g f) a y rest
+pub writes_last : {X Y : Type 0} {g : Grammar X} {f : X → Grammar Y} {a : List ℕ} {x : X} {y : Y} {rest : List ℕ} → Writes g a x rest → Spells (f x) rest y rest
+    → Writes (Then g f) a y rest
 writes_last {x = x} {rest = rest} p q = record { spelled = (x, rest, p.spelled, q); bytes = p.bytes; pairs = p.pairs }
 
 -- a sign other than a colon
@@ -54,18 +56,22 @@ is_sign t = is_text_byte t && not (t == colon)
 sign_is : (t : ℕ) → is_sign t ≡ true → (is_text_byte t ≡ true) × (t ≢ colon)
 sign_is t h = let (byte, other) = and_parts (is_text_byte t) (not (t == colon)) h in (byte, λ e. grind (arith, nat_tests))
 
-pub writes_byte : {X : Type 0} {t : ℕ} {f : Unit {0} → Grammar X} {a : List ℕ} {x : X} {rest : List ℕ} → is_sign t ≡ true → Writes (f tt) a x rest → Writes (Then (Byte t) f) (t ∷ a) x rest
+pub writes_byte : {X : Type 0} {t : ℕ} {f : Unit {0} → Grammar X} {a : List ℕ} {x : X} {rest : List ℕ} → is_sign t ≡ true → Writes (f tt) a x rest
+    → Writes (Then (Byte t) f) (t ∷ a) x rest
 writes_byte {t = t} {a = a} {rest = rest} sign p = let (byte, other) = sign_is t sign in
     record { spelled = (tt, a ++ rest, refl, p.spelled); bytes = (byte, p.bytes); pairs = λ r. ((λ e. absurd (other e)), p.pairs r) }
 
-pub writes_mark : {X : Type 0} {t : ℕ} {g h : Grammar X} {a : List ℕ} {x : X} {rest : List ℕ} → is_sign t ≡ true → Writes g a x rest → Writes (Marked t g h) (t ∷ a) x rest
+pub writes_mark : {X : Type 0} {t : ℕ} {g h : Grammar X} {a : List ℕ} {x : X} {rest : List ℕ} → is_sign t ≡ true → Writes g a x rest
+    → Writes (Marked t g h) (t ∷ a) x rest
 writes_mark {t = t} {a = a} {rest = rest} sign p = let (byte, other) = sign_is t sign in
     record { spelled = inl (a ++ rest, refl, p.spelled); bytes = (byte, p.bytes); pairs = λ r. ((λ e. absurd (other e)), p.pairs r) }
 
-pub writes_colon : {X : Type 0} {g h : Grammar X} {a : List ℕ} {x : X} {rest : List ℕ} → TwoDigits (a ++ rest) → Writes g a x rest → Writes (Marked colon g h) (colon ∷ a) x rest
+pub writes_colon : {X : Type 0} {g h : Grammar X} {a : List ℕ} {x : X} {rest : List ℕ} → TwoDigits (a ++ rest) → Writes g a x rest
+    → Writes (Marked colon g h) (colon ∷ a) x rest
 writes_colon {a = a} {rest = rest} two p = record { spelled = inl (a ++ rest, refl, p.spelled); bytes = (refl, p.bytes); pairs = λ r. ((λ _. two), p.pairs r) }
 
-pub writes_other : {X : Type 0} {t : ℕ} {g h : Grammar X} {a : List ℕ} {x : X} {rest : List ℕ} → Without t (a ++ rest) → Writes h a x rest → Writes (Marked t g h) a x rest
+pub writes_other : {X : Type 0} {t : ℕ} {g h : Grammar X} {a : List ℕ} {x : X} {rest : List ℕ} → Without t (a ++ rest) → Writes h a x rest
+    → Writes (Marked t g h) a x rest
 writes_other none p = record { spelled = inr (none, p.spelled); bytes = p.bytes; pairs = p.pairs }
 
 pub writes_more : {X : Type 0} {g h : Grammar X} {a : List ℕ} {x : X} {rest : List ℕ} → a ++ rest ≢ [] → Writes h a x rest → Writes (Ended g h) a x rest
