@@ -3,42 +3,23 @@ use Rattle.tz_base.specs.declared.error.Error.TheVariants.{InvalidTzFile, Utf8}
 use Rattle.tz_base.specs.declared.error.Expected.TheVariants.{FooterBetweenNewlines, FooterInUtf8, TzTextInFooter}
 use Rattle.tz_info.proofs.Words.{Bool, Colon, Decided, Decides, Decides-eqb, Decides-or, Err, Error, FooterFault, Gives, HasNoZero, HasText, In_text}
 use Rattle.tz_info.proofs.Words.{IsBetweenNewlines, IsFooter, IsTextFault, IsTzText, IsUtf8, IsUtf8-from_is_utf8, List, No_newlines, None, Not_utf8, Ok, Option}
-use Rattle.tz_info.proofs.Words.{Result, SaysRule, Some, TransitionRule, Zero, and_parts, ap, arith, choice, done, drop_front, ends_with, false, false_unless}
-use Rattle.tz_info.proofs.Words.{footer_at, inl, inr, is_between_newlines, is_no_text, is_utf8-from_IsUtf8, is_zero, length, length-append, like, list_any}
-use Rattle.tz_info.proofs.Words.{made, nat_eq, nat_tests, read, refl, refused, rule_in, rule_or_none, said, same_byte, slice_index, starts_with, subst, sym}
-use Rattle.tz_info.proofs.Words.{text as tz_text, trimmed, true, ℕ, [], ◌&&◌, ◌++◌, ◌-◌, ◌==◌, ◌||◌, ◌∙◌, ◌∷◌, ◌≡◌, ◌≢◌, ◌⊎◌}
+use Rattle.tz_info.proofs.Words.{Result, SaysRule, Some, TransitionRule, Zero, and_parts, arith, choice, done, ends_with, false, false_unless, footer_at, inl}
+use Rattle.tz_info.proofs.Words.{inr, is_between_newlines, is_no_text, is_utf8-from_IsUtf8, is_zero, like, list_any, made, nat_eq, nat_tests, read, refl}
+use Rattle.tz_info.proofs.Words.{refused, rule_in, rule_or_none, said, slice_index, starts_with, subst, sym, text as tz_text, trimmed, true, ℕ, [], ◌-◌, ◌==◌}
+use Rattle.tz_info.proofs.Words.{◌||◌, ◌∷◌, ◌≡◌, ◌≢◌, ◌⊎◌}
+use Rattle.std.proofs.lemmas.Bool.{and_from}
+use Rattle.std.proofs.lemmas.Slice.Eq.{ends_is, starts_is}
 use Rattle.tz_info.proofs.TextLaws.{text_law}
 use Rattle.tz_info.proofs.TrimLaws.{trim_again, trim_is}
 
 -- ---- newlines
-last_of : (b : ℕ) (bs : List ℕ) → (front : List ℕ) × (last : ℕ) × (b ∷ bs ≡ front ++ (last ∷ []))
-last_of b [] = ([], b, refl)
-last_of b (c ∷ cs) = let r = last_of c cs in (b ∷ r.0, r.1, ap (λ s. b ∷ s) r.2)
-
-ends_last : (front : List ℕ) (last : ℕ) → ends_with nat_eq (front ++ (last ∷ [])) (10 ∷ []) ≡ ((10 == last) && true)
-ends_last front last = let at : length (front ++ (last ∷ [])) - 1 ≡ length front = omega (arith, length-append front (last ∷ [])) in rw (at, drop_front front (last ∷ [])) refl
-
-between_is : (bytes : List ℕ) → is_between_newlines bytes ≡ true → IsBetweenNewlines bytes
-between_is [] h = cc
-between_is (b ∷ bs) h =
-    let p = and_parts (starts_with nat_eq (b ∷ bs) (10 ∷ [])) (ends_with nat_eq (b ∷ bs) (10 ∷ [])) h in
-    let r = last_of b bs in
-    let ends : ends_with nat_eq (r.0 ++ (r.1 ∷ [])) (10 ∷ []) ≡ true = subst (λ (s : List ℕ). ends_with nat_eq s (10 ∷ []) ≡ true) r.2 p.1 in
-    record {
-      after_first = bs;
-      before_last = r.0;
-      starts = ap (λ x. x ∷ bs) ((same_byte 10 b).0 p.0);
-      ends = r.2 ∙ ap (λ x. r.0 ++ (x ∷ [])) ((same_byte 10 r.1).0 (sym (ends_last r.0 r.1) ∙ ends));
-    }
-
-both_true : (a b : Bool) → a ≡ true → b ≡ true → (a && b) ≡ true
-both_true a b h k = rw (h, k) refl
-
-between_again : (bytes : List ℕ) → IsBetweenNewlines bytes → is_between_newlines bytes ≡ true
-between_again bytes h =
-    both_true (starts_with nat_eq bytes (10 ∷ [])) (ends_with nat_eq bytes (10 ∷ []))
-    (ap (λ (s : List ℕ). starts_with nat_eq s (10 ∷ [])) h.starts)
-    (ap (λ (s : List ℕ). ends_with nat_eq s (10 ∷ [])) h.ends ∙ ends_last h.before_last 10)
+between : (bytes : List ℕ) → Decides (is_between_newlines bytes) (IsBetweenNewlines bytes)
+between bytes =
+    let (to, from) = starts_is {E = nat_eq} Decides-eqb bytes (10 ∷ []) (starts_with nat_eq bytes (10 ∷ [])) refl in
+    let (to_last, from_last) = ends_is {E = nat_eq} Decides-eqb bytes (10 ∷ []) (ends_with nat_eq bytes (10 ∷ [])) refl in (
+      λ t. let (first, last) = and_parts _ _ t in record { after_first = _; before_last = _; starts = to first; ends = to_last last },
+      λ h. and_from _ _ (from h.after_first h.starts) (from_last h.before_last h.ends),
+    )
 
 -- ---- the text
 or_false : (a b : Bool) → (a || b) ≡ false → (a ≡ false) × (b ≡ false)
@@ -133,7 +114,7 @@ fault_again extended bytes n (In_text text m has colon zero some fault) = in_tex
 pub footer_law : (extended : Bool) (bytes : List ℕ) → Decided (Option TransitionRule) (footer_at extended bytes) (IsFooter extended bytes) (FooterFault extended bytes)
 unfolding footer_at
 footer_law extended bytes = like
-    (choice (IsUtf8-from_is_utf8 bytes, is_utf8-from_IsUtf8 bytes) (choice (between_is bytes, between_again bytes) (choice (no_text (trimmed bytes)) (refused (InvalidTzFile TzTextInFooter) (omega arith)) (rule_law extended (trimmed bytes))) (refused (InvalidTzFile FooterBetweenNewlines) (omega arith))) (refused (Utf8 FooterInUtf8) (omega arith)))
+    (choice (IsUtf8-from_is_utf8 bytes, is_utf8-from_IsUtf8 bytes) (choice (between bytes) (choice (no_text (trimmed bytes)) (refused (InvalidTzFile TzTextInFooter) (omega arith)) (rule_law extended (trimmed bytes))) (refused (InvalidTzFile FooterBetweenNewlines) (omega arith))) (refused (Utf8 FooterInUtf8) (omega arith)))
     (λ rule h. elim h [
       | inl u ↦ elim u.1 [
         | inl b ↦ elim b.1 [

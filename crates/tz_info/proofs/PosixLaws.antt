@@ -55,10 +55,10 @@ pub only_found : (text : List ℕ) (z : Zone) (r : Result Zone Error) → IsPosi
 only_found text z (Ok y) is same other p = same ∙ one_zone text z other is p
 only_found text z (Err x) is memory other p = memory
 
--- want of memory is answered where there is a zone alone
-pub zone_memory : (text : List ℕ) (z : Zone) (r : Result Zone Error) → IsPosixZone text z → IfErr r (λ e. number_of e ≡ 17 → (z : Zone) × IsPosixZone text z)
-zone_memory text z (Ok y) is = tt
-zone_memory text z (Err x) is = λ m. (z, is)
+-- running out of memory is reported only where there is a zone
+pub zone_memory : (P : Zone → Type 0) (z : Zone) (r : Result Zone Error) → P z → IfErr r (λ e. number_of e ≡ 17 → (y : Zone) × P y)
+zone_memory P z (Ok y) is = tt
+zone_memory P z (Err x) is = λ m. (z, is)
 
 pub refused_memory : (text : List ℕ) (e : Error) → IsPosixFault text e → number_of e ≡ 17 → (z : Zone) × IsPosixZone text z
 refused_memory text e fault m = let low = posix_low text e fault in absurd (omega arith)

@@ -1,8 +1,7 @@
 -- White space at both ends of bytes.
-use Rattle.tz_info.proofs.Words.{BeginsBare, EndsBare, IsAsciiWhitespaceBelow, IsAsciiWhitespaceFrom, IsSpace, IsTrimAscii, IsTrimAsciiEnd, IsTrimAsciiStart}
-use Rattle.tz_info.proofs.Words.{IsTrimmed, List, ap, arith, cases_lt, cond, drop, false, inl, inr, is_ascii_whitespace, length, length-take, min, refl}
-use Rattle.tz_info.proofs.Words.{slice_index, subst, suc, sym, take, trimmed, trimmed_back, trimmed_front, true, true≢false, unless_space, zero, ℕ, [], ◌++◌}
-use Rattle.tz_info.proofs.Words.{◌-◌, ◌<◌, ◌∙◌, ◌∷◌, ◌≡◌, ◌≤◌}
+use Rattle.tz_info.proofs.Words.{BeginsBare, EndsBare, IsAsciiWhitespaceBelow, IsAsciiWhitespaceFrom, IsSpace, IsTrimAscii, IsTrimmed, List, ap, arith}
+use Rattle.tz_info.proofs.Words.{cases_lt, cond, drop, false, inl, inr, is_ascii_whitespace, length, length-take, min, refl, slice_index, subst, suc, sym, take}
+use Rattle.tz_info.proofs.Words.{trimmed, trimmed_back, trimmed_front, true, true≢false, unless_space, zero, ℕ, [], ◌++◌, ◌-◌, ◌<◌, ◌∙◌, ◌∷◌, ◌≡◌, ◌≤◌}
 
 -- ---- what is trimmed, and how it is found
 space_front : (before rest : List ℕ) → IsSpace before → trimmed_front (before ++ rest) ≡ trimmed_front rest
@@ -87,12 +86,6 @@ back_take (suc (suc n)) (b ∷ []) l w e = absurd (omega arith)
 back_take (suc (suc n)) (b ∷ c ∷ cs) l w e =
     let same = back_take (suc n) (c ∷ cs) (omega arith) (λ i h k. w (suc i) (omega arith) (omega arith)) (λ m h. e (suc m) (omega arith)) in
     rw (← same) refl
-
-pub front_is : (s r : List ℕ) → IsTrimAsciiStart s r → r ≡ trimmed_front s
-front_is s r t = let l = t.2 in rw t.1 (front_drop t.0 s (omega arith) t.3 t.4)
-
-pub back_is : (s r : List ℕ) → IsTrimAsciiEnd s r → r ≡ trimmed_back s
-back_is s r t = rw t.1 (back_take t.0 s t.3 t.4 (λ m h. let k : t.0 - 1 ≡ m = omega arith in rw k at (t.5 (omega arith))))
 
 -- no white space is behind the end
 behind_end : (s : List ℕ) → slice_index s (length s) ≡ 0

@@ -84,7 +84,7 @@ pub use Rattle.tz_info.specs.Looks.{RoseByWalk}
 pub use Rattle.tz_info.specs.Moments.{AlternateAt, IsAlternateRefused, IsBetween, IsDstAt, IsInSomeYear, IsRuleTime, IsRuleYear, IsYearOf, end_in, start_in}
 pub use Rattle.tz_info.specs.Moments.{type_when}
 unfoldable pub use Rattle.tz_info.specs.Moments.{moment}
-pub use Rattle.tz_info.specs.PosixZones.{IsPosixFault, IsPosixZone, posix_zone, types_of}
+pub use Rattle.tz_info.specs.PosixZones.{IsExtendedZone, IsPosixFault, IsPosixZone, posix_zone, types_of}
 pub use Rattle.tz_info.specs.Questions.{IsAskedAt, IsAskedAtEach, IsAskedFor, IsByRuleFor}
 pub use Rattle.tz_info.specs.RuleDayOf.{rule_day_with}
 unfoldable pub use Rattle.tz_info.specs.RuleDayOf.{rule_day}

@@ -1,5 +1,5 @@
 -- The zones of TZ texts (POSIX.1 section 8.3, "TZ").
-use Rattle.std.specs.Prelude.{ℕ, pos, ◌≡◌, ◌≢◌, ◌⊎◌, false, List, [], ◌∷◌, Some}
+use Rattle.std.specs.Prelude.{ℕ, pos, ◌≡◌, ◌≢◌, ◌⊎◌, false, true, List, [], ◌∷◌, Some}
 use Rattle.tz_base.specs.LocalTypes.{LocalType}
 use Rattle.tz_base.specs.declared.error.Error.{Error}
 use Rattle.tz_info.specs.Zones.{Zone, plain_zone, zone_of_rule}
@@ -37,3 +37,7 @@ pub record IsPosixFault (text : List ℕ) (e : Error) : Type 0 where
   pub trimmed : List ℕ
   pub trims : IsTrimmed text trimmed
   pub fault : IsTextFault false trimmed e
+
+-- the text spells, with the extensions of RFC 8536, section 3.3.1, the rule that the zone has at every instant
+abbrev pub IsExtendedZone : List ℕ → Zone → Type 0
+IsExtendedZone text z = (rule : TransitionRule) × IsTzText true text rule × (z ≡ posix_zone rule)

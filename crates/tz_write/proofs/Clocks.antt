@@ -1,23 +1,25 @@
 -- The texts of offsets and of times of day.
+use Rattle.tz_base.specs.Grammar.{Grammar, Nothing, Number, Then}
 use Rattle.tz_info.specs.TzGrammar as tz
-use Rattle.tz_write.proofs.Words.{AreInPairs, Bool, IsPlainTime, IsTimeOf, IsWithinDay, IsWithinWeek, List, NoneFirst, Spells, Without, ap, append_assoc, arith}
-use Rattle.tz_write.proofs.Words.{both_ways, clock_max, clock_text, clock_text_of, colon, cond, decimal, false, false≢true, inl, inr, ints, is_digit}
-use Rattle.tz_write.proofs.Words.{is_negative, is_positive, minus, minutes_text, nat_tests, neg_ℤ, negsuc, not, offset_text, pair_text, plus, pos, refl}
-use Rattle.tz_write.proofs.Words.{seconds_of, seconds_text, signed_text, subst, suc, sym, time_limit, time_text, true, unsigned_abs, zero, ℕ, ℤ, [], ◌%◌, ◌&&◌}
-use Rattle.tz_write.proofs.Words.{◌*◌, ◌++◌, ◌+◌, ◌/◌, ◌<◌, ◌==◌, ◌∙◌, ◌∷◌, ◌≡◌, ◌≤◌, ◌⊎◌}
-use Rattle.tz_write.proofs.Decimals.{digit_least, digit_most, first_digit, number_front, number_spelled, pair_front, pair_spelled, pairs_number, pairs_pair}
-use Rattle.tz_write.proofs.Shortest.{Front, front_any, front_cons, front_longer, front_nothing, front_then, pairs_after}
+use Rattle.tz_write.proofs.Words.{AreInPairs, Bool, IsPlainTime, IsTimeOf, IsWithinDay, IsWithinWeek, List, NoneFirst, Spells, Without, ap, arith, both_ways}
+use Rattle.tz_write.proofs.Words.{clock_max, clock_text, clock_text_of, colon, cond, false, false≢true, inl, inr, ints, is_digit, is_negative, is_positive}
+use Rattle.tz_write.proofs.Words.{minus, minutes_text, nat_tests, neg_ℤ, negsuc, not, offset_text, pair_text, plus, pos, refl, seconds_of, seconds_text}
+use Rattle.tz_write.proofs.Words.{signed_text, subst, suc, sym, time_limit, time_text, true, unsigned_abs, zero, ℕ, ℤ, [], ◌%◌, ◌&&◌, ◌*◌, ◌++◌, ◌+◌, ◌/◌, ◌<◌}
+use Rattle.tz_write.proofs.Words.{◌==◌, ◌∙◌, ◌∷◌, ◌≡◌, ◌≤◌, ◌⊎◌}
+use Rattle.tz_write.proofs.Decimals.{digit_least, digit_most, first_digit, number_front, number_writes, pair_front, pair_writes, two_digits}
+use Rattle.tz_write.proofs.Shortest.{Front, front_cons, front_longer, front_on, front_optional}
+use Rattle.tz_write.proofs.TextBytes.{Writes, writes_colon, writes_last, writes_nothing, writes_other, writes_then}
 
 -- nothing that goes on with an offset or a time: no digit and no colon
 abbrev pub Stops : List ℕ → Type 0
 Stops rest = NoneFirst is_digit rest × Without colon rest
 
 -- ---- seconds
-pub seconds_spelled : (s : ℕ) (rest : List ℕ) → s ≤ 59 → Stops rest → Spells tz.seconds (seconds_text s ++ rest) s rest
+seconds_writes : (s : ℕ) (rest : List ℕ) → s ≤ 59 → Stops rest → Writes tz.seconds (seconds_text s) s rest
 unfolding tz.seconds
-seconds_spelled s rest h stops = elim (s == 0) as (λ t. (s == 0) ≡ t → Spells tz.seconds (cond t [] (pair_text s) ++ rest) s rest) [
-  | true ↦ λ e. let z : s ≡ 0 = grind (arith, nat_tests) in inr (stops.1, (z, refl))
-  | false ↦ λ e. inl (_, refl, pair_spelled clock_max s rest (omega arith) (omega arith) stops.0)
+seconds_writes s rest h stops = elim (s == 0) as (λ t. (s == 0) ≡ t → Writes tz.seconds (cond t [] (pair_text s)) s rest) [
+  | true ↦ λ e. let z : s ≡ 0 = grind (arith, nat_tests) in writes_other stops.1 (writes_nothing z)
+  | false ↦ λ e. writes_colon (two_digits s rest (omega arith) stops.0) (pair_writes clock_max s rest (omega arith) (omega arith) stops.0)
 ] refl
 
 seconds_stop : (s : ℕ) (rest : List ℕ) → Stops rest → NoneFirst is_digit (seconds_text s ++ rest)
@@ -25,36 +27,22 @@ seconds_stop s rest stops = elim (s == 0) as (λ t. NoneFirst is_digit (cond t [
 
 seconds_front : (bytes : List ℕ) (s : ℕ) (rest : List ℕ) → AreInPairs bytes → Spells tz.seconds bytes s rest → Front (seconds_text s) bytes rest
 unfolding tz.seconds
-seconds_front bytes s rest pairs h = elim (s == 0) as (λ t. (s == 0) ≡ t → Front (cond t [] (pair_text s)) bytes rest) [
-  | true ↦ λ e. elim h [
-    | inl a ↦ front_any (pair_text s) bytes rest (pair_front clock_max bytes a.0 s rest a.1 pairs a.2)
-    | inr b ↦ front_nothing bytes rest b.1.1
-  ]
-  | false ↦ λ e. elim h [
-    | inl a ↦ pair_front clock_max bytes a.0 s rest a.1 pairs a.2
-    | inr b ↦ let z = b.1.0 in absurd (grind (arith, nat_tests))
-  ]
-] refl
-
-seconds_pairs : (s : ℕ) (rest : List ℕ) → s ≤ 59 → Stops rest → AreInPairs rest → AreInPairs (seconds_text s ++ rest)
-seconds_pairs s rest h stops pairs = elim (s == 0) as (λ t. AreInPairs (cond t [] (pair_text s) ++ rest)) [
-  | true ↦ pairs
-  | false ↦ pairs_pair s rest (omega arith) stops.0 pairs
-]
+seconds_front bytes s rest pairs h =
+    front_optional colon 0 (Number clock_max) (s == 0) (λ after is p. pair_front clock_max bytes after s rest is pairs p) (λ e z. grind (arith, nat_tests)) h
 
 -- ---- minutes and seconds
 both_zero : (m s : ℕ) → ((m == 0) && (s == 0)) ≡ true → (m ≡ 0) × (s ≡ 0)
 both_zero m s e = (grind (arith, nat_tests), grind (arith, nat_tests))
 
-pub minutes_spelled : (m s : ℕ) (rest : List ℕ) → m ≤ 59 → s ≤ 59 → Stops rest → Spells tz.optional_minutes (minutes_text m s ++ rest) (m, s) rest
+minutes_writes : (m s : ℕ) (rest : List ℕ) → m ≤ 59 → s ≤ 59 → Stops rest → Writes tz.optional_minutes (minutes_text m s) (m, s) rest
 unfolding tz.optional_minutes tz.minutes_seconds
-minutes_spelled m s rest a b stops = elim ((m == 0) && (s == 0)) as (λ t. ((m == 0) && (s == 0)) ≡ t → Spells tz.optional_minutes (cond t [] (pair_text m ++ seconds_text s) ++ rest) (m, s) rest) [
-  | true ↦ λ e. let z = both_zero m s e in let x = z.0 in let y = z.1 in inr (stops.1, (rw (x, y) refl, refl))
-  | false ↦ λ e. inl (
-    _,
-    refl,
-    (m, seconds_text s ++ rest, pair_spelled clock_max m (seconds_text s ++ rest) (omega arith) (omega arith) (seconds_stop s rest stops), (s, rest, seconds_spelled s rest b stops, (refl, refl))),
-  )
+minutes_writes m s rest a b stops = elim ((m == 0) && (s == 0)) as (λ t. ((m == 0) && (s == 0)) ≡ t → Writes tz.optional_minutes (cond t [] (pair_text m ++ seconds_text s)) (m, s) rest) [
+  | true ↦ λ e. let (x, y) = both_zero m s e in writes_other stops.1 (writes_nothing (rw (x, y) refl))
+  | false ↦ λ e.
+      let stop = seconds_stop s rest stops in
+      let seconds : Writes (Then tz.seconds (λ t. Nothing (m, t))) (seconds_text s) (m, s) rest = writes_last (seconds_writes s rest b stops) (refl, refl) in
+      writes_colon (two_digits m (seconds_text s ++ rest) (omega arith) stop)
+      (writes_then (pair_writes clock_max m (seconds_text s ++ rest) (omega arith) (omega arith) stop) seconds)
 ] refl
 
 minutes_stop : (m s : ℕ) (rest : List ℕ) → Stops rest → NoneFirst is_digit (minutes_text m s ++ rest)
@@ -63,57 +51,41 @@ minutes_stop m s rest stops = elim ((m == 0) && (s == 0)) as (λ t. NoneFirst is
 minutes_given : (bytes after : List ℕ) (m s : ℕ) (rest : List ℕ) → bytes ≡ colon ∷ after → AreInPairs bytes → Spells tz.minutes_seconds after (m, s) rest → Front (pair_text m ++ seconds_text s) bytes rest
 unfolding tz.minutes_seconds
 minutes_given bytes after m s rest e pairs (x, behind, minutes, (y, end, seconds, (value, same))) =
-    let p = pair_front clock_max bytes after x behind e pairs minutes in
-    let f = front_then _ _ bytes behind end p (seconds_front behind y end (pairs_after _ bytes behind p pairs) seconds) in
     let l : m ≡ x = ap (λ (t : ℕ × ℕ). t.0) value in
     let r : s ≡ y = ap (λ (t : ℕ × ℕ). t.1) value in
-    rw (l, r, ← same) f
+    rw (l, r, ← same) (front_on pairs (pair_front clock_max bytes after x behind e pairs minutes) (λ p. seconds_front behind y end p seconds))
 
 minutes_front : (bytes : List ℕ) (m s : ℕ) (rest : List ℕ) → AreInPairs bytes → Spells tz.optional_minutes bytes (m, s) rest → Front (minutes_text m s) bytes rest
 unfolding tz.optional_minutes
-minutes_front bytes m s rest pairs h = elim ((m == 0) && (s == 0)) as (λ t. ((m == 0) && (s == 0)) ≡ t → Front (cond t [] (pair_text m ++ seconds_text s)) bytes rest) [
-  | true ↦ λ e. elim h [
-    | inl a ↦ front_any _ bytes rest (minutes_given bytes a.0 m s rest a.1 pairs a.2)
-    | inr b ↦ front_nothing bytes rest b.1.1
-  ]
-  | false ↦ λ e. elim h [
-    | inl a ↦ minutes_given bytes a.0 m s rest a.1 pairs a.2
-    | inr b ↦ let x : m ≡ 0 = ap (λ (p : ℕ × ℕ). p.0) b.1.0 in let y : s ≡ 0 = ap (λ (p : ℕ × ℕ). p.1) b.1.0 in absurd (grind (arith, nat_tests))
-  ]
-] refl
-
-minutes_pairs : (m s : ℕ) (rest : List ℕ) → m ≤ 59 → s ≤ 59 → Stops rest → AreInPairs rest → AreInPairs (minutes_text m s ++ rest)
-minutes_pairs m s rest a b stops pairs = elim ((m == 0) && (s == 0)) as (λ t. AreInPairs (cond t [] (pair_text m ++ seconds_text s) ++ rest)) [
-  | true ↦ pairs
-  | false ↦ pairs_pair m (seconds_text s ++ rest) (omega arith) (seconds_stop s rest stops) (seconds_pairs s rest b stops pairs)
-]
+minutes_front bytes m s rest pairs h =
+    front_optional colon (0, 0) tz.minutes_seconds ((m == 0) && (s == 0)) (λ after is p. minutes_given bytes after m s rest is pairs p)
+    (λ e same. let x : m ≡ 0 = ap (λ (p : ℕ × ℕ). p.0) same in let y : s ≡ 0 = ap (λ (p : ℕ × ℕ). p.1) same in grind (arith, nat_tests)) h
 
 -- ---- hours, minutes and seconds
-pub hours_spelled : (h m s : ℕ) (rest : List ℕ) → h < 1000 → m ≤ 59 → s ≤ 59 → Stops rest → Spells tz.hours_minutes_seconds (clock_text_of h m s ++ rest) (h, m, s) rest
+hours_writes : (h m s : ℕ) (rest : List ℕ) → h < 1000 → m ≤ 59 → s ≤ 59 → Stops rest → Writes tz.hours_minutes_seconds (clock_text_of h m s) (h, m, s) rest
 unfolding tz.hours_minutes_seconds
-hours_spelled h m s rest l a b stops =
-    rw (append_assoc (decimal h) (minutes_text m s) rest) (h, minutes_text m s ++ rest, number_spelled clock_max h (minutes_text m s ++ rest) l (omega arith) (minutes_stop m s rest stops), ((m, s), rest, minutes_spelled m s rest a b stops, (refl, refl)))
+hours_writes h m s rest l a b stops =
+    writes_then (number_writes clock_max h (minutes_text m s ++ rest) l (omega arith) (minutes_stop m s rest stops))
+    (writes_last (minutes_writes m s rest a b stops) (refl, refl))
 
 hours_front : (bytes : List ℕ) (h m s : ℕ) (rest : List ℕ) → h < 1000 → AreInPairs bytes → Spells tz.hours_minutes_seconds bytes (h, m, s) rest → Front (clock_text_of h m s) bytes rest
 unfolding tz.hours_minutes_seconds
 hours_front bytes h m s rest l pairs (x, after, hours, (t, end, others, (value, same))) =
     let first : h ≡ x = ap (λ (u : ℕ × ℕ × ℕ). u.0) value in
     let second : (m, s) ≡ t = ap (λ (u : ℕ × ℕ × ℕ). (u.1, u.2)) value in
-    let f = number_front clock_max bytes h after l (rw first hours) in
-    front_then _ _ bytes after rest f (minutes_front after m s rest (pairs_after _ bytes after f pairs) (rw (second, ← same) others))
-
-hours_pairs : (h m s : ℕ) (rest : List ℕ) → h < 1000 → m ≤ 59 → s ≤ 59 → Stops rest → AreInPairs rest → AreInPairs (clock_text_of h m s ++ rest)
-hours_pairs h m s rest l a b stops pairs = rw (append_assoc (decimal h) (minutes_text m s) rest) (pairs_number h (minutes_text m s ++ rest) l (minutes_pairs m s rest a b stops pairs))
+    front_on pairs (number_front clock_max bytes h after l (rw first hours)) (λ p. minutes_front after m s rest p (rw (second, ← same) others))
 
 -- ---- durations
 abbrev signed : Bool → ℕ → ℤ
 signed negative n = cond negative (neg_ℤ (pos n)) (pos n)
 
-pub duration_spelled : (limit : ℕ) (negative : Bool) (n : ℕ) (z : ℤ) (rest : List ℕ) → n / 3600 ≤ limit → limit < 1000 → signed negative n ≡ z → Stops rest → Spells (tz.duration limit negative) (clock_text n ++ rest) z rest
+pub duration_writes : (limit : ℕ) (negative : Bool) (n : ℕ) (z : ℤ) (rest : List ℕ) → n / 3600 ≤ limit → limit < 1000 → signed negative n ≡ z → Stops rest
+    → Writes (tz.duration limit negative) (clock_text n) z rest
 unfolding clock_text tz.duration
-duration_spelled limit negative n z rest l k v stops =
+duration_writes limit negative n z rest l k v stops =
     let e : 3600 * (n / 3600) + 60 * (n / 60 % 60) + n % 60 ≡ n = omega arith in
-    ((n / 3600, n / 60 % 60, n % 60), rest, hours_spelled (n / 3600) (n / 60 % 60) (n % 60) rest (omega arith) (omega arith) (omega arith) stops, ((l, omega arith, omega arith), rw e (sym v), refl))
+    writes_last (hours_writes (n / 3600) (n / 60 % 60) (n % 60) rest (omega arith) (omega arith) (omega arith) stops)
+    ((l, omega arith, omega arith), rw e (sym v), refl)
 
 abs_neg : (n : ℕ) → unsigned_abs (neg_ℤ (pos n)) ≡ n
 abs_neg zero = refl
@@ -133,10 +105,6 @@ duration_front limit negative bytes z rest l pairs ((h, m, s), after, spelled, (
     let y : unsigned_abs z / 60 % 60 ≡ m = omega arith in
     let w : unsigned_abs z % 60 ≡ s = omega arith in
     rw (x, y, w, ← same) f
-
-pub clock_pairs : (n : ℕ) (rest : List ℕ) → n / 3600 < 1000 → Stops rest → AreInPairs rest → AreInPairs (clock_text n ++ rest)
-unfolding clock_text
-clock_pairs n rest l stops pairs = hours_pairs (n / 3600) (n / 60 % 60) (n % 60) rest l (omega arith) (omega arith) stops pairs
 
 -- a time begins with a digit
 pub clock_first : (n : ℕ) (rest : List ℕ) → n / 3600 < 1000 → (d : ℕ) × (ds : List ℕ) × (clock_text n ++ rest ≡ d ∷ ds) × (is_digit d ≡ true)
@@ -190,14 +158,19 @@ signed_front false negative n bytes unsigned rest h f need = elim h [
   ]
 ]
 
-signed_spelled : (negative : Bool) (n : ℕ) (rest : List ℕ) → n / 3600 < 1000 → Spells tz.sign (signed_text negative n ++ rest) negative (clock_text n ++ rest)
+signed_writes : {X : Type 0} {f : Bool → Grammar X} (negative : Bool) (n : ℕ) (x : X) (rest : List ℕ) → n / 3600 < 1000
+    → Writes (f negative) (clock_text n) x rest → Writes (Then tz.sign f) (signed_text negative n) x rest
 unfolding tz.sign
-signed_spelled true n rest l = inr ((λ e. absurd (omega arith)), inl (clock_text n ++ rest, refl, (refl, refl)))
-signed_spelled false n rest l = inr (clock_without plus n rest (omega arith) l, inr (clock_without minus n rest (omega arith) l, (refl, refl)))
-
-signed_pairs : (negative : Bool) (n : ℕ) (rest : List ℕ) → n / 3600 < 1000 → Stops rest → AreInPairs rest → AreInPairs (signed_text negative n ++ rest)
-signed_pairs true n rest l stops pairs = ((λ e. absurd (omega arith)), clock_pairs n rest l stops pairs)
-signed_pairs false n rest l stops pairs = clock_pairs n rest l stops pairs
+signed_writes true n x rest l p = record {
+  spelled = (true, clock_text n ++ rest, inr ((λ e. absurd (omega arith)), inl (clock_text n ++ rest, refl, (refl, refl))), p.spelled);
+  bytes = (refl, p.bytes);
+  pairs = λ r. ((λ e. absurd (omega arith)), p.pairs r);
+}
+signed_writes false n x rest l p = record {
+  spelled = (false, clock_text n ++ rest, inr (clock_without plus n rest (omega arith) l, inr (clock_without minus n rest (omega arith) l, (refl, refl))), p.spelled);
+  bytes = p.bytes;
+  pairs = p.pairs;
+}
 
 -- ---- offsets
 offset_value : (east : ℤ) → signed (not (is_positive east)) (unsigned_abs east) ≡ east
@@ -205,14 +178,15 @@ offset_value (pos zero) = refl
 offset_value (pos (suc n)) = refl
 offset_value (negsuc n) = refl
 
-pub offset_hours : (east : ℤ) → IsWithinDay east → unsigned_abs east / 3600 ≤ 23
+offset_hours : (east : ℤ) → IsWithinDay east → unsigned_abs east / 3600 ≤ 23
 offset_hours (pos n) h = let a = h.1 in let b : n < 86400 = omega (arith, ints) in omega arith
 offset_hours (negsuc n) h = let a = h.0 in let b : suc n < 86400 = omega (arith, ints) in omega arith
 
-pub offset_spelled : (east : ℤ) (rest : List ℕ) → IsWithinDay east → Stops rest → Spells tz.offset (offset_text east ++ rest) east rest
+pub offset_writes : (east : ℤ) (rest : List ℕ) → IsWithinDay east → Stops rest → Writes tz.offset (offset_text east) east rest
 unfolding offset_text tz.offset
-offset_spelled east rest h stops = let l = offset_hours east h in
-    (is_positive east, clock_text (unsigned_abs east) ++ rest, signed_spelled (is_positive east) (unsigned_abs east) rest (omega arith), duration_spelled 23 (not (is_positive east)) (unsigned_abs east) east rest l (omega arith) (offset_value east) stops)
+offset_writes east rest h stops = let l = offset_hours east h in
+    signed_writes (is_positive east) (unsigned_abs east) east rest (omega arith)
+    (duration_writes 23 (not (is_positive east)) (unsigned_abs east) east rest l (omega arith) (offset_value east) stops)
 
 needs_minus : (is_minus : Bool) (h m s : ℕ) (east : ℤ) → seconds_of (not is_minus) h m s ≡ east → is_positive east ≡ true → is_minus ≡ true
 needs_minus true h m s east v e = refl
@@ -231,10 +205,6 @@ offset_front bytes east rest pairs (is_minus, unsigned, sign, d) =
     (duration_front 23 (not is_minus) unsigned east rest (omega arith) (unsigned_pairs bytes is_minus unsigned s pairs) d)
     (needs_minus is_minus x y z east (sym value))
 
-pub offset_pairs : (east : ℤ) (rest : List ℕ) → IsWithinDay east → Stops rest → AreInPairs rest → AreInPairs (offset_text east ++ rest)
-unfolding offset_text
-offset_pairs east rest h stops pairs = let l = offset_hours east h in signed_pairs (is_positive east) (unsigned_abs east) rest (omega arith) stops pairs
-
 -- an offset begins with a digit or a minus
 pub offset_first : (east : ℤ) (rest : List ℕ) → IsWithinDay east → (b : ℕ) × (bs : List ℕ) × (offset_text east ++ rest ≡ b ∷ bs) × (b ≤ 57)
 unfolding offset_text
@@ -250,24 +220,20 @@ time_value (pos zero) = refl
 time_value (pos (suc n)) = refl
 time_value (negsuc n) = refl
 
-pub time_hours : (time : ℤ) → IsWithinWeek time → unsigned_abs time / 3600 ≤ 167
+time_hours : (time : ℤ) → IsWithinWeek time → unsigned_abs time / 3600 ≤ 167
 time_hours (pos n) h = let a = h.1 in let b : n < 604800 = omega (arith, ints) in omega arith
 time_hours (negsuc n) h = let a = h.0 in let b : suc n < 604800 = omega (arith, ints) in omega arith
 
-extended_time_spelled : (time : ℤ) (rest : List ℕ) → IsWithinWeek time → Stops rest → Spells (tz.time true) (time_text time ++ rest) time rest
+pub time_writes : (extended : Bool) (time : ℤ) (rest : List ℕ) → IsTimeOf extended time → Stops rest → Writes (tz.time extended) (time_text time) time rest
 unfolding time_text tz.time tz.time_sign
-extended_time_spelled time rest h stops = let l = time_hours time h in
-    (is_negative time, clock_text (unsigned_abs time) ++ rest, signed_spelled (is_negative time) (unsigned_abs time) rest (omega arith), duration_spelled 167 (is_negative time) (unsigned_abs time) time rest l (omega arith) (time_value time) stops)
-
-plain_time_spelled : (time : ℤ) (rest : List ℕ) → IsPlainTime time → Stops rest → Spells (tz.time false) (time_text time ++ rest) time rest
-unfolding time_text tz.time tz.time_sign
-plain_time_spelled (pos n) rest h stops = let a = h.1 in let b : n < 90_000 = omega (arith, ints) in
-    (false, clock_text n ++ rest, (refl, refl), duration_spelled 24 false n (pos n) rest (omega arith) (omega arith) refl stops)
-plain_time_spelled (negsuc n) rest h stops = let a = h.0 in absurd (omega (arith, ints))
-
-pub time_spelled : (extended : Bool) (time : ℤ) (rest : List ℕ) → IsTimeOf extended time → Stops rest → Spells (tz.time extended) (time_text time ++ rest) time rest
-time_spelled true time rest h stops = extended_time_spelled time rest h stops
-time_spelled false time rest h stops = plain_time_spelled time rest h stops
+time_writes true time rest h stops = let l = time_hours time h in
+    signed_writes (is_negative time) (unsigned_abs time) time rest (omega arith)
+    (duration_writes 167 (is_negative time) (unsigned_abs time) time rest l (omega arith) (time_value time) stops)
+time_writes false (pos n) rest h stops =
+    let a = h.1 in let b : n < 90_000 = omega (arith, ints) in
+    let d = duration_writes 24 false n (pos n) rest (omega arith) (omega arith) refl stops in
+    record { spelled = (false, clock_text n ++ rest, (refl, refl), d.spelled); bytes = d.bytes; pairs = d.pairs }
+time_writes false (negsuc n) rest h stops = let a = h.0 in absurd (omega (arith, ints))
 
 -- a text without extensions has no other times
 pub time_plain : (bytes : List ℕ) (time : ℤ) (rest : List ℕ) → Spells (tz.time false) bytes time rest → IsPlainTime time
@@ -292,7 +258,3 @@ time_front extended bytes time rest pairs (is_minus, unsigned, sign, d) =
     signed_front (is_negative time) is_minus (unsigned_abs time) bytes unsigned rest s
     (duration_front (time_limit extended) is_minus unsigned time rest (limit_small extended) (unsigned_pairs bytes is_minus unsigned s pairs) d)
     (time_minus is_minus x y z time (sym value))
-
-pub time_pairs : (time : ℤ) (rest : List ℕ) → IsWithinWeek time → Stops rest → AreInPairs rest → AreInPairs (time_text time ++ rest)
-unfolding time_text
-time_pairs time rest h stops pairs = let l = time_hours time h in signed_pairs (is_negative time) (unsigned_abs time) rest (omega arith) stops pairs

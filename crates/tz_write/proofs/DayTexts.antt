@@ -1,14 +1,15 @@
 -- The texts of days and of the times after them, and of the offset of daylight saving time.
+use Rattle.tz_base.specs.Grammar.{Grammar, Then}
 use Rattle.tz_info.specs.TzGrammar as tz
 use Rattle.tz_info.specs.declared.rule.day.DayForm.TheVariants.{Julian0, Julian1, MonthWeekday}
-use Rattle.tz_write.proofs.Words.{AreInPairs, Bool, DayForm, DayTime, Decides-int_eq, IsNumber, IsPlainTime, IsRuleDay, IsTimeOf, IsWithinDay, IsWithinWeek}
-use Rattle.tz_write.proofs.Words.{List, NoneFirst, Spells, Without, ap, append_assoc, arith, both_ways, comma, cond, date_max, date_text, day_max, day_text}
-use Rattle.tz_write.proofs.Words.{decimal, dot, dst_offset_text, false, inl, inr, int_eq, ints, is_digit, letter_J, letter_M, negsuc, offset_text, pos, refl}
-use Rattle.tz_write.proofs.Words.{slash, subst, suc, sym, time_after, time_text, true, zero, ℕ, ℤ, [], ◌++◌, ◌+ℤ◌, ◌<◌, ◌∙◌, ◌∷◌, ◌≡◌, ◌≢◌, ◌≤ℤ◌, ◌≤◌, ◌⊎◌}
-use Rattle.tz_write.proofs.Clocks.{Stops, clock_without, offset_first, offset_front, offset_pairs, offset_spelled, time_front, time_pairs, time_plain}
-use Rattle.tz_write.proofs.Clocks.{time_spelled}
-use Rattle.tz_write.proofs.Decimals.{digit_most, first_digit, number_front, number_spelled, pairs_number}
-use Rattle.tz_write.proofs.Shortest.{Front, front_any, front_cons, front_nothing, front_then, pairs_after}
+use Rattle.tz_write.proofs.Words.{AreInPairs, Bool, DayForm, DayTime, Decides-int_eq, IsNumber, IsPlainTime, IsRuleDay, IsTimeOf, IsWithinDay, List, NoneFirst}
+use Rattle.tz_write.proofs.Words.{Spells, Without, ap, append_assoc, arith, both_ways, comma, cond, date_max, date_text, day_max, day_text, decimal, dot}
+use Rattle.tz_write.proofs.Words.{dst_offset_text, false, inl, inr, int_eq, ints, is_digit, letter_J, letter_M, negsuc, offset_text, pos, refl, slash, subst}
+use Rattle.tz_write.proofs.Words.{suc, sym, time_after, time_text, true, zero, ℕ, ℤ, [], ◌++◌, ◌+ℤ◌, ◌<◌, ◌∙◌, ◌∷◌, ◌≡◌, ◌≢◌, ◌≤ℤ◌, ◌≤◌, ◌⊎◌}
+use Rattle.tz_write.proofs.Clocks.{Stops, clock_without, offset_first, offset_front, offset_writes, time_front, time_plain, time_writes}
+use Rattle.tz_write.proofs.Decimals.{digit_most, first_digit, number_front, number_writes}
+use Rattle.tz_write.proofs.Shortest.{Front, front_any, front_cons, front_nothing, front_on, front_optional, front_then}
+use Rattle.tz_write.proofs.TextBytes.{Writes, all_append, is_text_byte, writes_byte, writes_last, writes_mark, writes_nothing, writes_other, writes_then}
 
 -- what may stand after an offset or a day: nothing, or a comma
 abbrev pub IsEndOrComma : List ℕ → Type 0
@@ -30,44 +31,18 @@ no_slash rest h = elim h [
 no_letters : (t n : ℕ) (rest : List ℕ) → 57 < t → n < 1000 → Without t (decimal n ++ rest)
 no_letters t n rest h l = let f = first_digit n l in let m = digit_most f.0 f.3 in rw f.2 (λ e. absurd (omega arith))
 
-pub date_spelled : (form : DayForm) (rest : List ℕ) → IsRuleDay form → NoneFirst is_digit rest → Spells tz.date (date_text form ++ rest) form rest
+date_writes : (form : DayForm) (rest : List ℕ) → IsRuleDay form → NoneFirst is_digit rest → Writes tz.date (date_text form) form rest
 unfolding tz.date tz.month_date tz.julian_date tz.day_number tz.rule_day
-date_spelled (Julian1 n) rest h none = let l = h.1 in
-    inr ((λ e. absurd (omega arith)), inl (decimal n ++ rest, refl, (n, rest, number_spelled day_max n rest (omega arith) (omega arith) none, (h, refl, refl))))
-date_spelled (Julian0 n) rest h none =
-    inr (no_letters letter_M n rest (omega arith) (omega arith), inr (no_letters letter_J n rest (omega arith) (omega arith), (n, rest, number_spelled day_max n rest (omega arith) (omega arith) none, (h, refl, refl))))
-date_spelled (MonthWeekday m w d) rest h none =
+date_writes (Julian1 n) rest h none = let l = h.1 in
+    writes_other (λ e. absurd (omega arith)) (writes_mark refl (writes_last (number_writes day_max n rest (omega arith) (omega arith) none) (h, refl, refl)))
+date_writes (Julian0 n) rest h none =
+    writes_other (no_letters letter_M n rest (omega arith) (omega arith)) (writes_other (no_letters letter_J n rest (omega arith) (omega arith))
+    (writes_last (number_writes day_max n rest (omega arith) (omega arith) none) (h, refl, refl)))
+date_writes (MonthWeekday m w d) rest h none =
     let a = h.1 in let b = h.3 in let c = h.4 in
-    let at_weekday = decimal d ++ rest in
-    let at_week = decimal w ++ (dot ∷ at_weekday) in
-    let e : (decimal w ++ (dot ∷ decimal d)) ++ rest ≡ at_week = append_assoc (decimal w) (dot ∷ decimal d) rest in
-    let f : (decimal m ++ (dot ∷ decimal w ++ (dot ∷ decimal d))) ++ rest ≡ decimal m ++ (dot ∷ at_week) =
-    append_assoc (decimal m) (dot ∷ decimal w ++ (dot ∷ decimal d)) rest ∙ ap (λ (z : List ℕ). decimal m ++ (dot ∷ z)) e in
-    inl (
-      (decimal m ++ (dot ∷ decimal w ++ (dot ∷ decimal d))) ++ rest,
-      refl,
-      rw f (
-        m,
-        dot ∷ at_week,
-        number_spelled date_max m (dot ∷ at_week) (omega arith) (omega arith) refl,
-        (
-          tt,
-          at_week,
-          refl,
-          (
-            w,
-            dot ∷ at_weekday,
-            number_spelled date_max w (dot ∷ at_weekday) (omega arith) (omega arith) refl,
-            (
-              tt,
-              at_weekday,
-              refl,
-              (d, rest, number_spelled date_max d rest (omega arith) (omega arith) none, (h, refl, refl)),
-            ),
-          ),
-        ),
-      ),
-    )
+    writes_mark refl (writes_then (number_writes date_max m _ (omega arith) (omega arith) refl) (writes_byte refl
+    (writes_then (number_writes date_max w _ (omega arith) (omega arith) refl)
+    (writes_byte refl (writes_last (number_writes date_max d rest (omega arith) (omega arith) none) (h, refl, refl))))))
 
 month_front : (bytes : List ℕ) (rest : List ℕ) (m w d : ℕ) (at_week at_weekday : List ℕ) → IsRuleDay (MonthWeekday m w d) → IsNumber date_max bytes m (dot ∷ at_week) → IsNumber date_max at_week w (dot ∷ at_weekday) → IsNumber date_max at_weekday d rest → Front (decimal m ++ (dot ∷ decimal w ++ (dot ∷ decimal d))) bytes rest
 month_front bytes rest m w d at_week at_weekday h x y z =
@@ -90,25 +65,16 @@ date_front bytes form rest (inr (_, inl (after, is, (n, end, number, (test, valu
 date_front bytes form rest (inr (_, inr (_, (n, end, number, (test, value, same))))) =
     let fits : n ≤ 365 = test in rw (value, ← same) (number_front day_max bytes n end (omega arith) number)
 
-pub date_pairs : (form : DayForm) (rest : List ℕ) → IsRuleDay form → AreInPairs rest → AreInPairs (date_text form ++ rest)
-date_pairs (Julian1 n) rest h pairs = let l = h.1 in ((λ e. absurd (omega arith)), pairs_number n rest (omega arith) pairs)
-date_pairs (Julian0 n) rest h pairs = pairs_number n rest (omega arith) pairs
-date_pairs (MonthWeekday m w d) rest h pairs =
-    let a = h.1 in let b = h.3 in let c = h.4 in
-    let days = pairs_number d rest (omega arith) pairs in
-    let weeks = pairs_number w (dot ∷ (decimal d ++ rest)) (omega arith) ((λ e. absurd (omega arith)), days) in
-    let months = pairs_number m (dot ∷ (decimal w ++ (dot ∷ (decimal d ++ rest)))) (omega arith) ((λ e. absurd (omega arith)), weeks) in
-    ((λ e. absurd (omega arith)), rw (append_assoc (decimal m) (dot ∷ decimal w ++ (dot ∷ decimal d)) rest, append_assoc (decimal w) (dot ∷ decimal d) rest) months)
-
 -- ---- the time after a date
 is_two : (time : ℤ) → int_eq time (pos 7_200) ≡ true → time ≡ pos 7_200
 is_two time e = (Decides-int_eq time (pos 7_200)).0 e
 
-after_spelled : (extended : Bool) (time : ℤ) (rest : List ℕ) → IsTimeOf extended time → IsEndOrComma rest → Spells (tz.optional_time extended) (time_after time ++ rest) time rest
+after_writes : (extended : Bool) (time : ℤ) (rest : List ℕ) → IsTimeOf extended time → IsEndOrComma rest
+    → Writes (tz.optional_time extended) (time_after time) time rest
 unfolding tz.optional_time
-after_spelled extended time rest h c = elim (int_eq time (pos 7_200)) as (λ t. int_eq time (pos 7_200) ≡ t → Spells (tz.optional_time extended) (cond t [] (slash ∷ time_text time) ++ rest) time rest) [
-  | true ↦ λ e. inr (no_slash rest c, (is_two time e, refl))
-  | false ↦ λ e. inl (time_text time ++ rest, refl, time_spelled extended time rest h (stops rest c))
+after_writes extended time rest h c = elim (int_eq time (pos 7_200)) as (λ t. int_eq time (pos 7_200) ≡ t → Writes (tz.optional_time extended) (cond t [] (slash ∷ time_text time)) time rest) [
+  | true ↦ λ e. writes_other (no_slash rest c) (writes_nothing (is_two time e))
+  | false ↦ λ e. writes_mark refl (time_writes extended time rest h (stops rest c))
 ] refl
 
 after_stops : (time : ℤ) (rest : List ℕ) → IsEndOrComma rest → NoneFirst is_digit (time_after time ++ rest)
@@ -119,22 +85,9 @@ after_given extended bytes after time rest e pairs h = front_cons slash (time_te
 
 after_front : (extended : Bool) (bytes : List ℕ) (time : ℤ) (rest : List ℕ) → AreInPairs bytes → Spells (tz.optional_time extended) bytes time rest → Front (time_after time) bytes rest
 unfolding tz.optional_time
-after_front extended bytes time rest pairs h = elim (int_eq time (pos 7_200)) as (λ t. int_eq time (pos 7_200) ≡ t → Front (cond t [] (slash ∷ time_text time)) bytes rest) [
-  | true ↦ λ e. elim h [
-    | inl a ↦ front_any (slash ∷ time_text time) bytes rest (after_given extended bytes a.0 time rest a.1 pairs a.2)
-    | inr b ↦ front_nothing bytes rest b.1.1
-  ]
-  | false ↦ λ e. elim h [
-    | inl a ↦ after_given extended bytes a.0 time rest a.1 pairs a.2
-    | inr b ↦ absurd (both_ways _ e ((Decides-int_eq time (pos 7_200)).1 b.1.0))
-  ]
-] refl
-
-after_pairs : (time : ℤ) (rest : List ℕ) → IsWithinWeek time → IsEndOrComma rest → AreInPairs rest → AreInPairs (time_after time ++ rest)
-after_pairs time rest h c pairs = elim (int_eq time (pos 7_200)) as (λ t. AreInPairs (cond t [] (slash ∷ time_text time) ++ rest)) [
-  | true ↦ pairs
-  | false ↦ ((λ e. absurd (omega arith)), time_pairs time rest h (stops rest c) pairs)
-]
+after_front extended bytes time rest pairs h =
+    front_optional slash (pos 7_200) (tz.time extended) (int_eq time (pos 7_200)) (λ after is p. after_given extended bytes after time rest is pairs p)
+    (λ e same. both_ways _ e ((Decides-int_eq time (pos 7_200)).1 same)) h
 
 after_plain : (bytes : List ℕ) (time : ℤ) (rest : List ℕ) → Spells (tz.optional_time false) bytes time rest → IsPlainTime time
 unfolding tz.optional_time
@@ -144,18 +97,16 @@ after_plain bytes time rest h = elim h [
 ]
 
 -- ---- days
-pub day_spelled : (extended : Bool) (d : DayTime) (rest : List ℕ) → IsRuleDay d.day → IsTimeOf extended d.time → IsEndOrComma rest → Spells (tz.day extended) (day_text d ++ rest) d rest
+pub day_writes : (extended : Bool) (d : DayTime) (rest : List ℕ) → IsRuleDay d.day → IsTimeOf extended d.time → IsEndOrComma rest
+    → Writes (tz.day extended) (day_text d) d rest
 unfolding tz.day
-day_spelled extended d rest h t c = rw (append_assoc (date_text d.day) (time_after d.time) rest) (d.day, time_after d.time ++ rest, date_spelled d.day (time_after d.time ++ rest) h (after_stops d.time rest c), (d.time, rest, after_spelled extended d.time rest t c, (refl, refl)))
+day_writes extended d rest h t c = writes_then (date_writes d.day (time_after d.time ++ rest) h (after_stops d.time rest c))
+    (writes_last (after_writes extended d.time rest t c) (refl, refl))
 
 pub day_front : (extended : Bool) (bytes : List ℕ) (d : DayTime) (rest : List ℕ) → AreInPairs bytes → Spells (tz.day extended) bytes d rest → Front (day_text d) bytes rest
 unfolding tz.day
 day_front extended bytes d rest pairs (form, after, date, (at, end, time, (value, same))) =
-    let f = date_front bytes form after date in
-    rw (value, ← same) (front_then (date_text form) (time_after at) bytes after end f (after_front extended after at end (pairs_after _ bytes after f pairs) time))
-
-pub day_pairs : (d : DayTime) (rest : List ℕ) → IsRuleDay d.day → IsWithinWeek d.time → IsEndOrComma rest → AreInPairs rest → AreInPairs (day_text d ++ rest)
-day_pairs d rest h t c pairs = rw (append_assoc (date_text d.day) (time_after d.time) rest) (date_pairs d.day (time_after d.time ++ rest) h (after_pairs d.time rest t c pairs))
+    rw (value, ← same) (front_on pairs (date_front bytes form after date) (λ p. after_front extended after at end p time))
 
 pub day_plain : (bytes : List ℕ) (d : DayTime) (rest : List ℕ) → Spells (tz.day false) bytes d rest → IsPlainTime d.time
 unfolding tz.day
@@ -174,11 +125,26 @@ next_within std dst v h = let l = h.1 in omega (arith, ints)
 some_offset : (east : ℤ) (rest : List ℕ) → IsWithinDay east → offset_text east ++ rest ≢ []
 some_offset east rest h = let f = offset_first east rest h in λ e. let k = f.2 in cc
 
-pub dst_offset_spelled : (std dst : ℤ) (rest : List ℕ) → IsWithinDay dst → Spells (tz.dst_offset std) (dst_offset_text std dst ++ (comma ∷ rest)) dst rest
+-- the offset has its comma after it
+pub dst_offset_writes : {X : Type 0} {f : ℤ → Grammar X} (std dst : ℤ) (after : List ℕ) (x : X) (rest : List ℕ) → IsWithinDay dst → Writes (f dst) after x rest
+    → Writes (Then (tz.dst_offset std) f) (dst_offset_text std dst ++ (comma ∷ after)) x rest
 unfolding tz.dst_offset tz.next_hour tz.given_offset tz.more
-dst_offset_spelled std dst rest h = elim (int_eq dst (std +ℤ pos 3_600)) as (λ t. int_eq dst (std +ℤ pos 3_600) ≡ t → Spells (tz.dst_offset std) (cond t [] (offset_text dst) ++ (comma ∷ rest)) dst rest) [
-  | true ↦ λ e. let v = (Decides-int_eq dst _).0 e in inl (rest, refl, (next_within std dst v h, v, refl))
-  | false ↦ λ e. inr (no_comma dst (comma ∷ rest) h, (tt, _, inr (some_offset dst (comma ∷ rest) h, (refl, refl)), (dst, comma ∷ rest, offset_spelled dst (comma ∷ rest) h (refl, λ x. absurd (omega arith)), (tt, _, inr ((λ e. cc), (refl, refl)), (tt, rest, refl, (refl, refl))))))
+dst_offset_writes {f = f} std dst after x rest h p = elim (int_eq dst (std +ℤ pos 3_600)) as (λ t. int_eq dst (std +ℤ pos 3_600) ≡ t → Writes (Then (tz.dst_offset std) f) (cond t [] (offset_text dst) ++ (comma ∷ after)) x rest) [
+  | true ↦ λ e. let v = (Decides-int_eq dst _).0 e in record {
+    spelled = (dst, after ++ rest, inl (after ++ rest, refl, (next_within std dst v h, v, refl)), p.spelled);
+    bytes = (refl, p.bytes);
+    pairs = λ r. ((λ e. absurd (omega arith)), p.pairs r);
+  }
+  | false ↦ λ e.
+      let o = offset_writes dst (comma ∷ (after ++ rest)) h (refl, λ x. absurd (omega arith)) in
+      let given : Spells tz.given_offset (offset_text dst ++ (comma ∷ (after ++ rest))) dst (after ++ rest) =
+      (tt, _, inr (some_offset dst (comma ∷ (after ++ rest)) h, (refl, refl)), (dst, comma ∷ (after ++ rest), o.spelled, (tt, _, inr ((λ e. cc), (refl, refl)), (tt, after ++ rest, refl, (refl, refl))))) in
+      record {
+        spelled = rw (append_assoc (offset_text dst) (comma ∷ after) rest)
+            (dst, after ++ rest, inr (no_comma dst (comma ∷ (after ++ rest)) h, given), p.spelled);
+        bytes = all_append is_text_byte (offset_text dst) (comma ∷ after) o.bytes (refl, p.bytes);
+        pairs = λ r. rw (append_assoc (offset_text dst) (comma ∷ after) rest) (o.pairs ((λ e. absurd (omega arith)), p.pairs r));
+      }
 ] refl
 
 given_front : (bytes : List ℕ) (dst : ℤ) (rest : List ℕ) → AreInPairs bytes → Spells tz.given_offset bytes dst rest → Front (offset_text dst) bytes (comma ∷ rest)
@@ -200,9 +166,3 @@ dst_offset_front std bytes dst rest pairs h = elim (int_eq dst (std +ℤ pos 3_6
     | inr b ↦ given_front bytes dst rest pairs b.1
   ]
 ] refl
-
-pub dst_offset_pairs : (std dst : ℤ) (rest : List ℕ) → IsWithinDay dst → AreInPairs (comma ∷ rest) → AreInPairs (dst_offset_text std dst ++ (comma ∷ rest))
-dst_offset_pairs std dst rest h pairs = elim (int_eq dst (std +ℤ pos 3_600)) as (λ t. AreInPairs (cond t [] (offset_text dst) ++ (comma ∷ rest))) [
-  | true ↦ pairs
-  | false ↦ offset_pairs dst (comma ∷ rest) h (refl, λ x. absurd (omega arith)) pairs
-]

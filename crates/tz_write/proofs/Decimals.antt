@@ -2,7 +2,9 @@
 use Rattle.tz_write.proofs.Words.{AllDigits, AreInPairs, IsNumber, List, NoneFirst, TwoDigits, arith, both_ways, cases_lt, colon, decimal, decimal_digit}
 use Rattle.tz_write.proofs.Words.{decimal_step, inl, inr, is_digit, length, nat_tests, pair_text, refl, subst, true, value_from, ℕ, [], ◌%◌, ◌++◌, ◌+◌, ◌/◌}
 use Rattle.tz_write.proofs.Words.{◌<◌, ◌∷◌, ◌≡◌, ◌≤◌}
+use Rattle.tz_base.specs.Grammar.{Number}
 use Rattle.tz_write.proofs.Shortest.{Best, Front, front_cons}
+use Rattle.tz_write.proofs.TextBytes.{Writes, digits_are}
 
 is_digit_of : (d : ℕ) → d < 10 → is_digit (48 + d) ≡ true
 is_digit_of d h = grind (arith, nat_tests)
@@ -19,22 +21,26 @@ two n more low = rw (decimal_step n more (omega arith), decimal_digit (n / 10) (
 three : (n : ℕ) → 100 ≤ n → n < 1000 → decimal n ≡ (48 + n / 10 / 10) ∷ (48 + n / 10 % 10) ∷ (48 + n % 10) ∷ []
 three n more low = rw (decimal_step n (omega arith) (omega arith), two (n / 10) (omega arith) (omega arith)) refl
 
+pairs_digits : (ds rest : List ℕ) → AllDigits ds → AreInPairs rest → AreInPairs (ds ++ rest)
+pairs_digits [] rest each h = h
+pairs_digits (d ∷ ds) rest each h = let m = digit_most d each.0 in ((λ e. absurd (omega arith)), pairs_digits ds rest each.1 h)
+
 -- ---- what they spell
-record Spells (n : ℕ) (ds : List ℕ) : Type 0 where
+record Digits (n : ℕ) (ds : List ℕ) : Type 0 where
   pub each : AllDigits ds
   pub some : 0 < length ds
   pub value : value_from 0 ds ≡ n
 
-spells_one : (n : ℕ) → n < 10 → Spells n ((48 + n) ∷ [])
+spells_one : (n : ℕ) → n < 10 → Digits n ((48 + n) ∷ [])
 spells_one n h = record { each = (is_digit_of n h, tt); some = omega arith; value = omega arith }
 
-spells_two : (n : ℕ) → n < 100 → Spells n ((48 + n / 10) ∷ (48 + n % 10) ∷ [])
+spells_two : (n : ℕ) → n < 100 → Digits n ((48 + n / 10) ∷ (48 + n % 10) ∷ [])
 spells_two n h = record { each = (is_digit_of (n / 10) (omega arith), (is_digit_of (n % 10) (omega arith), tt)); some = omega arith; value = omega arith }
 
-spells_three : (n : ℕ) → n < 1000 → Spells n ((48 + n / 10 / 10) ∷ (48 + n / 10 % 10) ∷ (48 + n % 10) ∷ [])
+spells_three : (n : ℕ) → n < 1000 → Digits n ((48 + n / 10 / 10) ∷ (48 + n / 10 % 10) ∷ (48 + n % 10) ∷ [])
 spells_three n h = record { each = (is_digit_of (n / 10 / 10) (omega arith), (is_digit_of (n / 10 % 10) (omega arith), (is_digit_of (n % 10) (omega arith), tt))); some = omega arith; value = omega arith }
 
-spelled : (n : ℕ) → n < 1000 → Spells n (decimal n)
+spelled : (n : ℕ) → n < 1000 → Digits n (decimal n)
 spelled n h = elim (cases_lt n 10) [
   | inl a ↦ rw (decimal_digit n a) (spells_one n a)
   | inr a ↦ elim (cases_lt n 100) [
@@ -43,13 +49,21 @@ spelled n h = elim (cases_lt n 10) [
   ]
 ]
 
-pub number_spelled : (max n : ℕ) (rest : List ℕ) → n < 1000 → n ≤ max → NoneFirst is_digit rest → IsNumber max (decimal n ++ rest) n rest
-number_spelled max n rest h l none = let s = spelled n h in
-    record { digits = decimal n; whole = refl; each = s.each; some = s.some; longest = none; value = s.value; limit = l }
+digits_write : (max n : ℕ) (ds rest : List ℕ) → Digits n ds → n ≤ max → NoneFirst is_digit rest → Writes (Number max) ds n rest
+digits_write max n ds rest s l none = record {
+  spelled = record { digits = ds; whole = refl; each = s.each; some = s.some; longest = none; value = s.value; limit = l };
+  bytes = digits_are ds s.each;
+  pairs = pairs_digits ds rest s.each;
+}
 
-pub pair_spelled : (max n : ℕ) (rest : List ℕ) → n < 100 → n ≤ max → NoneFirst is_digit rest → IsNumber max ((48 + n / 10) ∷ (48 + n % 10) ∷ rest) n rest
-pair_spelled max n rest h l none = let s = spells_two n h in
-    record { digits = (48 + n / 10) ∷ (48 + n % 10) ∷ []; whole = refl; each = s.each; some = s.some; longest = none; value = s.value; limit = l }
+pub number_writes : (max n : ℕ) (rest : List ℕ) → n < 1000 → n ≤ max → NoneFirst is_digit rest → Writes (Number max) (decimal n) n rest
+number_writes max n rest h l none = digits_write max n (decimal n) rest (spelled n h) l none
+
+pub pair_writes : (max n : ℕ) (rest : List ℕ) → n < 100 → n ≤ max → NoneFirst is_digit rest → Writes (Number max) ((48 + n / 10) ∷ (48 + n % 10) ∷ []) n rest
+pair_writes max n rest h l none = digits_write max n ((48 + n / 10) ∷ (48 + n % 10) ∷ []) rest (spells_two n h) l none
+
+pub two_digits : (n : ℕ) (rest : List ℕ) → n < 100 → NoneFirst is_digit rest → TwoDigits ((48 + n / 10) ∷ (48 + n % 10) ∷ rest)
+two_digits n rest h none = (is_digit_of (n / 10) (omega arith), is_digit_of (n % 10) (omega arith), none)
 
 -- ---- no fewer digits do
 least_one : (n d : ℕ) → is_digit d ≡ true → value_from 0 (d ∷ []) ≡ n → Best (decimal n) (d ∷ [])
@@ -122,18 +136,6 @@ pair_front max bytes after n rest e pairs p =
     let d = paired p.digits rest n p.each p.some p.longest p.value (subst TwoDigits p.whole (h.0 refl)) in
     front_cons colon _ bytes after rest e (record { front = p.digits; whole = p.whole; best = inl d })
 
--- ---- digits and colons
-pub pairs_digits : (ds rest : List ℕ) → AllDigits ds → AreInPairs rest → AreInPairs (ds ++ rest)
-pairs_digits [] rest each h = h
-pairs_digits (d ∷ ds) rest each h = let m = digit_most d each.0 in ((λ e. absurd (omega arith)), pairs_digits ds rest each.1 h)
-
-pub pairs_number : (n : ℕ) (rest : List ℕ) → n < 1000 → AreInPairs rest → AreInPairs (decimal n ++ rest)
-pairs_number n rest h p = pairs_digits (decimal n) rest (spelled n h).each p
-
-pub pairs_pair : (n : ℕ) (rest : List ℕ) → n < 100 → NoneFirst is_digit rest → AreInPairs rest → AreInPairs (pair_text n ++ rest)
-pairs_pair n rest h none p = let s = spells_two n h in
-    ((λ e. (s.each.0, s.each.1.0, none)), pairs_digits ((48 + n / 10) ∷ (48 + n % 10) ∷ []) rest s.each p)
-
 -- a number begins with a digit
 pub first_digit : (n : ℕ) → n < 1000 → (d : ℕ) × (ds : List ℕ) × (decimal n ≡ d ∷ ds) × (is_digit d ≡ true)
 first_digit n h = first (decimal n) (spelled n h).some (spelled n h).each
@@ -141,9 +143,3 @@ first_digit n h = first (decimal n) (spelled n h).some (spelled n h).each
     first : (xs : List ℕ) → 0 < length xs → AllDigits xs → (d : ℕ) × (ds : List ℕ) × (xs ≡ d ∷ ds) × (is_digit d ≡ true)
     first [] s e = absurd (omega arith)
     first (x ∷ xs) s e = (x, xs, refl, e.0)
-
-pub digits_of : (n : ℕ) → n < 1000 → AllDigits (decimal n)
-digits_of n h = (spelled n h).each
-
-pub pair_digits : (n : ℕ) → n < 100 → AllDigits ((48 + n / 10) ∷ (48 + n % 10) ∷ [])
-pair_digits n h = (spells_two n h).each

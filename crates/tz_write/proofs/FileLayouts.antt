@@ -1,15 +1,14 @@
 -- Where any designations have the names of the types at places that a byte can name, those that are laid have them.
-use Rattle.tz_write.proofs.Words.{All, All-cons, All-head, All-nil, All-tail, All-weaker, AreNamesIn, AreNotPlacedBefore, ArePlaced, AreShortest, Bool}
-use Rattle.tz_write.proofs.Words.{HasNoZero, HasPlace, HavePlaces, In_order, IsFirstPlaced, IsLaid, IsNameOrNone, IsNamedIn, IsPlacedFrom, List, LocalType}
-use Rattle.tz_write.proofs.Words.{MatchOption, None, Option, Otherwise, Some, StandsAt, ap, append-nil, append_assoc, arith, before_last, before_zero, cases_lt}
-use Rattle.tz_write.proofs.Words.{cond, drop, drop-append_seam, ends, false, get_or, inl, inr, laid, laid_from, length, length-append, nat_lt, nat_tests}
-use Rattle.tz_write.proofs.Words.{place_of, refl, subst, suc, sym, text_at, text_or_none, true, with_text, zero, ℕ, [], ◌*◌, ◌++◌, ◌+◌, ◌<◌, ◌==◌, ◌∙◌, ◌∷◌}
-use Rattle.tz_write.proofs.Words.{◌≡◌, ◌≢◌, ◌≤◌, ◌⊎◌}
+use Rattle.tz_write.proofs.Words.{All, All-cons, All-head, All-nil, All-tail, All-weaker, AreNamesIn, AreNotPlacedBefore, ArePlaced, AreShortest, HasNoZero}
+use Rattle.tz_write.proofs.Words.{HasPlace, HavePlaces, In_order, IsFirstPlaced, IsLaid, IsNameOrNone, IsNamedIn, IsPlacedFrom, List, LocalType, MatchOption}
+use Rattle.tz_write.proofs.Words.{None, Option, Otherwise, Some, StandsAt, ap, append-nil, append_assoc, arith, before_last, before_zero, both_ways, cases_lt}
+use Rattle.tz_write.proofs.Words.{drop, drop-append_seam, ends, false, get_or, inl, inr, laid, laid_from, length, length-append, nat_tests, place_of, refl}
+use Rattle.tz_write.proofs.Words.{subst, suc, sym, text_at, text_or_none, true, with_text, zero, ℕ, [], ◌*◌, ◌++◌, ◌+◌, ◌<◌, ◌==◌, ◌∙◌, ◌∷◌, ◌≡◌, ◌≢◌, ◌≤◌, ◌⊎◌}
 use Rattle.tz_write.specs.FileDesignations.{text_of}
 use Rattle.tz_write.proofs.FileMeetings.{Behind, Ends, Has_end, In_front, Is_end, Meeting, Stands, meet}
-use Rattle.tz_write.proofs.FileNames.{In, end_in, ends_again, ends_of, in_stands, less_again, not_less, place_behind, place_kept, place_of_put, put_in}
-use Rattle.tz_write.proofs.FileRecords.{has_text, less, no_zero}
-use Rattle.tz_write.proofs.FileRoom.{Given, Room, before_filled, before_in, before_keeps, before_room, kept, no_front, put, room_of}
+use Rattle.tz_write.proofs.FileNames.{In, end_in, ends_again, ends_of, in_stands, place_behind, place_kept, place_of_put, put_in}
+use Rattle.tz_write.proofs.FileRecords.{has_text, no_zero}
+use Rattle.tz_write.proofs.FileRoom.{Given, Room, before_filled, before_keeps, before_passed, by_text, kept, no_front, put, put_is, room_of}
 
 -- ---- texts
 name_size : (name : Option (List ℕ)) → IsNameOrNone name → (length (text_or_none name) ≤ 7) × ((length (text_or_none name) ≡ 0) ⊎ (3 ≤ length (text_or_none name)))
@@ -19,9 +18,6 @@ name_size (Some text) h = (h.1, inr h.0)
 nothing : (s : List ℕ) → length s ≡ 0 → s ≡ []
 nothing [] h = refl
 nothing (x ∷ xs) h = absurd (omega (arith, h))
-
-ends_itself : (text : List ℕ) → Ends text text
-ends_itself text = record { front = []; is = refl }
 
 whole_size : (bytes b x a : List ℕ) → bytes ≡ b ++ (x ++ (0 ∷ a)) → length bytes ≡ length b + length x + 1 + length a
 whole_size bytes b x a e = omega (arith, ap length e, length-append b (x ++ (0 ∷ a)), length-append x (0 ∷ a))
@@ -41,39 +37,15 @@ text_found designations text none h =
     ap (λ (n : ℕ). drop n designations) (sym s.at) ∙ (ap (λ (d : List ℕ). drop (length s.before) d) s.whole ∙ drop-append_seam s.before (text ++ (0 ∷ s.after))) in
     ap before_zero gone ∙ front_is text s.after none
 
--- ---- the type whose text ends last
-pub record Greatest (key : LocalType → ℕ) (types : List LocalType) : Type 0 where
-  pub most : LocalType
-  pub place : ℕ
-  pub inside : place < length types
-  pub is : (d : LocalType) → get_or types place d ≡ most
-  pub above : All (λ t. key t ≤ key most) types
-
-greatest : (key : LocalType → ℕ) (t : LocalType) (ts : List LocalType) → Greatest key (t ∷ ts)
-greatest key t [] = record {
-  most = t;
-  place = 0;
-  inside = omega arith;
-  is = λ d. refl;
-  above = All-cons (λ x. key x ≤ key t) t [] (omega arith) (All-nil (λ x. key x ≤ key t));
-}
+-- ---- the place of a type whose key is the greatest
+greatest : (key : LocalType → ℕ) (t : LocalType) (ts : List LocalType) → (place : ℕ) × (place < length (t ∷ ts))
+    × ((d : LocalType) → All (λ x. key x ≤ key (get_or (t ∷ ts) place d)) (t ∷ ts))
+greatest key t [] = (0, omega arith, λ d. All-cons (λ x. key x ≤ key t) t [] (omega arith) (All-nil (λ x. key x ≤ key t)))
 greatest key t (u ∷ us) =
-    let r = greatest key u us in
-    elim (cases_lt (key r.most) (key t)) [
-      | inl l ↦ record {
-        most = t;
-        place = 0;
-        inside = omega arith;
-        is = λ d. refl;
-        above = All-cons (λ x. key x ≤ key t) t (u ∷ us) (omega arith) (All-weaker (λ x. key x ≤ key r.most) (λ x. key x ≤ key t) (λ x k. omega (arith, k, l)) (u ∷ us) r.above);
-      }
-      | inr m ↦ record {
-        most = r.most;
-        place = suc r.place;
-        inside = omega (arith, r.inside);
-        is = λ d. r.is d;
-        above = All-cons (λ x. key x ≤ key r.most) t (u ∷ us) m r.above;
-      }
+    let (place, inside, above) = greatest key u us in
+    elim (cases_lt (key (get_or (u ∷ us) place u)) (key t)) [
+      | inl l ↦ (0, omega arith, λ d. All-cons (λ x. key x ≤ key t) t (u ∷ us) (omega arith) (All-weaker (λ x. key x ≤ key (get_or (u ∷ us) place u)) (λ x. key x ≤ key t) (λ x k. omega (arith, k, l)) (u ∷ us) (above u)))
+      | inr m ↦ (suc place, omega (arith, inside), λ d. All-cons (λ x. key x ≤ key (get_or (u ∷ us) place d)) t (u ∷ us) (omega (arith, m, above d place u inside)) (above d))
     ]
 
 -- ---- designations that have the names
@@ -122,22 +94,9 @@ where_is bytes m t sm st top =
     (meet sm.stands.before (text_of m) sm.stands.after st.stands.before (text_of t) st.stands.after sm.stands.ends st.stands.ends (sym sm.stands.whole ∙ st.stands.whole))
 
 -- ---- laid with that text as the last
-low_by : (p q : Bool) (designations more text : List ℕ) → In designations text → place_of text (cond p designations (cond q (designations ++ more) designations)) ≤ place_of text designations
-low_by true q designations more text h = omega arith
-low_by false true designations more text h = place_kept text designations more h
-low_by false false designations more text h = omega arith
-
 kept_low : (designations other text : List ℕ) → In designations text → place_of text (with_text designations other) ≤ place_of text designations
-unfolding with_text
-kept_low designations other text h =
-    low_by (nat_lt (place_of other designations) (length designations)) (nat_lt (length designations + length other) 263) designations (other ++ 0 ∷ []) text h
-
-not_less_again : (a b : ℕ) → b ≤ a → nat_lt a b ≡ false
-not_less_again a b h = grind (arith, nat_tests)
-
-put_is : (designations text : List ℕ) → length designations ≤ place_of text designations → length designations + length text < 263 → with_text designations text ≡ designations ++ (text ++ 0 ∷ [])
-unfolding with_text
-put_is designations text out room = rw (not_less_again _ _ out, less_again (length designations + length text) 263 room) refl
+kept_low designations other text h = by_text (λ d. place_of text d ≤ place_of text designations) designations other (omega arith)
+    (λ _ _. place_kept text designations (other ++ 0 ∷ []) h)
 
 -- a text has its place in what is laid, if it stands before the last one, or else in what that ends
 in_place : (designations last : List ℕ) (t : LocalType) → length designations ≤ 256 → In designations (text_of t) → HasPlace (with_text designations last) t
@@ -169,14 +128,10 @@ at_the_end bytes designations m t sm st r filled out away e (inl s) =
     ])
 
 has_end : (last text : List ℕ) → ((Ends last text → ⊥) → ⊥) → Ends last text
-has_end last text h = by_test (ends last text) refl
-  where
-    true_false : true ≡ false → ⊥
-    true_false e = cc
-
-    by_test : (b : Bool) → ends last text ≡ b → Ends last text
-    by_test true e = ends_of last text e
-    by_test false e = absurd (h (λ k. true_false (sym (ends_again last text k) ∙ e)))
+has_end last text h = elim (ends last text) as (λ b. ends last text ≡ b → Ends last text) [
+  | true ↦ λ e. ends_of last text e
+  | false ↦ λ e. absurd (h (λ k. both_ways _ e (ends_again last text k)))
+] refl
 
 laid_place : (bytes designations : List ℕ) (m t : LocalType) (sm : Served bytes m) → Served bytes t → Room (text_of m) designations sm.stands.before 3 → (designations ≡ []) ⊎ In designations []
     → (3 ≤ length (text_of t) → length (text_of t) ≤ 7 → (Ends (text_of m) (text_of t) → ⊥) → In designations (text_of t)) → Stands sm.stands.before (text_of t) ⊎ EndsWith bytes m t
@@ -207,10 +162,10 @@ places_with : (bytes : List ℕ) (types : List LocalType) (m : LocalType) (sm : 
 unfolding laid
 places_with bytes types m sm s top =
     let given : All (Given (text_of m) sm.stands.before) types = λ i d l. given_before bytes m sm (get_or types i d) (s i d l) (top i d l) in
-    let r = before_room (text_of m) sm.stands.before types given in
-    let f = before_filled (text_of m) types in
-    let p = before_in (text_of m) sm.stands.before types (omega (arith, sm.stands.at, sm.low)) given in
-    λ i d l. laid_place bytes (before_last (text_of m) types) m (get_or types i d) sm (s i d l) r f (p i d l) (where_is bytes m (get_or types i d) sm (s i d l) (top i d l))
+    let p = before_passed (text_of m) sm.stands.before types given in
+    let inside = p.inside (omega (arith, sm.stands.at, sm.low)) in
+    λ i d l. laid_place bytes (before_last (text_of m) types) m (get_or types i d) sm (s i d l) p.room (before_filled (text_of m) types) (inside i d l)
+    (where_is bytes m (get_or types i d) sm (s i d l) (top i d l))
 
 -- ---- the texts stand in what is laid in order
 with_last : List ℕ → List ℕ → List ℕ
@@ -254,25 +209,21 @@ in_order_in bytes types m sm s top i d l =
     let t = get_or types i d in
     let size = name_size t.name (s i d l).named in
     let c = before_last [] types in
+    let p = before_passed [] others types given in
     elim size.1 [
       | inl none ↦ subst (λ (x : List ℕ). In (with_text c []) x) (sym (nothing (text_of t) none))
-          (put c [] (λ out. omega (arith, short, room_of [] c others [] 3 (before_room [] others types given) tt (inl (omega arith)) (no_text others t (stands i d l)) out)))
-      | inr three ↦ kept c [] (text_of t) (before_in [] others types short given i d l three size.0 (not_of_none (text_of t) three))
+          (put c [] (λ out. omega (arith, short, room_of [] c others [] 3 p.room tt (inl (omega arith)) (no_text others t (stands i d l)) out)))
+      | inr three ↦ kept c [] (text_of t) (p.inside short i d l three size.0 (not_of_none (text_of t) three))
     ]
 
 -- ---- no shorter ones
-short_by : (p q : Bool) (last designations others : List ℕ) → nat_lt (place_of last designations) (length designations) ≡ p → HasNoZero last → Stands others last → Room last designations others 3
-    → length (cond p designations (cond q (designations ++ (last ++ 0 ∷ [])) designations)) ≤ length others
-short_by true q last designations others e none stands r = omega (arith, r.fits)
-short_by false false last designations others e none stands r = omega (arith, r.fits)
-short_by false true last designations others e none stands r =
-    omega (arith, length-append designations (last ++ 0 ∷ []), length-append last (0 ∷ []), room_of last designations others last 3 r none (inr (ends_itself last)) stands (not_less (place_of last designations) (length designations) e))
-
 laid_short : (last others : List ℕ) (types : List LocalType) → HasNoZero last → Stands others last → All (Given last others) types → length (laid last types) ≤ length others
-unfolding laid with_text
+unfolding laid
 laid_short last others types none stands given =
     let c = before_last last types in
-    short_by (nat_lt (place_of last c) (length c)) (nat_lt (length c + length last) 263) last c others refl none stands (before_room last others types given)
+    let r = (before_passed last others types given).room in
+    by_text (λ d. length d ≤ length others) c last (omega (arith, r.fits)) (λ out _.
+    omega (arith, length-append c (last ++ 0 ∷ []), length-append last (0 ∷ []), room_of last c others last 3 r none (inr (record { front = []; is = refl })) stands out))
 
 named_given : (bytes : List ℕ) (t : LocalType) → IsNamedIn bytes t → Given [] bytes t
 named_given bytes t h = record { none = h.stands.ends; stands = λ free. record { before = h.stands.before; after = h.stands.after; whole = h.stands.whole } }
@@ -300,16 +251,16 @@ none_laid [] bytes named names unplaced none = unplaced (All-nil (HasPlace (laid
 none_laid (t ∷ ts) bytes named names unplaced none =
     let types = t ∷ ts in
     let s : All (Served bytes) types = λ i d l. served bytes (get_or types i d) (named i d l) (names i d l) in
-    let g = greatest (key_in bytes) t ts in
-    let m = g.most in
-    let sm : Served bytes m = subst (Served bytes) (g.is t) (s g.place t g.inside) in
-    let found : In (laid [] types) (text_of m) = subst (λ (x : LocalType). In (laid [] types) (text_of x)) (g.is t) (in_order_in bytes types m sm s g.above g.place t g.inside) in
+    let (place, inside, greatest_of) = greatest (key_in bytes) t ts in
+    let m = get_or types place t in let sm = s place t inside in let above = greatest_of t in
+    let found = in_order_in bytes types m sm s above place t inside in
     let text = text_found (laid [] types) (text_of m) sm.stands.ends found in
     elim ((name_size m.name sm.named).1) [
-      | inl nothing_there ↦ unplaced (subst (λ (x : List ℕ). HavePlaces (laid x types) types) (nothing (text_of m) nothing_there) (places_with bytes types m sm s g.above))
+      | inl nothing_there ↦ unplaced (subst (λ (x : List ℕ). HavePlaces (laid x types) types) (nothing (text_of m) nothing_there)
+          (places_with bytes types m sm s above))
       | inr three ↦ none (place_of (text_of m) (laid [] types)) found (record {
         name = omega (arith, three, ap length text);
-        placed = subst (λ (x : List ℕ). ArePlaced (laid x types) types) (sym text) (placed_with bytes types m sm s g.above found);
+        placed = subst (λ (x : List ℕ). ArePlaced (laid x types) types) (sym text) (placed_with bytes types m sm s above found);
       })
     ]
 
@@ -399,14 +350,9 @@ laid_of types bytes some names named = elim (places_or_not (laid [] types) types
 ]
 
 -- ---- they have room
-size_by : (p q : Bool) (designations text : List ℕ) → nat_lt (length designations + length text) 263 ≡ q → length designations ≤ 263 → length (cond p designations (cond q (designations ++ (text ++ 0 ∷ [])) designations)) ≤ 263
-size_by true q designations text e h = h
-size_by false false designations text e h = h
-size_by false true designations text e h = omega (arith, less (length designations + length text) 263 e, length-append designations (text ++ 0 ∷ []), length-append text (0 ∷ []))
-
 size_with : (designations text : List ℕ) → length designations ≤ 263 → length (with_text designations text) ≤ 263
-unfolding with_text
-size_with designations text h = size_by (nat_lt (place_of text designations) (length designations)) (nat_lt (length designations + length text) 263) designations text refl h
+size_with designations text h = by_text (λ d. length d ≤ 263) designations text h
+    (λ _ room. omega (arith, room, length-append designations (text ++ 0 ∷ []), length-append text (0 ∷ [])))
 
 size_laid : (last : List ℕ) (types : List LocalType) → length (laid last types) ≤ 263
 unfolding laid

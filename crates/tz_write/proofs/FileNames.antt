@@ -1,20 +1,13 @@
 -- Texts that stand in designations.
-use Rattle.tz_write.proofs.Words.{Bool, Decides-eqb, HasNoZero, List, ap, append_assoc, arith, begins, cond, drop, ends, ends_is, false, get_or, get_or_at}
-use Rattle.tz_write.proofs.Words.{length, length-append, nat_eq, nat_lt, nat_tests, place_of, refl, starts_is, starts_with, subst, suc, sym, true, ℕ, [], ◌&&◌}
-use Rattle.tz_write.proofs.Words.{◌++◌, ◌+◌, ◌<◌, ◌==◌, ◌∙◌, ◌∷◌, ◌≡◌, ◌≤◌}
+use Rattle.tz_write.proofs.Words.{Bool, Decides-eqb, HasNoZero, List, and_from, ap, append_assoc, arith, begins, cond, drop, ends, ends_is, false, get_or}
+use Rattle.tz_write.proofs.Words.{get_or_at, length, length-append, nat_eq, nat_lt, nat_tests, place_of, refl, starts_is, starts_with, subst, suc, sym, true, ℕ}
+use Rattle.tz_write.proofs.Words.{[], ◌++◌, ◌+◌, ◌<◌, ◌==◌, ◌∙◌, ◌∷◌, ◌≡◌, ◌≤◌}
 use Rattle.tz_write.proofs.FileMeetings.{Ends, Stands}
 use Rattle.tz_write.proofs.FileRecords.{begins_is, has_text}
 
 -- ---- tests
-both : (a b : Bool) → a ≡ true → b ≡ true → (a && b) ≡ true
-both true b h k = k
-both false b h k = cc
-
 pub less_again : (a b : ℕ) → a < b → nat_lt a b ≡ true
 less_again a b h = grind (arith, nat_tests)
-
-pub not_less : (a b : ℕ) → nat_lt a b ≡ false → b ≤ a
-not_less a b h = grind (arith, nat_tests)
 
 pub same_again : (a b : ℕ) → a ≡ b → (a == b) ≡ true
 same_again a b h = grind (arith, nat_tests)
@@ -30,10 +23,8 @@ ends_again last text h = (ends_is {E = nat_eq} Decides-eqb last text (ends last 
 begins_again : (text rest : List ℕ) → begins text (text ++ (0 ∷ rest)) ≡ true
 unfolding begins
 begins_again text rest =
-    both (starts_with nat_eq (text ++ (0 ∷ rest)) text) (nat_lt (length text) (length (text ++ (0 ∷ rest))) && (get_or (text ++ (0 ∷ rest)) (length text) 0 == 0))
-    ((starts_is {E = nat_eq} Decides-eqb (text ++ (0 ∷ rest)) text (starts_with nat_eq (text ++ (0 ∷ rest)) text) refl).1 (0 ∷ rest) refl)
-    (both (nat_lt (length text) (length (text ++ (0 ∷ rest)))) (get_or (text ++ (0 ∷ rest)) (length text) 0 == 0)
-    (less_again (length text) (length (text ++ (0 ∷ rest))) (omega (arith, length-append text (0 ∷ rest))))
+    and_from _ _ ((starts_is {E = nat_eq} Decides-eqb (text ++ (0 ∷ rest)) text (starts_with nat_eq (text ++ (0 ∷ rest)) text) refl).1 (0 ∷ rest) refl)
+    (and_from _ _ (less_again (length text) (length (text ++ (0 ∷ rest))) (omega (arith, length-append text (0 ∷ rest))))
     (same_again (get_or (text ++ (0 ∷ rest)) (length text) 0) 0 (get_or_at text 0 rest 0 (length text) refl)))
 
 at_most : (t : Bool) (n m : ℕ) → n ≤ m → cond t 0 (suc n) ≤ suc m

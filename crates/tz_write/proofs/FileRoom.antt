@@ -1,11 +1,10 @@
 -- How much room designations take: each text that is put in has bytes of its own in any others that have the texts.
-use Rattle.tz_write.proofs.Words.{All, All-cons, All-head, All-nil, All-tail, Bool, HasNoZero, List, LocalType, ap, append-nil, append_assoc, arith}
-use Rattle.tz_write.proofs.Words.{before_last, cases_lt, cond, ends, false, fold, get_or, inl, inr, length, length-append, nat_lt, nat_tests, not, place_of}
-use Rattle.tz_write.proofs.Words.{refl, sym, true, with_text, with_text_of, with_texts, ℕ, [], ◌&&◌, ◌++◌, ◌+◌, ◌<◌, ◌==◌, ◌∙◌, ◌∷◌, ◌≡◌, ◌≤◌, ◌⊎◌}
+use Rattle.tz_write.proofs.Words.{All, HasNoZero, List, LocalType, ap, append-nil, append_assoc, arith, before_last, both_ways, cases_lt, cond, ends, false}
+use Rattle.tz_write.proofs.Words.{false_unless, fold, get_or, inl, inr, length, length-append, nat_lt, nat_tests, not, place_of, refl, subst, suc, sym, true}
+use Rattle.tz_write.proofs.Words.{with_text, with_text_of, with_texts, zero, ℕ, [], ◌&&◌, ◌++◌, ◌+◌, ◌<◌, ◌==◌, ◌∙◌, ◌∷◌, ◌≡◌, ◌≤◌, ◌⊎◌}
 use Rattle.tz_write.specs.FileDesignations.{text_of}
 use Rattle.tz_write.proofs.FileMeetings.{Behind, Ends, Has_end, In_front, Is_end, Meeting, Stands, meet}
-use Rattle.tz_write.proofs.FileNames.{In, ends_again, ends_of, in_longer, not_less, put_in, same_again}
-use Rattle.tz_write.proofs.FileRecords.{less}
+use Rattle.tz_write.proofs.FileNames.{In, ends_again, ends_of, in_longer, less_again, put_in, same_again}
 
 -- what is left of other bytes when the texts that stand in the designations are cut out of them: the texts that are to come, of
 -- at most that size or at the end of the last one, still stand there
@@ -14,10 +13,10 @@ pub record Room (last designations others : List ℕ) (size : ℕ) : Type 0 wher
   pub fits : length designations + length left ≤ length others
   pub rest : (text : List ℕ) → HasNoZero text → (length text ≤ size) ⊎ Ends last text → Stands others text → length designations ≤ place_of text designations → Stands left text
 
-pub none_put : (last others : List ℕ) (size : ℕ) → Room last [] others size
+none_put : (last others : List ℕ) (size : ℕ) → Room last [] others size
 none_put last others size = record { left = others; fits = omega arith; rest = λ text none small stands out. stands }
 
-pub smaller : (last designations others : List ℕ) (a b : ℕ) → b ≤ a → Room last designations others a → Room last designations others b
+smaller : (last designations others : List ℕ) (a b : ℕ) → b ≤ a → Room last designations others a → Room last designations others b
 smaller last designations others a b l r = record {
   left = r.left;
   fits = r.fits;
@@ -73,146 +72,117 @@ put_room last designations others text size none is_size free stands out r =
           (meet s.before text s.after q.before y q.after none nothing (sym s.whole ∙ q.whole));
     }
 
+-- ---- what a text leaves
+not_less_again : (a b : ℕ) → b ≤ a → nat_lt a b ≡ false
+not_less_again a b h = grind (arith, nat_tests)
+
+-- a text that isn't there is put in if there is room for it; else all stays as it is
+pub put_is : (designations text : List ℕ) → length designations ≤ place_of text designations → length designations + length text < 263
+    → with_text designations text ≡ designations ++ (text ++ 0 ∷ [])
+unfolding with_text
+put_is designations text out room = rw (not_less_again _ _ out, less_again (length designations + length text) 263 room) refl
+
+pub by_text : (P : List ℕ → Type 0) (designations text : List ℕ) → P designations
+    → (length designations ≤ place_of text designations → length designations + length text < 263 → P (designations ++ (text ++ 0 ∷ [])))
+    → P (with_text designations text)
+unfolding with_text
+by_text P designations text same put = elim (cases_lt (place_of text designations) (length designations)) [
+  | inl there ↦ rw (less_again (place_of text designations) (length designations) there) same
+  | inr out ↦ elim (cases_lt (length designations + length text) 263) [
+    | inl room ↦ rw (not_less_again (place_of text designations) (length designations) out, less_again (length designations + length text) 263 room)
+        (put out room)
+    | inr full ↦ rw (not_less_again (place_of text designations) (length designations) out, not_less_again (length designations + length text) 263 full) same
+  ]
+]
+
+pub kept : (designations other text : List ℕ) → In designations text → In (with_text designations other) text
+kept designations other text h = by_text (λ d. In d text) designations other h (λ _ _. in_longer designations (other ++ 0 ∷ []) text h)
+
+-- a text for which there is room is put in
+pub put : (designations text : List ℕ) → (length designations ≤ place_of text designations → length designations + length text < 263) → In (with_text designations text) text
+put designations text room = elim (cases_lt (place_of text designations) (length designations)) [
+  | inl there ↦ kept designations text text there
+  | inr out ↦ subst (λ d. In d text) (sym (put_is designations text out (room out))) (put_in designations text text (record { front = []; is = refl }))
+]
+
 -- ---- the texts of types
 -- the text has no 0 byte, and stands in the other bytes if it is to be put in
 pub record Given (last others : List ℕ) (t : LocalType) : Type 0 where
   pub none : HasNoZero (text_of t)
   pub stands : (Ends last (text_of t) → ⊥) → Stands others (text_of t)
 
-text_room_by : (p q : Bool) (last designations others text : List ℕ) (size : ℕ) → nat_lt (place_of text designations) (length designations) ≡ p
-    → HasNoZero text → length text ≡ size → (Ends last text → ⊥) → Stands others text → Room last designations others size
-    → Room last (cond p designations (cond q (designations ++ (text ++ 0 ∷ [])) designations)) others size
-text_room_by true q last designations others text size e none is_size free stands r = r
-text_room_by false false last designations others text size e none is_size free stands r = r
-text_room_by false true last designations others text size e none is_size free stands r =
-    put_room last designations others text size none is_size free stands (not_less (place_of text designations) (length designations) e) r
-
-text_room : (last designations others text : List ℕ) (size : ℕ) → HasNoZero text → length text ≡ size → (Ends last text → ⊥) → Stands others text
-    → Room last designations others size → Room last (with_text designations text) others size
-unfolding with_text
-text_room last designations others text size none is_size free stands r =
-    text_room_by (nat_lt (place_of text designations) (length designations)) (nat_lt (length designations + length text) 263) last designations others text size refl none is_size free stands r
-
-not_true : (a : Bool) → a ≡ true → not a ≡ true → ⊥
-not_true true h k = cc
-not_true false h k = cc
-
-same : (a b : ℕ) → (a == b) ≡ true → a ≡ b
-same a b h = grind (arith, nat_tests)
-
-type_room_by : (p q : Bool) (last designations others text : List ℕ) (size : ℕ) → (length text == size) ≡ p → ends last text ≡ q → HasNoZero text
-    → ((Ends last text → ⊥) → Stands others text) → Room last designations others size → Room last (cond (p && not q) (with_text designations text) designations) others size
-type_room_by false q last designations others text size e f none stands r = r
-type_room_by true true last designations others text size e f none stands r = r
-type_room_by true false last designations others text size e f none stands r =
-    let free : Ends last text → ⊥ = λ k. not_true (ends last text) (ends_again last text k) (ap not f) in
-    text_room last designations others text size none (same (length text) size e) free (stands free) r
-
-type_room : (last designations others : List ℕ) (size : ℕ) (t : LocalType) → Given last others t → Room last designations others size → Room last (with_text_of last size designations t) others size
-type_room last designations others size t g r =
-    type_room_by (length (text_of t) == size) (ends last (text_of t)) last designations others (text_of t) size refl refl g.none g.stands r
-
-types_room : (last others : List ℕ) (size : ℕ) (types : List LocalType) (designations : List ℕ) → All (Given last others) types → Room last designations others size
-    → Room last (fold (with_text_of last size) designations types) others size
-types_room last others size [] designations g r = r
-types_room last others size (t ∷ ts) designations g r =
-    types_room last others size ts (with_text_of last size designations t) (All-tail (Given last others) t ts g) (type_room last designations others size t (All-head (Given last others) t ts g) r)
-
--- ---- what each text leaves as it is
-kept_if : (P : List ℕ → Type 0) → ((d text : List ℕ) → P d → P (with_text d text)) → (p : Bool) (designations text : List ℕ) → P designations → P (cond p (with_text designations text) designations)
-kept_if P step true designations text h = step designations text h
-kept_if P step false designations text h = h
-
-keeps_all : (P : List ℕ → Type 0) → ((d text : List ℕ) → P d → P (with_text d text)) → (last : List ℕ) (size : ℕ) (types : List LocalType) (designations : List ℕ) → P designations → P (fold (with_text_of last size) designations types)
-keeps_all P step last size [] designations h = h
-keeps_all P step last size (t ∷ ts) designations h =
-    keeps_all P step last size ts (with_text_of last size designations t) (kept_if P step ((length (text_of t) == size) && not (ends last (text_of t))) designations (text_of t) h)
-
--- ---- a text that was put in stays
-kept_by : (p q : Bool) (designations more text : List ℕ) → In designations text → In (cond p designations (cond q (designations ++ more) designations)) text
-kept_by true q designations more text h = h
-kept_by false true designations more text h = in_longer designations more text h
-kept_by false false designations more text h = h
-
-pub kept : (designations other text : List ℕ) → In designations text → In (with_text designations other) text
-unfolding with_text
-kept designations other text h =
-    kept_by (nat_lt (place_of other designations) (length designations)) (nat_lt (length designations + length other) 263) designations (other ++ 0 ∷ []) text h
-
--- a text for which there is room is put in
-put_by : (p q : Bool) (designations text : List ℕ) → nat_lt (place_of text designations) (length designations) ≡ p → nat_lt (length designations + length text) 263 ≡ q
-    → (length designations ≤ place_of text designations → length designations + length text < 263) → In (cond p designations (cond q (designations ++ (text ++ 0 ∷ [])) designations)) text
-put_by true q designations text e f room = less (place_of text designations) (length designations) e
-put_by false true designations text e f room = put_in designations text text (record { front = []; is = refl })
-put_by false false designations text e f room =
-    absurd (omega (arith, not_less (length designations + length text) 263 f, room (not_less (place_of text designations) (length designations) e)))
-
-pub put : (designations text : List ℕ) → (length designations ≤ place_of text designations → length designations + length text < 263) → In (with_text designations text) text
-unfolding with_text
-put designations text room =
-    put_by (nat_lt (place_of text designations) (length designations)) (nat_lt (length designations + length text) 263) designations text refl refl room
-
 -- to be put in at that size
-abbrev pub Turn : List ℕ → ℕ → LocalType → Type 0
+abbrev Turn : List ℕ → ℕ → LocalType → Type 0
 Turn last size t = (length (text_of t) ≡ size) × (Ends last (text_of t) → ⊥)
 
-not_ends : (last text : List ℕ) → (Ends last text → ⊥) → ends last text ≡ false
-not_ends last text free = by_test (ends last text) refl
-  where
-    by_test : (b : Bool) → ends last text ≡ b → b ≡ false
-    by_test false e = refl
-    by_test true e = absurd (free (ends_of last text e))
+by_turn : (P : List ℕ → Type 0) (last : List ℕ) (size : ℕ) (designations : List ℕ) (t : LocalType) → P designations
+    → (Turn last size t → P (with_text designations (text_of t))) → P (with_text_of last size designations t)
+by_turn P last size designations t same put = elim (length (text_of t) == size) as (λ p. (length (text_of t) == size) ≡ p → P (cond (p && not (ends last (text_of t))) (with_text designations (text_of t)) designations)) [
+  | false ↦ λ _. same
+  | true ↦ λ e. elim (ends last (text_of t)) as (λ q. ends last (text_of t) ≡ q → P (cond (not q) (with_text designations (text_of t)) designations)) [
+    | true ↦ λ _. same
+    | false ↦ λ f. put (grind (arith, nat_tests), λ k. both_ways _ f (ends_again last (text_of t) k))
+  ] refl
+] refl
+
+by_types : (P : List ℕ → Type 0) (last : List ℕ) (size : ℕ) (types : List LocalType) (designations : List ℕ)
+    → All (λ t. (d : List ℕ) → P d → P (with_text_of last size d t)) types → P designations
+    → P (fold (with_text_of last size) designations types)
+by_types P last size [] designations step h = h
+by_types P last size (t ∷ ts) designations step h =
+    by_types P last size ts (with_text_of last size designations t) (λ i d l. step (suc i) d (omega (arith, l))) (step 0 t (omega arith) designations h)
+
+keeps_all : (P : List ℕ → Type 0) → ((d text : List ℕ) → P d → P (with_text d text))
+    → (last : List ℕ) (size : ℕ) (types : List LocalType) (designations : List ℕ) → P designations → P (fold (with_text_of last size) designations types)
+keeps_all P step last size types designations h = by_types P last size types designations
+    (λ i e l d k. by_turn P last size d (get_or types i e) k (λ _. step d _ k)) h
+
+type_room : (last designations others : List ℕ) (size : ℕ) (t : LocalType) → Given last others t → Room last designations others size
+    → Room last (with_text_of last size designations t) others size
+type_room last designations others size t g r = by_turn (λ d. Room last d others size) last size designations t r (λ turn.
+    by_text (λ d. Room last d others size) designations (text_of t) r (λ out room. put_room last designations others (text_of t) size g.none turn.0 turn.1
+    (g.stands turn.1) out r))
 
 put_all : (last others : List ℕ) (size : ℕ) (types : List LocalType) (designations : List ℕ) → length others ≤ 263 → All (Given last others) types → Room last designations others size
     → All (λ t. Turn last size t → In (fold (with_text_of last size) designations types) (text_of t)) types
-put_all last others size [] designations short g r = All-nil (λ t. Turn last size t → In designations (text_of t))
-put_all last others size (t ∷ ts) designations short g r =
-    let next = with_text_of last size designations t in
-    let given = All-head (Given last others) t ts g in
-    All-cons (λ x. Turn last size x → In (fold (with_text_of last size) next ts) (text_of x)) t ts
-    (λ turn. keeps_all (λ d. In d (text_of t)) (λ d other. kept d other (text_of t)) last size ts next (first given turn))
-    (put_all last others size ts next short (All-tail (Given last others) t ts g) (type_room last designations others size t given r))
-  where
-    first : Given last others t → Turn last size t → In (with_text_of last size designations t) (text_of t)
-    first given turn =
-        rw (same_again (length (text_of t)) size turn.0, not_ends last (text_of t) turn.1)
-        (put designations (text_of t) (λ out. omega (arith, room_of last designations others (text_of t) size r given.none (inl (omega (arith, turn.0))) (given.stands turn.1) out, short)))
+put_all last others size [] designations short g r i d l turn = absurd (omega (arith, l))
+put_all last others size (t ∷ ts) designations short g r (suc i) d l turn =
+    put_all last others size ts (with_text_of last size designations t) short (λ k e m. g (suc k) e (omega (arith, m)))
+    (type_room last designations others size t (g 0 t (omega arith)) r) i d (omega (arith, l)) turn
+put_all last others size (t ∷ ts) designations short g r zero d l turn =
+    let given = g 0 t (omega arith) in
+    let first : In (with_text_of last size designations t) (text_of t) =
+    rw (same_again (length (text_of t)) size turn.0, false_unless (ends last (text_of t)) (λ e. turn.1 (ends_of last (text_of t) e)))
+    (put designations (text_of t) (λ out.
+    omega (arith, room_of last designations others (text_of t) size r given.none (inl (omega (arith, turn.0))) (given.stands turn.1) out, short))) in
+    keeps_all (λ d. In d (text_of t)) (λ d other. kept d other (text_of t)) last size ts (with_text_of last size designations t) first
 
 -- ---- in front of the last
-pub before_room : (last others : List ℕ) (types : List LocalType) → All (Given last others) types → Room last (before_last last types) others 3
-unfolding before_last with_texts
-before_room last others types g =
-    let step : (a b : ℕ) (d : List ℕ) → b ≤ a → Room last d others a → Room last (fold (with_text_of last b) d types) others b
-    = λ a b d l r. types_room last others b types d g (smaller last d others a b l r) in
-    step 4 3 _ (omega arith) (step 5 4 _ (omega arith) (step 6 5 _ (omega arith) (step 7 6 _ (omega arith) (step 7 7 [] (omega arith) (none_put last others 7)))))
+-- the others have room for the texts of that size, and the longer ones have been put in
+pub record Passed (last others : List ℕ) (types : List LocalType) (size : ℕ) (designations : List ℕ) : Type 0 where
+  pub room : Room last designations others size
+  pub inside : length others ≤ 263
+      → All (λ t. size ≤ length (text_of t) → length (text_of t) ≤ 7 → (Ends last (text_of t) → ⊥) → In designations (text_of t)) types
 
-pub before_in : (last others : List ℕ) (types : List LocalType) → length others ≤ 263 → All (Given last others) types
-    → All (λ t. 3 ≤ length (text_of t) → length (text_of t) ≤ 7 → (Ends last (text_of t) → ⊥) → In (before_last last types) (text_of t)) types
+pass : (last others : List ℕ) (types : List LocalType) → All (Given last others) types → (size : ℕ) (designations : List ℕ)
+    → Passed last others types (suc size) designations
+    → Passed last others types size (fold (with_text_of last size) designations types)
+pass last others types g size designations p =
+    let r = smaller last designations others (suc size) size (omega arith) p.room in record {
+      room = by_types (λ d. Room last d others size) last size types designations (λ i e l d k. type_room last d others size (get_or types i e) (g i e l) k) r;
+      inside = λ short i e l low high free. let text = text_of (get_or types i e) in elim (cases_lt size (length text)) [
+        | inl more ↦ keeps_all (λ d. In d text) (λ d other. kept d other text) last size types designations
+            (p.inside short i e l (omega (arith, more)) high free)
+        | inr same ↦ put_all last others size types designations short g r i e l (omega (arith, low, same), free)
+      ];
+    }
+
+pub before_passed : (last others : List ℕ) (types : List LocalType) → All (Given last others) types → Passed last others types 3 (before_last last types)
 unfolding before_last with_texts
-before_in last others types short g i d l =
-    let f : (b : ℕ) (s : List ℕ) → List ℕ = λ b s. fold (with_text_of last b) s types in
-    let step : (a b : ℕ) (s : List ℕ) → b ≤ a → Room last s others a → Room last (f b s) others b = λ a b s l r. types_room last others b types s g (smaller last s others a b l r) in
-    let put_at : (b : ℕ) (s : List ℕ) → Room last s others b → All (λ t. Turn last b t → In (f b s) (text_of t)) types = λ b s r. put_all last others b types s short g r in
-    let k : (b : ℕ) (s text : List ℕ) → In s text → In (f b s) text = λ b s text h. keeps_all (λ d. In d text) (λ d other. kept d other text) last b types s h in
-    let r7 = none_put last others 7 in
-    let r6 = step 7 6 _ (omega arith) (step 7 7 [] (omega arith) r7) in
-    let r5 = step 6 5 _ (omega arith) r6 in
-    let r4 = step 5 4 _ (omega arith) r5 in
-    let text = text_of (get_or types i d) in
-    let s7 = f 7 [] in let s6 = f 6 s7 in let s5 = f 5 s6 in let s4 = f 4 s5 in
-    λ low high free. elim (cases_lt (length text) 4) [
-      | inl a ↦ put_at 3 s4 (smaller last s4 others 4 3 (omega arith) r4) i d l (omega (arith, a, low), free)
-      | inr a ↦ k 3 s4 text (elim (cases_lt (length text) 5) [
-        | inl b ↦ put_at 4 s5 (smaller last s5 others 5 4 (omega arith) r5) i d l (omega (arith, a, b), free)
-        | inr b ↦ k 4 s5 text (elim (cases_lt (length text) 6) [
-          | inl e ↦ put_at 5 s6 (smaller last s6 others 6 5 (omega arith) r6) i d l (omega (arith, b, e), free)
-          | inr e ↦ k 5 s6 text (elim (cases_lt (length text) 7) [
-            | inl h ↦ put_at 6 s7 (smaller last s7 others 7 6 (omega arith) (step 7 7 [] (omega arith) r7)) i d l (omega (arith, e, h), free)
-            | inr h ↦ k 6 s7 text (put_at 7 [] r7 i d l (omega (arith, h, high), free))
-          ])
-        ])
-      ])
-    ]
+before_passed last others types g =
+    let step = pass last others types g in
+    step 3 _ (step 4 _ (step 5 _ (step 6 _
+    (step 7 [] (record { room = none_put last others 8; inside = λ short i e l low high free. absurd (omega (arith, low, high)) })))))
 
 pub before_keeps : (P : List ℕ → Type 0) → ((d text : List ℕ) → P d → P (with_text d text)) → (last : List ℕ) (types : List LocalType) → P [] → P (before_last last types)
 unfolding before_last with_texts
@@ -221,18 +191,9 @@ before_keeps P step last types h =
     all 3 types _ (all 4 types _ (all 5 types _ (all 6 types _ (all 7 types [] h))))
 
 -- ---- a 0 byte stands in designations that have bytes
-abbrev pub Filled : List ℕ → Type 0
+abbrev Filled : List ℕ → Type 0
 Filled designations = (designations ≡ []) ⊎ In designations []
 
-filled_by : (p q : Bool) (designations text : List ℕ) → Filled designations → Filled (cond p designations (cond q (designations ++ (text ++ 0 ∷ [])) designations))
-filled_by true q designations text h = h
-filled_by false false designations text h = h
-filled_by false true designations text h = inr (put_in designations text [] (record { front = text; is = sym (append-nil text) }))
-
-filled_with : (designations text : List ℕ) → Filled designations → Filled (with_text designations text)
-unfolding with_text
-filled_with designations text h =
-    filled_by (nat_lt (place_of text designations) (length designations)) (nat_lt (length designations + length text) 263) designations text h
-
 pub before_filled : (last : List ℕ) (types : List LocalType) → Filled (before_last last types)
-before_filled last types = before_keeps Filled filled_with last types (inl refl)
+before_filled last types = before_keeps Filled (λ d text h. by_text Filled d text h
+    (λ _ _. inr (put_in d text [] (record { front = text; is = sym (append-nil text) })))) last types (inl refl)

@@ -53,16 +53,6 @@ footer_is extended text rule p says = record {
 }
 
 -- ---- the first half
-least_fit : CountsFit least_counts
-least_fit = record {
-  ut_local = omega arith;
-  standard_wall = omega arith;
-  leap_seconds = omega arith;
-  transitions = omega arith;
-  types = omega arith;
-  designations = omega arith;
-}
-
 least_parts : Parts
 least_parts = record {
   times = [];
@@ -86,14 +76,7 @@ first_block rest = block_is 4 least_counts least_parts rest refl refl refl refl 
 
 -- ---- the second half
 zone_fit : (d : List ℕ) (z : Zone) → length d ≤ 263 → HasCounts z → CountsFit (zone_counts d z)
-zone_fit d z size h = record {
-  ut_local = omega arith;
-  standard_wall = omega arith;
-  leap_seconds = h.leaps;
-  transitions = h.transitions;
-  types = h.types;
-  designations = omega (arith, size);
-}
+zone_fit d z size h = (omega arith, omega arith, h.leaps, h.transitions, h.types, omega (arith, size))
 
 some_designations : (types : List LocalType) (d : List ℕ) → 0 < length types → HavePlaces d types → length d ≢ 0
 some_designations [] d some places e = omega (arith, some)
@@ -140,7 +123,8 @@ unfolding file_bytes first_half header_bytes counts_bytes number_bytes file
 file_pieces extended text d z size counts some places = (
   record { version = version_of extended; counts = least_counts },
   least_block ++ second_half extended text d z,
-  header_is First extended least_counts (least_block ++ second_half extended text d z) least_fit ((counts_test least_counts).decides.0 refl),
+  header_is First extended least_counts (least_block ++ second_half extended text d z)
+      (omega arith, omega arith, omega arith, omega arith, omega arith, omega arith) ((counts_test least_counts).decides.0 refl),
   (least_parts, second_half extended text d z, first_block (second_half extended text d z), after_is extended least_counts least_parts (second_half extended text d z) (pieces_of extended text d z) (second_is extended text d z size counts some places)),
 )
 

@@ -4,6 +4,7 @@ use Rattle.tz_write.proofs.Words.{AllOf, AreInPairs, Bool, IsName, List, NoneFir
 use Rattle.tz_write.proofs.Words.{colon, cond, false, get_or, greater, inl, inr, is_letter, is_name_byte, is_not_greater, length, length-append, less, list_all}
 use Rattle.tz_write.proofs.Words.{name_text, nat_tests, refl, subst, suc, sym, true, ℕ, [], ◌++◌, ◌<◌, ◌∙◌, ◌∷◌, ◌≡◌, ◌≢◌, ◌≤◌}
 use Rattle.tz_write.proofs.Shortest.{Front, front_cons}
+use Rattle.tz_write.proofs.TextBytes.{AreTextBytes, Writes, all_append, all_others, is_text_byte, names_are, writes_mark, writes_other}
 
 all_from : (p : ℕ → Bool) (bs : List ℕ) → list_all p bs ≡ true → AllOf p bs
 all_from p [] h = tt
@@ -17,15 +18,18 @@ all_of : (p : ℕ → Bool) (bs : List ℕ) → ((k : ℕ) → k < length bs →
 all_of p [] h = tt
 all_of p (b ∷ bs) h = (h 0 (omega arith), all_of p bs (λ k l. h (suc k) (omega arith)))
 
-pub name_bytes : (name : List ℕ) → IsName name → AllOf is_name_byte name
-name_bytes name h = all_of is_name_byte name h.2
+not_colon : (b : ℕ) → is_name_byte b ≡ true → b ≢ colon
+not_colon b h = λ e. absurd (both_ways (is_name_byte b) (subst (λ (x : ℕ). is_name_byte x ≡ false) (sym e) refl) h)
+
+name_bytes_pairs : (bs rest : List ℕ) → AllOf is_name_byte bs → AreInPairs rest → AreInPairs (bs ++ rest)
+name_bytes_pairs [] rest h pairs = pairs
+name_bytes_pairs (b ∷ bs) rest h pairs = ((λ e. absurd (not_colon b h.0 e)), name_bytes_pairs bs rest h.1 pairs)
 
 not_greater : (b : ℕ) → is_name_byte b ≡ true → is_not_greater b ≡ true
 not_greater b h = grind (arith, nat_tests)
 
 none_greater : (bs : List ℕ) → AllOf is_name_byte bs → AllOf is_not_greater bs
-none_greater [] h = tt
-none_greater (b ∷ bs) h = (not_greater b h.0, none_greater bs h.1)
+none_greater = all_others is_name_byte is_not_greater not_greater
 
 letter_least : (b : ℕ) → is_letter b ≡ true → 65 ≤ b
 letter_least b h = grind (arith, nat_tests)
@@ -34,12 +38,25 @@ not_less : (bs rest : List ℕ) → 0 < length bs → AllOf is_letter bs → Wit
 not_less [] rest some h = absurd (omega arith)
 not_less (b ∷ bs) rest some h = let l = letter_least b h.0 in λ e. absurd (omega arith)
 
-pub name_spelled : (name rest : List ℕ) → IsName name → NoneFirst is_letter rest → Spells tz.name (name_text name ++ rest) name rest
+pub name_writes : (name rest : List ℕ) → IsName name → NoneFirst is_letter rest → Writes tz.name (name_text name) name rest
 unfolding tz.name tz.quoted
-name_spelled name rest h none = elim (list_all is_letter name) as (λ t. list_all is_letter name ≡ t → Spells tz.name (cond t name (less ∷ name ++ (greater ∷ [])) ++ rest) name rest) [
-  | true ↦ λ e. let each = all_from is_letter name e in let l = h.0 in inr (not_less name rest (omega arith) each, record { whole = refl; each = each; longest = none })
-  | false ↦ λ e. inl ((name ++ (greater ∷ [])) ++ rest, refl, (name, greater ∷ rest, record { whole = append_assoc name (greater ∷ []) rest; each = none_greater name (name_bytes name h); longest = refl }, (tt, rest, refl, (refl, refl))))
+name_writes name rest h none = elim (list_all is_letter name) as (λ t. list_all is_letter name ≡ t → Writes tz.name (cond t name (less ∷ name ++ (greater ∷ []))) name rest) [
+  | true ↦ λ e. let each = all_from is_letter name e in let l = h.0 in
+      writes_other (not_less name rest (omega arith) each)
+      (record { spelled = record { whole = refl; each = each; longest = none }; bytes = bytes; pairs = name_bytes_pairs name rest all })
+  | false ↦ λ e. writes_mark refl (record {
+    spelled = rw (append_assoc name (greater ∷ []) rest)
+        (name, greater ∷ rest, record { whole = refl; each = none_greater name all; longest = refl }, (tt, rest, refl, (refl, refl)));
+    bytes = all_append is_text_byte name (greater ∷ []) bytes (refl, tt);
+    pairs = λ r. rw (append_assoc name (greater ∷ []) rest) (name_bytes_pairs name (greater ∷ rest) all ((λ e. absurd (omega arith)), r));
+  })
 ] refl
+  where
+    all : AllOf is_name_byte name
+    all = all_of is_name_byte name h.2
+
+    bytes : AreTextBytes name
+    bytes = names_are name all
 
 quoted_whole : (bytes name rest : List ℕ) → Spells tz.quoted bytes name rest → bytes ≡ (name ++ (greater ∷ [])) ++ rest
 unfolding tz.quoted
@@ -61,19 +78,6 @@ name_front bytes name rest h = elim (list_all is_letter name) as (λ t. list_all
     | inr b ↦ absurd (both_ways (list_all is_letter name) e (all_to is_letter name b.1.each))
   ]
 ] refl
-
-not_colon : (b : ℕ) → is_name_byte b ≡ true → b ≢ colon
-not_colon b h = λ e. absurd (both_ways (is_name_byte b) (subst (λ (x : ℕ). is_name_byte x ≡ false) (sym e) refl) h)
-
-name_bytes_pairs : (bs rest : List ℕ) → AllOf is_name_byte bs → AreInPairs rest → AreInPairs (bs ++ rest)
-name_bytes_pairs [] rest h pairs = pairs
-name_bytes_pairs (b ∷ bs) rest h pairs = ((λ e. absurd (not_colon b h.0 e)), name_bytes_pairs bs rest h.1 pairs)
-
-pub name_pairs : (name rest : List ℕ) → IsName name → AreInPairs rest → AreInPairs (name_text name ++ rest)
-name_pairs name rest h pairs = elim (list_all is_letter name) as (λ t. AreInPairs (cond t name (less ∷ name ++ (greater ∷ [])) ++ rest)) [
-  | true ↦ name_bytes_pairs name rest (name_bytes name h) pairs
-  | false ↦ ((λ e. absurd (omega arith)), rw (append_assoc name (greater ∷ []) rest) (name_bytes_pairs name (greater ∷ rest) (name_bytes name h) ((λ e. absurd (omega arith)), pairs)))
-]
 
 -- a name begins with a letter, a digit or a sign, and its text with a letter or `<`
 pub name_first : (name rest : List ℕ) → IsName name → (b : ℕ) × (bs : List ℕ) × (name_text name ++ rest ≡ b ∷ bs) × (58 < b)

@@ -1,16 +1,17 @@
 -- The text of a rule: it spells the rule, and each other one is longer.
 use Rattle.tz_info.specs.TzGrammar as tz
 use Rattle.tz_info.specs.declared.rule.transition_rule.TransitionRule.TheVariants as rules
-use Rattle.tz_write.proofs.Words.{Alternate, AreInPairs, AreTimesOf, Bool, CanBeSpelled, IsAlternateRule, IsName, IsNamedType, IsRule, IsTimeOf, IsTzText}
+use Rattle.tz_write.proofs.Words.{Alternate, AreInPairs, AreTimesOf, Bool, CanBeSpelled, IsAlternateRule, IsName, IsNamed, IsRule, IsTimeOf, IsTzText}
 use Rattle.tz_write.proofs.Words.{IsUnspelled, IsWithinDay, IsWrittenText, List, LocalType, NoneFirst, Some, Spells, TransitionRule, alternate_text, ap}
 use Rattle.tz_write.proofs.Words.{append-nil, append_assoc, arith, both_ways, comma, cond, day_text, dst_offset_text, false, inl, inr, int_eq, is_digit}
-use Rattle.tz_write.proofs.Words.{is_letter, name_of, name_or_none, name_text, nat_tests, not, offset_fits, offset_text, pos, refl, subst, sym, text_of, true}
-use Rattle.tz_write.proofs.Words.{type_text, ℕ, ℤ, [], ◌++◌, ◌+ℤ◌, ◌<◌, ◌∙◌, ◌∷◌, ◌≡◌, ◌≤◌}
-use Rattle.tz_write.proofs.Clocks.{Stops, offset_first, offset_front, offset_pairs, offset_spelled}
-use Rattle.tz_write.proofs.DayTexts.{IsEndOrComma, day_front, day_pairs, day_plain, day_spelled, dst_offset_front, dst_offset_pairs, dst_offset_spelled, stops}
-use Rattle.tz_write.proofs.NameTexts.{name_first, name_front, name_pairs, name_spelled}
-use Rattle.tz_write.proofs.Shortest.{Best, Front, front_cons, front_then, pairs_after}
-use Rattle.tz_write.proofs.TextParts.{IsAlternateText, IsFixedText, alternate_text_is, fixed_text, parts_of}
+use Rattle.tz_write.proofs.Words.{is_letter, name_of, name_or_none, name_text, named_type, nat_tests, not, offset_fits, offset_text, pos, refl, subst, sym}
+use Rattle.tz_write.proofs.Words.{text_of, true, type_text, ℕ, ℤ, [], ◌++◌, ◌+ℤ◌, ◌<◌, ◌∙◌, ◌∷◌, ◌≡◌, ◌≢◌, ◌≤◌}
+use Rattle.tz_write.proofs.Clocks.{Stops, offset_first, offset_front, offset_writes}
+use Rattle.tz_write.proofs.DayTexts.{day_front, day_plain, day_writes, dst_offset_front, dst_offset_writes}
+use Rattle.tz_write.proofs.NameTexts.{name_first, name_front, name_writes}
+use Rattle.tz_write.proofs.Shortest.{Best, Front, front_cons, front_on}
+use Rattle.tz_write.proofs.TextBytes.{AreTextBytes, Writes, writes_byte, writes_last, writes_more, writes_then}
+use Rattle.tz_write.proofs.TextParts.{IsAlternateText, IsFixedText, parts_of}
 
 -- ---- what stands after a name or an offset
 not_letter : (b : ℕ) → b ≤ 57 → is_letter b ≡ false
@@ -29,44 +30,17 @@ not_digit : (b : ℕ) → 58 < b → is_digit b ≡ false
 not_digit b h = grind (arith, nat_tests)
 
 -- ---- a type's name and offset
-type_spelled : (t : LocalType) (name rest : List ℕ) → t.name ≡ Some name → IsName name → IsWithinDay t.offset → Stops rest → Spells tz.name (type_text t ++ rest) name (offset_text t.offset ++ rest) × Spells tz.offset (offset_text t.offset ++ rest) t.offset rest
-type_spelled t name rest e h w stops =
-    let n : name_of t ≡ name = ap name_or_none e in (
-      rw (append_assoc (name_text (name_of t)) (offset_text t.offset) rest, n) (name_spelled name (offset_text t.offset ++ rest) h (offset_ends_name t.offset rest w)),
-      offset_spelled t.offset rest w stops,
-    )
-
 type_front : (t : LocalType) (name bytes middle rest : List ℕ) → t.name ≡ Some name → AreInPairs bytes → Spells tz.name bytes name middle → Spells tz.offset middle t.offset rest → Front (type_text t) bytes rest
 type_front t name bytes middle rest e pairs n o =
     let x : name_of t ≡ name = ap name_or_none e in
-    let f = name_front bytes name middle n in
-    rw x (front_then (name_text name) (offset_text t.offset) bytes middle rest f (offset_front middle t.offset rest (pairs_after _ bytes middle f pairs) o))
-
-type_pairs : (t : LocalType) (name rest : List ℕ) → t.name ≡ Some name → IsName name → IsWithinDay t.offset → Stops rest → AreInPairs rest → AreInPairs (type_text t ++ rest)
-type_pairs t name rest e h w stops pairs =
-    let n : name_of t ≡ name = ap name_or_none e in
-    rw (append_assoc (name_text (name_of t)) (offset_text t.offset) rest, n) (name_pairs name (offset_text t.offset ++ rest) h (offset_pairs t.offset rest w stops pairs))
+    rw x (front_on pairs (name_front bytes name middle n) (λ p. offset_front middle t.offset rest p o))
 
 -- ---- the whole
 front_whole : (text bytes : List ℕ) → Front text bytes [] → Best text bytes
 front_whole text bytes f = subst (Best text) (sym (append-nil f.front) ∙ sym f.whole) f.best
 
-fixed_spelled : (t : LocalType) → IsNamedType false t → IsWithinDay t.offset → IsFixedText (type_text t) t
-fixed_spelled t h w =
-    let s = type_spelled t h.0 [] h.1.named h.1.allowed w (tt, tt) in
-    record {
-      name = h.0;
-      after_name = offset_text t.offset ++ [];
-      name_spelled = subst (λ (z : List ℕ). Spells tz.name z h.0 (offset_text t.offset ++ [])) (append-nil (type_text t)) s.0;
-      offset_spelled = s.1;
-      named = h.1;
-    }
-
 fixed_front : (bytes : List ℕ) (t : LocalType) → AreInPairs bytes → IsFixedText bytes t → Best (type_text t) bytes
 fixed_front bytes t pairs h = front_whole (type_text t) bytes (type_front t h.name bytes h.after_name [] h.named.named pairs h.name_spelled h.offset_spelled)
-
-fixed_pairs : (t : LocalType) → IsNamedType false t → IsWithinDay t.offset → AreInPairs (type_text t)
-fixed_pairs t h w = subst AreInPairs (append-nil (type_text t)) (type_pairs t h.0 [] h.1.named h.1.allowed w (tt, tt) tt)
 
 name_stops : (name rest : List ℕ) → IsName name → Stops (name_text name ++ rest)
 name_stops name rest h = let f = name_first name rest h in rw f.2 (not_digit f.0 f.3, λ e. absurd (omega (arith, f.3)))
@@ -81,74 +55,75 @@ from_offset a = dst_offset_text a.std.offset a.dst.offset ++ (comma ∷ days_of 
 abbrev from_name : Alternate → List ℕ
 from_name a = name_text (name_of a.dst) ++ from_offset a
 
-end_or_nothing : IsEndOrComma []
-end_or_nothing = inl refl
+-- the type that the parts say
+type_is : (name : List ℕ) (dst : Bool) (t : LocalType) → IsNamed name dst t → t ≡ named_type name dst t.offset
+type_is name dst t h = rw (← h.flag, ← h.named) refl
 
-alternate_spelled : (extended : Bool) (a : Alternate) → IsAlternateRule a → IsNamedType false a.std → IsNamedType true a.dst → IsTimeOf extended a.start.time → IsTimeOf extended a.end.time → IsAlternateText extended (alternate_text a) a
-alternate_spelled extended a h s d start end =
-    let n : name_of a.dst ≡ d.0 = ap name_or_none d.1.named in
-    let after_std : Stops (from_name a) = rw n (name_stops d.0 (from_offset a) d.1.allowed) in
-    let std = type_spelled a.std s.0 (from_name a) s.1.named s.1.allowed h.within.std_offset after_std in
-    record {
-      std_name = s.0;
-      dst_name = d.0;
-      after_std_name = offset_text a.std.offset ++ from_name a;
-      after_std = from_name a;
-      after_dst_name = from_offset a;
-      at_start = days_of a;
-      at_end = day_text a.end;
-      std_name_spelled = std.0;
-      std_offset_spelled = std.1;
-      dst_name_spelled = rw n (name_spelled d.0 (from_offset a) d.1.allowed (dst_ends_name a.std.offset a.dst.offset (days_of a) h.within.dst_offset));
-      dst_offset_spelled = dst_offset_spelled a.std.offset a.dst.offset (days_of a) h.within.dst_offset;
-      start_spelled = day_spelled extended a.start (comma ∷ day_text a.end) h.start_day start (inr (day_text a.end, refl));
-      end_spelled = subst (λ (z : List ℕ). Spells (tz.day extended) z a.end []) (append-nil (day_text a.end)) (day_spelled extended a.end [] h.end_day end end_or_nothing);
-      std_named = s.1;
-      dst_named = d.1;
-    }
+name_some : (name more : List ℕ) → IsName name → (name_text name ++ more) ++ [] ≢ []
+name_some name more h = λ e. let f = name_first name more h in let is = f.2 in let none = sym (append-nil (name_text name ++ more)) ∙ e in cc
+
+days_write : (extended : Bool) (a : Alternate) → IsAlternateRule a → IsTimeOf extended a.start.time → IsTimeOf extended a.end.time
+    → Writes (tz.days extended) (days_of a) (a.start, a.end) []
+unfolding tz.days
+days_write extended a h start end =
+    writes_then (day_writes extended a.start (comma ∷ (day_text a.end ++ [])) h.start_day start (inr (day_text a.end ++ [], refl)))
+    (writes_byte refl (writes_last (day_writes extended a.end [] h.end_day end (inl refl)) (refl, refl)))
+
+rule_writes : (extended : Bool) (rule : TransitionRule) → IsRule rule → CanBeSpelled rule → AreTimesOf extended rule
+    → Writes (tz.text extended) (text_of rule) rule []
+unfolding tz.text tz.rule tz.fixed tz.alternate tz.named tz.end
+rule_writes extended (rules.Fixed t) fits ((name, h), w) times =
+    let n : name_of t ≡ name = ap name_or_none h.named in
+    rw n (writes_then (name_writes name (offset_text t.offset ++ []) h.allowed (offset_ends_name t.offset [] w))
+    (writes_last (offset_writes t.offset [] w (tt, tt)) (inl (refl, (t, [], (h.allowed, type_is name false t h, refl), (refl, refl))))))
+rule_writes extended (rules.Alternate a) fits ((m, s), (n, d)) (start, end) =
+    let first : name_of a.std ≡ m = ap name_or_none s.named in let second : name_of a.dst ≡ n = ap name_or_none d.named in
+    let std = a.std.offset in let dst = a.dst.offset in let tail = name_text n ++ from_offset a in
+    rw (first, second, append_assoc (name_text m) (offset_text std) tail)
+    (writes_then (name_writes m ((offset_text std ++ tail) ++ []) s.allowed (rw (append_assoc (offset_text std) tail []) (offset_ends_name std (tail ++ []) fits.within.std_offset)))
+    (writes_then (offset_writes std (tail ++ []) fits.within.std_offset (rw (append_assoc (name_text n) (from_offset a) []) (name_stops n (from_offset a ++ []) d.allowed)))
+    (writes_more (name_some n (from_offset a) d.allowed)
+    (writes_then (name_writes n (from_offset a ++ []) d.allowed (rw (append_assoc (dst_offset_text std dst) (comma ∷ days_of a) []) (dst_ends_name std dst (days_of a ++ []) fits.within.dst_offset)))
+    (dst_offset_writes std dst (days_of a) (rules.Alternate a) [] fits.within.dst_offset (writes_last (days_write extended a fits start end)
+    (tt, [], inl (refl, (refl, refl)), (a.std, [], (s.allowed, type_is m false a.std s, refl), (a.dst, [], (d.allowed, type_is n true a.dst d, refl), (refl, refl))))))))))
 
 alternate_front : (extended : Bool) (bytes : List ℕ) (a : Alternate) → AreInPairs bytes → IsAlternateText extended bytes a → Best (alternate_text a) bytes
 alternate_front extended bytes a pairs h =
     let n : name_of a.dst ≡ h.dst_name = ap name_or_none h.dst_named.named in
     let std = type_front a.std h.std_name bytes h.after_std_name h.after_std h.std_named.named pairs h.std_name_spelled h.std_offset_spelled in
-    let pairs_std = pairs_after _ bytes h.after_std std pairs in
-    let name = name_front h.after_std h.dst_name h.after_dst_name h.dst_name_spelled in
-    let pairs_name = pairs_after _ h.after_std h.after_dst_name name pairs_std in
-    let offset = dst_offset_front a.std.offset h.after_dst_name a.dst.offset h.at_start pairs_name h.dst_offset_spelled in
-    let pairs_start = (pairs_after _ h.after_dst_name (comma ∷ h.at_start) offset pairs_name).1 in
-    let start = day_front extended h.at_start a.start (comma ∷ h.at_end) pairs_start h.start_spelled in
-    let pairs_end = (pairs_after _ h.at_start (comma ∷ h.at_end) start pairs_start).1 in
-    let end = day_front extended h.at_end a.end [] pairs_end h.end_spelled in
-    let last = front_cons comma (day_text a.end) (comma ∷ h.at_end) h.at_end [] refl end in
-    let days = front_then (day_text a.start) (comma ∷ day_text a.end) h.at_start (comma ∷ h.at_end) [] start last in
-    let from_comma = front_cons comma (days_of a) (comma ∷ h.at_start) h.at_start [] refl days in
-    let offset_on = front_then (dst_offset_text a.std.offset a.dst.offset) (comma ∷ days_of a) h.after_dst_name (comma ∷ h.at_start) [] offset from_comma in
-    let name_on = front_then (name_text h.dst_name) (from_offset a) h.after_std h.after_dst_name [] name offset_on in
-    let all = front_then (type_text a.std) (name_text h.dst_name ++ from_offset a) bytes h.after_std [] std name_on in
-    front_whole (alternate_text a) bytes (rw n all)
-
-alternate_pairs : (a : Alternate) → IsAlternateRule a → IsNamedType false a.std → IsNamedType true a.dst → AreInPairs (alternate_text a)
-alternate_pairs a h s d =
-    let n : name_of a.dst ≡ d.0 = ap name_or_none d.1.named in
-    let after_std : Stops (from_name a) = rw n (name_stops d.0 (from_offset a) d.1.allowed) in
-    let end = subst AreInPairs (append-nil (day_text a.end)) (day_pairs a.end [] h.end_day h.within.end_time end_or_nothing tt) in
-    let start = day_pairs a.start (comma ∷ day_text a.end) h.start_day h.within.start_time (inr (day_text a.end, refl)) ((λ e. absurd (omega arith)), end) in
-    let offset = dst_offset_pairs a.std.offset a.dst.offset (days_of a) h.within.dst_offset ((λ e. absurd (omega arith)), start) in
-    let name : AreInPairs (from_name a) = rw n (name_pairs d.0 (from_offset a) d.1.allowed offset) in
-    type_pairs a.std s.0 (from_name a) s.1.named s.1.allowed h.within.std_offset after_std name
+    front_whole (alternate_text a) bytes
+    (rw n (front_on pairs std (λ p. front_on p (name_front h.after_std h.dst_name h.after_dst_name h.dst_name_spelled) (λ p.
+    front_on p (dst_offset_front a.std.offset h.after_dst_name a.dst.offset h.at_start p h.dst_offset_spelled)
+    (λ p. front_cons comma (days_of a) (comma ∷ h.at_start) h.at_start [] refl
+    (front_on p.1 (day_front extended h.at_start a.start (comma ∷ h.at_end) p.1 h.start_spelled) (λ p. front_cons comma (day_text a.end) (comma ∷ h.at_end) h.at_end [] refl
+    (day_front extended h.at_end a.end [] p.1 h.end_spelled))))))))
 
 -- ---- rules
+pub times_extended : (rule : TransitionRule) → IsRule rule → AreTimesOf true rule
+times_extended (rules.Fixed t) fits = tt
+times_extended (rules.Alternate a) fits = (fits.within.start_time, fits.within.end_time)
+
 pub rule_spelled : (extended : Bool) (rule : TransitionRule) → IsRule rule → CanBeSpelled rule → AreTimesOf extended rule → IsTzText extended (text_of rule) rule
-rule_spelled extended (rules.Fixed t) fits h times = fixed_text extended (type_text t) t (fixed_spelled t h.0 h.1)
-rule_spelled extended (rules.Alternate a) fits h times = alternate_text_is extended (alternate_text a) a (alternate_spelled extended a fits h.0 h.1 times.0 times.1)
+rule_spelled extended rule fits h times = subst (λ bytes. IsTzText extended bytes rule) (append-nil (text_of rule))
+    (rule_writes extended rule fits h times).spelled
+
+pub rule_pairs : (rule : TransitionRule) → IsRule rule → CanBeSpelled rule → AreInPairs (text_of rule)
+rule_pairs rule fits h = subst AreInPairs (append-nil (text_of rule)) ((rule_writes true rule fits h (times_extended rule fits)).pairs tt)
+
+pub text_are : (rule : TransitionRule) → IsRule rule → CanBeSpelled rule → AreTextBytes (text_of rule)
+text_are rule fits h = (rule_writes true rule fits h (times_extended rule fits)).bytes
+
+-- it begins with a letter or `<`
+pub text_first : (rule : TransitionRule) → CanBeSpelled rule → (b : ℕ) × (bs : List ℕ) × (text_of rule ≡ b ∷ bs) × (58 < b)
+text_first (rules.Fixed t) ((name, h), _) = let n : name_of t ≡ name = ap name_or_none h.named in rw n (name_first name (offset_text t.offset) h.allowed)
+text_first (rules.Alternate a) ((name, h), _) =
+    let n : name_of a.std ≡ name = ap name_or_none h.named in
+    rw (append_assoc (name_text (name_of a.std)) (offset_text a.std.offset) (from_name a), n)
+    (name_first name (offset_text a.std.offset ++ from_name a) h.allowed)
 
 pub rule_best : (extended : Bool) (bytes : List ℕ) (rule : TransitionRule) → AreInPairs bytes → IsTzText extended bytes rule → Best (text_of rule) bytes
 rule_best extended bytes (rules.Fixed t) pairs h = fixed_front bytes t pairs (parts_of extended bytes (rules.Fixed t) h)
 rule_best extended bytes (rules.Alternate a) pairs h = alternate_front extended bytes a pairs (parts_of extended bytes (rules.Alternate a) h)
-
-pub rule_pairs : (rule : TransitionRule) → IsRule rule → CanBeSpelled rule → AreInPairs (text_of rule)
-rule_pairs (rules.Fixed t) fits h = fixed_pairs t h.0 h.1
-rule_pairs (rules.Alternate a) fits h = alternate_pairs a fits h.0 h.1
 
 -- what a text without extensions spells has times that need none
 pub rule_plain : (bytes : List ℕ) (rule : TransitionRule) → IsTzText false bytes rule → AreTimesOf false rule
@@ -162,10 +137,6 @@ rule_named extended bytes (rules.Alternate a) spelled = let h = parts_of extende
 
 pub unspelled : (rule : TransitionRule) → ¬ (CanBeSpelled rule) → IsUnspelled rule
 unspelled rule none = λ extended bytes h. none (rule_named extended bytes rule h)
-
-pub times_extended : (rule : TransitionRule) → IsRule rule → AreTimesOf true rule
-times_extended (rules.Fixed t) fits = tt
-times_extended (rules.Alternate a) fits = (fits.within.start_time, fits.within.end_time)
 
 -- the text has extensions where one without doesn't have room for the times
 pub written : (rule : TransitionRule) (plain : Bool) → IsRule rule → CanBeSpelled rule → (plain ≡ true → AreTimesOf false rule) → (AreTimesOf false rule → plain ≡ true) → IsWrittenText rule (text_of rule) (not plain)

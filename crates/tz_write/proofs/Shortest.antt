@@ -1,6 +1,7 @@
 -- What is not longer than what spells the same: the front of bytes beside a text.
-use Rattle.tz_write.proofs.Words.{AreInPairs, List, ap, append_assoc, arith, inl, inr, length, length-append, refl, subst, sym, ℕ, [], ◌++◌, ◌<◌, ◌∙◌, ◌∷◌, ◌≡◌}
-use Rattle.tz_write.proofs.Words.{◌≤◌, ◌⊎◌}
+use Rattle.tz_base.specs.Grammar.{Grammar, Optional}
+use Rattle.tz_write.proofs.Words.{AreInPairs, Bool, List, Spells, ap, append_assoc, arith, cond, false, inl, inr, length, length-append, refl, subst, sym, true}
+use Rattle.tz_write.proofs.Words.{ℕ, [], ◌++◌, ◌<◌, ◌∙◌, ◌∷◌, ◌≡◌, ◌≤◌, ◌⊎◌}
 
 -- the front is the text, or longer
 abbrev pub Best : List ℕ → List ℕ → Type 0
@@ -61,6 +62,20 @@ pairs_rest (b ∷ bs) rest h = pairs_rest bs rest h.1
 
 pub pairs_after : (a bytes rest : List ℕ) → Front a bytes rest → AreInPairs bytes → AreInPairs rest
 pairs_after a bytes rest p h = pairs_rest p.front rest (subst AreInPairs p.whole h)
+
+-- the next text, of bytes whose digits are in pairs as well
+pub front_on : {a b bytes middle rest : List ℕ} → AreInPairs bytes → Front a bytes middle → (AreInPairs middle → Front b middle rest)
+    → Front (a ++ b) bytes rest
+front_on {a = a} {b = b} {bytes = bytes} {middle = middle} {rest = rest} pairs p q = front_then a b bytes middle rest p (q (pairs_after a bytes middle p pairs))
+
+-- a piece that may be left out, and is if the test passes
+pub front_optional : {X : Type 0} (tag : ℕ) (v : X) (g : Grammar X) {x : X} {text bytes rest : List ℕ} (b : Bool)
+    → ((after : List ℕ) → bytes ≡ tag ∷ after → Spells g after x rest → Front text bytes rest)
+    → (b ≡ false → x ≡ v → ⊥) → Spells (Optional tag v g) bytes x rest → Front (cond b [] text) bytes rest
+front_optional tag v g {text = text} {bytes = bytes} {rest = rest} true given other (inl (after, is, p)) = front_any text bytes rest (given after is p)
+front_optional tag v g {bytes = bytes} {rest = rest} true given other (inr (_, (_, same))) = front_nothing bytes rest same
+front_optional tag v g false given other (inl (after, is, p)) = given after is p
+front_optional tag v g false given other (inr (_, (is, _))) = absurd (other refl is)
 
 -- ---- pieces pushed one after the other
 pub four_pieces : (old a b c d x y z : List ℕ) → x ≡ old ++ a → y ≡ x ++ b → z ≡ y ++ c → z ++ d ≡ old ++ (a ++ (b ++ (c ++ d)))

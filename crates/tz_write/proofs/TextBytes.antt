@@ -1,16 +1,9 @@
--- The bytes of a rule's text: letters, digits, and those of `+ - , . / : < >`. So it is ASCII, and has no white space.
-use Rattle.tz_info.specs.declared.rule.day.DayForm.TheVariants.{Julian0, Julian1, MonthWeekday}
-use Rattle.tz_info.specs.declared.rule.transition_rule.TransitionRule.TheVariants as rules
-use Rattle.tz_write.proofs.Words.{AllDigits, AllOf, Alternate, BeginsBare, Bool, CanBeSpelled, DayForm, DayTime, EndsBare, IsAlternateRule, IsName, IsNamedType}
-use Rattle.tz_write.proofs.Words.{IsRule, IsRuleDay, IsTrimmed, IsWithinDay, IsWithinWeek, List, LocalType, TransitionRule, alternate_text, ap, append-nil}
-use Rattle.tz_write.proofs.Words.{append_assoc, arith, clock_text, colon, comma, cond, date_text, day_text, days_text, decimal, dot, dst_offset_text, false}
-use Rattle.tz_write.proofs.Words.{greater, int_eq, is_ascii_whitespace, is_digit, is_letter, is_name_byte, is_negative, is_positive, less, list_all}
-use Rattle.tz_write.proofs.Words.{minutes_text, name_of, name_or_none, name_text, nat_tests, offset_text, pair_text, pos, refl, seconds_text, signed_text}
-use Rattle.tz_write.proofs.Words.{slash, sym, text_of, time_after, time_text, true, type_text, unsigned_abs, ℕ, ℤ, [], ◌%◌, ◌&&◌, ◌++◌, ◌+ℤ◌, ◌+◌, ◌/◌, ◌<◌}
-use Rattle.tz_write.proofs.Words.{◌==◌, ◌||◌, ◌∷◌, ◌≡◌, ◌≤◌}
-use Rattle.tz_write.proofs.Clocks.{offset_hours, time_hours}
-use Rattle.tz_write.proofs.Decimals.{digits_of, pair_digits}
-use Rattle.tz_write.proofs.NameTexts.{name_bytes, name_first}
+-- Texts that spell a value, made of their pieces. Their bytes are letters, digits, and those of `+ - , . / : < >`: so they are ASCII, and
+-- have no white space.
+use Rattle.tz_base.specs.Grammar.{Byte, Ended, Grammar, Marked, Nothing, Then}
+use Rattle.tz_write.proofs.Words.{AllDigits, AllOf, AreInPairs, BeginsBare, Bool, EndsBare, IsTrimmed, List, Spells, TwoDigits, Without, and_parts, append-nil}
+use Rattle.tz_write.proofs.Words.{append_assoc, arith, colon, comma, dot, false, greater, inl, inr, is_ascii_whitespace, is_digit, is_name_byte, less}
+use Rattle.tz_write.proofs.Words.{nat_tests, not, refl, slash, sym, true, ℕ, [], ◌&&◌, ◌++◌, ◌==◌, ◌||◌, ◌∷◌, ◌≡◌, ◌≢◌}
 
 -- a letter, a digit or one of the signs
 abbrev pub is_text_byte : ℕ → Bool
@@ -19,108 +12,70 @@ is_text_byte b = is_name_byte b || (b == comma) || (b == dot) || (b == slash) ||
 abbrev pub AreTextBytes : List ℕ → Type 0
 AreTextBytes = AllOf is_text_byte
 
-all_append : (p : ℕ → Bool) (a b : List ℕ) → AllOf p a → AllOf p b → AllOf p (a ++ b)
+pub all_append : (p : ℕ → Bool) (a b : List ℕ) → AllOf p a → AllOf p b → AllOf p (a ++ b)
 all_append p [] b h k = k
 all_append p (x ∷ xs) b h k = (h.0, all_append p xs b h.1 k)
 
-digit_is : (b : ℕ) → is_digit b ≡ true → is_text_byte b ≡ true
-digit_is b h = grind (arith, nat_tests)
+pub all_others : (p q : ℕ → Bool) → ((b : ℕ) → p b ≡ true → q b ≡ true) → (bs : List ℕ) → AllOf p bs → AllOf q bs
+all_others p q each [] h = tt
+all_others p q each (b ∷ bs) h = (each b h.0, all_others p q each bs h.1)
 
-name_is : (b : ℕ) → is_name_byte b ≡ true → is_text_byte b ≡ true
-name_is b h = rw h refl
+pub digits_are : (bs : List ℕ) → AllDigits bs → AreTextBytes bs
+digits_are = all_others is_digit is_text_byte (λ b h. grind (arith, nat_tests))
 
-digits_are : (bs : List ℕ) → AllDigits bs → AreTextBytes bs
-digits_are [] h = tt
-digits_are (b ∷ bs) h = (digit_is b h.0, digits_are bs h.1)
+pub names_are : (bs : List ℕ) → AllOf is_name_byte bs → AreTextBytes bs
+names_are = all_others is_name_byte is_text_byte (λ b h. rw h refl)
 
-names_are : (bs : List ℕ) → AllOf is_name_byte bs → AreTextBytes bs
-names_are [] h = tt
-names_are (b ∷ bs) h = (name_is b h.0, names_are bs h.1)
+-- ---- texts of pieces
+-- the text before that rest spells x; it has only those bytes; and two digits stand after each of its colons, if they do in the rest
+pub record Writes {X : Type 0} (g : Grammar X) (text : List ℕ) (x : X) (rest : List ℕ) : Type 0 where
+  pub spelled : Spells g (text ++ rest) x rest
+  pub bytes : AreTextBytes text
+  pub pairs : AreInPairs rest → AreInPairs (text ++ rest)
 
-number_are : (n : ℕ) → n < 1000 → AreTextBytes (decimal n)
-number_are n h = digits_are (decimal n) (digits_of n h)
+pub writes_nothing : {X : Type 0} {v x : X} {rest : List ℕ} → x ≡ v → Writes (Nothing v) [] x rest
+writes_nothing same = record { spelled = (same, refl); bytes = tt; pairs = λ r. r }
 
-pair_are : (n : ℕ) → n < 100 → AreTextBytes (pair_text n)
-pair_are n h = (refl, digits_are ((48 + n / 10) ∷ (48 + n % 10) ∷ []) (pair_digits n h))
+pub writes_then : {X Y : Type 0} {g : Grammar X} {f : X → Grammar Y} {a b : List ℕ} {x : X} {y : Y} {rest : List ℕ} → Writes g a x (b ++ rest)
+    → Writes (f x) b y rest → Writes (Then g f) (a ++ b) y rest
+writes_then {a = a} {b = b} {x = x} {rest = rest} p q = record {
+  spelled = rw (append_assoc a b rest) (x, b ++ rest, p.spelled, q.spelled);
+  bytes = all_append is_text_byte a b p.bytes q.bytes;
+  pairs = λ r. rw (append_assoc a b rest) (p.pairs (q.pairs r));
+}
 
-seconds_are : (s : ℕ) → s ≤ 59 → AreTextBytes (seconds_text s)
-seconds_are s h = elim (s == 0) as (λ t. AreTextBytes (cond t [] (pair_text s))) [ true ↦ tt | false ↦ pair_are s (omega arith) ]
+-- what comes last has no bytes
+pub writes_last : {X Y : Type 0} {g : Grammar X} {f : X → Grammar Y} {a : List ℕ} {x : X} {y : Y} {rest : List ℕ} → Writes g a x rest → Spells (f x) rest y rest
+    → Writes (Then g f) a y rest
+writes_last {x = x} {rest = rest} p q = record { spelled = (x, rest, p.spelled, q); bytes = p.bytes; pairs = p.pairs }
 
-minutes_are : (m s : ℕ) → m ≤ 59 → s ≤ 59 → AreTextBytes (minutes_text m s)
-minutes_are m s h k = elim ((m == 0) && (s == 0)) as (λ t. AreTextBytes (cond t [] (pair_text m ++ seconds_text s))) [
-  | true ↦ tt
-  | false ↦ all_append is_text_byte (pair_text m) (seconds_text s) (pair_are m (omega arith)) (seconds_are s k)
-]
+-- a sign other than a colon
+abbrev is_sign : ℕ → Bool
+is_sign t = is_text_byte t && not (t == colon)
 
-clock_are : (n : ℕ) → n / 3600 < 1000 → AreTextBytes (clock_text n)
-unfolding clock_text
-clock_are n h = all_append is_text_byte (decimal (n / 3600)) (minutes_text (n / 60 % 60) (n % 60)) (number_are (n / 3600) h) (minutes_are (n / 60 % 60) (n % 60) (omega arith) (omega arith))
+sign_is : (t : ℕ) → is_sign t ≡ true → (is_text_byte t ≡ true) × (t ≢ colon)
+sign_is t h = let (byte, other) = and_parts (is_text_byte t) (not (t == colon)) h in (byte, λ e. grind (arith, nat_tests))
 
-signed_are : (negative : Bool) (n : ℕ) → n / 3600 < 1000 → AreTextBytes (signed_text negative n)
-signed_are true n h = (refl, clock_are n h)
-signed_are false n h = clock_are n h
+pub writes_byte : {X : Type 0} {t : ℕ} {f : Unit {0} → Grammar X} {a : List ℕ} {x : X} {rest : List ℕ} → is_sign t ≡ true → Writes (f tt) a x rest
+    → Writes (Then (Byte t) f) (t ∷ a) x rest
+writes_byte {t = t} {a = a} {rest = rest} sign p = let (byte, other) = sign_is t sign in
+    record { spelled = (tt, a ++ rest, refl, p.spelled); bytes = (byte, p.bytes); pairs = λ r. ((λ e. absurd (other e)), p.pairs r) }
 
-offset_are : (east : ℤ) → IsWithinDay east → AreTextBytes (offset_text east)
-unfolding offset_text
-offset_are east h = let l = offset_hours east h in signed_are (is_positive east) (unsigned_abs east) (omega arith)
+pub writes_mark : {X : Type 0} {t : ℕ} {g h : Grammar X} {a : List ℕ} {x : X} {rest : List ℕ} → is_sign t ≡ true → Writes g a x rest
+    → Writes (Marked t g h) (t ∷ a) x rest
+writes_mark {t = t} {a = a} {rest = rest} sign p = let (byte, other) = sign_is t sign in
+    record { spelled = inl (a ++ rest, refl, p.spelled); bytes = (byte, p.bytes); pairs = λ r. ((λ e. absurd (other e)), p.pairs r) }
 
-time_are : (time : ℤ) → IsWithinWeek time → AreTextBytes (time_text time)
-unfolding time_text
-time_are time h = let l = time_hours time h in signed_are (is_negative time) (unsigned_abs time) (omega arith)
+pub writes_colon : {X : Type 0} {g h : Grammar X} {a : List ℕ} {x : X} {rest : List ℕ} → TwoDigits (a ++ rest) → Writes g a x rest
+    → Writes (Marked colon g h) (colon ∷ a) x rest
+writes_colon {a = a} {rest = rest} two p = record { spelled = inl (a ++ rest, refl, p.spelled); bytes = (refl, p.bytes); pairs = λ r. ((λ _. two), p.pairs r) }
 
-after_are : (time : ℤ) → IsWithinWeek time → AreTextBytes (time_after time)
-after_are time h = elim (int_eq time (pos 7_200)) as (λ t. AreTextBytes (cond t [] (slash ∷ time_text time))) [ true ↦ tt | false ↦ (refl, time_are time h) ]
+pub writes_other : {X : Type 0} {t : ℕ} {g h : Grammar X} {a : List ℕ} {x : X} {rest : List ℕ} → Without t (a ++ rest) → Writes h a x rest
+    → Writes (Marked t g h) a x rest
+writes_other none p = record { spelled = inr (none, p.spelled); bytes = p.bytes; pairs = p.pairs }
 
-name_are : (name : List ℕ) → IsName name → AreTextBytes (name_text name)
-name_are name h = let n = names_are name (name_bytes name h) in elim (list_all is_letter name) as (λ t. AreTextBytes (cond t name (less ∷ name ++ (greater ∷ [])))) [
-  | true ↦ n
-  | false ↦ (refl, all_append is_text_byte name (greater ∷ []) n (refl, tt))
-]
-
-date_are : (form : DayForm) → IsRuleDay form → AreTextBytes (date_text form)
-date_are (Julian1 n) h = let l = h.1 in (refl, number_are n (omega arith))
-date_are (Julian0 n) h = number_are n (omega arith)
-date_are (MonthWeekday m w d) h =
-    let a = h.1 in let b = h.3 in let c = h.4 in
-    let weeks = all_append is_text_byte (decimal w) (dot ∷ decimal d) (number_are w (omega arith)) (refl, number_are d (omega arith)) in
-    (refl, all_append is_text_byte (decimal m) (dot ∷ decimal w ++ (dot ∷ decimal d)) (number_are m (omega arith)) (refl, weeks))
-
-day_are : (d : DayTime) → IsRuleDay d.day → IsWithinWeek d.time → AreTextBytes (day_text d)
-day_are d h t = all_append is_text_byte (date_text d.day) (time_after d.time) (date_are d.day h) (after_are d.time t)
-
-dst_are : (std dst : ℤ) → IsWithinDay dst → AreTextBytes (dst_offset_text std dst)
-dst_are std dst h = elim (int_eq dst (std +ℤ pos 3_600)) as (λ t. AreTextBytes (cond t [] (offset_text dst))) [ true ↦ tt | false ↦ offset_are dst h ]
-
-named_are : (dst : Bool) (t : LocalType) → IsNamedType dst t → AreTextBytes (name_text (name_of t))
-named_are dst t h = let e = ap name_or_none h.1.named in rw e (name_are h.0 h.1.allowed)
-
-type_are : (dst : Bool) (t : LocalType) → IsNamedType dst t → IsWithinDay t.offset → AreTextBytes (type_text t)
-type_are dst t h w = all_append is_text_byte (name_text (name_of t)) (offset_text t.offset) (named_are dst t h) (offset_are t.offset w)
-
-alternate_are : (a : Alternate) → IsAlternateRule a → IsNamedType false a.std → IsNamedType true a.dst → AreTextBytes (alternate_text a)
-alternate_are a h s d =
-    let end = day_are a.end h.end_day h.within.end_time in
-    let days = all_append is_text_byte (day_text a.start) (comma ∷ day_text a.end) (day_are a.start h.start_day h.within.start_time) (refl, end) in
-    let offset = all_append is_text_byte (dst_offset_text a.std.offset a.dst.offset) (days_text a) (dst_are a.std.offset a.dst.offset h.within.dst_offset) (refl, days) in
-    let name = all_append is_text_byte (name_text (name_of a.dst)) (dst_offset_text a.std.offset a.dst.offset ++ days_text a) (named_are true a.dst d) offset in
-    all_append is_text_byte (type_text a.std) (name_text (name_of a.dst) ++ (dst_offset_text a.std.offset a.dst.offset ++ days_text a)) (type_are false a.std s h.within.std_offset) name
-
-pub text_are : (rule : TransitionRule) → IsRule rule → CanBeSpelled rule → AreTextBytes (text_of rule)
-text_are (rules.Fixed t) fits h = type_are false t h.0 h.1
-text_are (rules.Alternate a) fits h = alternate_are a fits h.0 h.1
-
--- it begins with a letter or `<`
-type_first : (dst : Bool) (t : LocalType) (rest : List ℕ) → IsNamedType dst t → (b : ℕ) × (bs : List ℕ) × (type_text t ++ rest ≡ b ∷ bs) × (58 < b)
-type_first dst t rest h =
-    let e : name_of t ≡ h.0 = ap name_or_none h.1.named in
-    let f = name_first h.0 (offset_text t.offset ++ rest) h.1.allowed in
-    (f.0, f.1, rw (append_assoc (name_text (name_of t)) (offset_text t.offset) rest, e) f.2, f.3)
-
-pub text_first : (rule : TransitionRule) → CanBeSpelled rule → (b : ℕ) × (bs : List ℕ) × (text_of rule ≡ b ∷ bs) × (58 < b)
-text_first (rules.Fixed t) h =
-    let e : name_of t ≡ h.0.0 = ap name_or_none h.0.1.named in
-    let f = name_first h.0.0 (offset_text t.offset) h.0.1.allowed in (f.0, f.1, rw e f.2, f.3)
-text_first (rules.Alternate a) h = type_first false a.std (name_text (name_of a.dst) ++ (dst_offset_text a.std.offset a.dst.offset ++ days_text a)) h.0
+pub writes_more : {X : Type 0} {g h : Grammar X} {a : List ℕ} {x : X} {rest : List ℕ} → a ++ rest ≢ [] → Writes h a x rest → Writes (Ended g h) a x rest
+writes_more some p = record { spelled = inr (some, p.spelled); bytes = p.bytes; pairs = p.pairs }
 
 -- ---- no white space
 not_space : (b : ℕ) → is_text_byte b ≡ true → is_ascii_whitespace b ≡ false

@@ -1,8 +1,8 @@
 -- The parts of a whole TZ text by their names.
 use Rattle.tz_info.specs.TzGrammar as tz
 use Rattle.tz_info.specs.declared.rule.transition_rule.TransitionRule.TheVariants as rules
-use Rattle.tz_write.proofs.Words.{Alternate, Bool, DayTime, IsName, IsNamed, IsTzText, List, LocalType, Option, Some, Spells, TransitionRule, ap, arith, comma}
-use Rattle.tz_write.proofs.Words.{false, greater, inl, inr, length, less, named_type, refl, subst, sym, true, ℕ, ℤ, [], ◌++◌, ◌∙◌, ◌∷◌, ◌≡◌, ◌≢◌, ◌≤◌}
+use Rattle.tz_write.proofs.Words.{Alternate, Bool, DayTime, IsNamed, IsTzText, List, LocalType, Spells, TransitionRule, ap, comma, false, inl, inr, refl, subst}
+use Rattle.tz_write.proofs.Words.{true, ℕ, [], ◌∙◌, ◌∷◌, ◌≡◌}
 
 pub record IsFixedText (bytes : List ℕ) (t : LocalType) : Type 0 where
   pub name : List ℕ
@@ -63,61 +63,3 @@ parts_of extended bytes r (name, after, n, (east, end, o, inr (_, (dst_name, at_
       std_named = record { allowed = s_fits; named = refl; flag = refl };
       dst_named = record { allowed = t_fits; named = refl; flag = refl };
     })
-
--- ---- what has them is a text
-some_letters : (text rest : List ℕ) → 3 ≤ length text → text ++ rest ≢ []
-some_letters [] rest l = absurd (omega arith)
-some_letters (b ∷ bs) rest l = λ e. cc
-
-name_some : (bytes text rest : List ℕ) → Spells tz.name bytes text rest → IsName text → bytes ≢ []
-unfolding tz.name
-name_some bytes text rest (inl h) n = λ e. let q : less ∷ h.0 ≡ [] = sym h.1 ∙ e in cc
-name_some bytes text rest (inr h) n = λ e. some_letters text rest n.0 (sym h.1.whole ∙ e)
-
-type_is : (name : List ℕ) (dst : Bool) (t : LocalType) → IsNamed name dst t → t ≡ named_type name dst t.offset
-type_is name dst t h = same_type t.offset t.dst dst t.name (Some name) h.flag h.named
-  where
-    same_type : (o : ℤ) (d e : Bool) (m n : Option (List ℕ)) → d ≡ e → m ≡ n → ◌≡◌ {A = LocalType} (record { offset = o; dst = d; name = m }) (record { offset = o; dst = e; name = n })
-    same_type o d e m n a b = cc
-
-pub fixed_text : (extended : Bool) (bytes : List ℕ) (t : LocalType) → IsFixedText bytes t → IsTzText extended bytes (rules.Fixed t)
-unfolding tz.text tz.rule tz.fixed tz.named
-fixed_text extended bytes t h = (h.name, h.after_name, h.name_spelled, (t.offset, [], h.offset_spelled, inl (refl, (t, [], (h.named.allowed, type_is h.name false t h.named, refl), (refl, refl)))))
-
-pub alternate_text_is : (extended : Bool) (bytes : List ℕ) (a : Alternate) → IsAlternateText extended bytes a → IsTzText extended bytes (rules.Alternate a)
-unfolding tz.text tz.rule tz.alternate tz.named tz.days tz.end
-alternate_text_is extended bytes a h =
-    let more = name_some h.after_std h.dst_name h.after_dst_name h.dst_name_spelled h.dst_named.allowed in (
-      h.std_name,
-      h.after_std_name,
-      h.std_name_spelled,
-      (
-        a.std.offset,
-        h.after_std,
-        h.std_offset_spelled,
-        inr (
-          more,
-          (
-            h.dst_name,
-            h.after_dst_name,
-            h.dst_name_spelled,
-            (
-              a.dst.offset,
-              h.at_start,
-              h.dst_offset_spelled,
-              (
-                (a.start, a.end),
-                [],
-                (a.start, comma ∷ h.at_end, h.start_spelled, (tt, h.at_end, refl, (a.end, [], h.end_spelled, (refl, refl)))),
-                (
-                  tt,
-                  [],
-                  inl (refl, (refl, refl)),
-                  (a.std, [], (h.std_named.allowed, type_is h.std_name false a.std h.std_named, refl), (a.dst, [], (h.dst_named.allowed, type_is h.dst_name true a.dst h.dst_named, refl), (refl, refl))),
-                ),
-              ),
-            ),
-          ),
-        ),
-      ),
-    )

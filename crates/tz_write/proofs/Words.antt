@@ -24,7 +24,8 @@ pub use Rattle.tz_info.proofs.Words.{HasPieces, HasRule, IfOk, IsAlternateRule, 
 pub use Rattle.tz_info.proofs.Words.{IsRuleDay, IsRuleOrNone, IsSpace, IsTrimmed, IsTzFile, IsTzText, IsUtOffset, IsWithinDay, IsWithinWeek, List, LocalType}
 pub use Rattle.tz_info.proofs.Words.{MatchOption, MatchResult, Parts, SFits, SayZone, SaysRule, SpellLeapSeconds, SpellTransitions, SpellTypes, Spells}
 pub use Rattle.tz_info.proofs.Words.{SpellsLeapSecond, SpellsType, StandsAt, Zone, and_parts, ap, append-nil, append_assoc, arith, cases_lt, cond}
-pub use Rattle.tz_info.proofs.Words.{designation_of, drop, false, false≢true, get_or, inl, inr, int_eq, int_lt, ints, is_ascii_whitespace, is_letter}
+pub use Rattle.tz_info.proofs.Words.{designation_of, drop, false, false_unless, false≢true, get_or, inl, inr, int_eq, int_lt, ints, is_ascii_whitespace}
+pub use Rattle.tz_info.proofs.Words.{is_letter}
 pub use Rattle.tz_info.proofs.Words.{is_not_greater, least_offset, length, length-append, length-map, length-take, list_all, magic, map, named_type, nat_eq}
 pub use Rattle.tz_info.proofs.Words.{nat_lt, nat_tests, neg_ℤ, negsuc, not, number_of, place_in, pos, posix_zone, refl, rules, seconds_of, starts_with, subst}
 pub use Rattle.tz_info.proofs.Words.{suc, sym, take, take_more, time_limit, time_of, true, types_of, unsigned_abs, w32, w64, zero, zone_of_rule, ℕ, ℤ, [], ◌%◌}

@@ -3,9 +3,9 @@ use Rattle.tz_write.proofs.Words.{AreInPairs, CanBeSpelled, Err, HasZoneText, Is
 use Rattle.tz_write.proofs.Words.{IsTzText, IsWrittenZone, LeapSecond, List, LocalType, None, NoneFirst, Ok, OnErr, Option, Result, Some, Transition}
 use Rattle.tz_write.proofs.Words.{TransitionRule, TwoDigits, Zone, ap, append-nil, arith, false, inl, inr, is_ascii_whitespace, is_digit, length, length-append}
 use Rattle.tz_write.proofs.Words.{nat_tests, posix_zone, refl, subst, sym, text_of, true, types_of, zone_of_rule, ℕ, [], ◌++◌, ◌<◌, ◌∙◌, ◌∷◌, ◌≡◌, ◌≢◌, ◌⊎◌}
-use Rattle.tz_write.proofs.RuleTexts.{rule_best, rule_named, rule_pairs, rule_plain, rule_spelled}
+use Rattle.tz_write.proofs.RuleTexts.{rule_best, rule_named, rule_pairs, rule_plain, rule_spelled, text_are, text_first}
 use Rattle.tz_write.proofs.Shortest.{Best, pairs_rest}
-use Rattle.tz_write.proofs.TextBytes.{text_are, text_first, trimmed_text}
+use Rattle.tz_write.proofs.TextBytes.{trimmed_text}
 use Rattle.tz_write.proofs.WrittenLaws.{both_shortest}
 
 -- ---- white space at the ends

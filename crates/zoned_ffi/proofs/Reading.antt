@@ -1,9 +1,10 @@
 -- What comes of reading, as a call tells it.
 use Rattle.tz_base.specs.declared.error.Error.TheVariants as errors
 use Rattle.zoned_ffi.proofs.Words.{Bool, Err, Error, IfErr, IsExtendedFault, IsFalse, IsFault, IsFileError, IsOutOfMemory, IsPosixFault, IsPosixZone}
-use Rattle.zoned_ffi.proofs.Words.{IsReaderNumber, IsRefusal, IsTextFault, IsTrue, IsTzText, IsUtf8, IsZoneFault, IsZoneOf, Kind, List, MatchResult, Ok}
-use Rattle.zoned_ffi.proofs.Words.{Refusal, Result, Spells, TransitionRule, Zone, arith, inl, inr, number_of, posix_zone, refl, refusal_number, subst, sym}
-use Rattle.zoned_ffi.proofs.Words.{true, ℕ, ◌↔◌, ◌≡◌, ◌≢◌, ◌⊎◌}
+use Rattle.zoned_ffi.proofs.Words.{IsReaderNumber, IsRefusal, IsTextFault, IsTrue, IsUtf8, IsZoneFault, IsZoneOf, Kind, List, Ok, Refusal, Result, Spells, Zone}
+use Rattle.zoned_ffi.proofs.Words.{arith, inl, inr, number_of, refl, refusal_number, subst, sym, true, ℕ, ◌↔◌, ◌≡◌, ◌≢◌, ◌⊎◌}
+use Rattle.tz_info.specs.PosixZones.{IsExtendedZone}
+use Rattle.tz_info.specs.TzGrammar.{IsTextFault as IsStringFault}
 use Rattle.zoned_ffi.specs.Kinds.{number_of as kind_number}
 use Rattle.zoned_ffi.specs.declared.kind.Kind.TheVariants as kinds
 
@@ -14,11 +15,12 @@ text_refused bytes e utf8 fault memory = elim fault [
   | inr there ↦ IsTextFault.In_text e utf8 there
 ]
 
--- where there is no memory for the zone of a TZ string with extensions, that is the fault
-pub extended_refused : (bytes : List ℕ) (rule : TransitionRule) (r : Result Zone Error) → IsTzText true bytes rule → MatchResult r (λ z. z ≡ posix_zone rule) IsOutOfMemory
-    → IfErr r (λ e. IsExtendedFault bytes (number_of e))
-extended_refused bytes rule (Ok z) spelled made = tt
-extended_refused bytes rule (Err e) spelled memory = subst (IsExtendedFault bytes) (sym memory) (IsExtendedFault.No_memory (posix_zone rule) (rule, spelled, refl))
+-- and so is that of a TZ string with extensions
+pub extended_refused : (bytes : List ℕ) (e : Error) → IsOutOfMemory e ⊎ IsStringFault true bytes e → (IsOutOfMemory e → (z : Zone) × IsExtendedZone bytes z) → IsExtendedFault bytes (number_of e)
+extended_refused bytes e fault memory = elim fault [
+  | inl is ↦ let zone = memory is in subst (IsExtendedFault bytes) (sym is) (IsExtendedFault.No_memory zone.0 zone.1)
+  | inr there ↦ IsExtendedFault.In_string e there
+]
 
 pub reader_number : (e : Error) → IsReaderNumber (number_of e)
 reader_number (errors.DateTime _) = (omega arith, omega arith)

@@ -1,11 +1,9 @@
 -- How bytes are read, by the number of a kind, and the zones that they spell then.
-use Rattle.std.specs.Prelude.{ℕ, ◌≡◌, List, true}
+use Rattle.std.specs.Prelude.{ℕ, ◌≡◌, List}
 use Rattle.std.specs.Str.{IsUtf8}
-use Rattle.tz_info.specs.PosixZones.{IsPosixZone, posix_zone}
+use Rattle.tz_info.specs.PosixZones.{IsPosixZone, IsExtendedZone}
 use Rattle.tz_info.specs.TzFiles.{IsTzFile}
-use Rattle.tz_info.specs.TzGrammar.{IsTzText}
 use Rattle.tz_info.specs.Zones.{Zone, IsValid}
-use Rattle.tz_info.specs.declared.rule.transition_rule.TransitionRule.{TransitionRule}
 use Rattle.zoned_ffi.specs.declared.kind.Kind.{Kind}
 use Rattle.zoned_ffi.specs.declared.kind.Kind.TheVariants as kinds
 
@@ -17,10 +15,6 @@ number_of kinds.ExtendedText = 2
 -- there is a kind of that number
 abbrev pub IsKind : ℕ → Type 0
 IsKind number = (kind : Kind) × (number ≡ number_of kind)
-
--- the bytes spell, with the extensions of RFC 8536, section 3.3.1, the rule that the zone has at every instant
-abbrev pub IsExtendedZone : List ℕ → Zone → Type 0
-IsExtendedZone bytes z = (rule : TransitionRule) × IsTzText true bytes rule × (z ≡ posix_zone rule)
 
 -- bytes of that kind spell the zone: a TZif file of valid lists, a TZ text in UTF-8, or a TZ string with extensions
 abbrev pub Spells : Kind → List ℕ → Zone → Type 0

@@ -6,11 +6,11 @@ use Rattle.tz_base.specs.declared.error.Error.{Error}
 use Rattle.tz_base.specs.declared.error.Error.TheVariants as errors
 use Rattle.tz_base.specs.declared.error.Expected.{Expected}
 use Rattle.tz_base.specs.declared.error.Expected.TheVariants as expected
-use Rattle.tz_info.specs.PosixZones.{IsPosixZone, IsPosixFault}
+use Rattle.tz_info.specs.PosixZones.{IsPosixZone, IsPosixFault, IsExtendedZone}
 use Rattle.tz_info.specs.TzFiles.{IsZoneFault}
 use Rattle.tz_info.specs.TzGrammar.{IsTextFault as IsStringFault}
 use Rattle.tz_info.specs.Zones.{Zone}
-use Rattle.zoned_ffi.specs.Kinds.{IsExtendedZone, IsKind, number_of}
+use Rattle.zoned_ffi.specs.Kinds.{IsKind, number_of}
 use Rattle.zoned_ffi.specs.declared.kind.Kind.{Kind}
 use Rattle.zoned_ffi.specs.declared.kind.Kind.TheVariants as kinds
 use Rattle.zoned_ffi.specs.declared.refusal.Refusal.{Refusal}

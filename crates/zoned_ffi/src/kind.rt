@@ -6,7 +6,6 @@ ghost use Rattle.zoned_ffi.specs.Kinds.{IsKind, IsZoneOf, Spells, number_of};
 ghost use Rattle.zoned_ffi.specs.Refusals.{IsFault, IsReaderNumber, IsRefusal, refusal_number};
 ghost use Rattle.zoned_ffi.specs.declared.kind.Kind.TheVariants.{ExtendedText, File, Text};
 
-use crate::extended::extended_zone;
 use crate::refusal::Refusal;
 use std::alloc::Global;
 use std::str;
@@ -98,7 +97,7 @@ fn read_extended(alloc: Global, bytes: &[u8]) -> Result<TimeZone, Refusal>
     ensures fault { IfErr result (λ e. IsFault ExtendedText bytes.now (refusal_number e)) }
     ensures number { IfErr result (λ e. IsReaderNumber (refusal_number e)) }
 {
-    match extended_zone(alloc, bytes) {
+    match TimeZone::from_extended_tz(alloc, bytes) {
         Ok(zone) => Ok(zone),
         Err(error) => Err(Refusal::Reader(error)),
     }

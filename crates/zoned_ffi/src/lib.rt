@@ -16,7 +16,6 @@ mod asking;
 mod changes;
 mod choice;
 mod column;
-mod extended;
 mod handle;
 mod instants;
 mod kind;

@@ -7,7 +7,7 @@ use std::io;
 use std::io::Write as _;
 use tz_info::{Error, TimeZone};
 use tz_write::ToTzData;
-use zonedump_lib::{Form, Years, extended_zone, to_json, told};
+use zonedump_lib::{Form, Years, to_json, told};
 
 /// What is done with a zone.
 #[derive(Clone, Copy)]
@@ -50,7 +50,7 @@ impl Source<'_> {
     fn zone(self, alloc: Global) -> Result<TimeZone, Error> {
         match self {
             Source::Text(text) => TimeZone::from_posix_tz(alloc, text),
-            Source::Extended(text) => extended_zone(alloc, text),
+            Source::Extended(text) => TimeZone::from_extended_tz(alloc, text.as_bytes()),
             Source::File(bytes) => TimeZone::from_tz_data(alloc, bytes),
         }
     }
@@ -86,7 +86,7 @@ fn tell_extended(
     form: Form<'_>,
     out: &mut String,
 ) -> Result<(), Error> {
-    let zone = extended_zone(alloc, text)?;
+    let zone = TimeZone::from_extended_tz(alloc, text.as_bytes())?;
     let lines = told(alloc, &zone, years, form)?;
     out.push_str(lines.as_str())?;
     Ok(())

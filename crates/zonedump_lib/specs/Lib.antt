@@ -5,4 +5,3 @@ pub mod Tables
 pub mod Zdump
 pub mod Forms
 pub mod Pictures
-pub mod ExtendedZones

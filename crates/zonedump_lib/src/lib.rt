@@ -8,7 +8,6 @@
 mod changes;
 mod difference_json;
 mod differences;
-mod extended;
 mod form;
 mod json_text;
 mod picture;
@@ -21,7 +20,6 @@ pub use change_views::Years;
 pub use changes::changes_in;
 pub use difference_json::{differences_to_json, lone_to_json};
 pub use differences::{differences_in, push_differences};
-pub use extended::extended_zone;
 pub use form::{Form, told};
 pub use json_text::to_json;
 pub use picture::draw;

@@ -71,7 +71,7 @@ fn is_between_newlines(bytes: &[u8]) -> bool
 fn trimmed(bytes: &[u8]) -> &[u8]
     ensures { result.now ≡ trimmed bytes.now }
 {
-    bytes.trim_ascii_start().trim_ascii_end()
+    bytes.trim_ascii()
 }
 
 // A colon in front would name a file, and a 0 byte is in no TZ text.

@@ -1,9 +1,10 @@
 //! Zones of TZ texts.
 
-ghost use Rattle.std.specs.Prelude.{◌≡◌, IfOk, IfErr, MatchResult, ◌⊎◌, [], ◌∷◌};
+ghost use Rattle.std.specs.Prelude.{◌≡◌, IfOk, IfErr, MatchResult, ◌⊎◌, [], ◌∷◌, true};
 ghost use Rattle.tz_base.specs.Errors.{IsOutOfMemory};
 ghost use Rattle.tz_info.specs.Zones.{Zone};
-ghost use Rattle.tz_info.specs.PosixZones.{IsPosixZone, IsPosixFault, types_of, posix_zone};
+ghost use Rattle.tz_info.specs.PosixZones.{IsPosixZone, IsPosixFault, IsExtendedZone, types_of, posix_zone};
+ghost use Rattle.tz_info.specs.TzGrammar.{IsTextFault};
 
 use crate::rule::TransitionRule;
 use crate::zone::time_zone::TimeZone;
@@ -43,6 +44,36 @@ impl TimeZone {
         }
         let rule = TransitionRule::from_tz_string(text.trim_ascii().as_bytes(), false)?;
         TimeZone::of_rule(alloc, rule)
+    }
+
+    /// Returns the zone of a TZ string that may have the extensions of RFC 8536, section 3.3.1: its
+    /// rule at every instant. Nothing is trimmed.
+    ///
+    /// ```text
+    /// let nuuk = TimeZone::from_extended_tz(alloc, b"<-03>3<-02>,M3.5.0/-2,M10.5.0/-1")?;
+    /// ```
+    ///
+    /// # Errors
+    ///
+    /// Those of [`TransitionRule::from_tz_string`]; [`Error::OutOfMemory`] if there is no memory
+    /// for the zone.
+    pub fn from_extended_tz(alloc: Global, text: &[u8]) -> Result<TimeZone, Error>
+        // The zone is the string's.
+        ensures found { IfOk result (λ z. IsExtendedZone text.now z) }
+        // A string that has a zone gives it, unless there is no memory.
+        ensures only { (z : Zone) → IsExtendedZone text.now z
+            → MatchResult result (λ y. y ≡ z) (λ e. IsOutOfMemory e) }
+        // An error is the first fault of the string, or says that memory ran out.
+        ensures fault { IfErr result
+            (λ e. IsOutOfMemory e ⊎ IsTextFault true text.now e) }
+        // Running out of memory is reported only for a string that has a zone.
+        ensures memory { IfErr result
+            (λ e. IsOutOfMemory e → (z : Zone) × IsExtendedZone text.now z) }
+    {
+        match TransitionRule::from_tz_string(text, true) {
+            Ok(rule) => TimeZone::of_rule(alloc, rule),
+            Err(fault) => Err(fault),
+        }
     }
 
     // The zone of the rule.
