@@ -2,8 +2,8 @@
 use Rattle.offset_core.specs.declared.choice.FoldChoice.TheVariants.{Earliest, Latest, Refuse as RefuseFold}
 use Rattle.offset_core.specs.declared.choice.GapChoice.TheVariants.{Refuse as RefuseGap, ShiftForward}
 use Rattle.zoned_time.specs.Choice.IsTaken.{earliest, latest, once, shifted}
-use Rattle.tests_pins.proofs.Words.{FoldChoice, GapChoice, IsBeforeGap, IsShownBetween, IsShownOnce, IsTaken, Reading, Shows, Zoned, ap, arith, first_second}
-use Rattle.tests_pins.proofs.Words.{ints, last_second, neg_ℤ, negsuc, pos, refl, set_back, set_forward, sym, ℕ, ℤ, ◌+ℤ◌, ◌-ℤ◌, ◌<ℤ◌, ◌∙◌, ◌≡◌, ◌≢◌, ◌≤ℤ◌}
+use Rattle.tests_pins.proofs.Words.{IsBeforeGap, IsShownBetween, IsShownOnce, IsTaken, Reading, Shows, Zoned, arith, first_second, ints, last_second, neg_ℤ}
+use Rattle.tests_pins.proofs.Words.{negsuc, pos, refl, set_back, set_forward, sym, ℤ, ◌+ℤ◌, ◌-ℤ◌, ◌<ℤ◌, ◌∙◌, ◌≡◌, ◌≤ℤ◌}
 use Rattle.tests_pins.specs.Choices as choices
 
 -- ---- the gap
@@ -34,14 +34,6 @@ only_before_gap k h =
     let least = h.least (pos 0) (omega arith, omega arith) (omega arith) in
     h.before ∙ at_0 (h.first -ℤ pos 1) (omega (arith, ints))
 
-gap_number : GapChoice → ℕ
-gap_number RefuseGap = 0
-gap_number ShiftForward = 1
-
-refuses_gap : RefuseGap ≡ ShiftForward → ⊥
-unfolding gap_number
-refuses_gap e = let same = ap gap_number e in absurd (omega (arith, same))
-
 pub taken_shifted : (k : ℤ) → IsTaken set_forward (pos 1_800) choices.shift k → k ≡ pos 0
 taken_shifted k (once o) = absurd (never o.second k o.shown)
 taken_shifted k (earliest last b _) = absurd (never b.first k b.at_first)
@@ -52,7 +44,7 @@ pub none_taken : (k : ℤ) → ¬ (IsTaken set_forward (pos 1_800) choices.refus
 none_taken k (once o) = never o.second k o.shown
 none_taken k (earliest last b _) = never b.first k b.at_first
 none_taken k (latest first b _) = never b.last k b.at_last
-none_taken k (shifted gap wants) = refuses_gap wants
+none_taken k (shifted gap wants) = let other : RefuseGap ≡ ShiftForward = wants in cc
 
 -- ---- the fold
 pub shown_first : Shows set_back (pos 1_800) (neg_ℤ (pos 1_800)) (pos 3_600)
@@ -68,14 +60,6 @@ an_hour (negsuc a) h = refl
 nothing : (v : ℤ) → pos 0 ≤ℤ v → set_back v ≡ pos 0
 nothing (pos a) h = refl
 nothing (negsuc a) h = absurd (omega (arith, ints))
-
-fold_number : FoldChoice → ℕ
-fold_number RefuseFold = 0
-fold_number Earliest = 1
-fold_number Latest = 2
-
-wants_other : (a b : FoldChoice) → fold_number a ≢ fold_number b → a ≡ b → ⊥
-wants_other a b apart e = apart (ap fold_number e)
 
 not_once : (k : ℤ) → IsShownOnce (Shows set_back (pos 1_800)) k → ⊥
 not_once k o =
@@ -96,24 +80,21 @@ last_is k l b =
     at.offset ∙ nothing b.last (omega (arith, ints))
 
 pub taken_earliest : (k : ℤ) → IsTaken set_back (pos 1_800) choices.earliest k → k ≡ pos 3_600
-unfolding fold_number
 taken_earliest k (once o) = absurd (not_once k o)
 taken_earliest k (earliest last b _) = first_is k last b
-taken_earliest k (latest first b wants) = absurd (wants_other Earliest Latest (λ e. absurd (omega (arith, e))) wants)
+taken_earliest k (latest first b wants) = let other : Earliest ≡ Latest = wants in cc
 taken_earliest k (shifted gap _) = absurd (gap.never (pos 1_800) (pos 0) shown_last)
 
 pub taken_latest : (k : ℤ) → IsTaken set_back (pos 1_800) choices.latest k → k ≡ pos 0
-unfolding fold_number
 taken_latest k (once o) = absurd (not_once k o)
-taken_latest k (earliest last b wants) = absurd (wants_other Latest Earliest (λ e. absurd (omega (arith, e))) wants)
+taken_latest k (earliest last b wants) = let other : Latest ≡ Earliest = wants in cc
 taken_latest k (latest first b _) = last_is first k b
 taken_latest k (shifted gap _) = absurd (gap.never (pos 1_800) (pos 0) shown_last)
 
 pub none_taken_twice : (k : ℤ) → ¬ (IsTaken set_back (pos 1_800) choices.refuse k)
-unfolding fold_number
 none_taken_twice k (once o) = not_once k o
-none_taken_twice k (earliest last b wants) = wants_other RefuseFold Earliest (λ e. absurd (omega (arith, e))) wants
-none_taken_twice k (latest first b wants) = wants_other RefuseFold Latest (λ e. absurd (omega (arith, e))) wants
+none_taken_twice k (earliest last b wants) = let other : RefuseFold ≡ Earliest = wants in cc
+none_taken_twice k (latest first b wants) = let other : RefuseFold ≡ Latest = wants in cc
 none_taken_twice k (shifted gap _) = gap.never (pos 1_800) (pos 0) shown_last
 
 -- ---- both ends of the range
