@@ -1,5 +1,5 @@
 -- The words that this crate's proofs cite, passed on from std, from the crates below and from specs/.
-pub use Rattle.std.proofs.Common.{None, Ok, Option, Result, Some, add-one, append-nil, codes, drop, get_or, map, string_bytes, take}
+pub use Rattle.std.proofs.Common.{None, Ok, Option, Result, Some, add-one, append-nil, drop, get_or, map, string_bytes, take}
 pub use Rattle.json.specs.Json.{Json}
 pub use Rattle.json.specs.Token.{Token, end_array}
 pub use Rattle.json.specs.Tree.{depth, items_depth, items_tokens, json_tokens}
@@ -9,28 +9,22 @@ pub use Rattle.std.proofs.Math.Seq.{drop-cons, take-suc}
 pub use Rattle.std.proofs.lemmas.List.{flat_map_more, take_more}
 pub use Rattle.std.proofs.lemmas.List.Concat.{flat_map-append}
 pub use Rattle.std.proofs.lemmas.Result.{on_ok_weaker}
-pub use Rattle.std.specs.Fmt.{signed_decimal}
 pub use Rattle.std.specs.List.{flat_map}
-pub use Rattle.naive_base.proofs.Words.{FitsSigned, List, Reading, ap, append_assoc, arith, days_at_least, floors, ints, length, neg_ℤ, pos, reading_text, refl}
-pub use Rattle.naive_base.proofs.Words.{rules, starts_rise, suc, sym, to_z-of_z, w32, w64, year_step, ℕ, ℤ, [], ◌++◌, ◌+ℤ◌, ◌+◌, ◌-ℤ◌, ◌<ℤ◌, ◌<◌, ◌∙◌, ◌∷◌, ◌≡◌}
-pub use Rattle.naive_base.proofs.Words.{◌≤ℤ◌, ◌≤◌}
+pub use Rattle.naive_base.proofs.Words.{FitsSigned, List, ap, append_assoc, arith, days_at_least, floors, ints, length, neg_ℤ, pos, refl, rules, starts_rise}
+pub use Rattle.naive_base.proofs.Words.{suc, sym, to_z-of_z, w32, w64, year_step, ℕ, ℤ, [], ◌++◌, ◌+ℤ◌, ◌+◌, ◌-ℤ◌, ◌<ℤ◌, ◌<◌, ◌∙◌, ◌∷◌, ◌≡◌, ◌≤ℤ◌, ◌≤◌}
 unfoldable pub use Rattle.naive_base.proofs.Words.{year_start}
-pub use Rattle.naive_base.specs.Reading.{ahead}
-pub use Rattle.naive_base.specs.Stamp.{of_secs}
 pub use Rattle.tz_base.specs.LocalTypes.{IsUtOffset, LocalType}
 pub use Rattle.tz_base.specs.declared.change.Change.{Change}
-pub use Rattle.change_views.specs.ChangeLines.{change_lines, change_text, line}
+pub use Rattle.change_views.specs.ChangeLines.{change_lines, line}
 pub use Rattle.change_views.specs.ChangeValues.{change_value, name_value, type_value}
 pub use Rattle.change_views.specs.JsonSteps.{Puts}
-pub use Rattle.change_views.specs.PictureChart.{greater, greatest, hour_tick_at, hour_ticks, labels_text, least, lesser, line_parts, months_text, year_tick_at}
-pub use Rattle.change_views.specs.PictureChart.{years_text}
-unfoldable pub use Rattle.change_views.specs.PictureChart.{hour_tick, line_part, line_start, month_tick, name_text, year_tick}
-unfoldable pub use Rattle.change_views.specs.PictureFrame.{dark_style, heading_text, line_style, plain_style, size_text}
+pub use Rattle.change_views.specs.PictureChart.{greatest, hour_ticks, labels_text, least, lesser, line_parts, months_text, year_tick_at, years_text}
+unfoldable pub use Rattle.change_views.specs.PictureChart.{hour_tick, month_tick, year_tick}
+unfoldable pub use Rattle.change_views.specs.PictureFrame.{size_text}
 pub use Rattle.change_views.specs.PicturePanels.{panels_text}
-unfoldable pub use Rattle.change_views.specs.PicturePanels.{band_text, place_text, side_text, types_text, what_text}
+unfoldable pub use Rattle.change_views.specs.PicturePanels.{place_text, types_text}
 pub use Rattle.change_views.specs.PictureWords.{escaped}
 pub use Rattle.change_views.specs.Spans.{AreYears, IsInYears, IsNearYears, year_second, year_until}
 pub use Rattle.change_views.specs.Steps.Axes.{axes_of}
-pub use Rattle.change_views.specs.Words.{type_words}
 unfoldable pub use Rattle.change_views.specs.Words.{step_words}
-pub use Rattle.change_views.specs.ZdumpLines.{asctime_text, pair_lines, second_text, type_fields}
+pub use Rattle.change_views.specs.ZdumpLines.{pair_lines, second_text}

@@ -1,5 +1,5 @@
 pub mod CitedWords
 mod LineLaws
-mod JsonPutting
+pub mod JsonPutting
 mod PictureLaws
 pub mod ForCallers

@@ -1,9 +1,7 @@
 -- Lines one after the other, and seconds in years.
-use Rattle.change_views.proofs.CitedWords.{Change, FitsSigned, IsInYears, IsNearYears, List, LocalType, Reading, ahead, ap, append-nil, append_assoc, arith}
-use Rattle.change_views.proofs.CitedWords.{asctime_text, change_text, codes, flat_map, flat_map-append, floors, get_or, ints, length, line, neg_ℤ, of_secs}
-use Rattle.change_views.proofs.CitedWords.{pair_lines, pos, reading_text, refl, second_text, signed_decimal, starts_rise, step_words, suc, sym, take, take-suc}
-use Rattle.change_views.proofs.CitedWords.{type_fields, type_words, w64, year_second, year_start, year_until, ℕ, ℤ, [], ◌++◌, ◌+ℤ◌, ◌+◌, ◌-ℤ◌, ◌<◌, ◌∙◌, ◌∷◌}
-use Rattle.change_views.proofs.CitedWords.{◌≡◌, ◌≤ℤ◌}
+use Rattle.change_views.proofs.CitedWords.{Change, FitsSigned, IsInYears, IsNearYears, List, ap, append-nil, append_assoc, arith, flat_map, flat_map-append}
+use Rattle.change_views.proofs.CitedWords.{floors, get_or, ints, length, line, neg_ℤ, pair_lines, pos, refl, second_text, starts_rise, suc, sym, take, take-suc}
+use Rattle.change_views.proofs.CitedWords.{w64, year_second, year_start, year_until, ℕ, ℤ, [], ◌++◌, ◌+ℤ◌, ◌+◌, ◌-ℤ◌, ◌<◌, ◌∙◌, ◌∷◌, ◌≡◌, ◌≤ℤ◌}
 
 -- one more piece is appended
 pub piece_next : {X : Type 0} (f : X → List ℕ) (start before after : List ℕ) (xs : List X) (i : ℕ) (d : X) → i < length xs
@@ -15,14 +13,6 @@ piece_next f start before after xs i d within so_far now =
     let step : flat_map f (take (i + 1) xs) ≡ flat_map f so ++ f x =
     ap (λ n. flat_map f (take n xs)) e ∙ ap (flat_map f) (take-suc xs i d within) ∙ flat_map-append f so (x ∷ []) ∙ ap (λ t. flat_map f so ++ t) (append-nil (f x)) in
     now ∙ ap (λ t. t ++ f x) so_far ∙ append_assoc start (flat_map f so) (f x) ∙ sym (ap (λ t. start ++ t) step)
-
--- what a change prints
-pub change_printed : (c : Change) (utc before after : Reading) (step at : ℤ) → utc ≡ of_secs c.at 0 → before ≡ ahead (of_secs c.at 0) c.before.offset
-    → after ≡ ahead (of_secs c.at 0) c.after.offset → step ≡ c.after.offset -ℤ c.before.offset → at ≡ c.at
-    → reading_text 32 utc ++ codes " UTC  " ++ (reading_text 32 before ++ codes " " ++ type_words c.before) ++ codes " -> "
-    ++ (reading_text 32 after ++ codes " " ++ type_words c.after) ++ codes "  " ++ (step_words step ++ codes " at " ++ signed_decimal at)
-    ≡ change_text c
-change_printed c utc before after step at is_utc is_before is_after is_step is_at = rw (is_utc, is_before, is_after, is_step, is_at) refl
 
 -- a second near the years fits 64 bits
 pub near_fits : (at : ℤ) → IsNearYears at → FitsSigned w64 at
@@ -51,11 +41,6 @@ start_in_years year low high =
 
 pub near_of : (at : ℤ) → IsInYears at → IsNearYears at
 near_of at in_years = let low = in_years.0 in let high = in_years.1 in (omega (arith, ints, low), omega (arith, ints, high))
-
--- what a second prints
-pub second_printed : (name : List ℕ) (at : ℤ) (t : LocalType) (utc local : Reading) → utc ≡ of_secs at 0 → local ≡ ahead (of_secs at 0) t.offset
-    → name ++ codes "  " ++ (asctime_text utc ++ codes " UT = " ++ asctime_text local) ++ codes " " ++ type_fields t ≡ second_text name at t
-second_printed name at t utc local is_utc is_local = rw (is_utc, is_local) refl
 
 -- two pieces are appended, one by one
 pub two_pieces : (start one two a b : List ℕ) → one ≡ start ++ a → two ≡ one ++ b → two ≡ start ++ (a ++ b)

@@ -1,4 +1,5 @@
 //! Changes of the clocks as JSON.
+#![tactic(auto, using(crate::proofs::JsonPutting::wrote, crate::proofs::JsonPutting::puts_then))]
 
 ghost use Rattle.std.specs.Prelude.{◌≡◌, [], ◌∷◌, ◌++◌, ◌-ℤ◌, codes, decimal, flat_map, unsigned_abs};
 ghost use Rattle.std.specs.Fmt.{signed_decimal};

@@ -1,11 +1,12 @@
 -- Days of clock changes, as dates.
-use Rattle.tests_pins.proofs.Words.{arith, date_only, day_number, day_of_month, days_of_months, month_of, pos, refl, year_of, year_start, ◌≡◌}
+use Rattle.tests_pins.proofs.Words.{arith, date_only, day_of_month, month_of, pos, refl, year_of, ◌≡◌}
+use Rattle.tests_pins.proofs.Computed.{calendar}
 
 -- 2007-03-11 and 2021-03-14
 pub march_2007 : (year_of (pos 13_583) ≡ pos 2007) × (month_of (pos 13_583) ≡ 3) × (day_of_month (pos 13_583) ≡ 11)
-unfolding year_start days_of_months day_number
+unfolding calendar
 march_2007 = date_only (pos 13_583) (pos 2007) 3 11 (omega arith, omega arith, omega arith, omega arith) refl
 
 pub march_2021 : (year_of (pos 18_700) ≡ pos 2021) × (month_of (pos 18_700) ≡ 3) × (day_of_month (pos 18_700) ≡ 14)
-unfolding year_start days_of_months day_number
+unfolding calendar
 march_2021 = date_only (pos 18_700) (pos 2021) 3 14 (omega arith, omega arith, omega arith, omega arith) refl

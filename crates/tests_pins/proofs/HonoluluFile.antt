@@ -2,18 +2,21 @@
 use Rattle.tz_base.specs.declared.error.Error.TheVariants.{InvalidTzFile, UnsupportedTzFile}
 use Rattle.tz_base.specs.declared.error.Expected.TheVariants.{NothingAfterBlockOfVersion1, Version1To3, Version2Or3InSecondHeader}
 use Rattle.tz_info.specs.declared.file.header.Version.TheVariants.{Two}
+use Rattle.tz_base.specs.Names.{is_name, name_from}
 use Rattle.tests_pins.proofs.Words.{Bool, Error, HasPieces, IndicatorsAgree, IsAscii-cons, IsAscii-nil, IsFooter, IsMark, IsTzFile, IsUtf8-from_ascii, List}
-use Rattle.tests_pins.proofs.Words.{None, PieceFault, Place, SpellTransitions, SpellTypes, Spells, SpellsType, Version, Zone, after_first_block, apart, arith}
-use Rattle.tests_pins.proofs.Words.{be_u32, block as a_block, counts, counts_test, designations, exact_at, false, file as a_file, file_with, first_pieces}
-use Rattle.tests_pins.proofs.Words.{first_version, from_be_bytes, header as a_header, honolulu, honolulu_file, honolulu_from, hst10, hst_footer, indicators}
-use Rattle.tests_pins.proofs.Words.{inl, inr, is_name_byte, later_version, lawful, least_offset, length, long_times, magic, neg_ℤ, optional_tag_at, parts}
-use Rattle.tests_pins.proofs.Words.{pieces, pos, refl, short_file, short_times, signed, six_counts, true, type_indexes, type_records, tzif, version, version_1}
-use Rattle.tests_pins.proofs.Words.{w32, ℕ, ℤ, [], ◌++◌, ◌<ℤ◌, ◌<◌, ◌∷◌, ◌≡◌}
+use Rattle.tests_pins.proofs.Words.{None, PieceFault, Place, SpellTransitions, SpellTypes, Spells, SpellsType, Version, Zone, apart, arith, be_u32}
+use Rattle.tests_pins.proofs.Words.{block as a_block, counts, counts_test, designations, false, file as a_file, file_with, first_pieces, from_be_bytes}
+use Rattle.tests_pins.proofs.Words.{header as a_header, honolulu, honolulu_file, honolulu_from, hst10, hst_footer, indicators, inl, inr, lawful, least_offset}
+use Rattle.tests_pins.proofs.Words.{length, long_times, magic, neg_ℤ, parts, pieces, pos, refl, short_file, short_times, signed, six_counts, true, type_indexes}
+use Rattle.tests_pins.proofs.Words.{type_records, tzif, version, w32, ℕ, ℤ, [], ◌++◌, ◌<ℤ◌, ◌<◌, ◌∷◌, ◌≡◌, Transition}
+use Rattle.tests_pins.proofs.Computed.{files}
+use Rattle.std.proofs.Common.{drop, map, sym, take}
+use Rattle.std.proofs.lemmas.List.{take-append-drop}
+use Rattle.tz_info.specs.FileContents.{AreRecords, time_of}
 use Rattle.tests_pins.specs.Honolulu.{block, header}
 use Rattle.tests_pins.specs.Zones.{named}
 use Rattle.tests_pins.proofs.FileParts.{parts_are}
-use Rattle.tests_pins.proofs.SpelledPieces.{is_name_3, some_bytes}
-use Rattle.tests_pins.proofs.SpelledTexts.{hst_10}
+use Rattle.tests_pins.proofs.SpelledTexts.{hst_10, some_bytes}
 
 -- ---- headers
 four_bytes : (a b c d : ℕ) (rest : List ℕ) → Spells be_u32 (a ∷ b ∷ c ∷ d ∷ rest) (from_be_bytes w32 (a ∷ b ∷ c ∷ d ∷ [])) rest
@@ -42,113 +45,42 @@ first_block rest = parts_are 4 counts (parts short_times) rest refl refl refl re
 pub second_block : (rest : List ℕ) → Spells (a_block 8 counts) (block long_times ++ rest) (parts long_times) rest
 second_block rest = parts_are 8 counts (parts long_times) rest refl refl refl refl refl refl refl
 
--- ---- what the second block says
+-- ---- what the blocks say
+-- the sizes of the times that are cut off one by one, and of what is left
+abbrev sizes_in : ℕ → List ℕ → List Transition → List ℕ
+sizes_in size bytes [] = length bytes ∷ []
+sizes_in size bytes (t ∷ ts) = length (take size bytes) ∷ sizes_in size (drop size bytes) ts
+
+abbrev sizes_of : ℕ → List Transition → List ℕ
+sizes_of size [] = 0 ∷ []
+sizes_of size (t ∷ ts) = size ∷ sizes_of size ts
+
+abbrev times_in : ℕ → List ℕ → List Transition → List ℤ
+times_in size bytes [] = []
+times_in size bytes (t ∷ ts) = time_of size (take size bytes) ∷ times_in size (drop size bytes) ts
+
+times_spelled : (size : ℕ) (bytes : List ℕ) (ts : List Transition) → sizes_in size bytes ts ≡ sizes_of size ts
+    → times_in size bytes ts ≡ map (λ t. t.unix_leap_time) ts → AreRecords size (λ b t. time_of size b ≡ t.unix_leap_time) bytes ts
+times_spelled size [] [] sizes times = refl
+times_spelled size (b ∷ bytes) [] sizes times = let none : length (b ∷ bytes) ≡ 0 = cc in absurd (omega arith)
+times_spelled size bytes (t ∷ ts) sizes times =
+    (take size bytes, drop size bytes, sym (take-append-drop size bytes), cc, cc, times_spelled size (drop size bytes) ts (cc) (cc))
+
 pub transitions : SpellTransitions 8 long_times type_indexes (honolulu hst10).transitions
 unfolding signed
-transitions = record {
-  times_are = (
-    255 ∷ 255 ∷ 255 ∷ 255 ∷ 116 ∷ 224 ∷ 112 ∷ 190 ∷ [],
-    _,
-    refl,
-    refl,
-    refl,
-    (
-      255 ∷ 255 ∷ 255 ∷ 255 ∷ 187 ∷ 5 ∷ 67 ∷ 72 ∷ [],
-      _,
-      refl,
-      refl,
-      refl,
-      (
-        255 ∷ 255 ∷ 255 ∷ 255 ∷ 187 ∷ 33 ∷ 113 ∷ 88 ∷ [],
-        _,
-        refl,
-        refl,
-        refl,
-        (
-          255 ∷ 255 ∷ 255 ∷ 255 ∷ 203 ∷ 137 ∷ 61 ∷ 200 ∷ [],
-          _,
-          refl,
-          refl,
-          refl,
-          (
-            255 ∷ 255 ∷ 255 ∷ 255 ∷ 210 ∷ 35 ∷ 244 ∷ 112 ∷ [],
-            _,
-            refl,
-            refl,
-            refl,
-            (
-              255 ∷ 255 ∷ 255 ∷ 255 ∷ 210 ∷ 97 ∷ 73 ∷ 56 ∷ [],
-              _,
-              refl,
-              refl,
-              refl,
-              (255 ∷ 255 ∷ 255 ∷ 255 ∷ 213 ∷ 141 ∷ 115 ∷ 72 ∷ [], _, refl, refl, refl, refl),
-            ),
-          ),
-        ),
-      ),
-    ),
-  );
-  indexes_are = refl;
-}
+transitions = record { times_are = times_spelled 8 long_times (honolulu hst10).transitions refl refl; indexes_are = refl }
 
--- what the first block says
 short_transitions : SpellTransitions 4 short_times type_indexes (honolulu_from (neg_ℤ (pos 2_147_483_648)) None).transitions
 unfolding signed
-short_transitions = record {
-  times_are = (
-    128 ∷ 0 ∷ 0 ∷ 0 ∷ [],
-    _,
-    refl,
-    refl,
-    refl,
-    (
-      187 ∷ 5 ∷ 67 ∷ 72 ∷ [],
-      _,
-      refl,
-      refl,
-      refl,
-      (
-        187 ∷ 33 ∷ 113 ∷ 88 ∷ [],
-        _,
-        refl,
-        refl,
-        refl,
-        (
-          203 ∷ 137 ∷ 61 ∷ 200 ∷ [],
-          _,
-          refl,
-          refl,
-          refl,
-          (
-            210 ∷ 35 ∷ 244 ∷ 112 ∷ [],
-            _,
-            refl,
-            refl,
-            refl,
-            (
-              210 ∷ 97 ∷ 73 ∷ 56 ∷ [],
-              _,
-              refl,
-              refl,
-              refl,
-              (213 ∷ 141 ∷ 115 ∷ 72 ∷ [], _, refl, refl, refl, refl),
-            ),
-          ),
-        ),
-      ),
-    ),
-  );
-  indexes_are = refl;
-}
+short_transitions = record { times_are = times_spelled 4 short_times (honolulu_from (neg_ℤ (pos 2_147_483_648)) None).transitions refl refl; indexes_are = refl }
 
 -- the record of a type whose name, two letters and a `T`, stands among the others
 spells : (a b mark : ℕ) (before after : List ℕ) (west : ℤ) (dst : Bool) (first second : ℕ)
     → signed w32 (255 ∷ 255 ∷ a ∷ b ∷ []) ≡ neg_ℤ west → least_offset <ℤ neg_ℤ west → IsMark mark dst
     → designations ≡ before ++ (first ∷ second ∷ 84 ∷ 0 ∷ after)
-    → 0 < first → 0 < second → is_name_byte first ≡ true → is_name_byte second ≡ true
+    → 0 < first → 0 < second → is_name (first ∷ second ∷ 84 ∷ []) ≡ true
     → SpellsType designations (255 ∷ 255 ∷ a ∷ b ∷ mark ∷ length before ∷ []) (named west dst first second)
-spells a b mark before after west dst first second offset above marked whole some some₂ letter letter₂ = record {
+spells a b mark before after west dst first second offset above marked whole some some₂ letters = record {
   text = first ∷ second ∷ 84 ∷ [];
   offset = offset;
   above_least = above;
@@ -161,7 +93,7 @@ spells a b mark before after west dst first second offset above marked whole som
     ends = (λ e. absurd (omega (arith, e, some)), (λ e. absurd (omega (arith, e, some₂)), (λ e. absurd (omega (arith, e)), tt)));
   };
   name = refl;
-  name_fits = is_name_3 first second 84 letter letter₂ refl;
+  name_fits = name_from (first ∷ second ∷ 84 ∷ []) letters;
 }
 
 pub types : SpellTypes designations type_records (honolulu hst10).types
@@ -171,32 +103,32 @@ types = (
   _,
   refl,
   refl,
-  spells 108 2 0 [] _ (pos 37_886) false 76 77 refl (omega arith) refl refl (omega arith) (omega arith) refl refl,
+  spells 108 2 0 [] _ (pos 37_886) false 76 77 refl (omega arith) refl refl (omega arith) (omega arith) refl,
   (
     255 ∷ 255 ∷ 108 ∷ 88 ∷ 0 ∷ 4 ∷ [],
     _,
     refl,
     refl,
-    spells 108 88 0 (76 ∷ 77 ∷ 84 ∷ 0 ∷ []) _ (pos 37_800) false 72 83 refl (omega arith) refl refl (omega arith) (omega arith) refl refl,
+    spells 108 88 0 (76 ∷ 77 ∷ 84 ∷ 0 ∷ []) _ (pos 37_800) false 72 83 refl (omega arith) refl refl (omega arith) (omega arith) refl,
     (
       255 ∷ 255 ∷ 122 ∷ 104 ∷ 1 ∷ 8 ∷ [],
       _,
       refl,
       refl,
-      spells 122 104 1 (76 ∷ 77 ∷ 84 ∷ 0 ∷ 72 ∷ 83 ∷ 84 ∷ 0 ∷ []) _ (pos 34_200) true 72 68 refl (omega arith) refl refl (omega arith) (omega arith) refl refl,
+      spells 122 104 1 (76 ∷ 77 ∷ 84 ∷ 0 ∷ 72 ∷ 83 ∷ 84 ∷ 0 ∷ []) _ (pos 34_200) true 72 68 refl (omega arith) refl refl (omega arith) (omega arith) refl,
       (
         255 ∷ 255 ∷ 122 ∷ 104 ∷ 1 ∷ 12 ∷ [],
         _,
         refl,
         refl,
-        spells 122 104 1 (76 ∷ 77 ∷ 84 ∷ 0 ∷ 72 ∷ 83 ∷ 84 ∷ 0 ∷ 72 ∷ 68 ∷ 84 ∷ 0 ∷ []) _ (pos 34_200) true 72 87 refl (omega arith) refl refl (omega arith) (omega arith) refl refl,
+        spells 122 104 1 (76 ∷ 77 ∷ 84 ∷ 0 ∷ 72 ∷ 83 ∷ 84 ∷ 0 ∷ 72 ∷ 68 ∷ 84 ∷ 0 ∷ []) _ (pos 34_200) true 72 87 refl (omega arith) refl refl (omega arith) (omega arith) refl,
         (
           255 ∷ 255 ∷ 122 ∷ 104 ∷ 1 ∷ 16 ∷ [],
           _,
           refl,
           refl,
-          spells 122 104 1 (76 ∷ 77 ∷ 84 ∷ 0 ∷ 72 ∷ 83 ∷ 84 ∷ 0 ∷ 72 ∷ 68 ∷ 84 ∷ 0 ∷ 72 ∷ 87 ∷ 84 ∷ 0 ∷ []) _ (pos 34_200) true 72 80 refl (omega arith) refl refl (omega arith) (omega arith) refl refl,
-          (255 ∷ 255 ∷ 115 ∷ 96 ∷ 0 ∷ 4 ∷ [], _, refl, refl, spells 115 96 0 (76 ∷ 77 ∷ 84 ∷ 0 ∷ []) _ (pos 36_000) false 72 83 refl (omega arith) refl refl (omega arith) (omega arith) refl refl, refl),
+          spells 122 104 1 (76 ∷ 77 ∷ 84 ∷ 0 ∷ 72 ∷ 83 ∷ 84 ∷ 0 ∷ 72 ∷ 68 ∷ 84 ∷ 0 ∷ 72 ∷ 87 ∷ 84 ∷ 0 ∷ []) _ (pos 34_200) true 72 80 refl (omega arith) refl refl (omega arith) (omega arith) refl,
+          (255 ∷ 255 ∷ 115 ∷ 96 ∷ 0 ∷ 4 ∷ [], _, refl, refl, spells 115 96 0 (76 ∷ 77 ∷ 84 ∷ 0 ∷ []) _ (pos 36_000) false 72 83 refl (omega arith) refl refl (omega arith) (omega arith) refl, refl),
         ),
       ),
     ),
@@ -224,7 +156,7 @@ indicators_agree = λ k a b. absurd (omega (arith, a, b))
 
 -- ---- the whole
 pub file_pieces : HasPieces honolulu_file pieces
-unfolding a_file a_header version version_1 six_counts tzif a_block be_u32 after_first_block first_version later_version exact_at optional_tag_at
+unfolding files
 file_pieces = (lawful a_file honolulu_file).takes (pieces, []) refl
 
 pub file : IsTzFile honolulu_file (honolulu hst10)
@@ -235,7 +167,7 @@ file = (
 )
 
 short_pieces : HasPieces short_file (first_pieces counts (parts short_times))
-unfolding a_file a_header version version_1 six_counts tzif a_block be_u32 after_first_block first_version later_version exact_at optional_tag_at
+unfolding files
 short_pieces = (lawful a_file short_file).takes (first_pieces counts (parts short_times), []) refl
 
 pub of_version_1 : IsTzFile short_file (honolulu_from (neg_ℤ (pos 2_147_483_648)) None)
@@ -247,15 +179,15 @@ of_version_1 = (
 
 -- ---- wrong files
 pub other_version : PieceFault (file_with 49) (UnsupportedTzFile Version1To3)
-unfolding a_file a_header version version_1 six_counts tzif a_block be_u32 after_first_block first_version later_version exact_at optional_tag_at
+unfolding files
 other_version = (lawful a_file (file_with 49)).fails (UnsupportedTzFile Version1To3) refl
 
 pub version_1_again : PieceFault (file_with 0) (InvalidTzFile Version2Or3InSecondHeader)
-unfolding a_file a_header version version_1 six_counts tzif a_block be_u32 after_first_block first_version later_version exact_at optional_tag_at
+unfolding files
 version_1_again = (lawful a_file (file_with 0)).fails (InvalidTzFile Version2Or3InSecondHeader) refl
 
 pub byte_after : (b : ℕ) → PieceFault (short_file ++ (b ∷ [])) (InvalidTzFile NothingAfterBlockOfVersion1)
-unfolding a_file a_header version version_1 six_counts tzif a_block be_u32 after_first_block first_version later_version exact_at optional_tag_at
+unfolding files
 byte_after b = (lawful a_file (short_file ++ (b ∷ []))).fails (InvalidTzFile NothingAfterBlockOfVersion1) refl
 
 pub no_file : (bytes : List ℕ) (e : Error) → PieceFault bytes e → (z : Zone) → IsTzFile bytes z → ⊥

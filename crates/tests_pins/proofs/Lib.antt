@@ -1,4 +1,5 @@
 pub mod Words
+pub mod Computed
 pub mod Weeks
 pub mod LeapSeconds
 pub mod NewYork
@@ -6,7 +7,6 @@ pub mod NewYorkClocks
 pub mod NewYorkChanges
 pub mod NewYorkSpans
 pub mod AskedRules
-pub mod SpelledPieces
 pub mod SpelledTexts
 pub mod FileParts
 pub mod HonoluluFile

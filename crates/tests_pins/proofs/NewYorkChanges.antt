@@ -1,27 +1,28 @@
 -- New York's clock changes in 2021.
-use Rattle.tests_pins.proofs.Words.{AreChanges, Change, Contains, IsChange, IsFromUntil, List, LocalType, RuleAt, TypeAt, ap, arith, autumn, by_lt_z, change_at}
-use Rattle.tests_pins.proofs.Words.{edt, est, get_or, inl, inr, ints, length, new_york_rule, new_york_zone, pos, spring, subst, suc, sym, unsigned_abs, zero, ℕ}
-use Rattle.tests_pins.proofs.Words.{ℤ, [], ◌-ℤ◌, ◌<ℤ◌, ◌<◌, ◌∙◌, ◌∷◌, ◌≡◌, ◌≤ℤ◌, ◌⊎◌}
+use Rattle.tests_pins.proofs.Words.{AreChanges, Change, Contains, IsChange, IsFromUntil, LocalType, RuleAt, TypeAt, ap, arith, autumn, by_lt_z, change_at, edt}
+use Rattle.tests_pins.proofs.Words.{est, get_or, inl, inr, ints, new_york_rule, new_york_zone, pos, spring, subst, suc, sym, unsigned_abs, zero, ℕ, ℤ, [], ◌-ℤ◌}
+use Rattle.tests_pins.proofs.Words.{◌<ℤ◌, ◌<◌, ◌∙◌, ◌∷◌, ◌≡◌, ◌≤ℤ◌, ◌⊎◌}
 use Rattle.tests_pins.proofs.NewYork.{edt_between, est_2022, est_early, est_late, est_winter}
 use Rattle.tests_pins.proofs.NewYorkClocks.{apart, fits, one_type, type_of_rule}
 
-pub spring_is : IsChange (TypeAt new_york_zone) spring
-spring_is = record {
-  fits = fits (pos 1_615_705_200) (omega arith) (omega arith);
-  fits_before = fits (pos 1_615_705_199) (omega arith) (omega arith);
-  before = type_of_rule (pos 1_615_705_199) est (est_early (pos 1_615_705_199) (omega arith) (omega arith));
-  after = type_of_rule (pos 1_615_705_200) edt (edt_between (pos 1_615_705_200) (omega arith) (omega arith));
-  differ = apart;
+-- the rule's types differ from one second to the next
+pub change_is : (u : ℤ) (before after : LocalType) → pos 1 ≤ℤ u → u ≤ℤ pos 2_000_000_000 → RuleAt new_york_rule (u -ℤ pos 1) before
+    → RuleAt new_york_rule u after → (before ≡ after → ⊥) → IsChange (TypeAt new_york_zone) (change_at u before after)
+change_is u before after low high was is differ = record {
+  fits = fits u (omega (arith, ints)) high;
+  fits_before = fits (u -ℤ pos 1) (omega (arith, ints)) (omega (arith, ints));
+  before = type_of_rule (u -ℤ pos 1) before was;
+  after = type_of_rule u after is;
+  differ = differ;
 }
 
+pub spring_is : IsChange (TypeAt new_york_zone) spring
+spring_is = change_is (pos 1_615_705_200) est edt (omega arith) (omega arith) (est_early (pos 1_615_705_199) (omega arith) (omega arith))
+    (edt_between (pos 1_615_705_200) (omega arith) (omega arith)) apart
+
 pub autumn_is : IsChange (TypeAt new_york_zone) autumn
-autumn_is = record {
-  fits = fits (pos 1_636_264_800) (omega arith) (omega arith);
-  fits_before = fits (pos 1_636_264_799) (omega arith) (omega arith);
-  before = type_of_rule (pos 1_636_264_799) edt (edt_between (pos 1_636_264_799) (omega arith) (omega arith));
-  after = type_of_rule (pos 1_636_264_800) est (est_late (pos 1_636_264_800) (omega arith) (omega arith));
-  differ = λ e. apart (sym e);
-}
+autumn_is = change_is (pos 1_636_264_800) edt est (omega arith) (omega arith) (edt_between (pos 1_636_264_799) (omega arith) (omega arith))
+    (est_late (pos 1_636_264_800) (omega arith) (omega arith)) (λ e. apart (sym e))
 
 -- the same type at a second and at the one before it
 pub no_change : (c : Change) (t : LocalType) → RuleAt new_york_rule (c.at -ℤ pos 1) t → RuleAt new_york_rule c.at t
@@ -41,21 +42,21 @@ late c low high = no_change c est (est_late (c.at -ℤ pos 1) (omega (arith, int
 the_same : (u v : ℤ) (a b s t : LocalType) → u ≡ v → a ≡ b → s ≡ t → change_at u a s ≡ change_at v b t
 the_same u v a b s t e g h = cc
 
+-- a second has no two changes
+only_change : (c : Change) (u : ℤ) (before after : LocalType) → c.at ≡ u → RuleAt new_york_rule (u -ℤ pos 1) before → RuleAt new_york_rule u after
+    → IsChange (TypeAt new_york_zone) c → c ≡ change_at u before after
+only_change c u before after at was then is =
+    let here_before : TypeAt new_york_zone (u -ℤ pos 1) c.before = rw at at is.before in
+    let here : TypeAt new_york_zone u c.after = rw at at is.after in
+    the_same c.at u c.before before c.after after at (one_type (u -ℤ pos 1) before c.before was here_before) (one_type u after c.after then here)
+
 spring_only : (c : Change) → c.at ≡ pos 1_615_705_200 → IsChange (TypeAt new_york_zone) c → c ≡ spring
-spring_only c at is =
-    let before : TypeAt new_york_zone (pos 1_615_705_199) c.before = rw at at is.before in
-    let after : TypeAt new_york_zone (pos 1_615_705_200) c.after = rw at at is.after in
-    the_same c.at (pos 1_615_705_200) c.before est c.after edt at
-    (one_type (pos 1_615_705_199) est c.before (est_early (pos 1_615_705_199) (omega arith) (omega arith)) before)
-    (one_type (pos 1_615_705_200) edt c.after (edt_between (pos 1_615_705_200) (omega arith) (omega arith)) after)
+spring_only c at = only_change c (pos 1_615_705_200) est edt at (est_early (pos 1_615_705_199) (omega arith) (omega arith))
+    (edt_between (pos 1_615_705_200) (omega arith) (omega arith))
 
 autumn_only : (c : Change) → c.at ≡ pos 1_636_264_800 → IsChange (TypeAt new_york_zone) c → c ≡ autumn
-autumn_only c at is =
-    let before : TypeAt new_york_zone (pos 1_636_264_799) c.before = rw at at is.before in
-    let after : TypeAt new_york_zone (pos 1_636_264_800) c.after = rw at at is.after in
-    the_same c.at (pos 1_636_264_800) c.before edt c.after est at
-    (one_type (pos 1_636_264_799) edt c.before (edt_between (pos 1_636_264_799) (omega arith) (omega arith)) before)
-    (one_type (pos 1_636_264_800) est c.after (est_late (pos 1_636_264_800) (omega arith) (omega arith)) after)
+autumn_only c at = only_change c (pos 1_636_264_800) edt est at (edt_between (pos 1_636_264_799) (omega arith) (omega arith))
+    (est_late (pos 1_636_264_800) (omega arith) (omega arith))
 
 -- the changes of a stretch of 2021
 pub change_of_year : (c : Change) → pos 1_609_459_200 ≤ℤ c.at → c.at <ℤ pos 1_640_995_200 → IsChange (TypeAt new_york_zone) c
@@ -100,20 +101,26 @@ two_rise zero (suc zero) d before below = omega arith
 two_rise (suc i) (suc zero) d before below = absurd (omega (arith, before))
 two_rise i (suc (suc j)) d before below = absurd (omega (arith, below))
 
-pub year : AreChanges (TypeAt new_york_zone) (pos 1_609_459_200) (pos 1_640_995_200) (spring ∷ autumn ∷ [])
-year = record {
+-- both changes are all of a stretch around them
+both_listed : (from until : ℤ) → from ≤ℤ pos 1_615_705_200 → pos 1_636_264_800 <ℤ until
+    → ((c : Change) → from ≤ℤ c.at → c.at <ℤ until → IsChange (TypeAt new_york_zone) c → (c ≡ spring) ⊎ (c ≡ autumn))
+    → AreChanges (TypeAt new_york_zone) from until (spring ∷ autumn ∷ [])
+both_listed from until low high one_of = record {
   rising = two_rise;
   each = λ c. (
     λ inside. elim (spring_or_autumn c inside) [
-      | inl same ↦ subst (λ (x : Change). IsChange (TypeAt new_york_zone) x × IsFromUntil (pos 1_609_459_200) (pos 1_640_995_200) x.at) same (spring_is, (omega arith, omega arith))
-      | inr same ↦ subst (λ (x : Change). IsChange (TypeAt new_york_zone) x × IsFromUntil (pos 1_609_459_200) (pos 1_640_995_200) x.at) same (autumn_is, (omega arith, omega arith))
+      | inl same ↦ subst (λ (x : Change). IsChange (TypeAt new_york_zone) x × IsFromUntil from until x.at) same (spring_is, (low, omega (arith, ints)))
+      | inr same ↦ subst (λ (x : Change). IsChange (TypeAt new_york_zone) x × IsFromUntil from until x.at) same (autumn_is, (omega (arith, ints), high))
     ],
-    λ k. elim (change_of_year c k.1.0 k.1.1 k.0) [
+    λ k. elim (one_of c k.1.0 k.1.1 k.0) [
       | inl same ↦ (0, omega arith, sym same)
       | inr same ↦ (1, omega arith, sym same)
     ],
   );
 }
+
+pub year : AreChanges (TypeAt new_york_zone) (pos 1_609_459_200) (pos 1_640_995_200) (spring ∷ autumn ∷ [])
+year = both_listed (pos 1_609_459_200) (pos 1_640_995_200) (omega arith) (omega arith) change_of_year
 
 pub until_autumn : AreChanges (TypeAt new_york_zone) (pos 1_615_705_200) (pos 1_636_264_800) (spring ∷ [])
 until_autumn = record {
@@ -142,16 +149,4 @@ none_between c is within = let low = within.0 in between c (omega (arith, ints, 
 
 -- from the second after the first of 2021 to the first of 2022, as `zdump` has a year
 pub zdump_year : AreChanges (TypeAt new_york_zone) (pos 1_609_459_201) (pos 1_640_995_201) (spring ∷ autumn ∷ [])
-zdump_year = record {
-  rising = two_rise;
-  each = λ c. (
-    λ inside. elim (spring_or_autumn c inside) [
-      | inl same ↦ subst (λ (x : Change). IsChange (TypeAt new_york_zone) x × IsFromUntil (pos 1_609_459_201) (pos 1_640_995_201) x.at) same (spring_is, (omega arith, omega arith))
-      | inr same ↦ subst (λ (x : Change). IsChange (TypeAt new_york_zone) x × IsFromUntil (pos 1_609_459_201) (pos 1_640_995_201) x.at) same (autumn_is, (omega arith, omega arith))
-    ],
-    λ k. elim (until_2022 c k.1.0 k.1.1 k.0) [
-      | inl same ↦ (0, omega arith, sym same)
-      | inr same ↦ (1, omega arith, sym same)
-    ],
-  );
-}
+zdump_year = both_listed (pos 1_609_459_201) (pos 1_640_995_201) (omega arith) (omega arith) until_2022

@@ -98,29 +98,33 @@ only_before_gap l low high t b =
     let here : TypeAt new_york_zone (pos 1_615_705_199) t = rw second at b.before in
     rule_once new_york_rule (pos 1_615_705_199) t est (rule_of_type (pos 1_615_705_199) t here) (est_early (pos 1_615_705_199) (omega arith) (omega arith))
 
--- up to 02:00, and from 03:00 on
-pub est_once : (l : ℤ) → pos 1_609_459_200 ≤ℤ l → l <ℤ pos 1_615_687_200 → IsShownOnce (Shows (TypeAt new_york_zone) l) est
-est_once l low high = record {
+-- the second that shows the local time, if the rule gives it that type
+shown_at : (l u : ℤ) (t : LocalType) → pos 0 ≤ℤ u → u ≤ℤ pos 2_000_000_000 → u +ℤ t.offset ≡ l → RuleAt new_york_rule u t → Shows (TypeAt new_york_zone) l u t
+shown_at l u t low high shown r = record { fits = fits u low high; type = type_of_rule u t r; shown = shown }
+
+-- it is standard time at both seconds that might show the local time
+once_est : (l : ℤ) → pos 0 ≤ℤ l → l ≤ℤ pos 1_900_000_000 → RuleAt new_york_rule (l +ℤ pos 18_000) est → RuleAt new_york_rule (l +ℤ pos 14_400) est
+    → IsShownOnce (Shows (TypeAt new_york_zone) l) est
+once_est l low high here before = record {
   second = l +ℤ pos 18_000;
-  shown = record {
-    fits = fits (l +ℤ pos 18_000) (omega (arith, ints)) (omega (arith, ints));
-    type = type_of_rule (l +ℤ pos 18_000) est (est_early (l +ℤ pos 18_000) (omega (arith, ints)) (omega (arith, ints)));
-    shown = omega (arith, ints);
-  };
+  shown = shown_at l (l +ℤ pos 18_000) est (omega (arith, ints)) (omega (arith, ints)) (omega (arith, ints)) here;
   only = λ u t s. elim (either u t s.type) [
     | inl e ↦ by_est l u t s.shown e
-    | inr e ↦ let at = by_edt l u t s.shown e in absurd (not_edt u t (est_early u (omega (arith, ints)) (omega (arith, ints))) s.type e)
+    | inr e ↦ absurd (not_edt u t (rw (by_edt l u t s.shown e) before) s.type e)
   ];
 }
+
+-- up to 02:00, and from 03:00 on
+pub est_once : (l : ℤ) → pos 1_609_459_200 ≤ℤ l → l <ℤ pos 1_615_687_200 → IsShownOnce (Shows (TypeAt new_york_zone) l) est
+est_once l low high =
+    once_est l (omega (arith, ints)) (omega (arith, ints)) (est_early (l +ℤ pos 18_000) (omega (arith, ints)) (omega (arith, ints)))
+    (est_early (l +ℤ pos 14_400) (omega (arith, ints)) (omega (arith, ints)))
 
 pub edt_once : (l : ℤ) → pos 1_615_690_800 ≤ℤ l → l <ℤ pos 1_636_246_800 → IsShownOnce (Shows (TypeAt new_york_zone) l) edt
 edt_once l low high = record {
   second = l +ℤ pos 14_400;
-  shown = record {
-    fits = fits (l +ℤ pos 14_400) (omega (arith, ints)) (omega (arith, ints));
-    type = type_of_rule (l +ℤ pos 14_400) edt (edt_between (l +ℤ pos 14_400) (omega (arith, ints)) (omega (arith, ints)));
-    shown = omega (arith, ints);
-  };
+  shown = shown_at l (l +ℤ pos 14_400) edt (omega (arith, ints)) (omega (arith, ints)) (omega (arith, ints))
+      (edt_between (l +ℤ pos 14_400) (omega (arith, ints)) (omega (arith, ints)));
   only = λ u t s. elim (either u t s.type) [
     | inl e ↦ let at = by_est l u t s.shown e in absurd (not_est u t (edt_between u (omega (arith, ints)) (omega (arith, ints))) s.type e)
     | inr e ↦ by_edt l u t s.shown e
@@ -133,16 +137,10 @@ in_fold l low high = record {
   first = l +ℤ pos 14_400;
   last = l +ℤ pos 18_000;
   several = omega (arith, ints);
-  at_first = record {
-    fits = fits (l +ℤ pos 14_400) (omega (arith, ints)) (omega (arith, ints));
-    type = type_of_rule (l +ℤ pos 14_400) edt (edt_between (l +ℤ pos 14_400) (omega (arith, ints)) (omega (arith, ints)));
-    shown = omega (arith, ints);
-  };
-  at_last = record {
-    fits = fits (l +ℤ pos 18_000) (omega (arith, ints)) (omega (arith, ints));
-    type = type_of_rule (l +ℤ pos 18_000) est (est_late (l +ℤ pos 18_000) (omega (arith, ints)) (omega (arith, ints)));
-    shown = omega (arith, ints);
-  };
+  at_first = shown_at l (l +ℤ pos 14_400) edt (omega (arith, ints)) (omega (arith, ints)) (omega (arith, ints))
+      (edt_between (l +ℤ pos 14_400) (omega (arith, ints)) (omega (arith, ints)));
+  at_last = shown_at l (l +ℤ pos 18_000) est (omega (arith, ints)) (omega (arith, ints)) (omega (arith, ints))
+      (est_late (l +ℤ pos 18_000) (omega (arith, ints)) (omega (arith, ints)));
   not_before = λ u t s. elim (either u t s.type) [
     | inl e ↦ let at = by_est l u t s.shown e in omega (arith, ints)
     | inr e ↦ let at = by_edt l u t s.shown e in omega (arith, ints)
@@ -155,15 +153,6 @@ in_fold l low high = record {
 
 -- from 02:00 on 7 November on
 pub est_once_late : (l : ℤ) → pos 1_636_250_400 ≤ℤ l → l <ℤ pos 1_640_977_200 → IsShownOnce (Shows (TypeAt new_york_zone) l) est
-est_once_late l low high = record {
-  second = l +ℤ pos 18_000;
-  shown = record {
-    fits = fits (l +ℤ pos 18_000) (omega (arith, ints)) (omega (arith, ints));
-    type = type_of_rule (l +ℤ pos 18_000) est (est_late (l +ℤ pos 18_000) (omega (arith, ints)) (omega (arith, ints)));
-    shown = omega (arith, ints);
-  };
-  only = λ u t s. elim (either u t s.type) [
-    | inl e ↦ by_est l u t s.shown e
-    | inr e ↦ let at = by_edt l u t s.shown e in absurd (not_edt u t (est_late u (omega (arith, ints)) (omega (arith, ints))) s.type e)
-  ];
-}
+est_once_late l low high =
+    once_est l (omega (arith, ints)) (omega (arith, ints)) (est_late (l +ℤ pos 18_000) (omega (arith, ints)) (omega (arith, ints)))
+    (est_late (l +ℤ pos 14_400) (omega (arith, ints)) (omega (arith, ints)))

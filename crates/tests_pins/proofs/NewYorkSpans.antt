@@ -1,18 +1,13 @@
 -- New York's span of standard time in the winter of 2020.
-use Rattle.tests_pins.proofs.Words.{Change, IsChange, IsInSpan, IsSpan, IsSpanAt, LocalType, None, RuleAt, Some, Span, TypeAt, arith, change_at, edt, est, ints}
-use Rattle.tests_pins.proofs.Words.{new_york_rule, new_york_zone, pos, span_of, sym, winter, ℤ, ◌-ℤ◌, ◌<ℤ◌, ◌∙◌, ◌≡◌, ◌≤ℤ◌}
-use Rattle.tests_pins.proofs.NewYork.{edt_between, edt_until_2020, est_winter}
-use Rattle.tests_pins.proofs.NewYorkChanges.{no_change, spring_is}
+use Rattle.tests_pins.proofs.Words.{IsChange, IsInSpan, IsSpan, IsSpanAt, LocalType, RuleAt, Span, TypeAt, arith, change_at, edt, est, ints, new_york_rule}
+use Rattle.tests_pins.proofs.Words.{new_york_zone, pos, sym, winter, ℤ, ◌-ℤ◌, ◌<ℤ◌, ◌∙◌, ◌≡◌}
+use Rattle.tests_pins.proofs.NewYork.{edt_until_2020, est_winter}
+use Rattle.tests_pins.proofs.NewYorkChanges.{change_is, no_change, spring_is}
 use Rattle.tests_pins.proofs.NewYorkClocks.{apart, fits, one_type, type_of_rule}
 
 winter_begins : IsChange (TypeAt new_york_zone) (change_at (pos 1_604_210_400) edt est)
-winter_begins = record {
-  fits = fits (pos 1_604_210_400) (omega arith) (omega arith);
-  fits_before = fits (pos 1_604_210_399) (omega arith) (omega arith);
-  before = type_of_rule (pos 1_604_210_399) edt edt_until_2020;
-  after = type_of_rule (pos 1_604_210_400) est (est_winter (pos 1_604_210_400) (omega arith) (omega arith));
-  differ = λ e. apart (sym e);
-}
+winter_begins = change_is (pos 1_604_210_400) edt est (omega arith) (omega arith) edt_until_2020
+    (est_winter (pos 1_604_210_400) (omega arith) (omega arith)) (λ e. apart (sym e))
 
 pub winter_is : IsSpanAt (TypeAt new_york_zone) (pos 1_615_705_199) winter
 winter_is = record {

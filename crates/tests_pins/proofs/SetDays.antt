@@ -1,6 +1,6 @@
 -- Days of clocks that are set once.
 use Rattle.tests_pins.proofs.Words.{AreEndsOfDay, AreSetAt, IsEarlier, IsFirstAtOrAfter, IsNeverOnDay, IsZoneSecond, Reading, ahead, arith, by_lt_z, inl, inr}
-use Rattle.tests_pins.proofs.Words.{ints, midnight, neg_ℤ, of_secs, pos, refl, ℤ, ◌*ℤ◌, ◌+ℤ◌, ◌-ℤ◌, ◌<ℤ◌, ◌<◌, ◌≡◌, ◌≤ℤ◌}
+use Rattle.tests_pins.proofs.Words.{ints, midnight, of_secs, pos, refl, ℤ, ◌*ℤ◌, ◌+ℤ◌, ◌<ℤ◌, ◌≡◌, ◌≤ℤ◌}
 
 pub not_earlier_than : (x y : Reading) → y.f ≡ 0 → y.s ≤ℤ x.s → ¬ (IsEarlier x y)
 not_earlier_than x y whole h (inl less) = omega (arith, ints)

@@ -1,17 +1,15 @@
 -- What the texts spell, and their faults: what a reading of them comes to.
-use Rattle.tz_base.specs.declared.error.Error.TheVariants.{InvalidTzString, LocalTimeType, ParseInt, TransitionRule as RuleError, UnsupportedTzString}
-use Rattle.tz_base.specs.declared.error.Expected.TheVariants.{DayFromJ1ToJ365, DaysWhenDaylightSavingTimeStartsAndEnds, Digit}
-use Rattle.tz_base.specs.declared.error.Expected.TheVariants.{HoursMinutesAndSecondsWithinTheirLimits, NameOfThreeToSevenBytes}
-use Rattle.tz_info.specs.TzGrammar.{day_number}
+use Rattle.tz_base.specs.declared.error.Error.TheVariants.{InvalidTzString, UnsupportedTzString}
+use Rattle.tz_base.specs.declared.error.Expected.TheVariants.{DaysWhenDaylightSavingTimeStartsAndEnds, HoursMinutesAndSecondsWithinTheirLimits}
 use Rattle.tz_info.specs.declared.rule.transition_rule.TransitionRule.TheVariants as rules
-use Rattle.tests_pins.proofs.Words.{Bool, Err, Error, IsPosixZone, IsTextFault, IsTzText, List, Ok, Result, TransitionRule, alternate, ap, codes, date, day}
-use Rattle.tests_pins.proofs.Words.{day_0, days, dst_offset, duration, end, false, false≢true, fixed, fo_5, foo, foo_23, foo_23_rule, foo_24, foo_5_06_07}
-use Rattle.tests_pins.proofs.Words.{foo_5_60, foo_ahead, foo_behind, foo_minus_5, foo_plus_5, given_offset, hours_minutes_seconds, hst, inr, int_at}
-use Rattle.tests_pins.proofs.Words.{jerusalem_rule, jerusalem_text, julian_date, lawful, minutes_seconds, month_date, more, name, named, new_york_rule}
-use Rattle.tests_pins.proofs.Words.{new_york_text, new_york_zone, next_hour, no_days, numbered_rule, numbered_text, nuuk_rule, nuuk_text, offset}
-use Rattle.tests_pins.proofs.Words.{optional_minutes, optional_tag_at, optional_time, quoted, read, refl, rule, rule_day, seconds, sign, small, sym, tag_at}
-use Rattle.tests_pins.proofs.Words.{text, time, time_sign, true, utc_rule, utc_text, ℕ, [], ◌∙◌, ◌∷◌, ◌≡◌}
-use Rattle.tests_pins.proofs.SpelledPieces.{some_bytes}
+use Rattle.tests_pins.proofs.Words.{Bool, Err, Error, IsPosixZone, IsTextFault, IsTzText, List, Ok, Result, TransitionRule, ap, false, false≢true, foo_24, hst}
+use Rattle.tests_pins.proofs.Words.{inr, lawful, new_york_rule, new_york_text, new_york_zone, no_days, read, refl, rule, sym, text, true, utc_rule, utc_text, ℕ}
+use Rattle.tests_pins.proofs.Words.{[], ◌∙◌, ◌∷◌, ◌≡◌}
+use Rattle.tests_pins.proofs.Computed.{texts}
+
+-- a list with an item is not empty
+pub some_bytes : (b : ℕ) (bs : List ℕ) → b ∷ bs ≡ [] → ⊥
+some_bytes b bs e = cc
 
 pub spelled : (extended : Bool) (bytes : List ℕ) (r : TransitionRule) → read (text extended) bytes ≡ Ok (r, []) → IsTzText extended bytes r
 spelled extended bytes r = (lawful (text extended) bytes).takes (r, [])
@@ -20,8 +18,7 @@ pub faulty : (extended : Bool) (bytes : List ℕ) (e : Error) → read (text ext
 faulty extended bytes = (lawful (text extended) bytes).fails
 
 pub new_york : (extended : Bool) → IsTzText extended new_york_text new_york_rule
-unfolding name quoted seconds minutes_seconds optional_minutes hours_minutes_seconds sign duration offset time_sign time rule_day month_date julian_date
-    day_number date optional_time day days next_hour more given_offset dst_offset named end fixed alternate rule text int_at tag_at optional_tag_at
+unfolding texts
 new_york extended = spelled extended new_york_text new_york_rule refl
 
 pub new_york_gives : IsPosixZone new_york_text new_york_zone
@@ -35,24 +32,20 @@ new_york_gives = inr (record {
 })
 
 pub utc : (extended : Bool) → IsTzText extended utc_text utc_rule
-unfolding name quoted seconds minutes_seconds optional_minutes hours_minutes_seconds sign duration offset time_sign time rule_day month_date julian_date
-    day_number date optional_time day days next_hour more given_offset dst_offset named end fixed alternate rule text int_at tag_at optional_tag_at
+unfolding texts
 utc extended = spelled extended utc_text utc_rule refl
 
 pub ends_early : IsTextFault false no_days (UnsupportedTzString DaysWhenDaylightSavingTimeStartsAndEnds)
-unfolding name quoted seconds minutes_seconds optional_minutes hours_minutes_seconds sign duration offset time_sign time rule_day month_date julian_date
-    day_number date optional_time day days next_hour more given_offset dst_offset named end fixed alternate rule text int_at tag_at optional_tag_at
+unfolding texts
 ends_early = faulty false no_days (UnsupportedTzString DaysWhenDaylightSavingTimeStartsAndEnds) refl
 
 pub over_23 : (extended : Bool) → IsTextFault extended foo_24 (InvalidTzString HoursMinutesAndSecondsWithinTheirLimits)
-unfolding name quoted seconds minutes_seconds optional_minutes hours_minutes_seconds sign duration offset time_sign time rule_day month_date julian_date
-    day_number date optional_time day days next_hour more given_offset dst_offset named end fixed alternate rule text int_at tag_at optional_tag_at
+unfolding texts
 over_23 extended = faulty extended foo_24 (InvalidTzString HoursMinutesAndSecondsWithinTheirLimits) refl
 
 -- `HST10`
 pub hst_10 : IsTzText false (72 ∷ 83 ∷ 84 ∷ 49 ∷ 48 ∷ []) (rules.Fixed hst)
-unfolding name quoted seconds minutes_seconds optional_minutes hours_minutes_seconds sign duration offset time_sign time rule_day month_date julian_date
-    day_number date optional_time day days next_hour more given_offset dst_offset named end fixed alternate rule text int_at tag_at optional_tag_at
+unfolding texts
 hst_10 = spelled false (72 ∷ 83 ∷ 84 ∷ 49 ∷ 48 ∷ []) (rules.Fixed hst) refl
 
 -- the parser rejects the text, whatever the error

@@ -18,20 +18,16 @@ pub use Rattle.tz_base.specs.declared.error.Error.{Error}
 pub use Rattle.tz_base.specs.declared.span.Span.{Span}
 unfoldable pub use Rattle.change_views.proofs.CitedWords.{step_words}
 unfoldable pub use Rattle.change_views.specs.Clocks.{clock_words}
-unfoldable pub use Rattle.change_views.specs.PictureChart.{year_gap}
-unfoldable pub use Rattle.change_views.specs.PicturePanels.{shape_text}
 unfoldable pub use Rattle.change_views.specs.Words.{offset_words}
 unfoldable pub use Rattle.change_views.specs.ZdumpLines.{short_day, short_month, short_weekday}
-pub use Rattle.tz_info.proofs.Words.{AllAdjacentBelow, AreLeapSeconds, AreTransitions, Contains, IndicatorsAgree, IsAskedAt, IsAskedFor, IsByRuleFor, IsDstAt}
+pub use Rattle.tz_info.proofs.Words.{AllAdjacentBelow, AreLeapSeconds, AreTransitions, Contains, IndicatorsAgree, IsAskedAt, IsAskedFor, IsByRuleFor}
 pub use Rattle.tz_info.proofs.Words.{IsFromUntil, IsInSomeYear, IsInSpan, IsNextLeap, IsOneStep, IsSpan, IsSpanAt, IsTextFault, IsYearOf, LiesIn, PieceFault}
 pub use Rattle.tz_info.proofs.Words.{RuleAt, TypeFault, add-one, apart, corrections, days_at_least, end_in, one_year, start_in, weekday_of, year_step}
-unfoldable pub use Rattle.tz_info.proofs.Words.{alternate, closed_day, date, day, days, days_of_months, dst_offset, duration, end, fixed, given_offset}
-unfoldable pub use Rattle.tz_info.proofs.Words.{julian_date, moment, month_date, named, next_hour, offset, optional_time, rule, text, time, year_start}
+unfoldable pub use Rattle.tz_info.proofs.Words.{closed_day, days_of_months, moment, rule, text, year_start}
 pub use Rattle.tz_info.specs.FilePieces.{first_pieces}
 pub use Rattle.tz_info.specs.Gaps.{ShowsMore}
 pub use Rattle.tz_info.specs.Questions.{IsByRule}
-unfoldable pub use Rattle.tz_info.specs.TzGrammar.{hours_minutes_seconds, minutes_seconds, more, name, optional_minutes, quoted, rule_day, seconds, sign}
-unfoldable pub use Rattle.tz_info.specs.TzGrammar.{time_sign}
+unfoldable pub use Rattle.tz_info.specs.TzGrammar.{seconds}
 pub use Rattle.tz_info.specs.declared.file.header.Counts.{Counts}
 pub use Rattle.tz_info.specs.declared.file.header.Place.{Place}
 pub use Rattle.tz_info.specs.declared.file.header.Version.{Version}
@@ -47,22 +43,18 @@ pub use Rattle.zoned_round.specs.declared.error.RoundingError.{RoundingError}
 pub use Rattle.demo_own_zone.proofs.Words.{IsShownBetween, Shows, midnight}
 pub use Rattle.zoned_ref.proofs.Words.{AreEndsOfDay, IsBeforeGap, IsChange, IsNeverOnDay, SomeIff, lies_in, type_when, ◌*ℤ◌}
 unfoldable pub use Rattle.zoned_ref.proofs.Words.{year_of}
-pub use Rattle.tz_write.proofs.Words.{AreInPairs, AreShortest, HasPieces, IsFooter, IsMark, IsName, IsNamedIn, IsTzText, IsUtf8-from_ascii, IsWrittenText}
-pub use Rattle.tz_write.proofs.Words.{IsWrittenZone, Parts, SpellTransitions, SpellTypes, SpellsType, counts_test, false≢true, is_name_byte, least_offset}
-pub use Rattle.tz_write.proofs.Words.{magic, negsuc, unsigned_abs, ◌/◌, ◌<ℤ◌, ◌≤ℤ◌}
-unfoldable pub use Rattle.tz_write.proofs.Words.{after_first_block, be_u32, begins, block, counts_bytes, file, file_bytes, first_half, first_version, header}
-unfoldable pub use Rattle.tz_write.proofs.Words.{header_bytes, later_version, leap_bytes, number_bytes, second_half, signed, signed_bytes, six_counts}
-unfoldable pub use Rattle.tz_write.proofs.Words.{type_bytes, tzif, version, version_1}
+pub use Rattle.tz_write.proofs.Words.{AreInPairs, AreShortest, HasPieces, IsFooter, IsMark, IsNamedIn, IsTzText, IsUtf8-from_ascii, IsWrittenText}
+pub use Rattle.tz_write.proofs.Words.{IsWrittenZone, Parts, SpellTransitions, SpellTypes, SpellsType, counts_test, false≢true, least_offset, magic, negsuc}
+pub use Rattle.tz_write.proofs.Words.{unsigned_abs, ◌/◌, ◌<ℤ◌, ◌≤ℤ◌}
+unfoldable pub use Rattle.tz_write.proofs.Words.{after_first_block, be_u32, block, file, first_version, header, signed, six_counts, tzif, version, version_1}
 pub use Rattle.zonedump_lib.proofs.Words.{AreChanges, TypeAt, floors, ◌+ℤ◌}
-unfoldable pub use Rattle.zonedump_lib.specs.RuleWords.{moment_words, month_words, week_words, weekday_words}
 pub use Rattle.zoneq_lib.proofs.CitedWords.{Asks, At, Bool, Data, FitsSigned, IsBadLine, IsPosixZone, IsTaken, IsTzFile, IsUnresolved, IsZoneSecond, List}
 pub use Rattle.zoneq_lib.proofs.CitedWords.{LocalType, Query, Reading, Resolve, Show, Spells, Wall, Zone, Zoned, ap, arith, behind, by_lt_z, codes, false}
 pub use Rattle.zoneq_lib.proofs.CitedWords.{get_or, inl, inr, ints, lawful, length, neg_ℤ, number_of, of_secs, pos, read, refl, slice_index, subst, suc, sym}
 pub use Rattle.zoneq_lib.proofs.CitedWords.{text_fault_or_zone, true, w32, w64, zero, ℕ, ℤ, [], ◌*◌, ◌++◌, ◌+◌, ◌-ℤ◌, ◌<◌, ◌∙◌, ◌∷◌, ◌≡◌, ◌≢◌, ◌≤◌, ◌⊎◌}
-unfoldable pub use Rattle.zoneq_lib.proofs.CitedWords.{Begins, Word, at, data_of_file, exact_at, int_at, integer, line, local_time, next, optional_tag_at}
-unfoldable pub use Rattle.zoneq_lib.proofs.CitedWords.{question, resolve, show, tag_at, wall}
-unfoldable pub use Rattle.zoneq_lib.specs.Questions.{choice, gap}
-pub use Rattle.tests_pins.specs.Changes.{autumn, cet, change_at, dst_cet, renamed, spring}
+unfoldable pub use Rattle.zoneq_lib.proofs.CitedWords.{exact_at, line, optional_tag_at}
+unfoldable pub use Rattle.zoneq_lib.specs.Questions.{choice}
+pub use Rattle.tests_pins.specs.Changes.{autumn, cet, change_at, renamed, spring}
 pub use Rattle.tests_pins.specs.Choices.{half_past, refuse, set_back, set_forward}
 pub use Rattle.tests_pins.specs.Days.{AreSetAt}
 pub use Rattle.tests_pins.specs.Fields.{given, itself}

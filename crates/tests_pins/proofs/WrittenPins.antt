@@ -1,9 +1,8 @@
 -- Texts and designations that are not written, since shorter ones do.
 use Rattle.tz_info.proofs.TextLaws.{one_rule}
-use Rattle.tz_info.specs.declared.rule.transition_rule.TransitionRule.TheVariants as rules
-use Rattle.tests_pins.proofs.Words.{AreInPairs, AreShortest, Bool, IsNamedIn, IsPosixZone, IsWrittenText, IsWrittenZone, List, LocalType, TransitionRule, ap}
-use Rattle.tests_pins.proofs.Words.{arith, codes, false, false≢true, get_or, hst, inl, inr, length, new_york_long, new_york_rule, new_york_text, new_york_zone}
-use Rattle.tests_pins.proofs.Words.{refl, suc, sym, true, utc_rule, utc_text, zero, ℕ, [], ◌<◌, ◌∷◌, ◌≡◌, ◌⊎◌}
+use Rattle.tests_pins.proofs.Words.{AreInPairs, AreShortest, Bool, IsNamedIn, IsWrittenText, IsWrittenZone, LocalType, ap, arith, codes, false, false≢true}
+use Rattle.tests_pins.proofs.Words.{get_or, hst, inl, inr, length, new_york_long, new_york_rule, new_york_text, new_york_zone, refl, suc, sym, true, utc_rule}
+use Rattle.tests_pins.proofs.Words.{utc_text, zero, ℕ, [], ◌<◌, ◌∷◌, ◌≡◌, ◌⊎◌}
 use Rattle.tests_pins.proofs.SpelledTexts.{new_york, new_york_gives, utc}
 
 no_colons : AreInPairs new_york_text
@@ -22,12 +21,8 @@ not_longer_zone w = longer (w.shortest new_york_text new_york_gives no_colons)
 pub not_extended : IsWrittenText new_york_rule new_york_text true → ⊥
 not_extended w = w.needed refl new_york_text (new_york false)
 
-abbrev has_turns : TransitionRule → Bool
-has_turns (rules.Fixed t) = false
-has_turns (rules.Alternate a) = true
-
 pub not_another : IsWrittenText new_york_rule utc_text false → ⊥
-not_another w = false≢true (ap has_turns (one_rule false utc_text utc_rule new_york_rule (utc false) w.spells))
+not_another w = let same : utc_rule ≡ new_york_rule = one_rule false utc_text utc_rule new_york_rule (utc false) w.spells in cc
 
 pub two_digits : AreInPairs (codes "FOO5:05:30")
 two_digits = (λ e. absurd (omega (arith, e)), (λ e. absurd (omega (arith, e)), (λ e. absurd (omega (arith, e)), (λ e. absurd (omega (arith, e)), (λ e. (refl, refl, refl), (λ e. absurd (omega (arith, e)), (λ e. absurd (omega (arith, e)), (λ e. (refl, refl, tt), (λ e. absurd (omega (arith, e)), (λ e. absurd (omega (arith, e)), tt))))))))))

@@ -1,4 +1,5 @@
 //! The words and the places of a picture of clock changes.
+#![tactic(auto, unfolding(crate::proofs::Computed::wording))]
 
 ghost use Rattle.std.specs.Prelude.{◌≡◌, ◌∷◌, [], ◌++◌, codes, pos, neg_ℤ};
 ghost use Rattle.change_views.specs.PictureChart.{across, down, greatest, least, month_words, year_gap};

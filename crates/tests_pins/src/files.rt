@@ -64,6 +64,7 @@ pub fn flags()
 {}
 
 /// Times are numbers in two's complement, the highest byte first.
+#[tactic(auto, unfolding(crate::proofs::Computed::files))]
 pub fn times()
     ensures eight_bytes { time_of 8 first_time ≡ neg_ℤ (pos 2_334_101_314) }
     ensures four_bytes { time_of 4 least_time ≡ neg_ℤ (pos 2_147_483_648) }

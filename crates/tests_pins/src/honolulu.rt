@@ -33,11 +33,13 @@ pub fn blocks()
 {}
 
 /// The second block and the footer say what the zone is.
+#[tactic(auto, using(crate::proofs::HonoluluFile::file_pieces))]
 pub fn file_pieces()
     ensures { HasPieces honolulu_file pieces }
 {}
 
 /// What the parts of the second block say.
+#[tactic(auto, using(crate::proofs::HonoluluFile::transitions, crate::proofs::HonoluluFile::types))]
 pub fn contents()
     ensures transitions { SpellTransitions 8 long_times type_indexes (honolulu hst10).transitions }
     ensures types { SpellTypes designations type_records (honolulu hst10).types }

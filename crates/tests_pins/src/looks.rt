@@ -1,4 +1,5 @@
 //! How many looks a lookup may take.
+#![tactic(auto, unfolding(crate::proofs::Computed::binary))]
 
 ghost use Rattle.std.specs.Prelude.{◌≡◌, ℕ};
 ghost use Rattle.tz_timeline.specs.Counts.{Counts};

@@ -1,4 +1,5 @@
 //! Printed bytes of offsets, times, dates and readings.
+#![tactic(auto, unfolding(crate::proofs::Computed::printing))]
 
 ghost use Rattle.std.specs.Prelude.{◌≡◌, ◌∷◌, pos, neg_ℤ, codes};
 ghost use Rattle.std.specs.Fmt.{decimal};

@@ -1,4 +1,5 @@
 //! Clock changes as text: the lines of `zdump -v`, a line of a table, and JSON.
+#![tactic(auto, unfolding(crate::proofs::Computed::wording))]
 
 ghost use Rattle.std.specs.Prelude.{◌≡◌, ◌∷◌, [], ◌++◌, codes, pos, neg_ℤ, true, false};
 ghost use Rattle.json.specs.Print.{print};

@@ -22,6 +22,7 @@ pub fn by_instant()
 
 /// A local time is two questions to a rule of two offsets: one at the second at which a clock of
 /// each of them shows it.
+#[tactic(auto, using(crate::proofs::AskedRules::two_more))]
 pub fn by_wall_clock()
     ensures two { IsAskedFor new_york_zone (pos 1_615_689_000) 5 7 }
 {}

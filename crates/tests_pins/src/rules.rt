@@ -65,6 +65,7 @@ pub fn limits()
 {}
 
 /// 2021-03-14 07:00:00 and 2021-11-07 06:00:00 of UTC.
+#[tactic(auto, using(crate::proofs::NewYork::start_2021, crate::proofs::NewYork::end_2021))]
 pub fn moments()
     ensures start { start_in new_york (pos 2021) ≡ pos 1_615_705_200 }
     ensures end { end_in new_york (pos 2021) ≡ pos 1_636_264_800 }

@@ -1,4 +1,5 @@
 //! Rules, tables and zones as `zonedump` prints them.
+#![tactic(auto, unfolding(crate::proofs::Computed::wording))]
 
 ghost use Rattle.std.specs.Prelude.{◌≡◌, ◌∷◌, [], ◌++◌, codes, pos, neg_ℤ, None, Some};
 ghost use Rattle.json.specs.Print.{print};

@@ -1,4 +1,5 @@
 //! TZ texts and files that are written: the shortest text, and the bytes of a file.
+#![tactic(auto, unfolding(crate::proofs::Computed::written))]
 
 ghost use Rattle.std.specs.Prelude.{◌≡◌, ◌∷◌, [], ◌++◌, Bool, true, false, codes, pos};
 ghost use Rattle.tz_info.specs.Zones.{plain_zone};

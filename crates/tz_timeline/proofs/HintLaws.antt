@@ -2,8 +2,8 @@
 use Rattle.tz_timeline.proofs.Words.{AreEnds, AreFilled, AreHints, AreMarked, AreOrdered, AreRaised, AreRaisedUntil, Ends, Hints, IsHinted, IsLastBefore}
 use Rattle.tz_timeline.proofs.Words.{IsNear, List, Near, ap, arith, cases_eq, cases_lt, div-lt_iff_lt-mul, div-mul-le_self, get_or-set_at, get_or-set_other}
 use Rattle.tz_timeline.proofs.Words.{inl, inr, ints, length, length-set, lt-suc_self, max, mul-le-mul_right, nat_abs, nat_cmp, negsuc, ord_max, pos, pow_pos}
-use Rattle.tz_timeline.proofs.Words.{refl, replicate, set, shr_mono, slice_index, stretch_of, suc, sym, time_at, zero, ℕ, ℤ, ◌*◌, ◌+ℤ◌, ◌+◌, ◌-ℤ◌, ◌-◌, ◌/◌}
-use Rattle.tz_timeline.proofs.Words.{◌<ℤ◌, ◌<◌, ◌^◌, ◌∙◌, ◌≡◌, ◌≢◌, ◌≤ℤ◌, ◌≤◌, ◌⊎◌}
+use Rattle.tz_timeline.proofs.Words.{refl, set, shr_mono, slice_index, stretch_of, suc, sym, time_at, ℕ, ℤ, ◌*◌, ◌+ℤ◌, ◌+◌, ◌-ℤ◌, ◌-◌, ◌/◌, ◌<ℤ◌, ◌<◌, ◌^◌, ◌∙◌}
+use Rattle.tz_timeline.proofs.Words.{◌≡◌, ◌≢◌, ◌≤ℤ◌, ◌≤◌, ◌⊎◌}
 use Rattle.tz_timeline.proofs.SearchSteps.{not_before}
 
 -- the seconds of a stretch
@@ -103,12 +103,6 @@ last_before times first shift marked raised most b positive from room some m r h
 
       late : (time first : ℤ) (m b : ℕ) → first ≤ℤ time → nat_abs (time -ℤ first) / m * m ≤ nat_abs (time -ℤ first) → b ≤ nat_abs (time -ℤ first) / m → (first +ℤ pos (b * m)) ≤ℤ time
       late time first m b h le ge = let size = size_of_rise first time h in let more = mul-le-mul_right m ge in omega (arith, ints)
-
--- nothing is noted in zeros
-pub zeros : (n b : ℕ) → slice_index (replicate n 0) b ≡ 0
-zeros zero b = refl
-zeros (suc n) zero = refl
-zeros (suc n) (suc b) = zeros n b
 
 -- one item more is noted
 pub marked_more : (times : List ℤ) (first : ℤ) (shift n stretch : ℕ) (places : List ℕ) → AreMarked times first shift n places → stretch ≡ stretch_of first (time_at times n) shift → stretch + 1 < length places → AreMarked times first shift (n + 1) (set places (stretch + 1) n)

@@ -248,6 +248,7 @@ fn put_line(
     write!(out, "H870'/>\n")
 }
 
+#[tactic(auto, unfolding(crate::specs::PictureChart::line_start))]
 fn put_line_start(out: &mut String, scale: Scale, start: &LocalTimeType) -> Result<(), AllocError>
     ensures { OnOk result (string_bytes out.new ≡ string_bytes out.old
         ++ line_start (axes_of scale) start.now.offset) }
@@ -266,6 +267,7 @@ fn put_line_parts(out: &mut String, scale: Scale, changes: &[Change]) -> Result<
     Ok(())
 }
 
+#[tactic(auto, unfolding(crate::specs::PictureChart::line_part))]
 fn put_line_part(out: &mut String, scale: Scale, change: &Change) -> Result<(), AllocError>
     ensures { OnOk result
         (string_bytes out.new ≡ string_bytes out.old ++ line_part (axes_of scale) change.now) }
@@ -314,6 +316,7 @@ fn put_name(
     }
 }
 
+#[tactic(auto, unfolding(crate::specs::PictureChart::name_text))]
 fn put_name_text(
     out: &mut String,
     scale: Scale,

@@ -48,18 +48,21 @@ fn put_style(out: &mut String) -> Result<(), AllocError>
     put_dark(out)
 }
 
+#[tactic(auto, unfolding(crate::specs::PictureFrame::plain_style))]
 fn put_plain(out: &mut String) -> Result<(), AllocError>
     ensures { OnOk result (string_bytes out.new ≡ string_bytes out.old ++ plain_style) }
 {
     write!(out, "{PLAIN}")
 }
 
+#[tactic(auto, unfolding(crate::specs::PictureFrame::line_style))]
 fn put_lines(out: &mut String) -> Result<(), AllocError>
     ensures { OnOk result (string_bytes out.new ≡ string_bytes out.old ++ line_style) }
 {
     write!(out, "{LINES}")
 }
 
+#[tactic(auto, unfolding(crate::specs::PictureFrame::dark_style))]
 fn put_dark(out: &mut String) -> Result<(), AllocError>
     ensures { OnOk result (string_bytes out.new ≡ string_bytes out.old ++ dark_style) }
 {
@@ -87,6 +90,7 @@ pub(super) fn put_title(out: &mut String, title: &str, years: Years) -> Result<(
     put_years(out, years)
 }
 
+#[tactic(auto, unfolding(crate::specs::PictureFrame::years_text))]
 fn put_years(out: &mut String, years: Years) -> Result<(), AllocError>
     ensures { OnOk result (string_bytes out.new ≡ string_bytes out.old
         ++ years_text years.first years.last) }
@@ -99,6 +103,7 @@ fn put_years(out: &mut String, years: Years) -> Result<(), AllocError>
 }
 
 /// Writes the heading of the panels, for that many.
+#[tactic(auto, unfolding(crate::specs::PictureFrame::heading_text))]
 pub(super) fn put_heading(out: &mut String, year: i32, panels: usize) -> Result<(), AllocError>
     ensures { OnOk result
         (string_bytes out.new ≡ string_bytes out.old ++ heading_text year panels) }

@@ -64,6 +64,7 @@ fn put_place(out: &mut String, place: usize, change: &Change) -> Result<(), Allo
 }
 
 // What happens, in words.
+#[tactic(auto, unfolding(crate::specs::PicturePanels::what_text))]
 fn put_what(out: &mut String, change: &Change) -> Result<(), AllocError>
     ensures { OnOk result
         (string_bytes out.new ≡ string_bytes out.old ++ what_text change.now) }
@@ -86,6 +87,7 @@ fn put_types(out: &mut String, change: &Change) -> Result<(), AllocError>
 }
 
 // The second, as UTC shows it.
+#[tactic(auto, unfolding(crate::specs::PicturePanels::second_text))]
 fn put_second(out: &mut String, change: &Change) -> Result<(), AllocError>
     ensures { OnOk result
         (string_bytes out.new ≡ string_bytes out.old ++ second_text change.now) }
@@ -98,6 +100,7 @@ fn put_second(out: &mut String, change: &Change) -> Result<(), AllocError>
 }
 
 // What becomes of the wall clocks between both sides.
+#[tactic(auto, unfolding(crate::specs::PicturePanels::band_text))]
 fn put_band(out: &mut String, change: &Change) -> Result<(), AllocError>
     ensures { OnOk result
         (string_bytes out.new ≡ string_bytes out.old ++ band_text change.now) }
@@ -155,6 +158,7 @@ fn put_lower(out: &mut String, change: &Change) -> Result<(), AllocError>
 }
 
 // What a clock of that type shows at the second.
+#[tactic(auto, unfolding(crate::specs::PicturePanels::side_text))]
 fn put_side(
     out: &mut String,
     x: u32,

@@ -1,9 +1,10 @@
-use Rattle.tests_pins.proofs.Words.{arith, day_number, days_of_months, pos, refl, year_start}
+use Rattle.tests_pins.proofs.Words.{arith, pos, refl}
+use Rattle.tests_pins.proofs.Computed.{calendar}
 use Rattle.tests_pins.proofs.Weeks.{first_week, week_is}
 use Rattle.tests_pins.proofs.calendar.weeks.Goals as goal
 
 pub returns : goal.returns
-unfolding year_start days_of_months day_number
+unfolding calendar
 returns c = record {
   friday = λ week w. week_is (pos 18_628) (pos 18_627) (pos 2020) 365 week (refl, omega arith, omega arith) (omega arith, omega arith) refl w;
   sunday = λ week w. week_is (pos 18_630) (pos 18_627) (pos 2020) 365 week (refl, omega arith, omega arith) (omega arith, omega arith) refl w;

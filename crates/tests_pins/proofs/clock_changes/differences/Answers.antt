@@ -1,5 +1,5 @@
-use Rattle.tests_pins.proofs.Words.{List, None, Option, Some, ap, arith, cet, dst_cet, false≢true, fits_signed_from_abs, inl, inr, neg_ℤ, pos, refl, renamed}
-use Rattle.tests_pins.proofs.Words.{slice_index, w64, ℕ, [], ◌∷◌, ◌≡◌}
+use Rattle.tests_pins.proofs.Words.{List, None, Option, Some, ap, arith, cet, false≢true, fits_signed_from_abs, inl, inr, neg_ℤ, pos, refl, renamed}
+use Rattle.tests_pins.proofs.Words.{slice_index, w64, ℕ, ◌≡◌}
 use Rattle.tests_pins.proofs.clock_changes.differences.Goals as goal
 
 abbrev first_byte : Option (List ℕ) → ℕ

@@ -1,4 +1,4 @@
-use Rattle.tests_pins.proofs.Words.{arith, autumn, inl, inr, ints, spring}
+use Rattle.tests_pins.proofs.Words.{arith, autumn, inl, inr, spring}
 use Rattle.tests_pins.proofs.NewYorkChanges.{autumn_is, change_of_year, none_between, spring_is}
 use Rattle.tests_pins.proofs.clock_changes.first_and_last.Goals as goal
 

@@ -1,4 +1,4 @@
-use Rattle.tests_pins.proofs.Words.{ap, arith, fits_signed_from_abs, ints, neg_ℤ, pos, w64, ◌≡◌}
+use Rattle.tests_pins.proofs.Words.{arith, ints}
 use Rattle.tests_pins.proofs.clock_changes.first_second.Goals as goal
 
 pub returns-clause-none : goal.returns-clause-none

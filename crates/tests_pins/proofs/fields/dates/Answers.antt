@@ -1,9 +1,10 @@
-use Rattle.tests_pins.proofs.Words.{arith, day_number, days_of_months, inl, year_start}
+use Rattle.tests_pins.proofs.Words.{arith, inl}
+use Rattle.tests_pins.proofs.Computed.{calendar}
 use Rattle.tests_pins.proofs.GivenDays.{given_day, given_none}
 use Rattle.tests_pins.proofs.fields.dates.Goals as goal
 
 pub returns : goal.returns
-unfolding year_start days_of_months day_number
+unfolding calendar
 returns c = record {
   day_30 = λ answer h. given_day _ _ answer ((omega arith, omega arith, omega arith, omega arith), inl (omega arith, omega arith)) h;
   day_31 = λ answer h. given_none _ _ answer (λ may. let most = may.0.3 in absurd (omega arith)) h;

@@ -1,6 +1,6 @@
+use Rattle.tz_base.specs.Names.{name_from}
 use Rattle.tests_pins.proofs.Words.{arith, ints, refl, signed, [], ◌∷◌}
 use Rattle.tests_pins.proofs.FileParts.{no_flag}
-use Rattle.tests_pins.proofs.SpelledPieces.{is_name_3}
 use Rattle.tests_pins.proofs.files.types.Goals as goal
 
 pub returns : goal.returns
@@ -19,7 +19,7 @@ returns c = record {
       ends = (λ e. absurd (omega (arith, e)), (λ e. absurd (omega (arith, e)), (λ e. absurd (omega (arith, e)), tt)));
     };
     name = refl;
-    name_fits = is_name_3 72 83 84 refl refl refl;
+    name_fits = name_from (72 ∷ 83 ∷ 84 ∷ []) refl;
   };
   least_offset = λ t h. let above = h.above_least in let is = h.offset in absurd (omega (arith, ints, above, is));
   flag_2 = λ t h. no_flag t.dst h.mark;

@@ -1,15 +1,10 @@
-use Rattle.tz_info.specs.TzGrammar.{day_number}
-use Rattle.tests_pins.proofs.Words.{alternate, date, day, days, dst_offset, duration, end, false, fixed, foo_23, foo_23_rule, foo_24, given_offset}
-use Rattle.tests_pins.proofs.Words.{hours_minutes_seconds, int_at, julian_date, minutes_seconds, month_date, more, name, named, next_hour, offset}
-use Rattle.tests_pins.proofs.Words.{optional_minutes, optional_tag_at, optional_time, quoted, refl, rule, rule_day, seconds, sign, tag_at, text}
-use Rattle.tests_pins.proofs.Words.{text_fault_or_zone, time, time_sign, []}
-use Rattle.tests_pins.proofs.SpelledPieces.{some_bytes}
-use Rattle.tests_pins.proofs.SpelledTexts.{over_23, spelled}
+use Rattle.tests_pins.proofs.Words.{false, foo_23, foo_23_rule, foo_24, refl, text_fault_or_zone, []}
+use Rattle.tests_pins.proofs.Computed.{texts}
+use Rattle.tests_pins.proofs.SpelledTexts.{over_23, some_bytes, spelled}
 use Rattle.tests_pins.proofs.texts.limits.Goals as goal
 
 pub returns : goal.returns
-unfolding name quoted seconds minutes_seconds optional_minutes hours_minutes_seconds sign duration offset time_sign time rule_day month_date julian_date
-    day_number date optional_time day days next_hour more given_offset dst_offset named end fixed alternate rule text int_at tag_at optional_tag_at
+unfolding texts
 returns c = record {
   hours_23 = λ extended. spelled extended foo_23 foo_23_rule refl;
   hours_24 = over_23;

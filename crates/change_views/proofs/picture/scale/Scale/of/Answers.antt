@@ -14,11 +14,3 @@ invariant_of-result c =
       least = rw (to_z-of_z low_fits) c.low_for.ensures.bound;
       most = rw (to_z-of_z high_fits) c.high_for.ensures.bound;
     }
-
-pub returns : goal.returns
-returns c =
-    let from_fits : FitsSigned w64 c.from.result = record { sfits = c.from.type_inv } in
-    let until_fits : FitsSigned w64 c.until.result = record { sfits = c.until.type_inv } in
-    let low_fits : FitsSigned w64 c.low_for.result = record { sfits = c.low_for.type_inv } in
-    let high_fits : FitsSigned w64 c.high_for.result = record { sfits = c.high_for.type_inv } in
-    rw (to_z-of_z from_fits, to_z-of_z until_fits, to_z-of_z low_fits, to_z-of_z high_fits, c.from.ensures.value, c.until.ensures.value, c.low_for.ensures.value, c.high_for.ensures.value, to_z-of_z c.ranges.start)
