@@ -17,6 +17,7 @@ mod changes;
 mod choice;
 mod column;
 mod extended;
+mod fields;
 mod handle;
 mod instants;
 mod kind;
