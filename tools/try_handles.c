@@ -19,6 +19,7 @@
 #include <stdlib.h>
 #include <string.h>
 #include <sys/mman.h>
+#include <time.h>
 #include <unistd.h>
 
 #define EXPECT(what)                                                                                                       \
@@ -29,7 +30,7 @@
         }                                                                                                                  \
     } while (0)
 
-enum { HANDLES = 12, MOST = 6, ROOM = 24, COLUMN = 48, THREADS = 8, NONE = -1, SIZE_OF_RANDOM_BYTES = 300 };
+enum { HANDLES = 12, MOST = 6, ROOM = 24, COLUMN = 48, LONG = 5000, THREADS = 8, NONE = -1, SIZE_OF_RANDOM_BYTES = 300 };
 
 static uint64_t calls;
 
@@ -536,6 +537,85 @@ static void try_instants_of_column(struct tried *of) {
     EXPECT(is_untouched(instants + first, (COLUMN - first) * sizeof *instants));
 }
 
+static int by_time(const void *a, const void *b) {
+    int64_t x = *(const int64_t *)a, y = *(const int64_t *)b;
+    return (x > y) - (x < y);
+}
+
+/* A long column, for which a table of stretches is kept: instants from 1900 to 2100, many of them near a change, and the same
+   numbers as local times, are answered as zoned_zone_at and zoned_zone_resolve answer their seconds. */
+static void try_long_column(const struct zoned_zone *zone, int64_t per_second, int is_sorted) {
+    static int64_t times[LONG], answers[LONG], seconds[LONG];
+    static int32_t offsets[LONG];
+    static zoned_resolved resolved[LONG];
+    uint32_t gap = 1 + (uint32_t)below(2), fold = 1 + (uint32_t)below(2);
+    size_t row = 77;
+    for (size_t i = 0; i < LONG; i++) {
+        int64_t at = (int64_t)below(6311433600) - 2208988800;
+        zoned_change change;
+        if (below(8) == 0 && zoned_zone_next_change(zone, at, &change) == ZONED_OK) at = change.at + (int64_t)below(100000) - 50000;
+        times[i] = at * per_second + (int64_t)below((uint64_t)per_second);
+    }
+    if (is_sorted) qsort(times, LONG, sizeof *times, by_time);
+    for (size_t i = 0; i < LONG; i++) seconds[i] = times[i] / per_second - (times[i] % per_second < 0);
+    EXPECT(zoned_zone_local(zone, per_second, times, LONG, answers, LONG, &row) == ZONED_OK);
+    EXPECT(zoned_zone_at(zone, seconds, LONG, offsets, LONG) == ZONED_OK);
+    for (size_t i = 0; i < LONG; i++) EXPECT(answers[i] == times[i] + offsets[i] * per_second);
+    EXPECT(zoned_zone_instants(zone, gap, fold, per_second, times, LONG, answers, LONG, &row) == ZONED_OK);
+    EXPECT(zoned_zone_resolve(zone, gap, fold, seconds, LONG, resolved, LONG) == ZONED_OK);
+    for (size_t i = 0; i < LONG; i++) {
+        int64_t rest = times[i] - seconds[i] * per_second;
+        zoned_wall_clock clock;
+        EXPECT(zoned_zone_wall_clock(zone, seconds[i], &clock) == ZONED_OK);
+        if (gap == ZONED_GAP_END && clock.shown == ZONED_NEVER) rest = 0;
+        EXPECT(answers[i] == resolved[i].instant * per_second + rest);
+    }
+    EXPECT(row == 77);
+}
+
+static void try_long_columns(void) {
+    for (size_t i = 0; i < zone_count; i++) {
+        struct zoned_zone zone = {0};
+        if (zoned_open(zones[i].kind, zones[i].at, zones[i].len, &zone) != ZONED_OK) continue;
+        for (int64_t per_second = 1; per_second <= 1000000000; per_second *= 1000)
+            for (int is_sorted = 0; is_sorted < 2; is_sorted++) try_long_column(&zone, per_second, is_sorted);
+        zoned_close(&zone);
+    }
+}
+
+/* Any second of the calendar's years is that of the date and the time of day of its fields, and these are what C's gmtime_r
+   says; other dates and times are refused. */
+static void try_fields(struct tried *of) {
+    int64_t local = below(8) ? (int64_t)below(16544868105600 + 2) - 8334601228801 : second(), back = 77;
+    int is_in_range = local >= -8334601228800 && local <= 8210266876799;
+    zoned_fields fields, other;
+    memset(&fields, 0x55, sizeof fields);
+    EXPECT(zoned_fields_of(local, &fields) == (is_in_range ? ZONED_OK : ZONED_INSTANT_OUT_OF_RANGE));
+    if (is_in_range) {
+        time_t at = (time_t)local;
+        struct tm tm;
+        EXPECT(gmtime_r(&at, &tm) != NULL);
+        EXPECT(fields.year == tm.tm_year + 1900 && fields.month == (uint32_t)tm.tm_mon + 1 && fields.day == (uint32_t)tm.tm_mday);
+        EXPECT(fields.hour == (uint32_t)tm.tm_hour && fields.minute == (uint32_t)tm.tm_min && fields.second == (uint32_t)tm.tm_sec);
+        EXPECT(fields.weekday == (uint32_t)tm.tm_wday && fields.day_of_year == (uint32_t)tm.tm_yday + 1);
+        fields.weekday = fields.day_of_year = 77;
+        EXPECT(zoned_local_of(&fields, &back) == ZONED_OK && back == local);
+        fields.day = fields.day == 1 ? 0 : fields.month == 2 ? 30 : 32;
+        EXPECT(zoned_local_of(&fields, &back) == ZONED_NO_DATE_TIME && back == local);
+    } else EXPECT(is_untouched(&fields, sizeof fields));
+    /* Of an instant: those of its local time. */
+    int32_t offset = ZONED_NO_OFFSET;
+    memset(&fields, 0x55, sizeof fields);
+    if (of->of.at) EXPECT(zoned_zone_offset(&of->zone, local, &offset) == ZONED_OK);
+    uint32_t number = zoned_zone_fields(&of->zone, local, &fields);
+    if (!of->of.at) EXPECT(number == ZONED_NOT_OPEN);
+    else if (offset == ZONED_NO_OFFSET) EXPECT(number == ZONED_NO_LOCAL_TIME);
+    else if (local > INT64_MAX - 100000 || local < INT64_MIN + 100000) EXPECT(number == ZONED_INSTANT_OUT_OF_RANGE);
+    else EXPECT(number == zoned_fields_of(local + offset, &other));
+    if (number) EXPECT(is_untouched(&fields, sizeof fields));
+    else EXPECT(memcmp(&fields, &other, sizeof fields) == 0);
+}
+
 /* A count whose product by three wraps to the room is told, and nothing is written. */
 static void try_wrapping_count(void) {
     struct zoned_zone zone = {0};
@@ -630,7 +710,8 @@ static void try_calls(uint64_t count) {
             try_locals(one);
             try_first(one);
             try_gap(one);
-            calls += 7;
+            try_fields(one);
+            calls += 10;
             break;
         }
     }
@@ -873,6 +954,7 @@ int main(int count, char **words) {
     EXPECT(zoned_version() == ZONED_VERSION_NUMBER);
     try_wrapping_count();
     try_null();
+    try_long_columns();
     try_texts();
     try_calls(wanted);
     try_orders();

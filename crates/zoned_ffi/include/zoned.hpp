@@ -127,6 +127,13 @@ public:
         return {sys(span.from), sys(span.until), seconds(type.offset), type.is_dst != 0, type.abbreviation};
     }
 
+    // The date and the time of day that clocks show at an instant, with the weekday and the day of the year.
+    zoned_fields get_fields(sys_seconds at) const {
+        zoned_fields fields;
+        check(zoned_zone_fields(&zone, count(at), &fields));
+        return fields;
+    }
+
     // The local time of an instant.
     template <class Duration> auto to_local(sys_time<Duration> at) const {
         auto offset = get_offset(std::chrono::floor<seconds>(at));

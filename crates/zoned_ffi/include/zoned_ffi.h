@@ -23,7 +23,7 @@
      ZONED_OTHER_SIZE      the count of answers is not the one that is stated below
      3 .. 17               the bytes make no zone: the enum of these numbers is below, and docs/PROGRAMS.md says more of each.
                            ZONED_OUT_OF_MEMORY (17) says nothing about the bytes
-     ZONED_INSTANT_OUT_OF_RANGE, ZONED_NO_GAP   zoned_zone_gap only: see there
+     ZONED_INSTANT_OUT_OF_RANGE, ZONED_NO_GAP, ZONED_NO_DATE_TIME   zoned_zone_gap and the calls for fields only: see there
      ZONED_NO_CHANGE       zoned_zone_next_change and zoned_zone_previous_change only: there is no such change
      ZONED_UNKNOWN_UNIT    zoned_zone_local and zoned_zone_instants only, before ZONED_NOT_OPEN: no unit has that count in a second
      ZONED_NO_LOCAL_TIME   zoned_zone_span: the zone has no type at the instant. zoned_zone_local: a row has no local time; the
@@ -177,7 +177,8 @@ enum {
     ZONED_NO_CHANGE = 35,
     ZONED_UNKNOWN_UNIT = 36,
     ZONED_NO_LOCAL_TIME = 37,
-    ZONED_NO_GAP = 38
+    ZONED_NO_GAP = 38,
+    ZONED_NO_DATE_TIME = 39
 };
 
 /* What is wrong with a TZif file whose lists make no valid zone: zoned_fault returns these in place of ZONED_TIME_ZONE. */
@@ -455,6 +456,35 @@ uint32_t zoned_zone_first_at_or_after(const struct zoned_zone *zone, int64_t loc
    ZONED_INSTANT_OUT_OF_RANGE: the local time lies outside the years -262143 to 262142. ZONED_NO_GAP: clocks show the local
    time. Nothing is written then. */
 uint32_t zoned_zone_gap(const struct zoned_zone *zone, int64_t local, zoned_change *gap) ZONED_MUST_CHECK ZONED_NONNULL((1, 3));
+
+/* A date and a time of day on a clock, and what the calendar says of the date. */
+typedef struct zoned_fields {
+    int32_t year;         /* -262143 to 262142; the year 0 is 1 BC */
+    uint32_t month;       /* 1 to 12 */
+    uint32_t day;         /* 1 to 31 */
+    uint32_t hour;        /* 0 to 23 */
+    uint32_t minute;      /* 0 to 59 */
+    uint32_t second;      /* 0 to 59 */
+    uint32_t weekday;     /* 0, Sunday, to 6, Saturday, as tm_wday of C and c_encoding() of C++20 */
+    uint32_t day_of_year; /* 1 to 366 */
+} zoned_fields;
+
+/* *fields is the date and the time of day that clocks of the zone show at the instant. In New York at 1615705200 (2021-03-14
+   07:00:00 UTC) they show 2021-03-14 03:00:00, a Sunday, the day 73 of the year.
+
+   ZONED_NO_LOCAL_TIME: the zone has no type at the instant. ZONED_INSTANT_OUT_OF_RANGE: the local time lies outside the years
+   -262143 to 262142. Nothing is written then. */
+uint32_t zoned_zone_fields(const struct zoned_zone *zone, int64_t instant, zoned_fields *fields)
+    ZONED_MUST_CHECK ZONED_NONNULL((1, 3));
+
+/* *fields is the date and the time of day of the local time, in seconds from 1970-01-01 00:00:00.
+   ZONED_INSTANT_OUT_OF_RANGE: it lies outside the years -262143 to 262142, and nothing is written. */
+uint32_t zoned_fields_of(int64_t local, zoned_fields *fields) ZONED_MUST_CHECK ZONED_NONNULL((2));
+
+/* *local is the local time of the date and the time of day. `weekday` and `day_of_year` are not read. ZONED_NO_DATE_TIME: the
+   calendar doesn't have the date, such as 2021-02-29, or a clock the time, such as 24:00:00. ZONED_INSTANT_OUT_OF_RANGE: they
+   lie outside the years -262143 to 262142. Nothing is written then. */
+uint32_t zoned_local_of(const zoned_fields *fields, int64_t *local) ZONED_MUST_CHECK ZONED_NONNULL((1, 2));
 
 /* Returns the version of the library: ZONED_VERSION_NUMBER of the header that it was built with. */
 uint32_t zoned_version(void);

@@ -1,10 +1,13 @@
--- Local times of a column: by a lookup, and by what is kept of a stretch.
-use Rattle.zoned_ffi.proofs.Words.{Choice, IsCounted, IsInRange, IsInstantOf, IsInstantTaken, IsKept, IsLocal, IsNoInstant, IsNoneTaken, IsOffsetStretch}
-use Rattle.zoned_ffi.proofs.Words.{IsRowNumber, IsTakenAs, IsWithout, Kept, LocalType, MatchOption, None, OffsetStretch, Option, Some, Taken, TypeAt, Unit}
-use Rattle.zoned_ffi.proofs.Words.{Zone, ap, arith, floor_div, floors, inl, inr, ints, neg_ℤ, per_second, pos, refl, second_of, subst, sym, taken_instant}
-use Rattle.zoned_ffi.proofs.Words.{uncounted, ℕ, ℤ, ◌*ℤ◌, ◌+ℤ◌, ◌-ℤ◌, ◌<ℤ◌, ◌∙◌, ◌≡◌, ◌≤ℤ◌}
+-- Answers to a column's times: by a lookup, and by what is kept of a stretch.
+use Rattle.zoned_ffi.proofs.Words.{All-contains, Choice, FitsSigned, IsCounted, IsGreatest, IsInRange, IsInstantOf, IsInstantTaken, IsKept, IsLeast}
+use Rattle.zoned_ffi.proofs.Words.{IsLocal, IsNoInstant, IsNoneTaken, IsOffsetStretch, IsRowNumber, IsShownOnce, IsTaken, IsTakenAs, IsWithout, Kept}
+use Rattle.zoned_ffi.proofs.Words.{LieWithin, LocalType, MatchOption, None, OffsetStretch, Option, Shows, Some, Taken, TypeAt, Unit, Zone, ℕ, ℤ, ap, arith}
+use Rattle.zoned_ffi.proofs.Words.{first_second, floor_div, floors, inl, inr, ints, neg_ℤ, offsets, per_second, pos, refl, second_of, subst, sym}
+use Rattle.zoned_ffi.proofs.Words.{taken_instant, uncounted, w64, ◌*ℤ◌, ◌+ℤ◌, ◌-ℤ◌, ◌<ℤ◌, ◌∙◌, ◌≡◌, ◌≤ℤ◌}
 use Rattle.zoned_ffi.proofs.Resolving.{none_is}
-use Rattle.zoned_ffi.specs.declared.column.Way.TheVariants.{ToLocal}
+use Rattle.tz_info.proofs.ExtremeLaws.{at_least_least, at_most_greatest}
+use Rattle.tz_info.proofs.ForCallers.{type_once}
+use Rattle.zoned_ffi.specs.declared.column.Way.TheVariants.{ToInstants, ToLocal}
 use Rattle.zoned_ffi.specs.declared.resolved.Taken.TheVariants.{BeforeGap, GapEnd, InForce}
 use Rattle.zoned_ffi.specs.declared.unit.Unit.TheVariants as units
 
@@ -34,21 +37,126 @@ least = neg_ℤ (pos 9_223_372_036_854_775_807)
 abbrev pub greatest : ℤ
 greatest = pos 9_223_372_036_854_775_807
 
--- what is kept of a stretch
-pub kept_of : (z : Zone) (unit : Unit) (s : OffsetStretch) (k : Kept) → IsOffsetStretch z s → (s.from *ℤ pos (per_second unit)) ≤ℤ k.low → least ≤ℤ k.low → (least -ℤ k.add) ≤ℤ k.low
-    → k.high ≤ℤ (s.until *ℤ pos (per_second unit)) → k.high ≤ℤ greatest → k.high ≤ℤ (greatest -ℤ k.add) → k.add ≡ s.offset *ℤ pos (per_second unit) → IsKept z unit ToLocal k
-kept_of z unit s k stretch a b d e f g add = λ x low high.
-    let found = stretch (floor_div x (per_second unit)) (floor_low unit x s.from (omega (arith, ints, a, low))) (floor_high unit x s.until (omega (arith, ints, e, high))) in
-    let counted : IsCounted (x +ℤ k.add) = (omega (arith, ints, d, g, low, high), λ none. omega (arith, ints, none, d, low)) in (
-      (λ none. omega (arith, ints, none, b, low)),
-      counted,
-      record {
-        type = found.0;
-        in_force = found.1;
-        sum = ap (λ (n : ℤ). x +ℤ n) (add ∙ ap (λ (o : ℤ). o *ℤ pos (per_second unit)) found.2);
-        counted = counted;
-      },
-    )
+-- the times between two bounds that can be counted, also with `add` more
+pub lie_within : (from until add : ℤ) (k : Kept) → from ≤ℤ k.low → least ≤ℤ k.low → (least -ℤ add) ≤ℤ k.low → k.high ≤ℤ until → k.high ≤ℤ greatest
+    → k.high ≤ℤ (greatest -ℤ add) → k.add ≡ add → LieWithin from until add k
+lie_within from until add k a b d e f g same = record {
+  same = same;
+  each = λ x low high. (
+    omega (arith, ints, a, low),
+    omega (arith, ints, e, high),
+    (λ none. omega (arith, ints, none, b, low)),
+    (omega (arith, ints, d, g, low, high), λ none. omega (arith, ints, none, d, low)),
+  );
+}
+
+-- instants of a stretch
+pub instants_kept : (z : Zone) (unit : Unit) (s : OffsetStretch) (k : Kept) → IsOffsetStretch z s
+    → LieWithin (s.from *ℤ pos (per_second unit)) (s.until *ℤ pos (per_second unit)) (s.offset *ℤ pos (per_second unit)) k → IsKept z unit ToLocal k
+instants_kept z unit s k stretch within = λ x low high.
+    let at = within.each x low high in
+    let found = stretch (floor_div x (per_second unit)) (floor_low unit x s.from at.0) (floor_high unit x s.until at.1) in
+    let counted = subst (λ (n : ℤ). IsCounted (x +ℤ n)) (sym within.same) at.3 in
+    let answered : IsLocal z unit x (x +ℤ k.add) = record {
+      type = found.0;
+      in_force = found.1;
+      sum = ap (λ (n : ℤ). x +ℤ n) (within.same ∙ ap (λ (o : ℤ). o *ℤ pos (per_second unit)) found.2);
+      counted = counted;
+    } in
+    (counted, at.2, answered)
+
+-- the same, by the counts of its bounds
+pub instants_counted : (z : Zone) (unit : Unit) (s : OffsetStretch) (from until add : ℤ) (k : Kept) → IsOffsetStretch z s
+    → from ≡ s.from *ℤ pos (per_second unit) → until ≡ s.until *ℤ pos (per_second unit) → add ≡ s.offset *ℤ pos (per_second unit)
+    → LieWithin from until add k → IsKept z unit ToLocal k
+instants_counted z unit s from until add k stretch a b d within =
+    instants_kept z unit s k stretch
+    (subst (λ (v : ℤ). LieWithin v (s.until *ℤ pos (per_second unit)) (s.offset *ℤ pos (per_second unit)) k) a
+    (subst (λ (v : ℤ). LieWithin from v (s.offset *ℤ pos (per_second unit)) k) b (subst (λ (v : ℤ). LieWithin from until v k) d within)))
+
+-- the second that a time lies in, by two parts of a bound
+floor_low_sum : (unit : Unit) (x a b : ℤ) → ((a *ℤ pos (per_second unit)) +ℤ (b *ℤ pos (per_second unit))) ≤ℤ x → (a +ℤ b) ≤ℤ floor_div x (per_second unit)
+floor_low_sum units.Seconds x a b h = omega (arith, ints, floors)
+floor_low_sum units.Milliseconds x a b h = omega (arith, ints, floors)
+floor_low_sum units.Microseconds x a b h = omega (arith, ints, floors)
+floor_low_sum units.Nanoseconds x a b h = omega (arith, ints, floors)
+
+floor_high_sum : (unit : Unit) (x a b : ℤ) → x <ℤ ((a *ℤ pos (per_second unit)) +ℤ (b *ℤ pos (per_second unit))) → floor_div x (per_second unit) <ℤ (a +ℤ b)
+floor_high_sum units.Seconds x a b h = omega (arith, ints, floors)
+floor_high_sum units.Milliseconds x a b h = omega (arith, ints, floors)
+floor_high_sum units.Microseconds x a b h = omega (arith, ints, floors)
+floor_high_sum units.Nanoseconds x a b h = omega (arith, ints, floors)
+
+less_is_minus : (x y : ℤ) → (x +ℤ neg_ℤ y) ≡ x -ℤ y
+less_is_minus x y = omega (arith, ints)
+
+-- a local time so far inside a stretch that by each offset of the zone its second lies in it: only the second by the stretch's offset shows it
+once_shown : (z : Zone) (s : OffsetStretch) (low high local : ℤ) → IsOffsetStretch z s → FitsSigned w64 s.from → FitsSigned w64 s.until
+    → IsLeast (offsets z.types z.rule) low → IsGreatest (offsets z.types z.rule) high → (s.from +ℤ high) ≤ℤ local → local <ℤ (s.until +ℤ low)
+    → (t : LocalType) × IsShownOnce (Shows (TypeAt z) local) t × (s.offset ≡ t.offset)
+once_shown z s low high local stretch f g is_low is_high since before =
+    let inside : (o : ℤ) → low ≤ℤ o → o ≤ℤ high → (t : LocalType) × TypeAt z (local -ℤ o) t × (s.offset ≡ t.offset) =
+    λ o a b. stretch (local -ℤ o) (omega (arith, ints, since, b)) (omega (arith, ints, before, a)) in
+    let order : low ≤ℤ high = All-contains (λ x. low ≤ℤ x) (offsets z.types z.rule) high is_low.fewest is_high.among in
+    let some = inside high order (omega (arith, ints)) in
+    let least_here = at_least_least z (local -ℤ high) low some.0 is_low some.1 in
+    let most_here = at_most_greatest z (local -ℤ high) high some.0 is_high some.1 in
+    let above : low ≤ℤ s.offset = omega (arith, ints, least_here, some.2) in
+    let below : s.offset ≤ℤ high = omega (arith, ints, most_here, some.2) in
+    let own = inside s.offset above below in
+    let own_is = own.2 in
+    let shown : Shows (TypeAt z) local (local -ℤ s.offset) own.0 =
+    record { fits = omega (arith, ints, f, g, since, before, above, below); type = own.1; shown = omega (arith, ints, own_is) } in
+    let only : (u : ℤ) (b : LocalType) → Shows (TypeAt z) local u b → u ≡ local -ℤ s.offset = λ u b v.
+    let there = inside b.offset (at_least_least z u low b is_low v.type) (at_most_greatest z u high b is_high v.type) in
+    let shows = v.shown in
+    let place : local -ℤ b.offset ≡ u = omega (arith, ints, shows) in
+    let same = ap (λ (t : LocalType). t.offset) (type_once z u b there.0 v.type (subst (λ w. TypeAt z w there.0) place there.1)) in
+    let is = there.2 in
+    omega (arith, ints, shows, same, is) in
+    (own.0, record { second = local -ℤ s.offset; shown = shown; only = only }, own_is)
+
+-- such local times
+pub local_times_kept : (z : Zone) (unit : Unit) (choice : Choice) (s : OffsetStretch) (low high from until : ℤ) (k : Kept) → IsOffsetStretch z s
+    → FitsSigned w64 s.from → FitsSigned w64 s.until
+    → IsLeast (offsets z.types z.rule) low → IsGreatest (offsets z.types z.rule) high
+    → ((s.from *ℤ pos (per_second unit)) +ℤ (high *ℤ pos (per_second unit))) ≤ℤ from → (first_second *ℤ pos (per_second unit)) ≤ℤ from
+    → until ≤ℤ ((s.until *ℤ pos (per_second unit)) +ℤ (low *ℤ pos (per_second unit))) → until ≤ℤ (pos 8_210_266_876_800 *ℤ pos (per_second unit))
+    → LieWithin from until (neg_ℤ (s.offset *ℤ pos (per_second unit))) k → IsKept z unit (ToInstants choice) k
+local_times_kept z unit choice s low high from until k stretch f g is_low is_high a b d e within = λ x since before.
+    let at = within.each x since before in
+    let x_from = at.0 in
+    let x_until = at.1 in
+    let local = floor_div x (per_second unit) in
+    let above = floor_low_sum unit x s.from high (omega (arith, ints, a, x_from)) in
+    let below = floor_high_sum unit x s.until low (omega (arith, ints, d, x_until)) in
+    let found = once_shown z s low high local stretch f g is_low is_high above below in
+    let first = floor_low unit x first_second (omega (arith, ints, b, x_from)) in
+    let end = floor_high unit x (pos 8_210_266_876_800) (omega (arith, ints, e, x_until)) in
+    let counted = subst (λ (n : ℤ). IsCounted (x +ℤ n)) (sym within.same) at.3 in
+    let less = less_is_minus x (s.offset *ℤ pos (per_second unit)) in
+    let instant = ap (λ (n : ℤ). x +ℤ n) within.same ∙ (less ∙ ap (λ (o : ℤ). x -ℤ (o *ℤ pos (per_second unit))) found.2) in
+    let answered : IsInstantOf z unit choice x (x +ℤ k.add) = record {
+      in_range = (first, omega (arith, ints, end));
+      taken = IsInstantTaken.by_offset found.0 (IsTaken.once found.1) instant;
+      counted = counted;
+    } in
+    (counted, at.2, answered)
+
+-- the same, by the counts of its bounds
+pub local_times_counted : (z : Zone) (unit : Unit) (choice : Choice) (s : OffsetStretch) (low high p q r t f e from until add : ℤ) (k : Kept)
+    → IsOffsetStretch z s
+    → FitsSigned w64 s.from → FitsSigned w64 s.until → IsLeast (offsets z.types z.rule) low → IsGreatest (offsets z.types z.rule) high
+    → p ≡ s.from *ℤ pos (per_second unit) → q ≡ high *ℤ pos (per_second unit) → r ≡ s.until *ℤ pos (per_second unit) → t ≡ low *ℤ pos (per_second unit)
+    → f ≡ first_second *ℤ pos (per_second unit) → e ≡ pos 8_210_266_876_800 *ℤ pos (per_second unit) → add ≡ neg_ℤ (s.offset *ℤ pos (per_second unit))
+    → (p +ℤ q) ≤ℤ from → f ≤ℤ from → until ≤ℤ (r +ℤ t) → until ≤ℤ e → LieWithin from until add k → IsKept z unit (ToInstants choice) k
+local_times_counted z unit choice s low high p q r t f e from until add k stretch fits_from fits_until is_low is_high ep eq er et ef ee ea a b c d within =
+    local_times_kept z unit choice s low high from until k stretch fits_from fits_until is_low is_high
+    (subst (λ (v : ℤ). (v +ℤ (high *ℤ pos (per_second unit))) ≤ℤ from) ep (subst (λ (v : ℤ). (p +ℤ v) ≤ℤ from) eq a))
+    (subst (λ (v : ℤ). v ≤ℤ from) ef b)
+    (subst (λ (v : ℤ). until ≤ℤ (v +ℤ (low *ℤ pos (per_second unit)))) er (subst (λ (v : ℤ). until ≤ℤ (r +ℤ v)) et c))
+    (subst (λ (v : ℤ). until ≤ℤ v) ee d)
+    (subst (λ (v : ℤ). LieWithin from until v k) ea within)
 
 -- the instant by what is taken
 taken_gives : (z : Zone) (unit : Unit) (choice : Choice) (local : ℤ) (taken : Taken) → IsTakenAs z (second_of unit local) choice taken → IsInstantTaken z unit choice local (taken_instant unit local taken)

@@ -1,6 +1,7 @@
 pub mod Words
 pub mod ChangesWritten
 pub mod Columns
+pub mod FieldLaws
 pub mod Handles
 pub mod Lending
 pub mod Slices

@@ -8,6 +8,7 @@ pub use Rattle.std.proofs.alloc.Calls.{handle_tells}
 pub use Rattle.std.proofs.alloc.Shapes.{after}
 pub use Rattle.std.proofs.cell.Inside.{Good}
 pub use Rattle.std.proofs.lemmas.Bool.{eq-eqb}
+pub use Rattle.std.proofs.lemmas.List.Elements.{All-contains, All-replicate, All-set}
 pub use Rattle.std.proofs.lemmas.List.{get_or-set_other, get_or-set_same, length-set, map-append}
 pub use Rattle.std.proofs.option.Made.{Some-of, none_of}
 pub use Rattle.std.proofs.raw_atomic.Walks.{leaves, proved, proved_at}
@@ -64,7 +65,9 @@ pub use types.Tokens.{bor_fracture, bor_open, obor_alter}
 pub use Rattle.offset_core.proofs.ForCallers.{taken_in_range, taken_right}
 pub use Rattle.offset_core.specs.Around.{taken_of}
 pub use Rattle.offset_core.specs.declared.local_result.LocalResult.{LocalResult}
+pub use Rattle.offset_core.specs.WallAnswer.{IsShownOnce}
 pub use Rattle.naive_base.proofs.Words.{IsInRange}
+pub use Rattle.naive_base.specs.Range.{first_second}
 pub use Rattle.tz_base.specs.declared.change.Change.{Change}
 pub use Rattle.tz_base.specs.declared.error.Error.{Error}
 pub use Rattle.tz_info.proofs.ForCallers.{file_fault_once, text_fault_once}
@@ -75,9 +78,10 @@ pub use Rattle.tz_info.proofs.Words.{inl, inr, ints, length, length-append, leng
 pub use Rattle.tz_info.proofs.Words.{sym, take, take-append_seam, to_z, to_z-of_z, true, w128, w32, w64, zero, ℕ, ℤ, [], ◌&&◌, ◌*ℤ◌, ◌*◌, ◌++◌, ◌+ℤ◌, ◌+◌, ◌-ℤ◌}
 pub use Rattle.tz_info.proofs.Words.{◌<ℤ◌, ◌<◌, ◌↔◌, ◌∙◌, ◌∷◌, ◌≡◌, ◌≢◌, ◌≤ℤ◌, ◌≤◌, ◌⊎◌}
 unfoldable pub use Rattle.tz_info.proofs.Words.{changes_left}
+pub use Rattle.tz_info.specs.Windows.{IsGreatest, IsLeast, offsets}
 pub use Rattle.tz_info.specs.declared.rule.transition_rule.TransitionRule.{TransitionRule}
 pub use Rattle.tz_info.specs.declared.zone.offset_stretch.OffsetStretch.{OffsetStretch}
-pub use Rattle.zoned_ffi.specs.Columns.{AreAnswered, IsAnswered, IsAnsweredOrNone, IsInstantOf, IsInstantTaken, IsKept, IsNoInstant, IsNotAnswered, IsRowNumber}
+pub use Rattle.zoned_ffi.specs.Columns.{AreAnswered, IsAnswered, IsAnsweredOrNone, IsInstantOf, IsInstantTaken, IsNoInstant, IsNotAnswered, IsRowNumber}
 pub use Rattle.zoned_ffi.specs.Columns.{second_of}
 pub use Rattle.zoned_ffi.specs.Handles.{IsLent}
 pub use Rattle.zoned_ffi.specs.Instants.{AreOffsetsAt, IsOffsetAt}
@@ -85,6 +89,7 @@ pub use Rattle.zoned_ffi.specs.Kinds.{IsZoneOf, Spells}
 pub use Rattle.zoned_ffi.specs.Owned.{boxed, held, lent, loan, shared_row}
 pub use Rattle.zoned_ffi.specs.Refusals.{IsExtendedFault, IsFault, IsFileError, IsReaderNumber, IsRefusal, IsRefusalInDetail, IsTextFault, refusal_number}
 pub use Rattle.zoned_ffi.specs.Resolved.{AreResolved, IsGapEnd, IsNoneTaken, IsReachedAt, IsResolvedAt, IsTaken, TakesOf, policy_of}
+pub use Rattle.zoned_ffi.specs.Steps.KeptTimes.{AreKept, IsKept, LieWithin}
 pub use Rattle.zoned_ffi.specs.Steps.ResolvedInstants.{IsStamp, IsTakenAs, taken_instant}
 pub use Rattle.zoned_ffi.specs.Steps.Told.{told_of}
 pub use Rattle.zoned_ffi.specs.Texts.{IsSaidOf, IsTextOf}

@@ -1,5 +1,5 @@
 -- Columns: instants as local times, and local times as instants, counted in a unit.
-use Rattle.std.specs.Prelude.{ℕ, ℤ, ◌≡◌, ◌≢◌, ◌⊎◌, ◌+ℤ◌, ◌-ℤ◌, ◌*ℤ◌, ◌≤ℤ◌, ◌<ℤ◌, ◌<◌, ◌≤◌, pos, List, length, take, slice_index_or}
+use Rattle.std.specs.Prelude.{ℕ, ℤ, ◌≡◌, ◌≢◌, ◌⊎◌, ◌-ℤ◌, ◌*ℤ◌, ◌<◌, ◌≤◌, pos, List, length, take, slice_index_or}
 use Rattle.std.specs.List.{AllZip}
 use Rattle.gregorian.specs.Year.{floor_div}
 use Rattle.naive_base.specs.Range.{IsInRange}
@@ -8,7 +8,6 @@ use Rattle.tz_info.specs.Zones.{Zone}
 use Rattle.zoned_ffi.specs.Resolved.{IsGapEnd, IsNoneTaken, IsTaken}
 use Rattle.zoned_ffi.specs.Units.{IsCounted, IsLocal, IsWithout, no_time, per_second}
 use Rattle.zoned_ffi.specs.declared.choice.Choice.{Choice}
-use Rattle.zoned_ffi.specs.declared.column.kept.Kept.{Kept}
 use Rattle.zoned_ffi.specs.declared.column.Way.{Way}
 use Rattle.zoned_ffi.specs.declared.column.Way.TheVariants as ways
 use Rattle.zoned_ffi.specs.declared.unit.Unit.{Unit}
@@ -66,7 +65,3 @@ pub record IsFirstWithout (z : Zone) (unit : Unit) (way : Way) (times answers : 
 -- the numbers of a local time without an instant: in a gap 21, in a fold 22, out of range 23
 abbrev pub IsRowNumber : ℕ → Type 0
 IsRowNumber n = (21 ≤ n) × (n ≤ 23)
-
--- a time from `low` on, and before `high`, has that answer: `add` more
-abbrev pub IsKept : Zone → Unit → Way → Kept → Type 0
-IsKept z unit way k = (x : ℤ) → k.low ≤ℤ x → x <ℤ k.high → (x ≢ no_time) × IsCounted (x +ℤ k.add) × IsAnswered z unit way x (x +ℤ k.add)

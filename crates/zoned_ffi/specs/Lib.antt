@@ -9,6 +9,7 @@ pub mod Resolved
 pub mod Texts
 pub mod Units
 pub mod Columns
+pub mod Fields
 pub mod Owned
 pub mod Handles
 pub mod Steps

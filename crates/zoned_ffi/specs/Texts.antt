@@ -27,6 +27,7 @@ pub data IsSaidOf : ℕ → List ℕ → Type 0 where
   Unknown_unit : IsSaidOf 36 (codes "no such unit of time")
   No_local_time : IsSaidOf 37 (codes "an instant has no local time")
   No_gap : IsSaidOf 38 (codes "the local time lies in no gap")
+  No_date_time : IsSaidOf 39 (codes "no such date or time of day")
   Other_index : IsSaidOf 41 (codes "a transition of a TZif file names no local time type")
   Not_rising : IsSaidOf 42 (codes "the transition times of a TZif file do not rise")
   Other_leaps : IsSaidOf 43 (codes "the leap seconds of a TZif file cannot follow one another")

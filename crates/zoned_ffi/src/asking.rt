@@ -7,6 +7,7 @@ ghost use Rattle.tz_info.specs.Zones.{Zone, TypeAt, IsTypeRefused};
 ghost use Rattle.zoned_ffi.specs.Handles.{IsLent, IsNoneLent, IsUnanswered};
 ghost use Rattle.zoned_ffi.specs.Instants.{AreOffsetsAt, IsOffsetAt};
 ghost use Rattle.zoned_ffi.specs.Columns.{AreAnswered, IsFirstWithout};
+ghost use Rattle.zoned_ffi.specs.Fields.{AreFieldsAt, AreNoFieldsAt};
 ghost use Rattle.zoned_ffi.specs.Units.{IsUnit, per_second};
 ghost use Rattle.zoned_ffi.specs.WallClocks.{AreTriples, AreWallClocks, IsWallClockAt};
 ghost use Rattle.zoned_ffi.specs.WrittenChanges.{AreFirstWritten, AreWrittenChanges, IsFirstWritten, IsLastWritten};
@@ -21,6 +22,7 @@ use crate::changes::{
     WrittenChange, answer_next, answer_previous, write_changes, write_first_changes,
 };
 use crate::column::answer_locals;
+use crate::fields::{Fields, answer_fields};
 use crate::instants::{answer_instants, offset_at};
 use crate::lent::Lent;
 use crate::local_type::{WrittenType, answer_types};
@@ -106,6 +108,23 @@ pub extern "C" fn zoned_zone_span(zone: &Lent, instant: i64, span: &mut WrittenS
         return NOT_OPEN;
     };
     answer_span(share, instant, span)
+}
+
+/// Writes the fields of the local time that clocks show at the instant.
+#[unsafe(no_mangle)]
+pub extern "C" fn zoned_zone_fields(zone: &Lent, instant: i64, fields: &mut Fields) -> u32
+    // 0: they are written.
+    ensures answered { result ≡ 0 → (z : Zone) × IsLent zone.now z × AreFieldsAt z instant fields.new }
+    // 33: no zone is open. 37: the zone has no type then. 23: the local time is out of range. Nothing
+    // is written.
+    ensures refused { result ≢ 0 → (((result ≡ 33) × IsNoneLent zone.now)
+        ⊎ ((z : Zone) × IsLent zone.now z × AreNoFieldsAt z instant result))
+        × (fields.new ≡ fields.old) }
+{
+    let Some(share) = zone.share() else {
+        return NOT_OPEN;
+    };
+    answer_fields(share, instant, fields)
 }
 
 /// Writes when the zone's clocks show the local time.

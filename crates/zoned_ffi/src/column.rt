@@ -1,18 +1,21 @@
 //! Columns of instants as local times, and of local times as instants, in one pass.
 
 ghost use Rattle.std.specs.Prelude.{◌≡◌, ◌≢◌, length, MatchOption, MatchResult};
-ghost use Rattle.zoned_ffi.specs.Columns.{AreAnswered, IsAnswered, IsAnsweredOrNone, IsFirstWithout, IsKept, IsNotAnswered, IsRowNumber};
+ghost use Rattle.zoned_ffi.specs.Columns.{AreAnswered, IsAnswered, IsAnsweredOrNone, IsFirstWithout, IsNotAnswered, IsRowNumber};
+ghost use Rattle.zoned_ffi.specs.Steps.KeptTimes.{AreKept, IsKept};
 ghost use Rattle.zoned_ffi.specs.Units.{no_time};
 ghost use Rattle.zoned_ffi.specs.declared.column.Way.TheVariants.{ToInstants, ToLocal};
 
 mod kept;
 mod row;
+mod table;
 
 use crate::choice::Choice;
 use crate::refusal::{NO_LOCAL_TIME, OTHER_SIZE};
 use crate::unit::Unit;
-use kept::{Kept, kept_about};
+use kept::Kept;
 use row::{instant_of, local_of};
+use table::Recent;
 use tz_info::TimeZone;
 
 /// No time: what a column has where a time is missing.
@@ -37,7 +40,7 @@ pub struct Stop {
 }
 
 // What is written of the time, or the number that says why nothing is.
-#[inline(always)]
+#[inline(never)]
 fn looked_up(zone: &TimeZone, unit: Unit, way: Way, time: i64) -> Result<i64, u32>
     ensures { MatchResult result (IsAnswered zone.now unit way time)
         (IsNotAnswered zone.now unit way time) }
@@ -51,39 +54,48 @@ fn looked_up(zone: &TimeZone, unit: Unit, way: Way, time: i64) -> Result<i64, u3
     }
 }
 
+// How many stretches the table of a long column holds: two for each of 256 parts of some 97 days,
+// which are 68 years.
+const PLACES: usize = 512;
+
+// The rows of a column that pays for a table.
+const LONG: usize = 1_024;
+
 // What is written of the time in that row, or the number that says why nothing is.
 #[inline(always)]
 fn answer(
     zone: &TimeZone,
     unit: Unit,
     way: Way,
-    kept: &mut Kept,
+    recent: &mut Recent,
+    table: &mut [Kept],
     row: usize,
     time: i64,
 ) -> Result<i64, u32>
-    requires { IsKept zone.now unit way kept.old }
-    ensures kept { IsKept zone.now unit way kept.new }
+    requires recent { IsKept zone.now unit way recent.old.kept }
+    requires table { AreKept zone.now unit way table.old }
+    ensures recent { IsKept zone.now unit way recent.new.kept }
+    ensures table { AreKept zone.now unit way table.new }
     ensures answer { MatchResult result (IsAnsweredOrNone zone.now unit way time)
         (λ n. (time ≢ no_time) × IsNotAnswered zone.now unit way time n) }
 {
-    if kept.low <= time && time < kept.high {
-        return Ok(time + kept.add);
+    if let Some(found) = recent.kept.answer_to(zone, unit, way, time) {
+        return Ok(found);
     }
     if time == NO_TIME {
         return Ok(NO_TIME);
     }
-    // In a column without order the next row rarely lies in the stretch of the last one: if the row
-    // before missed too, the search for another stretch is left out but for one row in 16.
-    if row.wrapping_sub(kept.missed) != 1 || row % 16 == 0 {
-        *kept = kept_about(zone, unit, way, row, time);
+    if let Some(found) = recent.answer_in(zone, unit, way, table, row, time) {
+        return Ok(found);
     }
-    kept.missed = row;
+    if let Some(found) = recent.answer_by_search(zone, unit, way, table, row, time) {
+        return Ok(found);
+    }
     looked_up(zone, unit, way, time)
 }
 
 /// Writes the answer to each time, up to the first that has none. Returns the row of that time, if
 /// there is one, and the number that says why.
-#[inline(always)]
 fn write_column(
     zone: &TimeZone,
     unit: Unit,
@@ -95,9 +107,45 @@ fn write_column(
     ensures { MatchOption result (AreAnswered zone.now unit way times.now answers.new)
         (λ s. IsFirstWithout zone.now unit way times.now answers.new s.row s.number) }
 {
-    let mut kept = Kept::none(zone, unit, way, 0);
+    if times.len() < LONG {
+        return write_with(zone, unit, way, times, answers, &mut []);
+    }
+    write_with_table(zone, unit, way, times, answers)
+}
+
+#[inline(never)]
+fn write_with_table(
+    zone: &TimeZone,
+    unit: Unit,
+    way: Way,
+    times: &[i64],
+    answers: &mut [i64],
+) -> Option<Stop>
+    requires { length times.now ≡ length answers.old }
+    ensures { MatchOption result (AreAnswered zone.now unit way times.now answers.new)
+        (λ s. IsFirstWithout zone.now unit way times.now answers.new s.row s.number) }
+{
+    let mut table = [Kept::none(zone, unit, way); PLACES];
+    write_with(zone, unit, way, times, answers, &mut table)
+}
+
+#[inline(never)]
+fn write_with(
+    zone: &TimeZone,
+    unit: Unit,
+    way: Way,
+    times: &[i64],
+    answers: &mut [i64],
+    table: &mut [Kept],
+) -> Option<Stop>
+    requires size { length times.now ≡ length answers.old }
+    requires table { AreKept zone.now unit way table.old }
+    ensures { MatchOption result (AreAnswered zone.now unit way times.now answers.new)
+        (λ s. IsFirstWithout zone.now unit way times.now answers.new s.row s.number) }
+{
+    let mut recent = Recent::none(zone, unit, way);
     for (row, time) in times.iter().enumerate() {
-        match answer(zone, unit, way, &mut kept, row, *time) {
+        match answer(zone, unit, way, &mut recent, table, row, *time) {
             Ok(found) => answers[row] = found,
             Err(number) => return Some(Stop { row, number }),
         }

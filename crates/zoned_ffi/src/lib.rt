@@ -16,6 +16,7 @@ mod asking;
 mod changes;
 mod choice;
 mod column;
+mod fields;
 mod handle;
 mod instants;
 mod kind;

@@ -26,6 +26,9 @@ pub const NO_LOCAL_TIME: u32 = 37;
 /// What it returns if a local time lies in no gap.
 pub const NO_GAP: u32 = 38;
 
+/// What it returns if the calendar has no such date, or a clock no such time.
+pub const NO_DATE_TIME: u32 = 39;
+
 /// The number of a local time that is outside the calendar's range, or whose instant is.
 pub const OUT_OF_RANGE: u32 = 23;
 

@@ -59,6 +59,7 @@ fn text_of(number: u32) -> &'static str
         36 => "no such unit of time",
         37 => "an instant has no local time",
         38 => "the local time lies in no gap",
+        39 => "no such date or time of day",
         41 => "a transition of a TZif file names no local time type",
         42 => "the transition times of a TZif file do not rise",
         43 => "the leap seconds of a TZif file cannot follow one another",

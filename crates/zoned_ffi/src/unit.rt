@@ -1,6 +1,6 @@
 //! Units in which instants are counted.
 
-ghost use Rattle.std.specs.Prelude.{◌≡◌, ◌*ℤ◌, ◌≤ℤ◌, ℤ, neg_ℤ, pos, MatchOption};
+ghost use Rattle.std.specs.Prelude.{◌≡◌, ◌<◌, ◌*ℤ◌, ◌≤ℤ◌, ℤ, neg_ℤ, pos, MatchOption};
 ghost use Rattle.gregorian.specs.Year.{floor_div};
 ghost use Rattle.zoned_ffi.specs.Units.{IsUnit, per_second};
 
@@ -67,7 +67,9 @@ impl Unit {
 
     /// The second, counted in the unit.
     pub fn counts_at(self, second: i64) -> i128
-        ensures { result ≡ second *ℤ pos (per_second self) }
+        ensures value { result ≡ second *ℤ pos (per_second self) }
+        ensures bound { (neg_ℤ (pos 10_000_000_000_000_000_000_000_000_000) ≤ℤ result)
+            × (result ≤ℤ pos 10_000_000_000_000_000_000_000_000_000) }
     {
         match self {
             Unit::Seconds => second as i128,
@@ -75,5 +77,20 @@ impl Unit {
             Unit::Microseconds => second as i128 * 1_000_000,
             Unit::Nanoseconds => second as i128 * 1_000_000_000,
         }
+    }
+
+    /// The part of the axis that a time counted in this unit lies in: 94 to 105 days long, and after
+    /// 256 of them they are numbered again.
+    #[inline(always)]
+    pub fn part_of(self, time: i64) -> usize
+        ensures { result < 256 }
+    {
+        let part = match self {
+            Unit::Seconds => time >> 23,
+            Unit::Milliseconds => time >> 33,
+            Unit::Microseconds => time >> 43,
+            Unit::Nanoseconds => time >> 53,
+        };
+        (part.cast_unsigned() % 256) as usize
     }
 }

@@ -1,11 +1,14 @@
-//! What a column keeps of the stretch that its last times lie in.
+//! What a column keeps of the stretches that its times lie in.
 
-ghost use Rattle.std.specs.Prelude.{◌≡◌, ◌⊎◌, ◌≤ℤ◌};
-ghost use Rattle.zoned_ffi.specs.Columns.{IsKept};
-ghost use Rattle.zoned_ffi.specs.Units.{IsOffsetStretch};
-ghost use Rattle.zoned_ffi.specs.declared.column.Way.TheVariants.{ToLocal};
+ghost use Rattle.std.specs.Prelude.{◌≡◌, ◌⊎◌, ◌↔◌, ◌≤ℤ◌, ◌<ℤ◌, IsTrue, neg_ℤ, pos, MatchOption, ⊤};
+ghost use Rattle.zoned_ffi.specs.Columns.{IsAnsweredOrNone};
+ghost use Rattle.zoned_ffi.specs.Steps.KeptTimes.{IsKept, LieWithin};
+ghost use Rattle.zoned_ffi.specs.declared.column.Way.TheVariants.{ToInstants, ToLocal};
 
+use crate::choice::Choice;
 use crate::column::Way;
+use crate::column::row::less;
+use crate::fields::{END, FIRST};
 use crate::unit::{GREATEST, LEAST, Unit};
 use tz_info::{OffsetStretch, TimeZone};
 
@@ -19,13 +22,11 @@ pub struct Kept {
     pub high: i64,
     /// What is added.
     pub add: i64,
-    /// The last row that was not among them.
-    pub missed: usize,
 }
 
 impl Kept {
     /// No times.
-    pub fn none(zone: &TimeZone, unit: Unit, way: Way, missed: usize) -> Kept
+    pub fn none(zone: &TimeZone, unit: Unit, way: Way) -> Kept
         ensures { IsKept zone.now unit way result }
     {
         let _ = zone;
@@ -35,58 +36,114 @@ impl Kept {
             low: 0,
             high: 0,
             add: 0,
-            missed,
         }
     }
 
-    // Those of the stretch whose local times can be counted.
-    fn of(zone: &TimeZone, unit: Unit, stretch: OffsetStretch, missed: usize) -> Kept
-        requires { IsOffsetStretch zone.now stretch }
-        ensures { IsKept zone.now unit ToLocal result }
+    /// The answer to the time if it is one of them.
+    #[inline(always)]
+    pub fn answer_to(&self, zone: &TimeZone, unit: Unit, way: Way, time: i64) -> Option<i64>
+        requires { IsKept zone.now unit way self.now }
+        ensures { MatchOption result ⊤ (IsAnsweredOrNone zone.now unit way time) }
     {
-        let OffsetStretch {
-            from,
-            until,
-            offset,
-        } = stretch;
-        let add = unit.counts_of(offset);
-        let from = unit.counts_at(from);
-        let until = unit.counts_at(until);
+        let _ = zone;
+        let _ = unit;
+        let _ = way;
+        if is_between(self.low, self.high, time) {
+            Some(time + self.add)
+        } else {
+            None
+        }
+    }
+
+    // The times from `from` on and before `until` that can be counted, also with `add` more.
+    fn between(from: i128, until: i128, add: i64) -> Kept
+        requires { (neg_ℤ (pos 4_611_686_018_427_387_904) ≤ℤ add)
+            × (add ≤ℤ pos 4_611_686_018_427_387_904) }
+        ensures { LieWithin from until add result }
+    {
         let first = greater(LEAST, LEAST - add as i128);
         let last = lesser(GREATEST, GREATEST - add as i128);
         let low = greater(from, first);
         let high = lesser(until, last);
         if high <= low {
-            return Kept::none(zone, unit, Way::ToLocal, missed);
+            return Kept {
+                low: 0,
+                high: 0,
+                add,
+            };
         }
         Kept {
             low: low as i64,
             high: high as i64,
             add,
-            missed,
-        }
-    }
-
-    // Those around an instant.
-    #[inline(never)]
-    fn about(zone: &TimeZone, unit: Unit, row: usize, instant: i64) -> Kept
-        ensures { IsKept zone.now unit ToLocal result }
-    {
-        match zone.offset_stretch_at(unit.second_of(instant)) {
-            Some(stretch) => Kept::of(zone, unit, stretch, row),
-            None => Kept::none(zone, unit, Way::ToLocal, row),
         }
     }
 }
 
 /// What is kept around the time.
-pub fn kept_about(zone: &TimeZone, unit: Unit, way: Way, row: usize, time: i64) -> Kept
+pub fn kept_about(zone: &TimeZone, unit: Unit, way: Way, time: i64) -> Kept
     ensures { IsKept zone.now unit way result }
 {
     match way {
-        Way::ToLocal => Kept::about(zone, unit, row, time),
-        Way::ToInstants(_) => Kept::none(zone, unit, way, row),
+        Way::ToLocal => instants_about(zone, unit, time),
+        Way::ToInstants(choice) => local_times_about(zone, unit, choice, time),
     }
+}
+
+// The instants of the stretch around the instant.
+fn instants_about(zone: &TimeZone, unit: Unit, instant: i64) -> Kept
+    ensures { IsKept zone.now unit ToLocal result }
+{
+    match zone.offset_stretch_at(unit.second_of(instant)) {
+        Some(
+            OffsetStretch {
+                from,
+                until,
+                offset,
+            },
+        ) => Kept::between(
+            unit.counts_at(from),
+            unit.counts_at(until),
+            unit.counts_of(offset),
+        ),
+        None => Kept::none(zone, unit, Way::ToLocal),
+    }
+}
+
+// Local times around the local time that are so far inside a stretch that, whatever the offset, no
+// second outside it shows them.
+fn local_times_about(zone: &TimeZone, unit: Unit, choice: Choice, local: i64) -> Kept
+    ensures { IsKept zone.now unit (ToInstants choice) result }
+{
+    let least = zone.least_offset();
+    let greatest = zone.greatest_offset();
+    let second = unit.second_of(local).wrapping_sub(i64::from(greatest));
+    match zone.offset_stretch_at(second) {
+        Some(
+            OffsetStretch {
+                from,
+                until,
+                offset,
+            },
+        ) => {
+            let first = unit.counts_at(from) + unit.counts_of(greatest) as i128;
+            let end = unit.counts_at(until) + unit.counts_of(least) as i128;
+            Kept::between(
+                greater(first, unit.counts_at(FIRST)),
+                lesser(end, unit.counts_at(END)),
+                less(unit.counts_of(offset)),
+            )
+        }
+        None => Kept::none(zone, unit, Way::ToInstants(choice)),
+    }
+}
+
+// Whether the time is `low` or later, and before `high`: both comparisons without a jump between.
+#[inline(always)]
+fn is_between(low: i64, high: i64, time: i64) -> bool
+    ensures { IsTrue result ↔ ((low ≤ℤ time) × (time <ℤ high)) }
+{
+    (low <= time) & (time < high)
 }
 
 fn greater(a: i128, b: i128) -> i128

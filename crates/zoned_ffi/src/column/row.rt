@@ -69,8 +69,8 @@ fn instant_taken(unit: Unit, local: i64, taken: Taken) -> Option<i64>
     }
 }
 
-// The count with the other sign.
-fn less(counts: i64) -> i64
+/// The count with the other sign.
+pub fn less(counts: i64) -> i64
     requires { (neg_ℤ (pos 4_611_686_018_427_387_904) ≤ℤ counts)
         × (counts ≤ℤ pos 4_611_686_018_427_387_904) }
     ensures { result ≡ neg_ℤ counts }

@@ -74,6 +74,9 @@ returns-in-37 c = says c.args.number 37 _ c.in-37.is IsSaidOf.No_local_time
 pub returns-in-38 : goal.returns-in-38
 returns-in-38 c = says c.args.number 38 _ c.in-38.is IsSaidOf.No_gap
 
+pub returns-in-39 : goal.returns-in-39
+returns-in-39 c = says c.args.number 39 _ c.in-39.is IsSaidOf.No_date_time
+
 pub returns-in-41 : goal.returns-in-41
 returns-in-41 c = says c.args.number 41 _ c.in-41.is IsSaidOf.Other_index
 
