@@ -1,8 +1,11 @@
 -- What a choice takes, told by instants.
 use Rattle.offset_core.specs.ResolveNumbers.{number_of}
 use Rattle.offset_core.specs.declared.around.Around.{Around}
+use Rattle.offset_core.specs.declared.around.Around.TheVariants.{Ambiguous, Gap, Single}
 use Rattle.offset_core.specs.declared.around.Taken.{Taken as Found}
 use Rattle.offset_core.specs.declared.choice.Choice as any_choice
+use Rattle.offset_core.specs.declared.choice.FoldChoice.TheVariants as folds
+use Rattle.offset_core.specs.declared.choice.GapChoice.TheVariants as gaps
 use Rattle.offset_core.specs.declared.resolve_error.ResolveError.{ResolveError}
 use Rattle.offset_core.specs.declared.resolve_error.ResolveError.TheVariants as reasons
 use Rattle.tz_base.specs.declared.change.Change.{Change}
@@ -54,3 +57,13 @@ number_is choice a reasons.OutOfRange refused = absurd (taken_in_range choice a 
 
 pub none_is : (z : Zone) (local : ℤ) (choice : Choice) (n : ℕ) → IsNoneTaken z local choice n → (n ≡ 21) ⊎ (n ≡ 22)
 none_is z local choice n (e, takes, is) = rw is (number_is (policy_of choice) takes.around e takes.taken)
+
+pub gap_is : (a : Around LocalType Change) (e : ResolveError) → taken_of (record { gap = gaps.Refuse; fold = folds.Latest }) a ≡ Err e → e ≡ reasons.Gap
+gap_is (Single a) e h = cc
+gap_is (Ambiguous a b) e h = cc
+gap_is (Gap g) e h = cc
+
+pub fold_is : (a : Around LocalType Change) (e : ResolveError) → taken_of (record { gap = gaps.ShiftForward; fold = folds.Refuse }) a ≡ Err e → e ≡ reasons.Fold
+fold_is (Single a) e h = cc
+fold_is (Ambiguous a b) e h = cc
+fold_is (Gap g) e h = cc

@@ -71,7 +71,7 @@ pub use Rattle.naive_base.specs.Range.{first_second}
 pub use Rattle.tz_base.specs.declared.change.Change.{Change}
 pub use Rattle.tz_base.specs.declared.error.Error.{Error}
 pub use Rattle.tz_info.proofs.ForCallers.{file_fault_once, text_fault_once}
-pub use Rattle.tz_info.proofs.Words.{AreChanges, Bool, Bor, Contains-get_or, FitsSigned, HasGap, IfErr, IsBeforeGap, IsFirstAtOrAfter, IsOutOfMemory}
+pub use Rattle.tz_info.proofs.Words.{AreChanges, Bool, Bor, Contains-get_or, FitsSigned, IfErr, IsFirstAtOrAfter, IsOutOfMemory}
 pub use Rattle.tz_info.proofs.Words.{IsPosixFault, IsPosixZone, IsTrue, IsTypeRefused, IsTzText, IsUtOffset, IsUtf8, IsWallAnswer, IsZoneFault, List, LocalType}
 pub use Rattle.tz_info.proofs.Words.{MatchOption, MatchResult, Shows, TypeAt, Zone, ap, append-nil, append_assoc, arith, cases_lt, floor_div, floors, get_or}
 pub use Rattle.tz_info.proofs.Words.{inl, inr, ints, length, length-append, length-map, map, neg_ℤ, number_of, of_z, pos, posix_zone, refl, rules, subst, suc}
