@@ -1,17 +1,16 @@
 -- Gaps: where the first second lies at which clocks show more than a local time that they never show.
-use Rattle.tz_info.proofs.Words.{Alternate as AlternateRule, AlternateAt, AreLess, AreLessAmong, Change, HasGap, HasType, IsFirstAtOrAfter, IsLastBefore}
-use Rattle.tz_info.proofs.Words.{IsNear, IsNeverFrom, IsNeverShown, IsRefusedBy, IsRuleGap, IsRuleOrNone, IsStart, IsTypeBefore, IsTypeRefused, IsValid}
-use Rattle.tz_info.proofs.Words.{IsWindowOf, Jump, Jumps, LocalType, None, Option, RuleAt, RuleOrElse, SFits, Shows, Some, TransitionRule, TypeAt, Zone, arith}
-use Rattle.tz_info.proofs.Words.{by_leap_time, by_lt_z, by_rule, floor_div, index_of, inl, inr, ints, length, lies_in, offsets, pos, refl, segment_of}
-use Rattle.tz_info.proofs.Words.{slice_get, subst, suc, sym, table_count, true, w32, w64, year_of, ℕ, ℤ, ◌+ℤ◌, ◌-ℤ◌, ◌<ℤ◌, ◌<◌, ◌↔◌, ◌∙◌, ◌≡◌, ◌≤ℤ◌, ◌⊎◌}
+use Rattle.tz_info.proofs.Words.{AreLess, HasGap, HasType, IsFirstAtOrAfter, IsLastBefore}
+use Rattle.tz_info.proofs.Words.{IsNear, IsNeverShown, IsRefusedBy, IsRuleOrNone, IsStart, IsTypeBefore, IsTypeRefused, IsValid}
+use Rattle.tz_info.proofs.Words.{IsWindowOf, Jump, Jumps, LocalType, None, Option, RuleOrElse, Shows, Some, TransitionRule, TypeAt, Zone, arith}
+use Rattle.tz_info.proofs.Words.{by_leap_time, by_lt_z, by_rule, floor_div, index_of, inl, inr, ints, length, lies_in, pos, segment_of}
+use Rattle.tz_info.proofs.Words.{slice_get, subst, sym, table_count, year_of, ℕ, ℤ, ◌+ℤ◌, ◌-ℤ◌, ◌<ℤ◌, ◌<◌, ◌∙◌, ◌≡◌, ◌≤ℤ◌, ◌⊎◌}
 use Rattle.tz_info.specs.declared.rule.transition_rule.TransitionRule.TheVariants.{Alternate, Fixed}
 use Rattle.tz_info.proofs.ExtremeLaws.{at_least_least, at_most_greatest}
 use Rattle.tz_info.proofs.LeapOrder.{leap_times_answer}
 use Rattle.tz_info.proofs.RuleLaws.{rule_year}
-use Rattle.tz_info.proofs.SegmentLaws.{segment_at, segment_most, type_before, type_from, type_in_from}
-use Rattle.tz_info.proofs.TableSearch.{Between}
-use Rattle.tz_info.proofs.WallSegments.{begun, leap_time_of, listed_once, not_begun, rule_begun, type_here}
-use Rattle.tz_info.proofs.ZoneLaws.{some_once, type_decided, type_once}
+use Rattle.tz_info.proofs.SegmentLaws.{type_before, type_from}
+use Rattle.tz_info.proofs.WallSegments.{begun, listed_once, not_begun, type_here}
+use Rattle.tz_info.proofs.ZoneLaws.{some_once, type_decided}
 
 abbrev pub IsNever : Zone → ℤ → Type 0
 IsNever z l = IsNeverShown (Shows (TypeAt z) l)

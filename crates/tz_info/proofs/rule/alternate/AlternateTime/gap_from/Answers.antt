@@ -1,5 +1,5 @@
-use Rattle.tz_info.proofs.Words.{Alternate as AlternateRule, IsAmidFrom, IsNear, LocalType, SFits, ap, arith, by_lt_z, false, ints, is_dst_by_one, not, rules}
-use Rattle.tz_info.proofs.Words.{sym, to_z-of_z, true, type_when, w32, w64, ◌+ℤ◌, ◌-ℤ◌, ◌∙◌, ◌≡◌}
+use Rattle.tz_info.proofs.Words.{IsAmidFrom, IsNear, LocalType, SFits, ap, arith, false, ints, not, rules}
+use Rattle.tz_info.proofs.Words.{to_z-of_z, w32, w64, ◌+ℤ◌, ◌∙◌, ◌≡◌}
 use Rattle.tz_info.proofs.RuleGaps.{gap_at_end, gap_at_start}
 use Rattle.tz_info.proofs.rule.alternate.AlternateTime.gap_from.Goals as goal
 use Rattle.tz_info.proofs.rule.alternate.AlternateTime.gap_from.Goals.{Else-not-are_amid}

@@ -1,4 +1,4 @@
-use Rattle.tz_info.proofs.Words.{IsNear, SFits, arith, ints, pos, rules, to_z-of_z, w64, ◌-ℤ◌, ◌≤ℤ◌}
+use Rattle.tz_info.proofs.Words.{SFits, arith, ints, pos, rules, to_z-of_z, w64, ◌-ℤ◌, ◌≤ℤ◌}
 use Rattle.tz_info.proofs.GapLaws.{first_near, gap_at_first}
 use Rattle.tz_info.proofs.zone.time_zone.TimeZone.gap_by_search.Goals as goal
 use Rattle.tz_info.proofs.zone.time_zone.TimeZone.gap_by_search.Goals.{After-first_at_or_after-first}
