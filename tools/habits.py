@@ -28,7 +28,7 @@ HABITS = [
     ("alone after a noun", "only", r"\balone\b", 1, 21),
     ("beside", "with, compared with, as well as", r"\bbeside\b", 0, 11),
     ("behind", "after", r"\bbehind\b(?! UTC)", 2, 8),
-    ("refused", "rejected, returns an error", r"\brefus\w+", 2, 25),
+    ("refused", "rejected, returns an error", r"\brefus\w+", 2, 24),
     ("reading for a local time", "local time, local date-time", r"\breadings?\b", 9, 120),
     ("TZ text", "TZ string", r"\bTZ texts?\b", 3, 46),
     ("wrong body", "planted bug", r"\bwrong bod\w+", 1, 0),
