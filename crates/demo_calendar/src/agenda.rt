@@ -13,7 +13,7 @@ pub struct Agenda {
     events: Vec<Event>,
 }
 
-/// An event of a day, and when it starts.
+/// An event on a day, and when it starts.
 #[derive(Clone, Copy, Debug, PartialEq, Eq)]
 pub struct Entry {
     pub start: DateTime<KeptZone>,
@@ -21,17 +21,19 @@ pub struct Entry {
 }
 
 impl Agenda {
+    /// Returns an agenda without events.
     pub fn new(alloc: Global, zone: KeptZone) -> Agenda {
         let events = Vec::new(alloc);
         Agenda { zone, events }
     }
 
+    /// Adds an event.
     pub fn add(&mut self, event: Event) -> Result<(), AllocError> {
         self.events.push(event)?;
         Ok(())
     }
 
-    /// Returns the events of a date, the earliest first.
+    /// Returns the events of a date, the one that starts first at the front.
     pub fn on(&self, alloc: Global, date: NaiveDate) -> Result<Vec<Entry>, AllocError> {
         let mut entries = Vec::new(alloc);
         for event in self.events.iter().copied() {

@@ -6,8 +6,8 @@ ghost use Rattle.zoned.specs.NaiveDate.{day_of};
 
 use zoned::{DateTime, KeptZone, NaiveDate, TimeDelta, TimeZone, ZoneDays, client_laws};
 
-/// Returns how long the day of a date is: 23 or 25 hours on most days of a clock change, nothing if
-/// clocks skip it. `None` if an end of it is out of range.
+/// Returns how long the day of a date is: 23 or 25 hours on most days of a clock change, zero if clocks
+/// skip it. `None` if an end of it is out of range.
 pub fn length_of_day(zone: &KeptZone, date: NaiveDate) -> Option<TimeDelta> {
     let start = zone.start_of_day(date)?;
     let end = zone.start_of_day(date.succ_opt()?)?;
@@ -30,8 +30,8 @@ pub fn is_in_day<Z: ZoneDays, Tz: TimeZone>(
     Some(instant.cmp_instant(&start).is_ge() && instant.cmp_instant(&end).is_lt())
 }
 
-/// Returns whether an instant lies in the days of both dates. Each instant is shown on one day, so it
-/// does only if they are one date.
+/// Returns whether an instant lies in the days of both dates. Each instant lies in one day, so the two
+/// dates are the same if it does. `None` if an end of a day is out of range.
 pub fn one_day<Z: ZoneDays, Tz: TimeZone>(
     zone: &Z,
     one: NaiveDate,

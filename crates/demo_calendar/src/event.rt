@@ -21,7 +21,7 @@ pub enum When {
     },
 }
 
-/// An event, as a birthday or a call.
+/// An event, such as a birthday or a call.
 #[derive(Clone, Copy, Debug, PartialEq, Eq, Hash)]
 pub struct Event {
     pub name: &'static str,
@@ -29,14 +29,18 @@ pub struct Event {
 }
 
 impl Event {
-    /// An event of one day.
+    /// Returns an event of one day.
     pub fn on_day(name: &'static str, first: NaiveDate) -> Event {
         let when = When::AllDay { first, days: 1 };
         Event { name, when }
     }
 
-    /// An event at a time of the host's clocks. A time that they skip moves as far past the gap, and of
-    /// two instants that show it the event takes the first.
+    /// Returns an event at a local time of the host. A time in a gap moves forward by the length of the
+    /// gap, and one in a fold is its first pass.
+    ///
+    /// # Errors
+    ///
+    /// [`CalendarError::Clocks`] if the instant is out of range.
     pub fn at(
         name: &'static str,
         host: &KeptZone,
@@ -55,7 +59,7 @@ impl Event {
         })
     }
 
-    /// Returns whether it is on a date for whoever has these clocks: for some of the day.
+    /// Returns whether it takes place on a date, or a part of it, by these clocks.
     pub fn is_on(&self, zone: &KeptZone, date: NaiveDate) -> bool {
         match &self.when {
             When::AllDay { first, days } => is_within(*first, *days, date),
@@ -65,7 +69,8 @@ impl Event {
         }
     }
 
-    /// Returns when it starts by these clocks: an event of whole days with the first of them.
+    /// Returns when it starts by these clocks: an event of whole days starts with the first of them.
+    /// `None` if that is out of range.
     pub fn starts(&self, zone: &KeptZone) -> Option<DateTime<KeptZone>> {
         match &self.when {
             When::AllDay { first, .. } => zone.start_of_day(*first),

@@ -1,9 +1,16 @@
-//! A calendar: events at instants and on whole days, the days and weeks that show them, and their days
-//! by the clocks of whoever looks.
+//! A calendar: events at instants and on whole days, and the days and weeks that show them by the clocks
+//! of whoever looks.
 //!
-//! A day begins when clocks first show its midnight or a later time: mostly at 00:00, after a gap over
-//! midnight later. So days divide time, also where clocks are set back over midnight, and each
-//! instant has one.
+//! A day starts when clocks first show its midnight or a later time: mostly at 00:00, and later if
+//! midnight lies in a gap. So days divide time, even if clocks are set back over midnight, and each
+//! instant lies in one.
+//!
+//! ```
+//! let mut agenda = Agenda::new(alloc, new_york);
+//! agenda.add(Event::at("call", &new_york, day, nine, TimeDelta::hours(1))?)?;
+//! agenda.add(Event::on_day("birthday", day))?;
+//! let entries = agenda.on(alloc, day)?; // the birthday at 00:00 -04:00, the call at 09:00 -05:00
+//! ```
 #![tactic(auto)]
 
 mod agenda;

@@ -1,14 +1,16 @@
 //! The examples of the documents, compiled, proved and tested. It names one library, `zoned`.
 //!
-//! `readme` and `front_page` have the examples of README.md and of the library's front page,
-//! `borrowed` what is done with the instants of a borrowed zone, `calendar_days` when days, weeks, months and years start, `own_zone` the zone of
-//! docs/OWN_ZONE.md, and `facts` contracts of a client's own.
+//! `readme` and `front_page` have the examples of README.md and of the library's front page, `fixed`
+//! instants of UTC and of fixed offsets, `borrowed` instants of a borrowed zone, `calendar_days` when
+//! days, weeks, months and years start, `own_zone` the zone of docs/OWN_ZONE.md, and `facts` contracts
+//! of a client's own.
 #![tactic(auto)]
 
 mod borrowed;
 mod calendar_days;
 mod error;
 mod facts;
+mod fixed;
 mod front_page;
 mod own_zone;
 mod readme;
@@ -19,6 +21,10 @@ pub use error::MyError;
 pub use facts::{
     abbreviation, bucket, clock_of, elsewhere, fire, later, months_later, next_change_twice,
     next_shown, offset_until, on_day, place, seconds, start_of_hour, twice,
+};
+pub use fixed::{
+    an_hour_ahead, is_before, new_year, new_year_in_the_west, noon, only_in_new_york,
+    shown_in_new_york,
 };
 pub use front_page::{Alarm, alarm_at, daily, day_starts, next_change, outcome, reading, shown};
 pub use own_zone::Nepal;

@@ -14,18 +14,23 @@ pub struct Reader {
 }
 
 impl Reader {
-    /// Reads a log whose clock is that of a TZif file.
+    /// Returns a reader of a log with the clock of a TZif file.
     pub fn of_file(alloc: Global, file: &[u8]) -> Result<Reader, LogError> {
         let parsed = tz_info::TimeZone::from_tz_data(alloc, file)?;
         Ok(Reader::new(KeptZone::keep(alloc, parsed)?))
     }
 
-    /// Reads a log whose clock is that of a zone.
+    /// Returns a reader of a log with the clock of that zone.
     pub fn new(zone: KeptZone) -> Reader {
         Reader { zone, last: None }
     }
 
-    /// Returns the instant of the next line. It stays the last one for the lines after it.
+    /// Returns the instant of the next line, which the reader keeps for the order of later lines.
+    ///
+    /// # Errors
+    ///
+    /// [`LogError::NoStamp`] if the line doesn't begin with a local time, [`LogError::Skipped`] if clocks
+    /// never show it, [`LogError::OtherOffset`] if they have another offset then. The reader is unchanged.
     pub fn read(&mut self, line: &str) -> Result<DateTime<KeptZone>, LogError> {
         let local = fields::local_time(line).ok_or(LogError::NoStamp)?;
         let at = match fields::offset(line) {
@@ -67,8 +72,8 @@ impl Reader {
     }
 }
 
-/// Returns the instant that the local time and the offset of an instant spell: what is read back from a
-/// line that shows both.
+/// Returns the instant of the local time and the offset that an instant shows: what a reader makes of a
+/// line with both.
 pub fn again(instant: &DateTime<FixedOffset>) -> DateTime<FixedOffset>
     // It is that instant, at that offset.
     ensures second { (zoned result).utc.s ≡ (zoned instant.now).utc.s }

@@ -15,7 +15,7 @@
 //!
 //! | you write | read | its fact |
 //! |---|---|---|
-//! | a scheduler | `demo_scheduler`: jobs of several zones in a queue | no run is skipped, and one in a gap runs at its end |
+//! | a scheduler | `demo_scheduler`: jobs of several zones, at several times of day, in a queue | no run is skipped, and one in a gap runs at its end |
 //! | a calendar | `demo_calendar`: events, days of 23 and 25 hours, weeks, birthdays | no instant is in two days |
 //! | a reader of logs | `demo_log_reader`: local times with and without offsets, in order through a fold | an instant's local time and offset spell that instant |
 //! | texts | `demo_text`: RFC 3339, RFC 2822, HTTP, iCalendar, ISO weeks, lengths | the bytes of RFC 3339's form |
@@ -197,17 +197,17 @@
 //!
 //! | you need | name | minutes |
 //! |---|---|---|
-//! | dates, times of day, lengths | `offset_core naive_base` | 6 |
-//! | instants of UTC and of fixed offsets too | `offset_core naive_base zoned_time` | 10 |
-//! | zones of files and TZ strings too, borrowed | `offset_core naive_base tz_info zoned_time zoned_ref` | 28 |
-//! | zones kept for the whole program too | `offset_core naive_base tz_info zoned_time zoned_ref zoned_kept` | 36 |
-//! | rounding too | the same and `zoned_round` | 3 more |
-//! | a local time on each day too | the same and `zoned_series` | 3 more |
-//! | everything, with what writes zones | `zoned` | 54 |
+//! | dates, times of day, lengths | `offset_core naive_base` | 5 |
+//! | instants of UTC and of fixed offsets too | `offset_core naive_base zoned_time` | 12 |
+//! | zones of files and TZ strings too, borrowed | `offset_core naive_base tz_info zoned_time zoned_ref` | 32 |
+//! | zones kept for the whole program too | `offset_core naive_base tz_info zoned_time zoned_ref zoned_kept` | 33 |
+//! | rounding too | the same and `zoned_round` | 5 more |
+//! | a local time on each day too | the same and `zoned_series` | 2 more |
+//! | everything, with what writes zones | `zoned` | 45 |
 //!
 //! The minutes are a sum over the libraries, each checked from nothing on a machine of 4 processors on
-//! which two other checks ran (2026-11-26): an upper bound, since libraries that don't need one another
-//! can be checked at once.
+//! which three or more other checks ran (2026-11-26): an upper bound, since libraries that don't need
+//! one another can be checked at once.
 //!
 //! # Where the checker doesn't reach
 //!
@@ -221,8 +221,9 @@
 //! | an instant of a borrowed or of a kept zone | a copy in place: `*instant`, `(instant, instant)`, `map.insert(*instant, ..)` | `iter().copied()`, `instant.clone()?`, or `copy_of(instant)` by `fn copy_of<T: Copy>(value: &T) -> T { *value }` |
 //! | an instant in a struct or an enum that is borrowed | `Some(heap.peek()?.at)`; `match self.when { When::Timed { start, .. } => .. }` | `Some(heap.peek().copied()?.at)`; `match &self.when { .. }` |
 //! | instants of a borrowed zone | a closure that captures an instant, as `any(\|instant\| instant > than)`, or asks the zone, as `map(\|instant\| instant.hour())` | a `for`, or a kept zone |
-//! | instants, dates | a guard that compares what its pattern takes: `Some(next) if next <= until` | `next.is_some_and(\|next\| next <= until)`, `let .. else` and an `if`, or `max` |
+//! | instants, dates | a guard that compares what its pattern takes: `Some(next) if next <= until` | the same over a reference: `match &next { Some(next) if *next <= until => .. }`; `next.is_some_and(\|next\| next <= until)`; `let .. else` and an `if`; an `if` in the arm; or `max` |
 //! | an enum that holds an instant or a date | a literal in its pattern: `When::AllDay { first, days: 1 }` | a guard on the number: `When::AllDay { first, days } if days == 1` |
+//! | a `WallClock` | `?` on the call that makes it | `match` with `Ok(clock) => match clock.instants { .. }` |
 //! | a map keyed by instants or dates | `map.entry(key)` | `map.get` and `map.insert` |
 //! | loops | `while` | a `for` with a bound |
 //! | a struct over any zone | `#[derive(Clone, Copy)]` alone | a `where` line, `Tz::Offset: Copy`, beside it |

@@ -4,7 +4,7 @@ use Rattle.zoned_ffi.proofs.Words.{IsLocal, IsNoInstant, IsNoneTaken, IsOffsetSt
 use Rattle.zoned_ffi.proofs.Words.{LieWithin, LocalType, MatchOption, None, OffsetStretch, Option, Shows, Some, Taken, TypeAt, Unit, Zone, ℕ, ℤ, ap, arith}
 use Rattle.zoned_ffi.proofs.Words.{first_second, floor_div, floors, inl, inr, ints, neg_ℤ, offsets, per_second, pos, refl, second_of, subst, sym}
 use Rattle.zoned_ffi.proofs.Words.{taken_instant, uncounted, w64, ◌*ℤ◌, ◌+ℤ◌, ◌-ℤ◌, ◌<ℤ◌, ◌∙◌, ◌≡◌, ◌≤ℤ◌}
-use Rattle.zoned_ffi.proofs.Resolving.{none_is}
+use Rattle.zoned_ffi.proofs.Resolving.{none_is, taken_once}
 use Rattle.tz_info.proofs.ExtremeLaws.{at_least_least, at_most_greatest}
 use Rattle.tz_info.proofs.ForCallers.{type_once}
 use Rattle.zoned_ffi.specs.declared.column.Way.TheVariants.{ToInstants, ToLocal}
@@ -138,7 +138,7 @@ local_times_kept z unit choice s low high from until k stretch f g is_low is_hig
     let instant = ap (λ (n : ℤ). x +ℤ n) within.same ∙ (less ∙ ap (λ (o : ℤ). x -ℤ (o *ℤ pos (per_second unit))) found.2) in
     let answered : IsInstantOf z unit choice x (x +ℤ k.add) = record {
       in_range = (first, omega (arith, ints, end));
-      taken = IsInstantTaken.by_offset found.0 (IsTaken.once found.1) instant;
+      taken = IsInstantTaken.by_offset found.0 (taken_once z local choice found.0 found.1) instant;
       counted = counted;
     } in
     (counted, at.2, answered)

@@ -10,7 +10,7 @@ use Rattle.offset_core.specs.declared.resolve_error.ResolveError.{ResolveError}
 use Rattle.offset_core.specs.declared.resolve_error.ResolveError.TheVariants as reasons
 use Rattle.tz_base.specs.declared.change.Change.{Change}
 use Rattle.tz_info.specs.Around.{IsAround}
-use Rattle.zoned_ffi.proofs.Words.{Choice, IsFirstAtOrAfter, IsGapEnd, IsNoneTaken, IsInRange, IsOffsetAt, IsReachedAt, IsResolvedAt, IsStamp, IsTaken}
+use Rattle.zoned_ffi.proofs.Words.{Choice, IsFirstAtOrAfter, IsGapEnd, IsNoneTaken, IsInRange, IsOffsetAt, IsReachedAt, IsResolvedAt, IsShownOnce, IsStamp, IsTaken}
 use Rattle.zoned_ffi.proofs.Words.{IsTakenAs, IsUtOffset, LocalType, Resolved, Shows, TypeAt, Zone, ap, inl, inr, subst, sym, ℤ, +ℤ-neg_ℤ_cancel, ◌-ℤ◌, ◌∙◌}
 use Rattle.zoned_ffi.proofs.Words.{Err, Result, TakesOf, policy_of, refl, taken_in_range, taken_of, ℕ, ◌≡◌, ◌⊎◌}
 use Rattle.zoned_ffi.specs.declared.resolved.Taken.TheVariants.{InForce}
@@ -48,6 +48,10 @@ in_force z local u choice t offset shows taken same bound =
 pub taken_as : (z : Zone) (local : ℤ) (choice : Choice) (a : Around LocalType Change) (p : any_choice.Choice) (r o : Result (Found LocalType Change) ResolveError)
     → IsAround (TypeAt z) local a → p ≡ policy_of choice → r ≡ taken_of p a → r ≡ o → TakesOf z local choice o
 taken_as z local choice a p r o right policy found is = record { around = a; right = right; taken = ap (λ q. taken_of q a) (sym policy) ∙ sym found ∙ is }
+
+-- a local time that one second shows is taken by every choice
+pub taken_once : (z : Zone) (local : ℤ) (choice : Choice) (t : LocalType) → IsShownOnce (Shows (TypeAt z) local) t → IsTaken z local choice t
+taken_once z local choice t once = IsTaken.shown (record { around = Single t; right = once; taken = refl })
 
 -- why nothing is taken, in numbers
 number_is : (choice : any_choice.Choice) (a : Around LocalType Change) (e : ResolveError) → taken_of choice a ≡ Err e → (number_of e ≡ 21) ⊎ (number_of e ≡ 22)
