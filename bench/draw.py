@@ -77,6 +77,21 @@ def rules(shade):
 STYLE += rules(0) + "@media (prefers-color-scheme: dark) {\n" + rules(1) + "}\n"
 
 
+# In files of before 2026-11-26 the first column and the ratio are those of arrays.
+ONE_CALL = "one call a question"
+
+
+def by_one_call(row):
+    """A row whose first figure, and whose ratio, is that of one call for each question."""
+    one = row.pop(ONE_CALL, "-")
+    if one != "-":
+        row["Sahvumbi"] = one
+        peer = row["ratio"].partition("(")[2].rstrip(")")
+        if peer:
+            row["ratio"] = f"{nanoseconds(one) / nanoseconds(row[peer]):.2f} ({peer})"
+    return row
+
+
 def tables(text):
     """Each table below a heading of three marks, as a list of rows by column, under the heading's words."""
     found, title = {}, None
@@ -86,7 +101,7 @@ def tables(text):
         elif title and line.startswith("|"):
             cells = [cell.strip() for cell in line.strip("|").split("|")]
             found.setdefault(title, []).append(cells)
-    return {title: [dict(zip(rows[0], row)) for row in rows[2:]] for title, rows in found.items()}
+    return {title: [by_one_call(dict(zip(rows[0], row))) for row in rows[2:]] for title, rows in found.items()}
 
 
 def nanoseconds(cell):

@@ -233,6 +233,8 @@ def differences_at_work(outputs, peers):
     ours, wrong = answers_at_work(outputs, OURS), {}
     for peer in peers:
         for question, theirs in answers_at_work(outputs, peer).items():
+            if question not in ours:
+                continue
             pairs = [(one, other) for one, other in zip(theirs, ours[question]) if other != NO_INSTANT]
             unlike = [pair for pair in pairs if pair[0] != pair[1]]
             if unlike or len(theirs) != len(ours[question]):

@@ -12,7 +12,7 @@ import subprocess
 import sys
 from pathlib import Path
 
-from draw import measured, tables
+from draw import ONE_CALL, measured, tables
 
 TOP = Path(__file__).resolve().parent.parent
 README, SPEED, PICTURE = TOP / "README.md", TOP / "docs/SPEED.md", TOP / "docs/speed.svg"
@@ -75,6 +75,13 @@ def lookup_of_new_york(found):
     return table([{head: row.get(head, "-") for head in heads} for row in rows])
 
 
+def conditions(text, results):
+    """When and where the figures were measured."""
+    line = re.search(r"(?m)^\d{4}-\d\d-\d\d, .*$", text)[0]
+    by_the_clock = " These are times by the clock, taken while up to ten provers ran; chrono-tz was not measured." if ONE_CALL in text else ""
+    return f"{line}{by_the_clock} [All tables](../bench/results/{results.name})."
+
+
 def listed(found):
     """README's sentence on zonedump."""
     times = {row["program"]: row["processor's time for each"] for row in found["The programs"]}
@@ -95,7 +102,7 @@ def parts(results):
         "programs": lambda: table(found["The programs"]),
         "listed": lambda: listed(found),
         "differ": lambda: differences(found),
-        "measured": lambda: f"{text.splitlines()[0]} [All tables](../bench/results/{results.name}).",
+        "measured": lambda: conditions(text, results),
         "New York": lambda: f"{lookup_of_new_york(found)}\n\n({measured(text)}.)",
     }
     for name, part in made.items():
