@@ -6,22 +6,20 @@ pub use Rattle.json.specs.Lex.{tokens}
 pub use Rattle.json.specs.Print.{print}
 pub use Rattle.std.proofs.lemmas.Iterator.{items_from_collect}
 pub use Rattle.std.proofs.lemmas.Iterator.Consumers.{YieldsList-from_first}
-pub use Rattle.std.proofs.lemmas.Result.{IfErr-weaker, IfOk-weaker}
+pub use Rattle.std.proofs.lemmas.Result.{IfOk-weaker}
 pub use Rattle.tz_base.specs.declared.change.Change.{Change}
 pub use Rattle.change_views.proofs.CitedWords.{AreYears, IsInYears, IsNearYears, Json, Token, change_value, depth, flat_map, json_tokens, line, on_ok_weaker}
 pub use Rattle.change_views.proofs.CitedWords.{string_bytes, year_second, year_until}
 pub use Rattle.change_views.proofs.ForCallers.{change_shallow, from_first, items_all, items_shallow, piece_next, pushed, puts_then, type_shallow, until_last}
 pub use Rattle.change_views.proofs.ForCallers.{wrote}
-pub use Rattle.tz_info.proofs.Words.{All, AreChanges, Contains-get_or, FitsSigned, IsOutOfMemory, List, LocalType, SFits, TypeAt, Zone, ap, append-nil}
-pub use Rattle.tz_info.proofs.Words.{append_assoc, arith, floors, get_or, inl, inr, ints, pos, refl, rules, sym, take, to_z-of_z, w128, w32, w64, ℕ, ℤ, []}
-pub use Rattle.tz_info.proofs.Words.{◌++◌, ◌+ℤ◌, ◌∙◌, ◌≡◌, ◌≤◌}
+pub use Rattle.tz_info.proofs.Words.{All, AreChanges, Contains-get_or, FitsSigned, List, LocalType, SFits, TypeAt, Zone, ap, append-nil, append_assoc, arith}
+pub use Rattle.tz_info.proofs.Words.{floors, get_or, inr, ints, pos, refl, rules, sym, take, to_z-of_z, w128, w32, w64, ℕ, ℤ, [], ◌++◌, ◌+ℤ◌, ◌∙◌, ◌≡◌, ◌≤◌}
 unfoldable pub use Rattle.tz_info.proofs.Words.{changes_left}
 pub use Rattle.tz_info.specs.declared.rule.day.DayForm.{DayForm}
 pub use Rattle.tz_info.specs.declared.rule.day.DayTime.{DayTime}
 pub use Rattle.tz_info.specs.declared.rule.transition_rule.TransitionRule.{TransitionRule}
 pub use Rattle.tz_info.specs.declared.zone.differences.Difference.{Difference}
 pub use Rattle.tz_info.specs.declared.zone.leap_second.LeapSecond.{LeapSecond}
-pub use Rattle.zonedump_lib.specs.DifferenceForms.{difference_lines, difference_text, difference_value, differences_value, lone_value}
-pub use Rattle.zonedump_lib.specs.Forms.{IsFileRefused}
+pub use Rattle.zonedump_lib.specs.DifferenceForms.{difference_lines, difference_value, differences_value, lone_value}
 pub use Rattle.zonedump_lib.specs.JsonValues.{day_value, leap_value, moment_value, rule_value, zone_value}
 pub use Rattle.zonedump_lib.specs.Tables.{counts_text, leap_lines, leap_text, rule_text, years_text}

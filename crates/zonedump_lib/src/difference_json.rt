@@ -1,4 +1,5 @@
 //! The differences of two zones as JSON.
+#![tactic(auto, using(change_views::proofs::ForCallers::wrote, change_views::proofs::ForCallers::puts_then))]
 
 ghost use Rattle.std.specs.Prelude.{◌≡◌, [], ◌∷◌, ◌++◌, IfOk, codes, flat_map};
 ghost use Rattle.std.specs.Fmt.{signed_decimal};

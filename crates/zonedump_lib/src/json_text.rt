@@ -1,4 +1,5 @@
 //! A zone and the changes of its clocks as JSON.
+#![tactic(auto, using(change_views::proofs::ForCallers::wrote, change_views::proofs::ForCallers::puts_then))]
 
 ghost use Rattle.std.specs.Prelude.{◌≡◌, [], ◌∷◌, ◌++◌, IfOk, Some, codes, decimal, flat_map, length};
 ghost use Rattle.std.specs.Fmt.{signed_decimal};

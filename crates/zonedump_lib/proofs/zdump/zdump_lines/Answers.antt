@@ -4,9 +4,3 @@ use Rattle.zonedump_lib.proofs.zdump.zdump_lines.Goals as goal
 
 pub push_zdump-requires : goal.push_zdump-requires
 push_zdump-requires c = rw c.as_slice-listed.ensures.value (in_years (TypeAt c.args.zone.now) c.args.years.first c.args.years.last c.in_ok-changes.changes.items c.args.years.in_range c.in_ok-changes.ensures)
-
-pub returns : goal.returns
-returns c =
-    let value = c.as_slice-listed.ensures.value in
-    let lines = rw (value, c.new-text.ensures.bytes) at c.in_ok-push_zdump.ensures in
-    (c.in_ok-changes.changes.items, c.in_ok-changes.ensures, lines)
