@@ -28,10 +28,10 @@ HABITS = [
     ("alone after a noun", "only", r"\balone\b", 1, 15),
     ("beside", "with, compared with, as well as", r"\bbeside\b", 0, 9),
     ("behind", "after", r"\bbehind\b(?! UTC)", 2, 4),
-    ("refused", "rejected, returns an error", r"\brefus\w+", 2, 21),
+    ("refused", "rejected, returns an error", r"\brefus\w+", 2, 20),
     ("reading for a local time", "local time, local date-time", r"\breadings?\b", 6, 69),
     ("TZ text", "TZ string", r"\bTZ texts?\b", 1, 26),
-    ("where for a condition", "if, when", r"\bwhere (?:that|it|there|the|a|no|one|they|clocks|these|none|its|all|each|both|any)\b", 23, 105),
+    ("where for a condition", "if, when", r"\bwhere (?:that|it|there|the|a|no|one|they|clocks|these|none|its|all|each|both|any)\b", 23, 103),
     ("wrong body", "planted bug", r"\bwrong bod\w+", 1, 0),
 ]
 
