@@ -61,7 +61,8 @@ const PLACES: usize = 512;
 // The rows of a column that pays for a table.
 const LONG: usize = 1_024;
 
-// What is written of the time in that row, or the number that says why nothing is.
+// What is written of the time in that row, or the number that says why nothing is. The first of
+// three functions, so that what the later ones need isn't stored for a time of the last stretch.
 #[inline(always)]
 fn answer(
     zone: &TimeZone,
@@ -79,15 +80,58 @@ fn answer(
     ensures answer { MatchResult result (IsAnsweredOrNone zone.now unit way time)
         (λ n. (time ≢ no_time) × IsNotAnswered zone.now unit way time n) }
 {
-    if let Some(found) = recent.kept.answer_to(zone, unit, way, time) {
-        return Ok(found);
+    if recent.kept.low <= time && time < recent.kept.high {
+        return Ok(time + recent.kept.add);
     }
+    answer_by_table(zone, unit, way, recent, table, row, time)
+}
+
+// The same for a time that isn't in the last stretch.
+#[inline(always)]
+fn answer_by_table(
+    zone: &TimeZone,
+    unit: Unit,
+    way: Way,
+    recent: &mut Recent,
+    table: &mut [Kept],
+    row: usize,
+    time: i64,
+) -> Result<i64, u32>
+    requires recent { IsKept zone.now unit way recent.old.kept }
+    requires table { AreKept zone.now unit way table.old }
+    ensures recent { IsKept zone.now unit way recent.new.kept }
+    ensures table { AreKept zone.now unit way table.new }
+    ensures answer { MatchResult result (IsAnsweredOrNone zone.now unit way time)
+        (λ n. (time ≢ no_time) × IsNotAnswered zone.now unit way time n) }
+{
     if time == NO_TIME {
         return Ok(NO_TIME);
     }
     if let Some(found) = recent.answer_in(zone, unit, way, table, row, time) {
         return Ok(found);
     }
+    answer_by_zone(zone, unit, way, recent, table, row, time)
+}
+
+// The same for a time that isn't in the table either.
+#[inline(always)]
+fn answer_by_zone(
+    zone: &TimeZone,
+    unit: Unit,
+    way: Way,
+    recent: &mut Recent,
+    table: &mut [Kept],
+    row: usize,
+    time: i64,
+) -> Result<i64, u32>
+    requires recent { IsKept zone.now unit way recent.old.kept }
+    requires table { AreKept zone.now unit way table.old }
+    requires time { time ≢ no_time }
+    ensures recent { IsKept zone.now unit way recent.new.kept }
+    ensures table { AreKept zone.now unit way table.new }
+    ensures answer { MatchResult result (IsAnsweredOrNone zone.now unit way time)
+        (λ n. (time ≢ no_time) × IsNotAnswered zone.now unit way time n) }
+{
     if let Some(found) = recent.answer_by_search(zone, unit, way, table, row, time) {
         return Ok(found);
     }

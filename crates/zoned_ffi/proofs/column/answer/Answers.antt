@@ -1,14 +1,16 @@
-use Rattle.zoned_ffi.proofs.Words.{Err, FitsSigned, IsAnswered, IsAnsweredOrNone, IsNotAnswered, MatchResult, Ok, Result, Unit, Way, Zone, ap}
-use Rattle.zoned_ffi.proofs.Words.{inr, no_time, of_z, to_z-of_z, w64, ℕ, ℤ, ◌≢◌}
+use Rattle.zoned_ffi.proofs.Words.{FitsSigned, arith, inr, ints, rules, to_z-of_z, w64, ℤ, ◌<ℤ◌, ◌≤ℤ◌}
 use Rattle.zoned_ffi.proofs.column.answer.Goals as goal
 
-either : (z : Zone) (unit : Unit) (way : Way) (x : ℤ) (r : Result ℤ ℕ) → x ≢ no_time → MatchResult r (IsAnswered z unit way x) (IsNotAnswered z unit way x)
-    → MatchResult r (IsAnsweredOrNone z unit way x) (λ n. (x ≢ no_time) × IsNotAnswered z unit way x n)
-either z unit way x (Err n) time told = (time, told)
-either z unit way x (Ok y) time told = inr (time, told)
-
-pub returns-clause-answer : goal.returns-clause-answer
-returns-clause-answer c =
+pub returns-then-time-recent-clause-answer : goal.returns-then-time-recent-clause-answer
+returns-then-time-recent-clause-answer c =
     let x : FitsSigned w64 c.args.time = c.ranges.time in
-    let time : c.args.time ≢ no_time = λ e. c.if-time-eq-NO_TIME.false (ap (of_z w64) e) in
-    either c.args.zone.now c.args.unit c.args.way c.args.time c.looked_up.result time (simp to_z-of_z at c.looked_up.ensures)
+    let low : FitsSigned w64 c.args.recent.now.kept.low = search rules in
+    let high : FitsSigned w64 c.args.recent.now.kept.high = search rules in
+    let add : FitsSigned w64 c.args.recent.now.kept.add = search rules in
+    let t = simp to_z-of_z at c.if-recent-time.true in
+    let s = simp to_z-of_z at c.if-time-recent.true in
+    let above : c.args.recent.now.kept.low ≤ℤ c.args.time = omega (arith, ints, t) in
+    let below : c.args.time <ℤ c.args.recent.now.kept.high = omega (arith, ints, s) in
+    let told = c.requires.recent c.args.time above below in
+    let fits = told.0.0 in
+    simp to_z-of_z (inr (told.1, told.2))
