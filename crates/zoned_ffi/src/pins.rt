@@ -6,6 +6,7 @@ ghost use Rattle.offset_core.specs.declared.choice.FoldChoice.TheVariants as fol
 ghost use Rattle.offset_core.specs.declared.local_result.LocalResult.TheVariants as results;
 ghost use Rattle.tz_base.specs.LocalTypes.{LocalType};
 ghost use Rattle.tz_info.specs.Zones.{Zone};
+ghost use Rattle.zoned_ffi.specs.Fields.{AreFieldsOf, IsNoLocalOf};
 ghost use Rattle.zoned_ffi.specs.Handles.{IsUnanswered};
 ghost use Rattle.zoned_ffi.specs.Instants.{no_offset};
 ghost use Rattle.zoned_ffi.specs.Kinds.{IsKind, number_of};
@@ -35,6 +36,41 @@ pub fn choice_numbers()
     ensures end { IsChoiceOf 2 0 (record { gap = gaps.End; fold = folds.Refuse }) }
     ensures gap_3 { ¬ (IsChoice 3 0) }
     ensures fold_3 { ¬ (IsChoice 0 3) }
+{}
+
+/// 29 February 2000 was a Tuesday and the day 60 of its year, and its last second is 951868799. 2021
+/// has no such day, and no clock shows 24:00:00.
+pub fn fields()
+    ensures leap_day { AreFieldsOf (pos 951_868_799) (record {
+      year = pos 2_000;
+      month = 2;
+      day = 29;
+      hour = 23;
+      minute = 59;
+      second = 59;
+      weekday = 2;
+      day_of_year = 60;
+    }) }
+    ensures no_day { IsNoLocalOf (record {
+      year = pos 2_021;
+      month = 2;
+      day = 29;
+      hour = 0;
+      minute = 0;
+      second = 0;
+      weekday = 0;
+      day_of_year = 0;
+    }) 39 }
+    ensures no_time { IsNoLocalOf (record {
+      year = pos 2_021;
+      month = 2;
+      day = 28;
+      hour = 24;
+      minute = 0;
+      second = 0;
+      weekday = 0;
+      day_of_year = 0;
+    }) 39 }
 {}
 
 /// The DST flag is 1 or 0; `EST` has five zeros after it; no type has the offset INT32_MIN.
