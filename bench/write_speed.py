@@ -75,6 +75,10 @@ def lookup_of_new_york(found):
     return table([{head: row.get(head, "-") for head in heads} for row in rows])
 
 
+# Where the figures of that day come from.
+BUSY = ", on a busy machine"
+
+
 def conditions(text, results):
     """When and where the figures were measured."""
     line = re.search(r"(?m)^\d{4}-\d\d-\d\d, .*$", text)[0]
@@ -103,7 +107,7 @@ def parts(results):
         "listed": lambda: listed(found),
         "differ": lambda: differences(found),
         "measured": lambda: conditions(text, results),
-        "New York": lambda: f"{lookup_of_new_york(found)}\n\n({measured(text)}.)",
+        "New York": lambda: f"{lookup_of_new_york(found)}\n\n({measured(text)}{BUSY if ONE_CALL in text else ''}.)",
     }
     for name, part in made.items():
         try:
