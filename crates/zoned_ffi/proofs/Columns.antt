@@ -1,6 +1,6 @@
 -- Answers to a column's times: by a lookup, and by what is kept of a stretch.
 use Rattle.zoned_ffi.proofs.Words.{All-contains, Choice, FitsSigned, IsCounted, IsGreatest, IsInRange, IsInstantOf, IsInstantTaken, IsKept, IsLeast}
-use Rattle.zoned_ffi.proofs.Words.{IsLocal, IsNoInstant, IsNoneTaken, IsOffsetStretch, IsRowNumber, IsShownOnce, IsTaken, IsTakenAs, IsWithout, Kept}
+use Rattle.zoned_ffi.proofs.Words.{IsLocal, IsNoInstant, IsNoneTaken, IsOffsetStretch, IsRowNumber, IsShownOnce, IsTakenAs, IsWithout, Kept}
 use Rattle.zoned_ffi.proofs.Words.{LieWithin, LocalType, MatchOption, None, OffsetStretch, Option, Shows, Some, Taken, TypeAt, Unit, Zone, ℕ, ℤ, ap, arith}
 use Rattle.zoned_ffi.proofs.Words.{first_second, floor_div, floors, inl, inr, ints, neg_ℤ, offsets, per_second, pos, refl, second_of, subst, sym}
 use Rattle.zoned_ffi.proofs.Words.{taken_instant, uncounted, w64, ◌*ℤ◌, ◌+ℤ◌, ◌-ℤ◌, ◌<ℤ◌, ◌∙◌, ◌≡◌, ◌≤ℤ◌}

@@ -1,4 +1,4 @@
-use Rattle.zoned_ffi.proofs.Words.{FitsSigned, arith, inr, ints, rules, to_z-of_z, w64, ℤ, ◌<ℤ◌, ◌≤ℤ◌}
+use Rattle.zoned_ffi.proofs.Words.{FitsSigned, arith, inr, ints, rules, to_z-of_z, w64, ◌<ℤ◌, ◌≤ℤ◌}
 use Rattle.zoned_ffi.proofs.column.answer.Goals as goal
 
 pub returns-then-time-recent-clause-answer : goal.returns-then-time-recent-clause-answer
