@@ -10,7 +10,7 @@
 # - the lines of python/README.md that build the library and install the package, in an environment
 #   of its own;
 # - the tests of python/tests, by pytest and hypothesis, with the same examples in each run;
-# - the examples in docstrings, and with them the blocks of Python in docs/PYTHON.md, docs/SCALE.md
+# - the examples in docstrings, and with them the blocks of Python in docs/PYTHON.md
 #   and python/README.md;
 # - the types of the package and of its answers, by mypy;
 # - examples/at_scale.py on 100,000 rows, with one of its workers ended midway.

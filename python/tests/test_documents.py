@@ -7,7 +7,7 @@ from pathlib import Path
 import pytest
 
 TOP = Path(__file__).resolve().parents[2]
-DOCUMENTS = ["docs/PYTHON.md", "docs/SCALE.md", "python/README.md"]
+DOCUMENTS = ["docs/PYTHON.md", "python/README.md"]
 
 
 @pytest.mark.parametrize("name", DOCUMENTS)
