@@ -9,9 +9,9 @@ use zoned_time::{DateTime, Offset, TimeZone};
 pub enum Lookup {
     /// What its clocks show at an instant.
     Instant,
-    /// At which instants its clocks show a reading.
+    /// At which instants its clocks show a local time.
     Wall,
-    /// Which instant is taken for a reading that they skip.
+    /// Which instant is taken for a local time that they skip.
     Gap,
 }
 
@@ -52,7 +52,7 @@ const GAPS: [i64; 16] = [
     3_792_969_000,
 ];
 
-/// The sum over so many questions, whose seconds are drawn from the years 1900 to 2099 by a fixed
+/// The sum over that many questions, whose seconds are drawn from the years 1900 to 2099 by a fixed
 /// rule.
 pub fn sum_of_lookups<Tz: TimeZone>(zone: &Tz, lookup: Lookup, count: u32) -> i64 {
     let mut drawn = 1u64;

@@ -27,9 +27,9 @@ pub enum Question {
     Print,
     /// What the clocks of another zone show.
     Elsewhere,
-    /// The one instant that is taken for a reading.
+    /// The one instant that is selected for a local time.
     Resolve,
-    /// That for a reading in a gap.
+    /// That for a local time in a gap.
     InGap,
     /// The instants of four weeks, at half past two on each day.
     Daily,

@@ -58,14 +58,14 @@ pub struct Values<Tz: TimeZone> {
     /// Each of the instants, and that of its local time as a Unix time.
     pub pairs: Vec<Pair<Tz>>,
     pub readings: Vec<NaiveDateTime>,
-    /// The readings as they are typed in.
+    /// The local times as they are typed in.
     pub typed: Vec<Typed>,
-    /// Readings that New York's clocks skip.
+    /// Local times that New York's clocks skip.
     pub skipped: Vec<NaiveDateTime>,
 }
 
 impl<Tz: TimeZone> Values<Tz> {
-    /// The first so many of each.
+    /// The first of each, up to that number.
     pub fn new(alloc: Global, zone: Tz, other: Tz, count: usize) -> Result<Values<Tz>, AllocError> {
         let mut values = Values {
             zone,

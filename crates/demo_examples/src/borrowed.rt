@@ -21,7 +21,7 @@ pub fn earliest_first<'a>(
     Ok(instants)
 }
 
-/// The instants at which the clocks of a zone show a reading, as ones that borrow nothing.
+/// The instants at which the clocks of a zone show a local time, as ones that borrow nothing.
 pub fn by_clock(
     zone: &TimeZoneRef<'_>,
     local: &NaiveDateTime,

@@ -51,7 +51,7 @@ pub fn fire<Tz: TimeZone>(zone: &Tz, day: &NaiveDate) -> Option<DateTime<Tz>>
     zone.from_local_datetime(&nine).single()
 }
 
-/// What a choice takes for a reading, asked for twice.
+/// What a policy selects for a local time, asked for twice.
 pub fn twice<Tz: TimeZone>(
     zone: &Tz,
     local: &NaiveDateTime,
@@ -68,7 +68,7 @@ pub fn twice<Tz: TimeZone>(
     Ok((first, second))
 }
 
-/// The abbreviation of the local time in a zone at an instant, given by its UTC reading.
+/// The abbreviation of the local time in a zone at an instant, given by its UTC date-time.
 pub fn abbreviation(zone: &KeptZone, utc: &NaiveDateTime) -> Option<TimeZoneName>
     ensures { (t : LocalType) × TypeAt (zone_of zone.now) (reading utc.now).s t
         × (t.name ≡ result) }
@@ -178,7 +178,7 @@ pub fn next_shown<Tz: TimeZone>(
     }
 }
 
-/// The instant so long after the one that a choice takes for a reading.
+/// The instant a length after the one that a policy selects for a local time.
 pub fn later<Tz: TimeZone>(
     zone: &Tz,
     local: &NaiveDateTime,
@@ -194,7 +194,7 @@ pub fn later<Tz: TimeZone>(
     Some(later)
 }
 
-/// So many months after an instant, at an hour.
+/// Some months after an instant, at an hour.
 pub fn months_later<Tz: TimeZone>(
     zone: &Tz,
     instant: &DateTime<Tz>,
@@ -222,7 +222,7 @@ pub fn start_of_hour<Tz: TimeZone>(zone: &Tz, instant: &DateTime<Tz>) -> Option<
     Some(start)
 }
 
-/// The instant of a daily job on the day so many days after its first.
+/// The instant of a daily job on the n-th day after its first.
 pub fn on_day<Tz: TimeZone>(
     zone: &Tz,
     first: NaiveDate,
@@ -251,7 +251,7 @@ pub fn bucket(instant: DateTime<Utc>) -> Result<DateTime<Utc>, RoundingError>
     Ok(start)
 }
 
-/// The place of each value of a lookup's answer, told by a closure that counts its calls: it is
+/// The place of each value of a lookup's answer, reported by a closure that counts its calls: it is
 /// called once for each, in order.
 pub fn places(values: LocalResult<u32>) -> LocalResult<u32>
     ensures single { values ≡ LocalResult.Single 5 → result ≡ LocalResult.Single 0 }

@@ -30,7 +30,7 @@ pub fn shown(
     Ok(instants.map(|instant| instant.timestamp()))
 }
 
-/// What the instant prints that a choice takes for a reading.
+/// What the instant prints that a policy selects for a local time.
 pub fn outcome(
     alloc: Global,
     bytes: &[u8],
@@ -128,7 +128,7 @@ fn second_of<Tz: TimeZone>(instant: Option<DateTime<Tz>>) -> Option<i64> {
     Some(instant?.timestamp())
 }
 
-/// What the two instants of the next change of a zone's clocks print; `None` where they never
+/// What the two instants of the next change of a zone's clocks print; `None` if they never
 /// change again.
 pub fn next_change(
     alloc: Global,

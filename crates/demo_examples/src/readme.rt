@@ -40,7 +40,7 @@ pub fn half_past_two(alloc: Global, bytes: &[u8]) -> Result<FirstLines, MyError>
 pub struct ChangeLines {
     pub before: DateTime<FixedOffset>,
     pub at: DateTime<FixedOffset>,
-    /// How long the clocks stand until then.
+    /// How long the clocks keep their offset.
     pub length: TimeDelta,
     /// The Unix times of the change after that one, and of the last one up to it.
     pub next: Option<i64>,

@@ -13,7 +13,7 @@ pub struct Job {
 }
 
 impl Job {
-    /// A job whose first time is a reading of the zone's clocks.
+    /// A job whose first time is a local time of the zone's clocks.
     pub fn starting(
         number: u32,
         zone: KeptZone,

@@ -6,7 +6,7 @@ use offset_core::{Choice, FoldChoice, GapChoice};
 use zoned_series::SeriesError;
 use zoned_time::{DateTime, TimeZone};
 
-/// The Unix time and the offset of the instant that is taken, or the number of the refusal.
+/// The Unix time and the offset of the selected instant, or the number of the error.
 pub fn taken<Tz: TimeZone>(
     zone: &Tz,
     local: &NaiveDateTime,
@@ -19,7 +19,7 @@ pub fn taken<Tz: TimeZone>(
     }
 }
 
-/// The Unix time of an item, or the number of the refusal.
+/// The Unix time of an item, or the number of the error.
 pub fn item<Tz: TimeZone>(item: Result<DateTime<Tz>, SeriesError>) -> Result<i64, u8> {
     match item {
         Ok(instant) => Ok(instant.timestamp()),

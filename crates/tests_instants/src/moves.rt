@@ -6,7 +6,7 @@ use offset_core::TimeDelta;
 use std::time::Duration;
 use zoned_time::{DateTime, TimeZone};
 
-/// The instant moved by the operators, where the checked call answers.
+/// The instant moved by the operators, if the checked call returns a value.
 pub fn by_operators<Tz: TimeZone>(instant: DateTime<Tz>, by: TimeDelta) -> Option<[(i64, i32); 2]> {
     if instant.checked_add_signed(by).is_none() {
         return None;
@@ -28,7 +28,7 @@ pub fn back_by_operators<Tz: TimeZone>(
     Some([told(&(instant - by)), told(&moved)])
 }
 
-/// By a duration of the standard library, where it is in range.
+/// By a duration of the standard library, if it is in range.
 pub fn by_duration<Tz: TimeZone>(instant: DateTime<Tz>, by: Duration) -> Option<(i64, i32)> {
     let length = TimeDelta::from_std(by)?;
     if instant.checked_add_signed(length).is_none() {
@@ -41,7 +41,7 @@ pub fn moved_by_nothing<Tz: TimeZone>(instant: &DateTime<Tz>) -> Option<(i64, i3
     told_if(instant.checked_add_signed(TimeDelta::zero()))
 }
 
-/// Months and days by operators, where the checked calls answer.
+/// Months and days by operators, if the checked calls return a value.
 pub fn months_later<Tz: TimeZone>(instant: DateTime<Tz>, months: Months) -> Option<i64> {
     let _later = instant.checked_add_months(months)?;
     Some((instant + months).timestamp())

@@ -1,4 +1,4 @@
-//! What is told of instants.
+//! What instants show.
 
 use zoned_time::{DateTime, Offset, TimeZone};
 

@@ -5,7 +5,7 @@ use tz_info::TimeZone;
 
 const MOST: u32 = u32::MAX;
 
-/// Prints a line for each header: the number that refuses it.
+/// Prints a line for each header: the number of the error.
 pub fn print_answers(rt: &HostRuntime) -> io::Result<()> {
     print_early_counts(rt)?;
     print_late_counts(rt)?;

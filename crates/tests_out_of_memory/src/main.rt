@@ -1,8 +1,8 @@
 //! Makes zones by each constructor, and prints what they are.
 //!
 //! `tools/refuse_memory.py` runs it once for each request for memory that it makes, and refuses
-//! that request. Where a constructor says then that there was no memory, the program ends with
-//! status 17. Where it says anything else, the status is 0, and the lines must be those of a run
+//! that request. If a constructor then returns out of memory, the program ends with
+//! status 17. If it returns anything else, the status is 0, and the lines must be those of a run
 //! with memory enough.
 //!
 //! Headers come first, whose counts say more than there is. They are refused before any memory is

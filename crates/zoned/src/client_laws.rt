@@ -35,7 +35,7 @@ pub use zoned_time::laws::{
     one_offset_before_gap, one_relocal, one_resolution, resolution_decided,
 };
 
-/// Two instants that one choice takes for one reading are the same, at offsets of the same seconds.
+/// Two instants that one policy selects for one local time are the same, at offsets of the same seconds.
 ///
 /// ```
 /// let first = zone.resolve(&local, choice)?;
@@ -124,9 +124,9 @@ pub fn shown_within<Tz: TimeZone>(
         → IsWithin u (map_of (λ d. (zoned d).utc.s) instants.now) }
 {}
 
-/// The instants at which the clocks of a zone show a reading are ones of that zone: their offsets are
-/// in force there, with all that they tell beside their seconds. Of what `resolve`, a series and
-/// `with_timezone` give, their own clauses say so.
+/// The instants at which the clocks of a zone show a local time are instants of that zone: their
+/// offsets are in force there, with abbreviation and DST flag. The clauses of `resolve`, of a series
+/// and of `with_timezone` say the same of what these return.
 ///
 /// ```
 /// let instants = new_york.from_local_datetime(&local);
@@ -142,15 +142,16 @@ pub fn in_zone_by_clock<Tz: TimeZone>(
     ensures { Each (λ d. IsIn (Tz.law zone.now) d) instants.now }
 {}
 
-/// So is what `checked_add_days` makes of an instant of a zone, which for no days is that instant.
+/// What `checked_add_days` makes of an instant of a zone is one of that zone; for 0 days it is that
+/// instant.
 pub fn in_zone_after_days<Tz: TimeZone>(zone: &Tz, before: &DateTime<Tz>, after: &DateTime<Tz>)
     requires before { IsIn (Tz.law zone.now) before.now }
     requires after { (days : ℕ) × IsDaysAdded Tz.meaning before.now days (Some after.now) }
     ensures { IsIn (Tz.law zone.now) after.now }
 {}
 
-/// An instant that `duration_trunc` makes of one of a zone is one of that zone: its offset is in
-/// force there, with all that it tells beside its seconds.
+/// An instant that `duration_trunc` makes of an instant of a zone is one of that zone: its offset is
+/// in force there, with abbreviation and DST flag.
 ///
 /// ```
 /// let hour = TimeDelta::hours(1);

@@ -1,7 +1,7 @@
 //! The headline, as theorems: from any bytes, through the zone, to the wall clock's answer with its
-//! count, and to the law on which each call of a `DateTime` stands.
+//! count, and to the law that each call of a `DateTime` relies on.
 //!
-//! Where a function is empty its contract is the theorem. The others make the calls one after
+//! If a function is empty, its contract is the theorem. The others make the calls one after
 //! another, so that nobody has to join their contracts by hand.
 
 ghost use Rattle.std.specs.Prelude.{◌≡◌, ◌↔◌, ℕ, ℤ, List, IfOk, IfErr, IfSome, IsSome, MatchResult, ◌⊎◌};
@@ -50,7 +50,7 @@ pub fn one_zone()
     ensures text_is_valid { (text : List ℕ) (z : Zone) → IsPosixZone text z → IsValid z }
 {}
 
-/// From the bytes of a TZif file to the types of local time whose clocks show a reading.
+/// From the bytes of a TZif file to the types of local time whose clocks show a local time.
 ///
 /// Requires: [`Probes::has_room`].
 ///
@@ -87,7 +87,7 @@ pub fn answer_of_file(
     }
 }
 
-/// From a TZ text to the types of local time whose clocks show a reading.
+/// From a TZ string to the local time types whose clocks show a local time.
 ///
 /// Requires: [`Probes::has_room`].
 ///
@@ -141,7 +141,7 @@ fn answer_in(
 }
 
 /// From a parsed zone to a lawful one, which [`TimeZone`](crate::TimeZone)'s law names, or `None`
-/// where one of its offsets is a day or more.
+/// if one of its offsets is a day or more.
 pub fn lawful_zone(zone: &tz_info::TimeZone) -> Option<TimeZoneRef<'_>>
     ensures narrow { IsSome result ↔ IsNarrow zone.now }
     ensures zone { IfSome result (λ r. zone_of r ≡ zone.now) }

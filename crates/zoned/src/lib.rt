@@ -31,7 +31,7 @@
 //! | [`TimeDelta`], [`Days`], [`Months`] | lengths: of time, by the calendar |
 //! | [`FixedOffset`] | seconds ahead of UTC, less than a day either way; as a zone, one whose clocks are never set |
 //! | [`Utc`] | UTC as a zone |
-//! | [`tz_info::TimeZone`] | a zone from the bytes of a TZif file or from a TZ text, as a value |
+//! | [`tz_info::TimeZone`] | a zone parsed from the bytes of a TZif file or from a TZ string |
 //! | [`TimeZoneRef`] | such a zone, borrowed, as the zone of `DateTime`s |
 //! | [`KeptZone`] | such a zone, kept until the program ends: a zone of `DateTime`s without a lifetime |
 //! | [`TimeZone`], [`Offset`] | the traits that each zone, and each zone's offset, implements |
@@ -57,10 +57,10 @@
 //! let noon = new_york.with_ymd_and_hms(2021, 7, 1, 12, 0, 0); // Single(-04:00)
 //! ```
 //!
-//! [`TimeZone::resolve`] gives one instant, by a choice, or says why there is none. There are seven
-//! outcomes:
+//! [`TimeZone::resolve`] returns the one instant that a policy selects, or the reason why there isn't
+//! one. There are seven outcomes:
 //!
-//! | reading | shown | choice | answer |
+//! | local time | shown | choice | answer |
 //! |---|---|---|---|
 //! | 2021-03-14 02:30 | never | gap: `Refuse` | [`ResolveError::Gap`], number 21 |
 //! | 2021-03-14 02:30 | never | gap: `ShiftForward` | 2021-03-14 03:30:00 -04:00 |
@@ -79,8 +79,8 @@
 //!
 //! # A meeting on each day
 //!
-//! Each day of a [`DailySeries`] stands for itself, so the meeting goes back to its time on the day
-//! after a change.
+//! No day of a [`DailySeries`] depends on another, so the meeting goes back to its time on the day
+//! after a clock change.
 //!
 //! ```
 //! let half_past_two = NaiveTime::from_hms_opt(2, 30, 0).ok_or(MyError::NoSuchTime)?;
@@ -114,9 +114,9 @@
 //!
 //! # When the clocks change next
 //!
-//! A zone tells the next change of its clocks after an instant, and the last one up to it, by two
-//! instants: the last second before the change, and the first one of it. Where the offset, the mark
-//! for daylight saving time and the abbreviation stay, nothing changes, whatever a file lists.
+//! A zone returns the next clock change after an instant, and the last one up to it, as two instants:
+//! the last second before the change and its first second. If the offset, the DST flag and the
+//! abbreviation stay the same, nothing changes, whatever a file lists.
 //!
 //! ```
 //! let new_year = Utc.timestamp(1_609_459_200, 0); // 2021-01-01 00:00:00 UTC
@@ -131,13 +131,13 @@
 //! | you have | you want | call |
 //! |---|---|---|
 //! | the bytes of a TZif file | a zone | [`tz_info::TimeZone::from_tz_data`] |
-//! | a TZ text | a zone | [`tz_info::TimeZone::from_posix_tz`] |
+//! | a TZ string | a zone | [`tz_info::TimeZone::from_posix_tz`] |
 //! | a parsed zone | a zone of `DateTime`s | [`TimeZoneRef::new`]: `None` if one of its offsets is a day or more |
 //! | a parsed zone | one for the whole program, without a lifetime | [`KeptZone::keep`]: an error gives the zone back |
 //! | a wall clock | each instant that shows it | [`TimeZone::with_ymd_and_hms`], [`TimeZone::from_local_datetime`] |
 //! | a wall clock | one instant | [`TimeZone::resolve`] |
 //! | a Unix time | the instant | [`TimeZone::timestamp_opt`], [`DateTime::from_timestamp`] |
-//! | a reading of UTC | the instant | [`TimeZone::from_utc_datetime`], [`NaiveZoned::and_utc`] |
+//! | a UTC date-time | the instant | [`TimeZone::from_utc_datetime`], [`NaiveZoned::and_utc`] |
 //! | an instant | what clocks elsewhere show then | [`DateTime::with_timezone`] |
 //! | an instant | what its clock shows | [`DateTime::naive_local`], and the fields of [`Datelike`] and [`Timelike`] |
 //! | an instant of a parsed zone | its abbreviation | `instant.offset().name()`: [`ZoneOffset`], [`KeptOffset`] |
@@ -162,9 +162,9 @@
 //! | a date | the next day, the days or the week from it | [`NaiveDate::succ_opt`], [`NaiveDate::iter_days`], [`NaiveDate::week`] |
 //! | a year and a month | the n-th Sunday; the days of the month | [`NaiveDate::from_weekday_of_month_opt`]; [`Month::num_days`], [`gregorian::days_in_month`] |
 //! | the bytes or a text, and a wall clock | types of local time and instants in one call | [`WallClock`] |
-//! | a rule, or a zone that is its rule alone | its TZ text | [`ToTzString::to_tz_string`], [`ToPosixTz::to_posix_tz`] |
+//! | a rule, or a zone that has only a rule | its TZ string | [`ToTzString::to_tz_string`], [`ToPosixTz::to_posix_tz`] |
 //! | a parsed zone | the bytes of its TZif file | [`ToTzData::to_tz_data`] |
-//! | a zone that no file tells | it, as the zone of `DateTime`s | an implementation of [`TimeZone`] |
+//! | a zone that no file describes | it, as the zone of `DateTime`s | an implementation of [`TimeZone`] |
 //!
 //! # Zones that are borrowed, and zones that are kept
 //!
@@ -172,8 +172,8 @@
 //! prints, compares and sorts as any other, in any function, and is a key of maps and sets.
 //! [`DateTime::fixed_offset`] of it prints alike and borrows nothing.
 //!
-//! A [`KeptZone`] has no lifetime, nor have its instants: structs and lists hold them beside one
-//! another. Its memory is never given back, so keep the zones that live as long as the program.
+//! A [`KeptZone`] and its instants have no lifetime, so a struct or a list can hold both. Its memory
+//! is never freed, so keep the zones that live as long as the program.
 //!
 //! Kept zones are equal if and only if their lists are, and a struct that holds one derives what it
 //! likes.
@@ -209,7 +209,7 @@
 //! which three or more other checks ran (2026-11-26): an upper bound, since libraries that don't need
 //! one another can be checked at once.
 //!
-//! # Where the checker doesn't reach
+//! # What the checker doesn't cover
 //!
 //! What is written every day needs no contract, no lemma and no proof file: the repository's crates
 //! `tests_idioms_utc`, `tests_idioms_borrowed` and `tests_idioms_kept` have sixty such functions and more for each kind
@@ -226,7 +226,7 @@
 //! | a `WallClock` | `?` on the call that makes it | `match` with `Ok(clock) => match clock.instants { .. }` |
 //! | a map keyed by instants or dates | `map.entry(key)` | `map.get` and `map.insert` |
 //! | loops | `while` | a `for` with a bound |
-//! | a struct over any zone | `#[derive(Clone, Copy)]` alone | a `where` line, `Tz::Offset: Copy`, beside it |
+//! | a struct over any zone | only `#[derive(Clone, Copy)]` | with it a `where` line, `Tz::Offset: Copy` |
 //! | an error of your own | `#[from]` for what `write!` returns | `impl From<fmt::Error>`, by hand |
 //! | an error of your own | `#[from]` for what `push` returns | `impl<T: Drop> From<AllocFailed<T>>`, by hand |
 //! | items of one module | names that differ only in case, as `Rfc3339` and `rfc3339` | another name |

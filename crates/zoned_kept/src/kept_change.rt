@@ -38,9 +38,9 @@ pub struct KeptChange {
 }
 
 impl KeptZone {
-    /// The first change of the clocks after an instant, as
-    /// [`TimeZoneRef::next_change`](zoned_ref::TimeZoneRef::next_change) tells it. `None` if none
-    /// comes up to the last second of the range of [`DateTime`].
+    /// Returns the first clock change after an instant, as
+    /// [`TimeZoneRef::next_change`](zoned_ref::TimeZoneRef::next_change) does. `None` if there isn't
+    /// one up to the last second of the range of [`DateTime`].
     ///
     /// ```
     /// let new_year = Utc.timestamp(1_609_459_200, 0); // 2021-01-01 00:00:00 UTC
@@ -61,9 +61,9 @@ impl KeptZone {
         Some(self.kept(&change))
     }
 
-    /// The last change of the clocks at an instant or before it, as
-    /// [`TimeZoneRef::previous_change`](zoned_ref::TimeZoneRef::previous_change) tells it. `None`
-    /// if none comes after the first second of the range of [`DateTime`] and up to it.
+    /// Returns the last clock change at an instant or before it, as
+    /// [`TimeZoneRef::previous_change`](zoned_ref::TimeZoneRef::previous_change) does. `None` if
+    /// there isn't one after the first second of the range of [`DateTime`] and up to the instant.
     ///
     /// ```
     /// let new_year = Utc.timestamp(1_609_459_200, 0); // 2021-01-01 00:00:00 UTC

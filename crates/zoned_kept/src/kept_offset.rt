@@ -51,7 +51,7 @@ impl KeptOffset {
         }
     }
 
-    /// The abbreviation of the type of local time, such as `EST` or `-03`. `None` where the zone
+    /// The abbreviation of the type of local time, such as `EST` or `-03`. `None` if the zone
     /// gives it none.
     pub fn name(&self) -> Option<&TimeZoneName>
         ensures { option_map (λ n. n.now) result ≡ (type_of self.now).name }

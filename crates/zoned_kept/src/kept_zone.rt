@@ -15,9 +15,9 @@ use zoned_ref::TimeZoneRef;
 /// [`DateTime`](zoned_time::DateTime)s: at each instant it has the offset of the type of local time
 /// that is in force then.
 ///
-/// It is copied freely, and has no lifetime: a struct holds it beside its instants, and no instant
-/// of it ends before another. **The memory that it takes is never given back**: keep the zones that
-/// live as long as the program, each once, and borrow others by [`TimeZoneRef`].
+/// It is copied freely, and has no lifetime: a struct can hold it together with its instants. **Its
+/// memory is never freed**: keep the zones that live as long as the program, each once, and borrow
+/// others by [`TimeZoneRef`].
 ///
 /// Two are equal if and only if their lists are: transitions, local time types, leap seconds and rule.
 /// So equal zones show the same local times, whichever was kept first. Zones that show the same times
@@ -41,8 +41,8 @@ impl KeptZone {
     /// # Errors
     ///
     /// Each gives the zone back, with nothing kept. [`KeepError::WideZone`] if a type that the zone
-    /// lists, or a type of its rule, is a day (86,400 seconds) or more away from UTC; by design no
-    /// memory is asked for then. [`KeepError::OutOfMemory`] if there is none.
+    /// lists, or a type of its rule, is a day (86,400 seconds) or more away from UTC; no memory is
+    /// allocated then. [`KeepError::OutOfMemory`] if memory runs out.
     pub fn keep(alloc: Global, parsed: tz_info::TimeZone) -> Result<KeptZone, KeepError>
         ensures kept { MatchResult result
             (λ kept. IsNarrow parsed × (zone_of kept ≡ parsed))

@@ -1,4 +1,4 @@
-//! Theorems: what a function here does is its contract alone; never called.
+//! Theorems: functions that only have a contract, and are never called.
 ghost use Rattle.std.specs.Prelude.{◌≡◌, ◌↔◌, IsTrue};
 ghost use Rattle.std.specs.Hash as fed;
 ghost use Rattle.zoned_kept.specs.KeptOffset.{ahead_of, type_of};

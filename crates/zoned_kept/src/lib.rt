@@ -1,9 +1,8 @@
 //! Parsed time zones that a program keeps until it ends.
 //!
-//! [`KeptZone`] is a [`TimeZone`](zoned_time::TimeZone) without a lifetime: it and its instants
-//! stand in structs, lists and closures as those of UTC do. What is proved of a borrowed zone, as
-//! [`TimeZoneRef`](zoned_ref::TimeZoneRef), holds of it. The memory that it takes is never given
-//! back.
+//! [`KeptZone`] is a [`TimeZone`](zoned_time::TimeZone) without a lifetime: structs, lists and
+//! closures hold it and its instants as they hold those of UTC. What is proved of a borrowed zone
+//! ([`TimeZoneRef`](zoned_ref::TimeZoneRef)) holds for it too. Its memory is never freed.
 #![tactic(auto)]
 
 mod keep_error;

@@ -23,9 +23,9 @@ use std::marker::PhantomData;
 
 /// An instant, and how far the clocks of its zone are from UTC then.
 ///
-/// It is a reading of UTC in range, and an offset, which may be any: that it is the offset of the
+/// It is a UTC date-time in range, and an offset, which may be any: that it is the offset of the
 /// zone at that instant holds where a zone's call made the value. Two instants of one zone type are
-/// equal where their UTC readings are, whatever their offsets.
+/// equal where their UTC date-times are, whatever their offsets.
 ///
 /// It prints as what a clock with its offset shows, and the offset: `2021-11-07 01:00:00 -05:00`,
 /// and by `{:?}` `2021-11-07T01:00:00-05:00`, whatever width, fill or flags the formatter has.
@@ -37,16 +37,15 @@ use std::marker::PhantomData;
 ///
 /// An instant of a borrowed zone, such as `TimeZoneRef` of `zoned_ref`, can be used no longer than that
 /// zone; [`DateTime::fixed_offset`] of it prints alike and borrows nothing. It compares, sorts and
-/// prints as any other. Three things the borrow checker of today doesn't cover there: a copy, for
-/// which `clone` or `iter().copied()` stands; a closure that asks the zone, such as
-/// `|instant| instant.hour()`; and one that captures another instant. Such closures stand in a
-/// function for all zones.
+/// prints as any other. Today's checker doesn't cover three things there: a copy (write `clone` or
+/// `iter().copied()`); a closure that asks the zone, such as `|instant| instant.hour()`; and one that
+/// captures another instant. Put such closures into a function that is generic in the zone.
 pub type DateTime<Tz> = Instant<Tz, <Tz as TimeZone>::Offset>;
 
 /// What a [`DateTime`] is: an instant with the offset of a zone of type `Tz`.
 ///
-/// It asks nothing of that type, and no more do the calls and the traits that need no zone, such as
-/// the order and [`DateTime::timestamp`]: so they can be passed on at a borrowed zone too.
+/// It has no bound on that type, and neither have the calls and the traits that need no zone, such as
+/// the order and [`DateTime::timestamp`]. So they work in a borrowed zone too.
 pub struct Instant<Tz, O: Offset> {
     datetime: NaiveDateTime,
     offset: O,

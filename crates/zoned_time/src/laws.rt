@@ -1,4 +1,4 @@
-//! Theorems: what a function here does is its contract alone; never called.
+//! Theorems: functions that only have a contract, and are never called.
 
 pub mod days;
 
@@ -31,7 +31,7 @@ use naive_base::NaiveDateTime;
 use offset_core::{Choice, FixedOffset};
 use std::hash::Hash;
 
-/// A change of zone keeps the UTC reading: `with_timezone`, `fixed_offset` and `to_utc`.
+/// A change of zone keeps the UTC date-time: `with_timezone`, `fixed_offset` and `to_utc`.
 pub fn zone_changes_keep_the_instant<Tz: TimeZone, Tz2: TimeZone>()
     ensures with_timezone { (zone : Tz2) (before : Zoned Tz.Offset) (after : Zoned Tz2.Offset)
         → IsAt (Tz2.law zone) before.utc after → after.utc ≡ before.utc }
@@ -41,7 +41,7 @@ pub fn zone_changes_keep_the_instant<Tz: TimeZone, Tz2: TimeZone>()
         → after ≡ in_utc before.utc → after.utc ≡ before.utc }
 {}
 
-/// Instants compare and hash by their readings of UTC alone, whatever their offsets, and a clone is
+/// Instants compare and hash only by their UTC date-times, whatever their offsets, and a clone is
 /// the instant.
 pub fn instants_compare_by_utc<Tz: TimeZone>(a: &DateTime<Tz>, b: &DateTime<Tz>)
     ensures equal { IsTrue (⟦<DateTime<Tz> as PartialEq>⟧.eq a.now b.now)
@@ -56,7 +56,7 @@ pub fn instants_compare_by_utc<Tz: TimeZone>(a: &DateTime<Tz>, b: &DateTime<Tz>)
     ensures infallible { ⟦<DateTime<Tz> as Clone>⟧.is_infallible a.now }
 {}
 
-/// That order is the one of readings: by the second, then by the nanoseconds.
+/// That order is the one of local date-times: by the second, then by the nanoseconds.
 pub fn earlier_is_less()
     ensures less { (a b : Reading) → (compared a b ≡ Less) ↔ IsEarlier a b }
     ensures equal { (a b : Reading) → (compared a b ≡ Equal) ↔ (a ≡ b) }
@@ -69,7 +69,7 @@ pub fn one_utc(a: &Utc, b: &Utc)
     ensures infallible { ⟦<Utc as Clone>⟧.is_infallible a.now }
 {}
 
-/// What a zone gives depends on its law alone, and in seconds on its offsets in seconds.
+/// What a zone gives depends only on its law, and in seconds on its offsets in seconds.
 pub fn zones_of_the_same_offsets<Tz: TimeZone>()
     ensures at { (zone other : Tz) (r : Reading) (d : Zoned Tz.Offset)
         → SameLaw (Tz.law zone) (Tz.law other) → IsInRange r.s
@@ -114,9 +114,9 @@ pub fn local_times_come_back<Tz: TimeZone>()
         → Each (λ d. (local_of Tz.Offset.seconds d ≡ l) × IsAt (Tz.law zone) d.utc d) answer }
 {}
 
-/// An instant that is moved is one of the zone that it was one of: its offset is in force there, with
-/// all that it tells beside its seconds. So it is after `+`, and where a call gives what the zone
-/// that the offset came from has then.
+/// An instant of a zone that is moved is one of that zone: its offset is in force there, with its
+/// abbreviation and its DST flag. That holds after `+`, and after each call that looks up the offset in
+/// the zone that the offset came from.
 pub fn in_zone_after_move<Tz: TimeZone>(zone: &Tz, before: &DateTime<Tz>, after: &DateTime<Tz>)
     requires before { IsIn (Tz.law zone.now) before.now }
     requires after { IsIn (home_of Tz.meaning before.now) after.now }
@@ -140,8 +140,8 @@ pub fn in_zone_at_time<Tz: TimeZone>(zone: &Tz, before: &DateTime<Tz>, after: &D
     ensures { IsIn (Tz.law zone.now) after.now }
 {}
 
-/// The clocks of UTC and of a fixed offset show each reading once: `from_local_datetime` gives its
-/// only instant, or none where that is out of range.
+/// The clocks of UTC and of a fixed offset show each local time once: `from_local_datetime` gives its
+/// only instant, or none if that is out of range.
 pub fn one_instant_where_the_offset_is_fixed()
     ensures utc { (zone : TheUtc) (l : Reading) (answer : LocalResult (Zoned TheUtc))
         → IsRelocal (⟦<Utc as TimeZone>⟧.law zone) l answer
@@ -165,7 +165,7 @@ pub fn one_offset_before_gap<Tz: TimeZone>()
         → IsBeforeGap (Tz.law zone).off l k → j ≡ k }
 {}
 
-/// Of a reading and a choice there is one instant, at one offset in seconds, or one error, and
+/// For a local time and a policy there is one instant, at one offset in seconds, or one error, and
 /// never both.
 pub fn one_resolution<Tz: TimeZone>()
     ensures resolved { (zone : Tz) (l : Reading) (choice : AnyChoice) (a b : Zoned Tz.Offset)

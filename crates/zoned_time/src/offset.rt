@@ -5,9 +5,9 @@ ghost use Rattle.offset_core.specs.FixedOffset.{seconds_of};
 use offset_core::FixedOffset;
 use std::fmt;
 
-/// How far the clocks of a zone stand from UTC at some instant.
+/// How far the clocks of a zone are from UTC at some instant.
 ///
-/// Beside the seconds an offset may know more, such as the zone that it came from.
+/// An offset may have more than its seconds, such as the zone that it came from.
 pub trait Offset: Sized + Copy + fmt::Debug {
     // how many seconds local time is ahead of UTC
     ghost seconds: { Self → ℤ };

@@ -26,7 +26,7 @@ use offset_core::{Around, Choice, LocalResult, ResolveError, Taken};
 /// [`TimeZone::offsets_around`] and the lookups of a date if the zone has a shorter way to them.
 /// It can't replace the other calls, which mean the same in every zone.
 ///
-/// A wall clock needn't show each reading once. In New York clocks were set forward on 2021-03-14
+/// A wall clock needn't show each local time once. In New York clocks were set forward on 2021-03-14
 /// at 02:00:00, to 03:00:00: no clock showed 02:30:00, which lies in a gap. On 2021-11-07 they were
 /// set back at 02:00:00, to 01:00:00: they showed 01:30:00 twice, which lies in a fold, first at
 /// -04:00 and an hour later at -05:00.
@@ -45,7 +45,7 @@ pub trait TimeZone: Sized + Copy {
     fn from_offset(offset: &Self::Offset) -> Self
         ensures { SameLaw (law result) (home_law meaning offset.now) };
 
-    /// The offset at an instant, given by its UTC reading.
+    /// The offset at an instant, given by its UTC date-time.
     fn offset_from_utc_datetime(&self, utc: &NaiveDateTime) -> Self::Offset
         ensures { IsOffsetAt (law self.now) (reading utc.now).s result };
 
@@ -56,7 +56,7 @@ pub trait TimeZone: Sized + Copy {
         self.offset_from_utc_datetime(&midnight(utc))
     }
 
-    /// The offset at the instant when the zone's clocks show a reading: none in a gap, and in a
+    /// The offset at the instant when the zone's clocks show a local time: none in a gap, and in a
     /// fold those at the first and at the last such instant.
     fn offset_from_local_datetime(&self, local: &NaiveDateTime) -> LocalResult<Self::Offset>
         ensures { AreOffsetsFor (law self.now) (reading local.now).s result };
@@ -69,7 +69,7 @@ pub trait TimeZone: Sized + Copy {
     }
 
     /// In a gap the offset before it: that at the second before the first one at which a clock of
-    /// the zone shows a later reading. `None` if and only if a clock shows the reading.
+    /// the zone shows a later local time. `None` if and only if a clock shows the local time.
     fn offset_before_gap(&self, local: &NaiveDateTime) -> Option<Self::Offset>
         ensures { IsOffsetBeforeGap (law self.now) (reading local.now).s result };
 
@@ -94,7 +94,7 @@ pub trait TimeZone: Sized + Copy {
     // the offset itself tells its seconds
     ghost told: { (offset : Self.Offset) → meaning.seconds offset ≡ Self.Offset.seconds offset };
 
-    /// The instant of a UTC reading in range.
+    /// The instant of a UTC date-time in range.
     final fn from_utc_datetime(&self, utc: &NaiveDateTime) -> DateTime<Self>
         requires { IsInRange (reading utc.now).s }
         ensures { IsAt (law self.now) (reading utc.now) (shown result.datetime result.offset) }
@@ -102,8 +102,8 @@ pub trait TimeZone: Sized + Copy {
         DateTime::from_naive_utc_and_offset(*utc, self.offset_from_utc_datetime(utc))
     }
 
-    /// The instant when the zone's clocks show a reading: none in a gap, and in a fold the first
-    /// and the last such instant. Where the UTC reading of one of them is out of range, there is
+    /// The instant when the zone's clocks show a local time: none in a gap, and in a fold the first
+    /// and the last such instant. If the UTC date-time of one of them is out of range, there is
     /// none.
     final fn from_local_datetime(&self, local: &NaiveDateTime) -> LocalResult<DateTime<Self>>
         ensures instants { IsRelocal (law self.now) (reading local.now)
@@ -119,10 +119,10 @@ pub trait TimeZone: Sized + Copy {
             .and_then(|offset| DateTime::<Self>::from_local_opt(local, offset))
     }
 
-    /// The instant that a choice takes for a reading. There are seven outcomes. New York's clocks
+    /// The instant that a policy selects for a local time. There are seven outcomes. New York's clocks
     /// were set forward on 2021-03-14 at 02:00, and back on 2021-11-07 at 02:00:
     ///
-    /// | reading | shown | choice | answer |
+    /// | local time | shown | choice | answer |
     /// |---|---|---|---|
     /// | 2021-03-14 02:30 | never | gap: [`GapChoice::Refuse`] | [`ResolveError::Gap`], whose number is 21 |
     /// | 2021-03-14 02:30 | never | gap: [`GapChoice::ShiftForward`] | 2021-03-14 03:30 -04:00 |
@@ -130,14 +130,14 @@ pub trait TimeZone: Sized + Copy {
     /// | 2021-11-07 01:30 | twice | fold: [`FoldChoice::Earliest`] | 2021-11-07 01:30 -04:00 |
     /// | 2021-11-07 01:30 | twice | fold: [`FoldChoice::Latest`] | 2021-11-07 01:30 -05:00 |
     /// | 2021-07-01 12:00 | once | any | 2021-07-01 12:00 -04:00 |
-    /// | +262142-12-31 23:30 | once | any | [`ResolveError::OutOfRange`], whose number is 23: the UTC reading is in the year 262143 |
+    /// | +262142-12-31 23:30 | once | any | [`ResolveError::OutOfRange`], whose number is 23: the UTC date-time is in the year 262143 |
     ///
     /// Nanoseconds are kept.
     ///
     /// # Errors
     ///
     /// As in the table: [`ResolveError::Gap`], [`ResolveError::Fold`], and
-    /// [`ResolveError::OutOfRange`] if the UTC reading of the instant that is taken is out of range.
+    /// [`ResolveError::OutOfRange`] if the UTC date-time of the selected instant is out of range.
     final fn resolve(
         &self,
         local: &NaiveDateTime,
@@ -155,7 +155,7 @@ pub trait TimeZone: Sized + Copy {
     }
 
     /// [`TimeZone::from_local_datetime`] of a date and a time, as
-    /// `zone.with_ymd_and_hms(2021, 11, 7, 1, 30, 0).earliest()`. `None` also where the date isn't
+    /// `zone.with_ymd_and_hms(2021, 11, 7, 1, 30, 0).earliest()`. `None` also if the date isn't
     /// one of the calendar in the years -262143 to 262142, or a day has no such hour, minute or
     /// second.
     final fn with_ymd_and_hms(
@@ -187,7 +187,7 @@ pub trait TimeZone: Sized + Copy {
         }
     }
 
-    /// The instant of [`DateTime::from_timestamp`], where it answers.
+    /// The instant of [`DateTime::from_timestamp`], if it returns a value.
     final fn timestamp_opt(&self, secs: i64, nsecs: u32) -> LocalResult<DateTime<Self>>
         ensures { let r = of_secs secs nsecs in
             IsAtWhere (law self.now) (IsStamp r) r
@@ -199,7 +199,7 @@ pub trait TimeZone: Sized + Copy {
         }
     }
 
-    /// [`TimeZone::timestamp_opt`], where it answers.
+    /// [`TimeZone::timestamp_opt`], if it returns a value.
     final fn timestamp(&self, secs: i64, nsecs: u32) -> DateTime<Self>
         requires { IsStamp (of_secs secs nsecs) }
         ensures { IsAt (law self.now) (of_secs secs nsecs) (shown result.datetime result.offset) }
@@ -209,7 +209,7 @@ pub trait TimeZone: Sized + Copy {
             .with_timezone(self)
     }
 
-    /// The instant of [`DateTime::from_timestamp_millis`], where it answers.
+    /// The instant of [`DateTime::from_timestamp_millis`], if it returns a value.
     final fn timestamp_millis_opt(&self, millis: i64) -> LocalResult<DateTime<Self>>
         ensures { let r = of_millis millis in
             IsAtWhere (law self.now) (IsInRange r.s) r
@@ -221,7 +221,7 @@ pub trait TimeZone: Sized + Copy {
         }
     }
 
-    /// [`TimeZone::timestamp_millis_opt`], where it answers.
+    /// [`TimeZone::timestamp_millis_opt`], if it returns a value.
     final fn timestamp_millis(&self, millis: i64) -> DateTime<Self>
         requires { IsInRange (of_millis millis).s }
         ensures { IsAt (law self.now) (of_millis millis) (shown result.datetime result.offset) }
@@ -231,7 +231,7 @@ pub trait TimeZone: Sized + Copy {
             .with_timezone(self)
     }
 
-    /// The instant of [`DateTime::from_timestamp_micros`], where it answers.
+    /// The instant of [`DateTime::from_timestamp_micros`], if it returns a value.
     final fn timestamp_micros(&self, micros: i64) -> LocalResult<DateTime<Self>>
         ensures { let r = of_micros micros in
             IsAtWhere (law self.now) (IsInRange r.s) r

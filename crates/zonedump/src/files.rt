@@ -38,7 +38,7 @@ pub fn are_same(rt: &HostRuntime, one: &str, other: &str) -> bool {
     }
 }
 
-/// Replaces the contents of a file with those bytes, or makes the file. Where it fails, a regular
+/// Replaces the contents of a file with those bytes, or makes the file. If it fails, a regular
 /// file is left as it was, and one that was not there is not made.
 ///
 /// What is no regular file, such as a pipe, is written as it is, and so is what a symbolic link

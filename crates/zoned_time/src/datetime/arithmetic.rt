@@ -32,7 +32,7 @@ impl<Tz: TimeZone> DateTime<Tz> {
     }
 
     /// The instant so much later, or earlier for a negative length, with the offset that its zone
-    /// has then. `None` where that is out of range.
+    /// has then. `None` if that is out of range.
     ///
     /// From a leap second on, that leap second is counted; no other ever is.
     ///
@@ -62,8 +62,8 @@ impl<Tz: TimeZone> DateTime<Tz> {
 }
 
 impl<Tz, O: Offset> Instant<Tz, O> {
-    /// The time from another instant to this one, negative where this one is earlier, whatever
-    /// zones the two stand in.
+    /// Returns the time from another instant to this one, negative if this one is earlier. The two
+    /// may be in different zones.
     ///
     /// An instant's own leap second counts where its second of the day, in UTC, is less than the
     /// other's.

@@ -16,10 +16,10 @@ use naive_base::{Datelike, Days, Months, NaiveDateTime, NaiveTime};
 use offset_core::LocalResult;
 
 impl<Tz: TimeZone> DateTime<Tz> {
-    /// The only instant when the clocks of the zone show this time so many months later, on the
-    /// same day of the month, or on its last where it has fewer days. `None` where they show it
-    /// never or more than once, where its UTC reading is out of range, and where the year is not one
-    /// from -262143 to 262142, unless it is the date that the clock shows now.
+    /// Returns the only instant at which the clocks of the zone show this time that number of months
+    /// later, on the same day of the month, or on its last day if it has fewer. `None` if they show it
+    /// never or more than once, if its UTC date-time is out of range, or if the year is not one from
+    /// -262143 to 262142, unless it is the date that the clock shows now.
     ///
     /// ```text
     /// let noon = new_york.with_ymd_and_hms(2021, 1, 31, 12, 0, 0).single()?;
@@ -33,16 +33,17 @@ impl<Tz: TimeZone> DateTime<Tz> {
         self.only_at(&self.local().checked_add_months(months)?)
     }
 
-    /// The same, so many months earlier.
+    /// Returns the instant that number of months earlier, or `None`, as
+    /// [`checked_add_months`](DateTime::checked_add_months) does for later ones.
     pub fn checked_sub_months(&self, months: Months) -> Option<DateTime<Tz>>
         ensures { IsOnlyMonthsLater Tz.meaning self.now (neg_ℤ (pos (months_of months))) result }
     {
         self.only_at(&self.local().checked_sub_months(months)?)
     }
 
-    /// The only instant when the clocks of the zone show this time so many days later, and this
-    /// instant itself for no days. `None` where they show it never or more than once, where its UTC
-    /// reading is out of range, and where it is not in the years -262143 to 262142.
+    /// Returns the only instant at which the clocks of the zone show this time that number of days
+    /// later, and this instant itself for 0 days. `None` if they show it never or more than once, if
+    /// its UTC date-time is out of range, or if it is not in the years -262143 to 262142.
     ///
     /// ```
     /// // In New York clocks were set back at 02:00 on 2021-11-07.
@@ -58,10 +59,10 @@ impl<Tz: TimeZone> DateTime<Tz> {
         self.only_at(&self.local().checked_add_days(days)?)
     }
 
-    /// The only instant when the clocks of the zone show this time so many days earlier. `None`
-    /// where they show it never or more than once, for no days too, where its UTC reading is out of
-    /// range, and where it is not in the years -262143 to 262142, unless that is the date that the
-    /// clock shows now.
+    /// Returns the only instant at which the clocks of the zone show this time that number of days
+    /// earlier. `None` if they show it never or more than once, for 0 days too, if its UTC date-time
+    /// is out of range, or if it is not in the years -262143 to 262142, unless that is the date that
+    /// the clock shows now.
     pub fn checked_sub_days(&self, days: Days) -> Option<DateTime<Tz>>
         ensures { IsOnlyDaysLater Tz.meaning self.now (neg_ℤ (pos (days_of days))) result }
     {
@@ -84,7 +85,7 @@ impl<Tz: TimeZone> DateTime<Tz> {
         self.relocal(&self.local().date().and_time(time))
     }
 
-    /// The whole years from another instant to this one, by what their clocks show. `None` where
+    /// The whole years from another instant to this one, by what their clocks show. `None` if
     /// this one's year is less, or is the same and its month, day and time are earlier.
     ///
     /// ```

@@ -20,9 +20,9 @@ impl<Tz: TimeZone> DateTime<Tz> {
     }
 }
 
-/// The date that the instant's clock shows, be it a buffer day, and the only instant when the
-/// clocks of its zone show another date at that time: `None` where they show it never, or more than
-/// once, or where its UTC reading is out of range.
+/// The date that the instant's clock shows, also on a buffer day. A call that changes it returns the
+/// only instant at which the clocks of its zone show the new date at that time; `None` if they show it
+/// never or more than once, or if its UTC date-time is out of range.
 impl<Tz: TimeZone> Datelike for DateTime<Tz> {
     ghost day_shown = { day_shown_by };
 
@@ -94,8 +94,8 @@ impl<Tz: TimeZone> Datelike for DateTime<Tz> {
 }
 
 /// The time that the instant's clock shows, and the only instant when the clocks of its zone show
-/// another time on that day: `None` where they show it never, or more than once, or where
-/// its UTC reading is out of range.
+/// another time on that day: `None` if they show it never, or more than once, or if
+/// its UTC date-time is out of range.
 impl<Tz: TimeZone> Timelike for DateTime<Tz> {
     ghost time_shown = { λ d. time_at (wall_of d) };
 

@@ -1,4 +1,4 @@
-//! The operators of instants, which ask that the result exists. Where it may not, call the checked
+//! The operators of instants, which ask that the result exists. If it may not, call the checked
 //! form.
 ghost use Rattle.std.specs.Prelude.{◌≡◌, pos, neg_ℤ, Some};
 ghost use Rattle.std.specs.Duration.{as_nanos};
@@ -17,7 +17,7 @@ use offset_core::{FixedOffset, TimeDelta};
 use std::ops::{Add, AddAssign, Sub, SubAssign};
 use std::time::Duration;
 
-/// [`DateTime::checked_add_signed`], where it answers.
+/// [`DateTime::checked_add_signed`], if it returns a value.
 ///
 /// ```
 /// let start = Utc.timestamp(1_636_264_800, 0); // 2021-11-07 06:00:00 UTC
@@ -37,7 +37,7 @@ impl<Tz: TimeZone> Add<TimeDelta> for DateTime<Tz> {
     }
 }
 
-/// [`DateTime::checked_sub_signed`], where it answers.
+/// [`DateTime::checked_sub_signed`], if it returns a value.
 impl<Tz: TimeZone> Sub<TimeDelta> for DateTime<Tz> {
     type Output = DateTime<Tz>;
 
@@ -121,7 +121,7 @@ impl<Tz: TimeZone> SubAssign<Duration> for DateTime<Tz> {
     }
 }
 
-/// The instant whose UTC reading is that many seconds later, with this one's offset. It is in
+/// The instant whose UTC date-time is that many seconds later, with this one's offset. It is in
 /// range.
 impl<Tz: TimeZone> Add<FixedOffset> for DateTime<Tz> {
     type Output = DateTime<Tz>;
@@ -136,7 +136,7 @@ impl<Tz: TimeZone> Add<FixedOffset> for DateTime<Tz> {
     }
 }
 
-/// The instant whose UTC reading is that many seconds earlier, with this one's offset. It is in
+/// The instant whose UTC date-time is that many seconds earlier, with this one's offset. It is in
 /// range.
 impl<Tz: TimeZone> Sub<FixedOffset> for DateTime<Tz> {
     type Output = DateTime<Tz>;
@@ -173,7 +173,7 @@ impl<Tz: TimeZone> Sub<&DateTime<Tz>> for DateTime<Tz> {
     }
 }
 
-/// [`DateTime::checked_add_months`], where it answers.
+/// [`DateTime::checked_add_months`], if it returns a value.
 impl<Tz: TimeZone> Add<Months> for DateTime<Tz> {
     type Output = DateTime<Tz>;
 
@@ -187,7 +187,7 @@ impl<Tz: TimeZone> Add<Months> for DateTime<Tz> {
     }
 }
 
-/// [`DateTime::checked_sub_months`], where it answers.
+/// [`DateTime::checked_sub_months`], if it returns a value.
 impl<Tz: TimeZone> Sub<Months> for DateTime<Tz> {
     type Output = DateTime<Tz>;
 
@@ -202,7 +202,7 @@ impl<Tz: TimeZone> Sub<Months> for DateTime<Tz> {
     }
 }
 
-/// [`DateTime::checked_add_days`], where it answers.
+/// [`DateTime::checked_add_days`], if it returns a value.
 impl<Tz: TimeZone> Add<Days> for DateTime<Tz> {
     type Output = DateTime<Tz>;
 
@@ -215,7 +215,7 @@ impl<Tz: TimeZone> Add<Days> for DateTime<Tz> {
     }
 }
 
-/// [`DateTime::checked_sub_days`], where it answers.
+/// [`DateTime::checked_sub_days`], if it returns a value.
 impl<Tz: TimeZone> Sub<Days> for DateTime<Tz> {
     type Output = DateTime<Tz>;
 

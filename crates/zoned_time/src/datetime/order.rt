@@ -1,4 +1,4 @@
-//! Equality, order and hash of instants: by their UTC readings alone.
+//! Equality, order and hash of instants: only by their UTC date-times.
 ghost use Rattle.std.specs.Prelude.{◌≡◌, ◌↔◌, IsTrue, ◌==◌, ◌++◌};
 ghost use Rattle.std.specs.Cmp.{partial_order_from_own_ties};
 ghost use Rattle.std.specs.Cmp.Rules.{comparing, hashing};
@@ -66,7 +66,7 @@ impl<Tz, O: Offset> Hash for Instant<Tz, O> {
 }
 
 impl<Tz, O: Offset> Instant<Tz, O> {
-    /// Whether it is the same instant, whatever zones the two stand in.
+    /// Returns whether it is the same instant. The two may be in different zones.
     ///
     /// ```text
     /// Utc.timestamp(0, 0).same_instant(&FixedOffset::east(3600).timestamp(0, 0)) // true
@@ -77,7 +77,7 @@ impl<Tz, O: Offset> Instant<Tz, O> {
         self.datetime == other.naive_utc()
     }
 
-    /// Which instant is the earlier one, whatever zones the two stand in.
+    /// Returns the order of the two instants, which may be in different zones.
     pub fn cmp_instant<Tz2: TimeZone>(&self, other: &DateTime<Tz2>) -> Ordering
         ensures { result ≡ compared (zoned self.now).utc (zoned other.now).utc }
     {

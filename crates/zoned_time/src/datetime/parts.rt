@@ -1,4 +1,4 @@
-//! Instants made of a reading and an offset, and taken apart into them.
+//! Instants made of a date-time and an offset, and their parts.
 ghost use Rattle.std.specs.Prelude.{◌≡◌, SomeIff, option_map};
 ghost use Rattle.naive_base.specs.NaiveDate.{day_of};
 ghost use Rattle.naive_base.specs.NaiveDateTime.{reading};
@@ -16,9 +16,9 @@ use naive_base::{NaiveDate, NaiveDateTime, NaiveTime};
 use std::marker::PhantomData;
 
 impl<Tz: TimeZone> DateTime<Tz> {
-    /// The instant of a UTC reading in range, with that offset.
+    /// The instant of a UTC date-time in range, with that offset.
     ///
-    /// Requires: the reading is in range.
+    /// Requires: the date-time is in range.
     pub fn from_naive_utc_and_offset(datetime: NaiveDateTime, offset: Tz::Offset) -> DateTime<Tz>
         requires { IsInRange (reading datetime).s }
         ensures { zoned result ≡ shown datetime offset }
@@ -40,7 +40,7 @@ impl<Tz: TimeZone> DateTime<Tz> {
 
     /// chrono's older name of [`DateTime::from_naive_utc_and_offset`].
     ///
-    /// Requires: the reading is in range.
+    /// Requires: the date-time is in range.
     pub fn from_utc(datetime: NaiveDateTime, offset: Tz::Offset) -> DateTime<Tz>
         requires { IsInRange (reading datetime).s }
         ensures { zoned result ≡ shown datetime offset }
@@ -48,7 +48,7 @@ impl<Tz: TimeZone> DateTime<Tz> {
         DateTime::from_naive_utc_and_offset(datetime, offset)
     }
 
-    /// The instant when a clock with that offset shows the reading. Its UTC reading is in range.
+    /// The instant when a clock with that offset shows the local time. Its UTC date-time is in range.
     pub fn from_local(datetime: NaiveDateTime, offset: Tz::Offset) -> DateTime<Tz>
         requires { HasInstant Tz.Offset.seconds (reading datetime) offset }
         ensures { zoned result ≡ instant_of Tz.Offset.seconds (reading datetime) offset }
@@ -93,14 +93,14 @@ impl<Tz, O: Offset> Instant<Tz, O> {
         &self.offset
     }
 
-    /// What a clock with the offset shows, be it on a buffer day.
+    /// Returns what a clock with the offset shows, also on a buffer day.
     pub fn naive_local(&self) -> NaiveDateTime
         ensures { reading result ≡ wall_of self.now }
     {
         self.local()
     }
 
-    /// The date that a clock with the offset shows, be it a buffer day.
+    /// Returns the date that a clock with the offset shows, also on a buffer day.
     pub fn date_naive(&self) -> NaiveDate
         ensures { day_of result ≡ day_at (wall_of self.now) }
     {

@@ -36,7 +36,7 @@ impl<Tz, O: Offset> Instant<Tz, O> {
     }
 
     /// The nanoseconds since 1970-01-01 00:00:00 UTC, and those of a leap second on top of its
-    /// second's. `None` where an `i64` doesn't hold them: before 1677-09-21 00:12:43.145224192 UTC
+    /// second's. `None` if an `i64` doesn't hold them: before 1677-09-21 00:12:43.145224192 UTC
     /// and after 2262-04-11 23:47:16.854775807 UTC.
     pub fn timestamp_nanos_opt(&self) -> Option<i64>
         ensures { let nanos = total (zoned self.now).utc in SomeIff result
@@ -45,7 +45,7 @@ impl<Tz, O: Offset> Instant<Tz, O> {
         i64::try_from(self.total_nanos()).ok()
     }
 
-    /// [`DateTime::timestamp_nanos_opt`], where it answers.
+    /// [`DateTime::timestamp_nanos_opt`], if it returns a value.
     pub fn timestamp_nanos(&self) -> i64
         requires { FitsSigned w64 (total (zoned self.now).utc) }
         ensures { result ≡ total (zoned self.now).utc }
@@ -84,9 +84,9 @@ impl<Tz, O: Offset> Instant<Tz, O> {
 }
 
 impl DateTime<Utc> {
-    /// The instant so many seconds, and then nanoseconds, after 1970-01-01 00:00:00 UTC. `None`
-    /// where it is out of range, or the nanoseconds are 10^9 or more, unless these are a leap
-    /// second's: below 2*10^9, after the last second of a minute.
+    /// Returns the instant at that Unix time in seconds and nanoseconds. `None` if it is out of range,
+    /// or if the nanoseconds are 10^9 or more, unless they are a leap second's: below 2*10^9, after
+    /// the last second of a minute.
     ///
     /// ```
     /// DateTime::<Utc>::from_timestamp(1_609_459_200, 0) // 2021-01-01 00:00:00 UTC
@@ -101,7 +101,7 @@ impl DateTime<Utc> {
         Some(DateTime::from_naive_utc_and_offset(utc, Utc))
     }
 
-    /// The instant so many seconds after 1970-01-01 00:00:00 UTC. `None` where it is out of range.
+    /// Returns the instant at that Unix time in seconds. `None` if it is out of range.
     pub fn from_timestamp_secs(secs: i64) -> Option<DateTime<Utc>>
         ensures { let r = of_secs secs 0 in SomeIff (option_map zoned result) (IsInRange r.s)
             (in_utc r) }
@@ -109,8 +109,7 @@ impl DateTime<Utc> {
         DateTime::<Utc>::from_timestamp(secs, 0)
     }
 
-    /// The instant so many milliseconds after 1970-01-01 00:00:00 UTC. `None` where it is out of
-    /// range.
+    /// Returns the instant at that Unix time in milliseconds. `None` if it is out of range.
     pub fn from_timestamp_millis(millis: i64) -> Option<DateTime<Utc>>
         ensures { let r = of_millis millis in SomeIff (option_map zoned result) (IsInRange r.s)
             (in_utc r) }
@@ -119,8 +118,7 @@ impl DateTime<Utc> {
         DateTime::<Utc>::from_timestamp(millis.div_euclid(1_000), nanos)
     }
 
-    /// The instant so many microseconds after 1970-01-01 00:00:00 UTC. `None` where it is out of
-    /// range.
+    /// Returns the instant at that Unix time in microseconds. `None` if it is out of range.
     pub fn from_timestamp_micros(micros: i64) -> Option<DateTime<Utc>>
         ensures { let r = of_micros micros in SomeIff (option_map zoned result) (IsInRange r.s)
             (in_utc r) }
@@ -129,7 +127,7 @@ impl DateTime<Utc> {
         DateTime::<Utc>::from_timestamp(micros.div_euclid(1_000_000), nanos)
     }
 
-    /// The instant so many nanoseconds after 1970-01-01 00:00:00 UTC.
+    /// Returns the instant at that Unix time in nanoseconds.
     pub fn from_timestamp_nanos(nanos: i64) -> DateTime<Utc>
         ensures { zoned result ≡ in_utc (of_total nanos) }
     {
