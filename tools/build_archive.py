@@ -12,7 +12,7 @@ import subprocess
 import sys
 from pathlib import Path
 
-from kit import kit, wait_for, words
+from kit import compiled, wait_for, words
 from sources import TOP, libraries_below
 
 NAME = "zoned_ffi"
@@ -23,9 +23,8 @@ def main():
     if not wait_for(libraries_below(NAME), log):
         sys.exit(f"a library below {NAME} isn't proved")
     folder = TOP / "crates" / NAME
-    compiled = ["--toolchain", kit() / "toolchain", "--backend", "llvm", "--jobs", "2", "-o", f"out/lib{NAME}.a"]
     (folder / "out").mkdir(exist_ok=True)
-    return subprocess.run([*words("build", NAME), *compiled], cwd=folder, stdin=subprocess.DEVNULL).returncode
+    return subprocess.run([*words("build", NAME), *compiled(f"out/lib{NAME}.a")], cwd=folder, stdin=subprocess.DEVNULL).returncode
 
 
 if __name__ == "__main__":

@@ -15,14 +15,12 @@ import sys
 import tempfile
 from pathlib import Path
 
-from kit import tried
+from kit import REFUSED, tried
 from sources import TOP, libraries_below
 
 TEXTS = TOP / "tools/refused"
 # The gate tries them beside its proofs, where they take longer than alone.
 SECONDS = "1200"
-# The status of a try for what it refuses to compile.
-REFUSED = 1
 LIBRARIES = sorted({*libraries_below("zoned_ref"), "zoned_ref"})
 
 

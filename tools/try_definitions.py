@@ -38,7 +38,7 @@ from functools import lru_cache
 from pathlib import Path
 from queue import Queue
 
-from kit import kit
+from kit import PROVED_WITHOUT_LEMMAS, UNREAD, VERDICT, words_over_pages
 from sources import TOP, imports_of, libraries_below, text_of, uses
 
 WRONG = TOP / "crates/tests_pins/wrong"
@@ -50,7 +50,6 @@ WORD = re.compile(r"[^\s(){}\[\],;:.λ→×≡∙|\"`?]+")
 FUNCTION = re.compile(r'( *)(?:pub(?:\([a-z]+\))? )?(?:(?:final|const|unsafe|extern "C") )*fn (\w+)')
 BLOCK = re.compile(r"(?:pub )?(?:unsafe )?(impl|trait)\b")
 SIGNATURE = re.compile(r"(?:pub )?([^\s(){}\[\],;]+) :(?: |$)")
-UNREAD = r"is not in scope|has no field|has no `|is no name|that can be named from here"
 
 
 @dataclass
@@ -263,16 +262,9 @@ def lay(room, crate, with_code=False):
 
 def check(room, crate, functions):
     """Checks these functions of the crate in that copy, and returns what is said."""
-    ours = sorted(libraries_below(crate))
-    of_kit = sorted({"std", *[name for library in [crate, *ours] for name in uses()[library] if name not in uses()]})
-    made = [kit() / "bin/rattle", "check", "--crate-name", crate, "src/lib.rt", "-L", f"dependency={kit()}/rlibs"]
-    for name in of_kit:
-        made += ["--extern", f"{name}={kit()}/rlibs/{name}.rlib"]
-    for name in ours:
-        made += ["--lib", f"{name}:{','.join(dict.fromkeys(['std', *uses()[name]]))}={room / name}/src/lib.rt"]
-    made += ["--antt-project", kit() / "rattle/logic/antt-project.json", "--logic-built", kit() / "logic_built"]
     (room / "kept").mkdir(exist_ok=True)
-    made += ["--incremental", room / "kept", "--allow-holes", *[word for name in functions for word in ("--only", name)]]
+    only = [word for name in functions for word in ("--only", name)]
+    made = [*words_over_pages(crate, room), "--incremental", room / "kept", "--allow-holes", *only]
     ran = subprocess.run(made, cwd=room / crate, stdin=subprocess.DEVNULL, capture_output=True, text=True)
     return ran.stdout + ran.stderr
 
@@ -392,11 +384,11 @@ def made(chosen):
 
 def verdicts(said, crate):
     """What is said of each function."""
-    return dict(re.findall(rf"(?m)^fn {crate}::(\S+): (.*)$", said))
+    return dict(re.findall(rf"(?m)^(?=fn {crate}::){VERDICT}$", said))
 
 
 def is_accepted(verdict):
-    return verdict.startswith(("no holes", "depends on a hole", "proved"))
+    return bool(re.fullmatch(PROVED_WITHOUT_LEMMAS, verdict))
 
 
 def unread(edit, said, room):

@@ -41,21 +41,13 @@ from concurrent.futures import ThreadPoolExecutor
 from dataclasses import dataclass, field, replace
 from pathlib import Path
 
-from kit import wait_for, words
+from kit import OPEN, PROVED_WITHOUT_PROOFS, TOLD, UNREAD, VERDICT, wait_for, words
 from sources import TOP, crates, files, libraries_below
 
 IN_PART, BY_HAND = "mutants", "mutants-by-hand"
 # Its proof takes as long as those of all crates that can be proved beside it.
 EARLY = "tz_info"
 FUNCTION = re.compile(r'(?m)^( *)(?:pub(?:\([a-z]+\))? )?(?:(?:final|const|unsafe|extern "C") )*fn (\w+)')
-# What the checker says if a text can't be read, so that no contract was tried.
-UNREAD = r"is not in scope|has no field|has no `|is no name|operand is missing|expected the end|cannot continue|was not admitted"
-# A fault or an open goal, and its place.
-TOLD = r"(?:note: )?(?:\./)?(\S+?):\d+:\d+: (?:error: )?((?:`|it is not proved|error).*)"
-# The line about a function, and what it begins with if a goal is open, or is if none is but in proofs that are left out.
-VERDICT = r"fn \w+?::(\S+): (.*)"
-OPEN = ("no proof", "not proved")
-PROVED = r"proved|no holes|depends on a hole in `\S+\.Proof\.\w+_spec`.*"
 NOT_TRIED = "NOT TRIED:"
 LOST = "its text is not in the files that are checked"
 # What takes the place of a body that is left out. `rt fmt` writes no such line.
@@ -289,7 +281,7 @@ def not_proved(crate, edits, proved):
     verdicts = re.findall(f"(?m)^{VERDICT}$", said)
     for edit in edits:
         of_edit = [verdict for path, verdict in verdicts if edits_function(edit, path)] or [said[-900:]]
-        if not all(re.fullmatch(PROVED, verdict) for verdict in of_edit):
+        if not all(re.fullmatch(PROVED_WITHOUT_PROOFS, verdict) for verdict in of_edit):
             rows[edit.name] = (f"{edit}: {NOT_TRIED} without the edit: {'; '.join(of_edit)}", False)
     return rows
 

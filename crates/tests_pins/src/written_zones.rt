@@ -4,7 +4,7 @@
 ghost use Rattle.std.specs.Prelude.{◌≡◌, ◌∷◌, [], ◌++◌, Bool, true, false, codes, pos};
 ghost use Rattle.tz_info.specs.Zones.{plain_zone};
 ghost use Rattle.tz_write.specs.FileBytes.{first_half, file_bytes, number_bytes};
-ghost use Rattle.tz_write.specs.FileDesignations.{begins, place_of, text_of, IsNamedIn, AreShortest};
+ghost use Rattle.tz_write.specs.FileDesignations.{begins, place_of, name_of, IsNamedIn, AreShortest};
 ghost use Rattle.tz_write.specs.WrittenTexts.{AreInPairs, IsWrittenText, IsWrittenZone};
 ghost use Rattle.tests_pins.specs.Changes.{unnamed};
 ghost use Rattle.tests_pins.specs.Honolulu.{designations, hst_footer, long_times, type_indexes, type_records};
@@ -43,8 +43,8 @@ pub fn honolulu_bytes()
 
 /// A type's text begins at its first place; the empty text at the first 0 byte.
 pub fn designation_places()
-    ensures hst { place_of (text_of hst) designations ≡ 4 }
-    ensures unnamed { place_of (text_of unnamed) designations ≡ 3 }
+    ensures hst { place_of (name_of hst) designations ≡ 4 }
+    ensures unnamed { place_of (name_of unnamed) designations ≡ 3 }
     ensures front { begins (codes "HST") (72 ∷ 83 ∷ 84 ∷ 0 ∷ []) ≡ true }
     ensures no_end { begins (codes "HST") (codes "HST") ≡ false }
     ensures longer { begins (codes "HS") (72 ∷ 83 ∷ 84 ∷ 0 ∷ []) ≡ false }

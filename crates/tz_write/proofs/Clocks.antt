@@ -1,11 +1,11 @@
 -- The texts of offsets and of times of day.
 use Rattle.tz_base.specs.Grammar.{Grammar, Nothing, Number, Then}
 use Rattle.tz_info.specs.TzGrammar as tz
-use Rattle.tz_write.proofs.Words.{AreInPairs, Bool, IsPlainTime, IsTimeOf, IsWithinDay, IsWithinWeek, List, NoneFirst, Spells, Without, ap, arith, both_ways}
-use Rattle.tz_write.proofs.Words.{clock_max, clock_text, clock_text_of, colon, cond, false, false≢true, inl, inr, ints, is_digit, is_negative, is_positive}
-use Rattle.tz_write.proofs.Words.{minus, minutes_text, nat_tests, neg_ℤ, negsuc, not, offset_text, pair_text, plus, pos, refl, seconds_of, seconds_text}
-use Rattle.tz_write.proofs.Words.{signed_text, subst, suc, sym, time_limit, time_text, true, unsigned_abs, zero, ℕ, ℤ, [], ◌%◌, ◌&&◌, ◌*◌, ◌++◌, ◌+◌, ◌/◌, ◌<◌}
-use Rattle.tz_write.proofs.Words.{◌==◌, ◌∙◌, ◌∷◌, ◌≡◌, ◌≤◌, ◌⊎◌}
+use Rattle.tz_write.proofs.Words.{AreInPairs, Bool, IsPlainTime, IsTimeOf, IsWithinDay, List, NoneFirst, Spells, Without, ap, arith, both_ways, clock_max}
+use Rattle.tz_write.proofs.Words.{clock_text, clock_text_of, colon, cond, false, false≢true, inl, inr, ints, is_digit, is_negative, is_positive, minus}
+use Rattle.tz_write.proofs.Words.{minutes_text, nat_tests, neg_ℤ, negsuc, not, offset_text, pair_text, plus, pos, refl, seconds_of, seconds_text, signed_text}
+use Rattle.tz_write.proofs.Words.{subst, suc, sym, time_limit, time_text, true, unsigned_abs, zero, ℕ, ℤ, [], ◌%◌, ◌&&◌, ◌*◌, ◌++◌, ◌+◌, ◌/◌, ◌<ℤ◌, ◌<◌, ◌==◌}
+use Rattle.tz_write.proofs.Words.{◌∙◌, ◌∷◌, ◌≡◌, ◌≤◌, ◌⊎◌}
 use Rattle.tz_write.proofs.Decimals.{digit_least, digit_most, first_digit, number_front, number_writes, pair_front, pair_writes, two_digits}
 use Rattle.tz_write.proofs.Shortest.{Front, front_cons, front_longer, front_on, front_optional}
 use Rattle.tz_write.proofs.TextBytes.{Writes, writes_colon, writes_last, writes_nothing, writes_other, writes_then}
@@ -172,19 +172,21 @@ signed_writes false n x rest l p = record {
   pairs = p.pairs;
 }
 
+-- seconds below so many hours, before or after midnight
+hours_within : (hours : ℕ) (z : ℤ) → (neg_ℤ (pos (3600 * hours)) <ℤ z) × (z <ℤ pos (3600 * hours)) → unsigned_abs z / 3600 < hours
+hours_within hours (pos n) h = let b : n < 3600 * hours = omega (arith, ints, h.1) in omega arith
+hours_within hours (negsuc n) h = let b : suc n < 3600 * hours = omega (arith, ints, h.0) in omega arith
+
 -- ---- offsets
 offset_value : (east : ℤ) → signed (not (is_positive east)) (unsigned_abs east) ≡ east
 offset_value (pos zero) = refl
 offset_value (pos (suc n)) = refl
 offset_value (negsuc n) = refl
 
-offset_hours : (east : ℤ) → IsWithinDay east → unsigned_abs east / 3600 ≤ 23
-offset_hours (pos n) h = let a = h.1 in let b : n < 86400 = omega (arith, ints) in omega arith
-offset_hours (negsuc n) h = let a = h.0 in let b : suc n < 86400 = omega (arith, ints) in omega arith
-
 pub offset_writes : (east : ℤ) (rest : List ℕ) → IsWithinDay east → Stops rest → Writes tz.offset (offset_text east) east rest
 unfolding offset_text tz.offset
-offset_writes east rest h stops = let l = offset_hours east h in
+offset_writes east rest h stops =
+    let l : unsigned_abs east / 3600 ≤ 23 = omega (arith, hours_within 24 east h) in
     signed_writes (is_positive east) (unsigned_abs east) east rest (omega arith)
     (duration_writes 23 (not (is_positive east)) (unsigned_abs east) east rest l (omega arith) (offset_value east) stops)
 
@@ -220,13 +222,10 @@ time_value (pos zero) = refl
 time_value (pos (suc n)) = refl
 time_value (negsuc n) = refl
 
-time_hours : (time : ℤ) → IsWithinWeek time → unsigned_abs time / 3600 ≤ 167
-time_hours (pos n) h = let a = h.1 in let b : n < 604800 = omega (arith, ints) in omega arith
-time_hours (negsuc n) h = let a = h.0 in let b : suc n < 604800 = omega (arith, ints) in omega arith
-
 pub time_writes : (extended : Bool) (time : ℤ) (rest : List ℕ) → IsTimeOf extended time → Stops rest → Writes (tz.time extended) (time_text time) time rest
 unfolding time_text tz.time tz.time_sign
-time_writes true time rest h stops = let l = time_hours time h in
+time_writes true time rest h stops =
+    let l : unsigned_abs time / 3600 ≤ 167 = omega (arith, hours_within 168 time h) in
     signed_writes (is_negative time) (unsigned_abs time) time rest (omega arith)
     (duration_writes 167 (is_negative time) (unsigned_abs time) time rest l (omega arith) (time_value time) stops)
 time_writes false (pos n) rest h stops =

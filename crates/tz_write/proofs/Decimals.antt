@@ -1,10 +1,15 @@
 -- Decimal digits without zeros in front are the shortest that spell a number.
-use Rattle.tz_write.proofs.Words.{AllDigits, AreInPairs, IsNumber, List, NoneFirst, TwoDigits, arith, both_ways, cases_lt, colon, decimal, decimal_digit}
-use Rattle.tz_write.proofs.Words.{decimal_step, inl, inr, is_digit, length, nat_tests, pair_text, refl, subst, true, value_from, ℕ, [], ◌%◌, ◌++◌, ◌+◌, ◌/◌}
-use Rattle.tz_write.proofs.Words.{◌<◌, ◌∷◌, ◌≡◌, ◌≤◌}
+use Rattle.std.proofs.lemmas.Fmt.{decimal-digits_value, decimal_nonempty, digits_decimal, digits_value-decimal}
+use Rattle.std.proofs.lemmas.Str.Parse.{IsNumeralModel, numerals_by_fold}
 use Rattle.tz_base.specs.Grammar.{Number}
-use Rattle.tz_write.proofs.Shortest.{Best, Front, front_cons}
+use Rattle.tz_write.proofs.Words.{AllDigits, AreInPairs, IsNumber, List, NoneFirst, TwoDigits, ap, arith, both_ways, cases_eq, colon, decimal, inl, inr}
+use Rattle.tz_write.proofs.Words.{is_digit, length, nat_tests, pair_text, refl, rules, subst, sym, true, value_from, ℕ, [], ◌%◌, ◌++◌, ◌+◌, ◌/◌, ◌<◌, ◌∙◌, ◌∷◌}
+use Rattle.tz_write.proofs.Words.{◌≡◌, ◌≤◌}
+use Rattle.tz_write.proofs.Shortest.{Best, Front, at_most, front_cons}
 use Rattle.tz_write.proofs.TextBytes.{Writes, digits_are}
+
+own : IsNumeralModel AllDigits (value_from 0)
+own = numerals_by_fold AllDigits (search rules) value_from (search rules)
 
 is_digit_of : (d : ℕ) → d < 10 → is_digit (48 + d) ≡ true
 is_digit_of d h = grind (arith, nat_tests)
@@ -14,12 +19,6 @@ digit_least b h = grind (arith, nat_tests)
 
 pub digit_most : (b : ℕ) → is_digit b ≡ true → b ≤ 57
 digit_most b h = grind (arith, nat_tests)
-
-two : (n : ℕ) → 10 ≤ n → n < 100 → decimal n ≡ (48 + n / 10) ∷ (48 + n % 10) ∷ []
-two n more low = rw (decimal_step n more (omega arith), decimal_digit (n / 10) (omega arith)) refl
-
-three : (n : ℕ) → 100 ≤ n → n < 1000 → decimal n ≡ (48 + n / 10 / 10) ∷ (48 + n / 10 % 10) ∷ (48 + n % 10) ∷ []
-three n more low = rw (decimal_step n (omega arith) (omega arith), two (n / 10) (omega arith) (omega arith)) refl
 
 pairs_digits : (ds rest : List ℕ) → AllDigits ds → AreInPairs rest → AreInPairs (ds ++ rest)
 pairs_digits [] rest each h = h
@@ -31,23 +30,11 @@ record Digits (n : ℕ) (ds : List ℕ) : Type 0 where
   pub some : 0 < length ds
   pub value : value_from 0 ds ≡ n
 
-spells_one : (n : ℕ) → n < 10 → Digits n ((48 + n) ∷ [])
-spells_one n h = record { each = (is_digit_of n h, tt); some = omega arith; value = omega arith }
-
 spells_two : (n : ℕ) → n < 100 → Digits n ((48 + n / 10) ∷ (48 + n % 10) ∷ [])
 spells_two n h = record { each = (is_digit_of (n / 10) (omega arith), (is_digit_of (n % 10) (omega arith), tt)); some = omega arith; value = omega arith }
 
-spells_three : (n : ℕ) → n < 1000 → Digits n ((48 + n / 10 / 10) ∷ (48 + n / 10 % 10) ∷ (48 + n % 10) ∷ [])
-spells_three n h = record { each = (is_digit_of (n / 10 / 10) (omega arith), (is_digit_of (n / 10 % 10) (omega arith), (is_digit_of (n % 10) (omega arith), tt))); some = omega arith; value = omega arith }
-
 spelled : (n : ℕ) → n < 1000 → Digits n (decimal n)
-spelled n h = elim (cases_lt n 10) [
-  | inl a ↦ rw (decimal_digit n a) (spells_one n a)
-  | inr a ↦ elim (cases_lt n 100) [
-    | inl b ↦ rw (two n a b) (spells_two n b)
-    | inr b ↦ rw (three n b h) (spells_three n h)
-  ]
-]
+spelled n h = record { each = digits_decimal own n (omega arith); some = decimal_nonempty n (omega arith); value = digits_value-decimal own n (omega arith) }
 
 digits_write : (max n : ℕ) (ds rest : List ℕ) → Digits n ds → n ≤ max → NoneFirst is_digit rest → Writes (Number max) ds n rest
 digits_write max n ds rest s l none = record {
@@ -66,53 +53,14 @@ pub two_digits : (n : ℕ) (rest : List ℕ) → n < 100 → NoneFirst is_digit 
 two_digits n rest h none = (is_digit_of (n / 10) (omega arith), is_digit_of (n % 10) (omega arith), none)
 
 -- ---- no fewer digits do
-least_one : (n d : ℕ) → is_digit d ≡ true → value_from 0 (d ∷ []) ≡ n → Best (decimal n) (d ∷ [])
-least_one n d h v = let a = digit_least d h in let b = digit_most d h in
-    let l : n < 10 = omega arith in
-    let e : d ≡ 48 + n = omega arith in
-    inl (rw (decimal_digit n l, e) refl)
-
-length_one : (n : ℕ) → n < 10 → length (decimal n) ≡ 1
-length_one n h = rw (decimal_digit n h) refl
-
-least_two : (n d e : ℕ) → is_digit d ≡ true → is_digit e ≡ true → value_from 0 (d ∷ e ∷ []) ≡ n → Best (decimal n) (d ∷ e ∷ [])
-least_two n d e h k v = let a = digit_least d h in let b = digit_most d h in let a' = digit_least e k in let b' = digit_most e k in
-    elim (cases_lt n 10) [
-      | inl low ↦ let l = length_one n low in inr (omega arith)
-      | inr more ↦
-          let l : n < 100 = omega arith in
-          let x : d ≡ 48 + n / 10 = omega arith in
-          let y : e ≡ 48 + n % 10 = omega arith in
-          inl (rw (two n more l, x, y) refl)
-    ]
-
-length_two : (n : ℕ) → n < 100 → length (decimal n) ≤ 2
-length_two n h = elim (cases_lt n 10) [ inl low ↦ let l = length_one n low in omega arith | inr more ↦ rw (two n more h) (omega arith) ]
-
-least_three : (n d e f : ℕ) → is_digit d ≡ true → is_digit e ≡ true → is_digit f ≡ true → value_from 0 (d ∷ e ∷ f ∷ []) ≡ n → Best (decimal n) (d ∷ e ∷ f ∷ [])
-least_three n d e f h k m v =
-    let a = digit_least d h in let b = digit_most d h in
-    let a' = digit_least e k in let b' = digit_most e k in
-    let a'' = digit_least f m in let b'' = digit_most f m in
-    elim (cases_lt n 100) [
-      | inl low ↦ let l = length_two n low in inr (omega arith)
-      | inr more ↦
-          let l : n < 1000 = omega arith in
-          let x : d ≡ 48 + n / 10 / 10 = omega arith in
-          let y : e ≡ 48 + n / 10 % 10 = omega arith in
-          let z : f ≡ 48 + n % 10 = omega arith in
-          inl (rw (three n more l, x, y, z) refl)
-    ]
-
-length_three : (n : ℕ) → n < 1000 → length (decimal n) ≤ 3
-length_three n h = elim (cases_lt n 100) [ inl low ↦ let l = length_two n low in omega arith | inr more ↦ rw (three n more h) (omega arith) ]
-
+-- zeros in front may go, and then the digits are those of the number
 decimal_best : (n : ℕ) (ds : List ℕ) → n < 1000 → AllDigits ds → 0 < length ds → value_from 0 ds ≡ n → Best (decimal n) ds
 decimal_best n [] h each some value = absurd (omega arith)
-decimal_best n (d ∷ []) h each some value = least_one n d each.0 value
-decimal_best n (d ∷ e ∷ []) h each some value = least_two n d e each.0 each.1.0 value
-decimal_best n (d ∷ e ∷ f ∷ []) h each some value = least_three n d e f each.0 each.1.0 each.1.1.0 value
-decimal_best n (d ∷ e ∷ f ∷ g ∷ ds) h each some value = let l = length_three n h in inr (omega arith)
+decimal_best n (d ∷ []) h each some value = inl (sym (decimal-digits_value own (d ∷ []) each some (λ _. refl) (omega (arith, value))) ∙ ap decimal value)
+decimal_best n (d ∷ e ∷ ds) h each some value = elim (cases_eq d 48) [
+  | inl zero ↦ let l = at_most (decimal n) (e ∷ ds) (decimal_best n (e ∷ ds) h each.1 (omega arith) (rw zero at value)) in inr (omega arith)
+  | inr other ↦ inl (sym (decimal-digits_value own (d ∷ e ∷ ds) each some (λ z. absurd (other z)) (omega (arith, value))) ∙ ap decimal value)
+]
 
 pub number_front : (max : ℕ) (bytes : List ℕ) (n : ℕ) (rest : List ℕ) → n < 1000 → IsNumber max bytes n rest → Front (decimal n) bytes rest
 number_front max bytes n rest h p = record { front = p.digits; whole = p.whole; best = decimal_best n p.digits h p.each p.some p.value }

@@ -1,9 +1,9 @@
 -- Headers that are written are headers.
 use Rattle.tz_info.specs.declared.file.header.Version.TheVariants.{Three, Two}
-use Rattle.tz_write.proofs.Words.{Bool, Counts, CountsAgree, List, Place, be_u32, Spells, Version, arith, counts_bytes, false, header, header_bytes, inl, inr}
+use Rattle.tz_write.proofs.Words.{Bool, Counts, CountsAgree, List, Place, Spells, Version, arith, be_u32, counts_bytes, false, header, header_bytes, inl, inr}
 use Rattle.tz_write.proofs.Words.{magic, number_bytes, refl, six_counts, true, tzif, unused, version, version_byte, ℕ, ◌++◌, ◌<◌, ◌^◌, ◌∷◌}
 use Rattle.tz_base.specs.Grammar.{Grammar, Then}
-use Rattle.tz_write.proofs.FileNumbers.{number_is}
+use Rattle.tz_write.proofs.FileRecords.{number_is}
 
 -- counts of four bytes
 abbrev pub CountsFit : Counts → Type 0

@@ -1,23 +1,20 @@
 -- Where any designations have the names of the types at places that a byte can name, those that are laid have them.
-use Rattle.tz_write.proofs.Words.{All, All-cons, All-head, All-nil, All-tail, All-weaker, AreNamesIn, AreNotPlacedBefore, ArePlaced, AreShortest, HasNoZero}
-use Rattle.tz_write.proofs.Words.{HasPlace, HavePlaces, In_order, IsFirstPlaced, IsLaid, IsNameOrNone, IsNamedIn, IsPlacedFrom, List, LocalType, MatchOption}
-use Rattle.tz_write.proofs.Words.{None, Option, Otherwise, Some, StandsAt, ap, append-nil, append_assoc, arith, before_last, before_zero, both_ways, cases_lt}
-use Rattle.tz_write.proofs.Words.{drop, drop-append_seam, ends, false, get_or, inl, inr, laid, laid_from, length, length-append, nat_tests, place_of, refl}
-use Rattle.tz_write.proofs.Words.{subst, suc, sym, text_at, text_or_none, true, with_text, zero, ℕ, [], ◌*◌, ◌++◌, ◌+◌, ◌<◌, ◌==◌, ◌∙◌, ◌∷◌, ◌≡◌, ◌≢◌, ◌≤◌, ◌⊎◌}
-use Rattle.tz_write.specs.FileDesignations.{text_of}
-use Rattle.tz_write.proofs.FileMeetings.{Behind, Ends, Has_end, In_front, Is_end, Meeting, Stands, meet}
-use Rattle.tz_write.proofs.FileNames.{In, end_in, ends_again, ends_of, in_stands, place_behind, place_kept, place_of_put, put_in}
+use Rattle.tz_write.proofs.Words.{All, All-cons, All-head, All-nil, All-weaker, AreNamesIn, AreNotPlacedBefore, ArePlaced, AreShortest, Bool, Decides}
+use Rattle.tz_write.proofs.Words.{Decides-and, Decides-by_and, Decides-like, Decides-ltb, HasNoZero, HasPlace, HavePlaces, In_order, IsFirstPlaced, IsLaid}
+use Rattle.tz_write.proofs.Words.{IsNameOrNone, IsNamedIn, IsPlacedFrom, List, LocalType, MatchOption, None, Option, Otherwise, Some, StandsAt, ap, append-nil}
+use Rattle.tz_write.proofs.Words.{append_assoc, arith, before_last, before_zero, both_ways, cases_lt, drop, drop-append_seam, ends, false, false≢true, get_or}
+use Rattle.tz_write.proofs.Words.{inl, inr, laid, laid_from, length, length-append, list_all, name_of, name_or_none, nat_lt, nat_tests, nil_from_length}
+use Rattle.tz_write.proofs.Words.{place_of, refl, subst, suc, sym, text_at, true, with_text, zero, ℕ, [], ◌&&◌, ◌*◌, ◌++◌, ◌+◌, ◌<◌, ◌==◌, ◌∙◌, ◌∷◌, ◌≡◌, ◌≢◌}
+use Rattle.tz_write.proofs.Words.{◌≤◌, ◌⊎◌}
+use Rattle.tz_write.proofs.FileNames.{Behind, Ends, Has_end, In, In_front, Is_end, Meeting, Stands, end_in, ends_again, ends_of, in_stands, meet, place_behind}
+use Rattle.tz_write.proofs.FileNames.{place_kept, place_of_put, put_in}
 use Rattle.tz_write.proofs.FileRecords.{has_text, no_zero}
 use Rattle.tz_write.proofs.FileRoom.{Given, Room, before_filled, before_keeps, before_passed, by_text, kept, no_front, put, put_is, room_of}
 
 -- ---- texts
-name_size : (name : Option (List ℕ)) → IsNameOrNone name → (length (text_or_none name) ≤ 7) × ((length (text_or_none name) ≡ 0) ⊎ (3 ≤ length (text_or_none name)))
+name_size : (name : Option (List ℕ)) → IsNameOrNone name → (length (name_or_none name) ≤ 7) × ((length (name_or_none name) ≡ 0) ⊎ (3 ≤ length (name_or_none name)))
 name_size None h = (omega arith, inl refl)
 name_size (Some text) h = (h.1, inr h.0)
-
-nothing : (s : List ℕ) → length s ≡ 0 → s ≡ []
-nothing [] h = refl
-nothing (x ∷ xs) h = absurd (omega (arith, h))
 
 whole_size : (bytes b x a : List ℕ) → bytes ≡ b ++ (x ++ (0 ∷ a)) → length bytes ≡ length b + length x + 1 + length a
 whole_size bytes b x a e = omega (arith, ap length e, length-append b (x ++ (0 ∷ a)), length-append x (0 ∷ a))
@@ -51,47 +48,47 @@ greatest key t (u ∷ us) =
 -- ---- designations that have the names
 pub record Served (bytes : List ℕ) (t : LocalType) : Type 0 where
   pub named : IsNameOrNone t.name
-  pub stands : StandsAt bytes (place_of (text_of t) bytes) (text_of t)
-  pub low : place_of (text_of t) bytes < 256
+  pub stands : StandsAt bytes (place_of (name_of t) bytes) (name_of t)
+  pub low : place_of (name_of t) bytes < 256
 
 served : (bytes : List ℕ) (t : LocalType) → IsNameOrNone t.name → IsNamedIn bytes t → Served bytes t
 served bytes t named h =
     let s = h.stands in
-    let at = subst (λ (b : List ℕ). place_of (text_of t) b ≤ length s.before) (sym s.whole) (place_behind (text_of t) s.before s.after) in
+    let at = subst (λ (b : List ℕ). place_of (name_of t) b ≤ length s.before) (sym s.whole) (place_behind (name_of t) s.before s.after) in
     record {
       named = named;
-      stands = has_text (text_of t) bytes s.ends (omega (arith, at, whole_size bytes s.before (text_of t) s.after s.whole));
+      stands = has_text (name_of t) bytes s.ends (omega (arith, at, whole_size bytes s.before (name_of t) s.after s.whole));
       low = omega (arith, at, h.named, s.at);
     }
 
 -- the byte behind the text, and of two texts before one 0 byte the longer
 key_in : List ℕ → LocalType → ℕ
-key_in bytes t = 8 * (place_of (text_of t) bytes + length (text_of t)) + length (text_of t)
+key_in bytes t = 8 * (place_of (name_of t) bytes + length (name_of t)) + length (name_of t)
 
 -- the text stands in front of the last one, or ends where that ends
 pub record EndsWith (bytes : List ℕ) (m t : LocalType) : Type 0 where
-  pub ends : Ends (text_of m) (text_of t)
-  pub at : place_of (text_of t) bytes + length (text_of t) ≡ place_of (text_of m) bytes + length (text_of m)
+  pub ends : Ends (name_of m) (name_of t)
+  pub at : place_of (name_of t) bytes + length (name_of t) ≡ place_of (name_of m) bytes + length (name_of m)
 
-where_by : (bytes : List ℕ) (m t : LocalType) (sm : Served bytes m) (st : Served bytes t) → length (text_of m) ≤ 7 → key_in bytes t ≤ key_in bytes m
-    → Meeting sm.stands.before (text_of m) sm.stands.after st.stands.before (text_of t) st.stands.after → Stands sm.stands.before (text_of t) ⊎ EndsWith bytes m t
+where_by : (bytes : List ℕ) (m t : LocalType) (sm : Served bytes m) (st : Served bytes t) → length (name_of m) ≤ 7 → key_in bytes t ≤ key_in bytes m
+    → Meeting sm.stands.before (name_of m) sm.stands.after st.stands.before (name_of t) st.stands.after → Stands sm.stands.before (name_of t) ⊎ EndsWith bytes m t
 unfolding key_in
 where_by bytes m t sm st short top (In_front e h) = inl (record { before = st.stands.before; after = e; whole = h })
 where_by bytes m t sm st short top (Behind e h) =
-    absurd (omega (arith, top, short, whole_size sm.stands.after e (text_of t) st.stands.after h, whole_size bytes sm.stands.before (text_of m) sm.stands.after sm.stands.whole, whole_size bytes st.stands.before (text_of t) st.stands.after st.stands.whole, sm.stands.at, st.stands.at))
+    absurd (omega (arith, top, short, whole_size sm.stands.after e (name_of t) st.stands.after h, whole_size bytes sm.stands.before (name_of m) sm.stands.after sm.stands.whole, whole_size bytes st.stands.before (name_of t) st.stands.after st.stands.whole, sm.stands.at, st.stands.at))
 where_by bytes m t sm st short top (Is_end f h l) = inr (record {
   ends = record { front = f; is = h };
-  at = omega (arith, ap length l, whole_size bytes sm.stands.before (text_of m) sm.stands.after sm.stands.whole, whole_size bytes st.stands.before (text_of t) st.stands.after st.stands.whole, sm.stands.at, st.stands.at);
+  at = omega (arith, ap length l, whole_size bytes sm.stands.before (name_of m) sm.stands.after sm.stands.whole, whole_size bytes st.stands.before (name_of t) st.stands.after st.stands.whole, sm.stands.at, st.stands.at);
 })
 where_by bytes m t sm st short top (Has_end f h l) =
-    let at : place_of (text_of t) bytes + length (text_of t) ≡ place_of (text_of m) bytes + length (text_of m) =
-    omega (arith, ap length l, whole_size bytes sm.stands.before (text_of m) sm.stands.after sm.stands.whole, whole_size bytes st.stands.before (text_of t) st.stands.after st.stands.whole, sm.stands.at, st.stands.at) in
-    inr (record { ends = record { front = []; is = sym (h ∙ no_front f (text_of m) (omega (arith, top, at, ap length h))) }; at = at })
+    let at : place_of (name_of t) bytes + length (name_of t) ≡ place_of (name_of m) bytes + length (name_of m) =
+    omega (arith, ap length l, whole_size bytes sm.stands.before (name_of m) sm.stands.after sm.stands.whole, whole_size bytes st.stands.before (name_of t) st.stands.after st.stands.whole, sm.stands.at, st.stands.at) in
+    inr (record { ends = record { front = []; is = sym (h ∙ no_front f (name_of m) (omega (arith, top, at, ap length h))) }; at = at })
 
-where_is : (bytes : List ℕ) (m t : LocalType) (sm : Served bytes m) → Served bytes t → key_in bytes t ≤ key_in bytes m → Stands sm.stands.before (text_of t) ⊎ EndsWith bytes m t
+where_is : (bytes : List ℕ) (m t : LocalType) (sm : Served bytes m) → Served bytes t → key_in bytes t ≤ key_in bytes m → Stands sm.stands.before (name_of t) ⊎ EndsWith bytes m t
 where_is bytes m t sm st top =
     where_by bytes m t sm st ((name_size m.name sm.named).0) top
-    (meet sm.stands.before (text_of m) sm.stands.after st.stands.before (text_of t) st.stands.after sm.stands.ends st.stands.ends (sym sm.stands.whole ∙ st.stands.whole))
+    (meet sm.stands.before (name_of m) sm.stands.after st.stands.before (name_of t) st.stands.after sm.stands.ends st.stands.ends (sym sm.stands.whole ∙ st.stands.whole))
 
 -- ---- laid with that text as the last
 kept_low : (designations other text : List ℕ) → In designations text → place_of text (with_text designations other) ≤ place_of text designations
@@ -99,32 +96,32 @@ kept_low designations other text h = by_text (λ d. place_of text d ≤ place_of
     (λ _ _. place_kept text designations (other ++ 0 ∷ []) h)
 
 -- a text has its place in what is laid, if it stands before the last one, or else in what that ends
-in_place : (designations last : List ℕ) (t : LocalType) → length designations ≤ 256 → In designations (text_of t) → HasPlace (with_text designations last) t
+in_place : (designations last : List ℕ) (t : LocalType) → length designations ≤ 256 → In designations (name_of t) → HasPlace (with_text designations last) t
 in_place designations last t short h = record {
-  stands = kept designations last (text_of t) h;
-  named = omega (arith, kept_low designations last (text_of t) h, h, short);
+  stands = kept designations last (name_of t) h;
+  named = omega (arith, kept_low designations last (name_of t) h, h, short);
 }
 
-at_end : (designations last : List ℕ) (t : LocalType) → Ends last (text_of t) → length designations ≤ place_of last designations → length designations + length last < 263
-    → length designations + length last < 256 + length (text_of t) → HasPlace (with_text designations last) t
+at_end : (designations last : List ℕ) (t : LocalType) → Ends last (name_of t) → length designations ≤ place_of last designations → length designations + length last < 263
+    → length designations + length last < 256 + length (name_of t) → HasPlace (with_text designations last) t
 at_end designations last t e out room low =
     subst (λ (d : List ℕ). HasPlace d t) (sym (put_is designations last out room))
-    (record { stands = put_in designations last (text_of t) e; named = omega (arith, place_of_put designations last (text_of t) e, low) })
+    (record { stands = put_in designations last (name_of t) e; named = omega (arith, place_of_put designations last (name_of t) e, low) })
 
-at_the_end : (bytes designations : List ℕ) (m t : LocalType) (sm : Served bytes m) → Served bytes t → Room (text_of m) designations sm.stands.before 3
-    → (designations ≡ []) ⊎ In designations [] → length designations ≤ place_of (text_of m) designations → length designations ≤ place_of (text_of t) designations → Ends (text_of m) (text_of t)
-    → Stands sm.stands.before (text_of t) ⊎ EndsWith bytes m t → HasPlace (with_text designations (text_of m)) t
+at_the_end : (bytes designations : List ℕ) (m t : LocalType) (sm : Served bytes m) → Served bytes t → Room (name_of m) designations sm.stands.before 3
+    → (designations ≡ []) ⊎ In designations [] → length designations ≤ place_of (name_of m) designations → length designations ≤ place_of (name_of t) designations → Ends (name_of m) (name_of t)
+    → Stands sm.stands.before (name_of t) ⊎ EndsWith bytes m t → HasPlace (with_text designations (name_of m)) t
 at_the_end bytes designations m t sm st r filled out away e (inr q) =
-    at_end designations (text_of m) t e out (omega (arith, r.fits, sm.stands.at, sm.low, (name_size m.name sm.named).0)) (omega (arith, r.fits, sm.stands.at, q.at, st.low))
+    at_end designations (name_of m) t e out (omega (arith, r.fits, sm.stands.at, sm.low, (name_size m.name sm.named).0)) (omega (arith, r.fits, sm.stands.at, q.at, st.low))
 at_the_end bytes designations m t sm st r filled out away e (inl s) =
     let short = (name_size m.name sm.named).0 in
-    at_end designations (text_of m) t e out (omega (arith, r.fits, sm.stands.at, sm.low, short))
+    at_end designations (name_of m) t e out (omega (arith, r.fits, sm.stands.at, sm.low, short))
     (elim ((name_size t.name st.named).1) [
       | inl none ↦ elim filled [
         | inl empty ↦ omega (arith, ap length empty, short)
-        | inr ended ↦ absurd (omega (arith, away, subst (λ (x : List ℕ). In designations x) (sym (nothing (text_of t) none)) ended))
+        | inr ended ↦ absurd (omega (arith, away, subst (λ (x : List ℕ). In designations x) (sym (nil_from_length (name_of t) none)) ended))
       ]
-      | inr three ↦ omega (arith, three, short, sm.low, sm.stands.at, room_of (text_of m) designations sm.stands.before (text_of t) 3 r st.stands.ends (inr e) s away)
+      | inr three ↦ omega (arith, three, short, sm.low, sm.stands.at, room_of (name_of m) designations sm.stands.before (name_of t) 3 r st.stands.ends (inr e) s away)
     ])
 
 has_end : (last text : List ℕ) → ((Ends last text → ⊥) → ⊥) → Ends last text
@@ -133,87 +130,87 @@ has_end last text h = elim (ends last text) as (λ b. ends last text ≡ b → E
   | false ↦ λ e. absurd (h (λ k. both_ways _ e (ends_again last text k)))
 ] refl
 
-laid_place : (bytes designations : List ℕ) (m t : LocalType) (sm : Served bytes m) → Served bytes t → Room (text_of m) designations sm.stands.before 3 → (designations ≡ []) ⊎ In designations []
-    → (3 ≤ length (text_of t) → length (text_of t) ≤ 7 → (Ends (text_of m) (text_of t) → ⊥) → In designations (text_of t)) → Stands sm.stands.before (text_of t) ⊎ EndsWith bytes m t
-    → HasPlace (with_text designations (text_of m)) t
+laid_place : (bytes designations : List ℕ) (m t : LocalType) (sm : Served bytes m) → Served bytes t → Room (name_of m) designations sm.stands.before 3 → (designations ≡ []) ⊎ In designations []
+    → (3 ≤ length (name_of t) → length (name_of t) ≤ 7 → (Ends (name_of m) (name_of t) → ⊥) → In designations (name_of t)) → Stands sm.stands.before (name_of t) ⊎ EndsWith bytes m t
+    → HasPlace (with_text designations (name_of m)) t
 laid_place bytes designations m t sm st r filled put_in_before where_t =
-    elim (cases_lt (place_of (text_of t) designations) (length designations)) [
-      | inl l ↦ in_place designations (text_of m) t (omega (arith, r.fits, sm.stands.at, sm.low)) l
+    elim (cases_lt (place_of (name_of t) designations) (length designations)) [
+      | inl l ↦ in_place designations (name_of m) t (omega (arith, r.fits, sm.stands.at, sm.low)) l
       | inr away ↦
           let size = name_size t.name st.named in
-          let e = has_end (text_of m) (text_of t) (λ free. elim size.1 [
-            | inl none ↦ free (record { front = text_of m; is = sym (ap (λ (s : List ℕ). text_of m ++ s) (nothing (text_of t) none) ∙ append-nil (text_of m)) })
+          let e = has_end (name_of m) (name_of t) (λ free. elim size.1 [
+            | inl none ↦ free (record { front = name_of m; is = sym (ap (λ (s : List ℕ). name_of m ++ s) (nil_from_length (name_of t) none) ∙ append-nil (name_of m)) })
             | inr three ↦ absurd (omega (arith, away, put_in_before three size.0 free))
           ]) in
-          elim (cases_lt (place_of (text_of m) designations) (length designations)) [
-            | inl l ↦ absurd (omega (arith, away, end_in designations (text_of m) (text_of t) sm.stands.ends e l))
+          elim (cases_lt (place_of (name_of m) designations) (length designations)) [
+            | inl l ↦ absurd (omega (arith, away, end_in designations (name_of m) (name_of t) sm.stands.ends e l))
             | inr out ↦ at_the_end bytes designations m t sm st r filled out away e where_t
           ]
     ]
 
 -- ---- all types
-given_before : (bytes : List ℕ) (m : LocalType) (sm : Served bytes m) (t : LocalType) → Served bytes t → key_in bytes t ≤ key_in bytes m → Given (text_of m) sm.stands.before t
+given_before : (bytes : List ℕ) (m : LocalType) (sm : Served bytes m) (t : LocalType) → Served bytes t → key_in bytes t ≤ key_in bytes m → Given (name_of m) sm.stands.before t
 given_before bytes m sm t st top = record {
   none = st.stands.ends;
   stands = λ free. elim (where_is bytes m t sm st top) [ inl s ↦ s | inr q ↦ absurd (free q.ends) ];
 }
 
-places_with : (bytes : List ℕ) (types : List LocalType) (m : LocalType) (sm : Served bytes m) → All (Served bytes) types → All (λ t. key_in bytes t ≤ key_in bytes m) types → HavePlaces (laid (text_of m) types) types
+places_with : (bytes : List ℕ) (types : List LocalType) (m : LocalType) (sm : Served bytes m) → All (Served bytes) types → All (λ t. key_in bytes t ≤ key_in bytes m) types → HavePlaces (laid (name_of m) types) types
 unfolding laid
 places_with bytes types m sm s top =
-    let given : All (Given (text_of m) sm.stands.before) types = λ i d l. given_before bytes m sm (get_or types i d) (s i d l) (top i d l) in
-    let p = before_passed (text_of m) sm.stands.before types given in
+    let given : All (Given (name_of m) sm.stands.before) types = λ i d l. given_before bytes m sm (get_or types i d) (s i d l) (top i d l) in
+    let p = before_passed (name_of m) sm.stands.before types given in
     let inside = p.inside (omega (arith, sm.stands.at, sm.low)) in
-    λ i d l. laid_place bytes (before_last (text_of m) types) m (get_or types i d) sm (s i d l) p.room (before_filled (text_of m) types) (inside i d l)
+    λ i d l. laid_place bytes (before_last (name_of m) types) m (get_or types i d) sm (s i d l) p.room (before_filled (name_of m) types) (inside i d l)
     (where_is bytes m (get_or types i d) sm (s i d l) (top i d l))
 
 -- ---- the texts stand in what is laid in order
 with_last : List ℕ → List ℕ → List ℕ
 with_last before last = before ++ (last ++ 0 ∷ [])
 
-stands_with : (bytes : List ℕ) (m t : LocalType) (sm : Served bytes m) → Stands sm.stands.before (text_of t) ⊎ EndsWith bytes m t → Stands (with_last sm.stands.before (text_of m)) (text_of t)
+stands_with : (bytes : List ℕ) (m t : LocalType) (sm : Served bytes m) → Stands sm.stands.before (name_of t) ⊎ EndsWith bytes m t → Stands (with_last sm.stands.before (name_of m)) (name_of t)
 unfolding with_last
 stands_with bytes m t sm (inl s) =
-    let more = text_of m ++ 0 ∷ [] in
+    let more = name_of m ++ 0 ∷ [] in
     record {
       before = s.before;
       after = s.after ++ more;
-      whole = ap (λ (x : List ℕ). x ++ more) s.whole ∙ (append_assoc s.before (text_of t ++ (0 ∷ s.after)) more ∙ ap (λ (x : List ℕ). s.before ++ x) (append_assoc (text_of t) (0 ∷ s.after) more));
+      whole = ap (λ (x : List ℕ). x ++ more) s.whole ∙ (append_assoc s.before (name_of t ++ (0 ∷ s.after)) more ∙ ap (λ (x : List ℕ). s.before ++ x) (append_assoc (name_of t) (0 ∷ s.after) more));
     }
 stands_with bytes m t sm (inr q) =
     let b = sm.stands.before in let f = q.ends.front in
     record {
       before = b ++ f;
       after = [];
-      whole = ap (λ (x : List ℕ). b ++ (x ++ 0 ∷ [])) q.ends.is ∙ (ap (λ (x : List ℕ). b ++ x) (append_assoc f (text_of t) (0 ∷ [])) ∙ sym (append_assoc b f (text_of t ++ 0 ∷ [])));
+      whole = ap (λ (x : List ℕ). b ++ (x ++ 0 ∷ [])) q.ends.is ∙ (ap (λ (x : List ℕ). b ++ x) (append_assoc f (name_of t) (0 ∷ [])) ∙ sym (append_assoc b f (name_of t ++ 0 ∷ [])));
     }
 
 with_last_size : (before last : List ℕ) → length (with_last before last) ≡ length before + length last + 1
 unfolding with_last
 with_last_size before last = omega (arith, length-append before (last ++ 0 ∷ []), length-append last (0 ∷ []))
 
-no_text : (bytes : List ℕ) (t : LocalType) → Stands bytes (text_of t) → Stands bytes []
-no_text bytes t s = record { before = s.before ++ text_of t; after = s.after; whole = s.whole ∙ sym (append_assoc s.before (text_of t) (0 ∷ s.after)) }
+no_text : (bytes : List ℕ) (t : LocalType) → Stands bytes (name_of t) → Stands bytes []
+no_text bytes t s = record { before = s.before ++ name_of t; after = s.after; whole = s.whole ∙ sym (append_assoc s.before (name_of t) (0 ∷ s.after)) }
 
 not_of_none : (text : List ℕ) → 3 ≤ length text → Ends [] text → ⊥
 not_of_none text l e = omega (arith, l, ap length e.is, length-append e.front text)
 
 in_order_in : (bytes : List ℕ) (types : List LocalType) (m : LocalType) (sm : Served bytes m) → All (Served bytes) types → All (λ t. key_in bytes t ≤ key_in bytes m) types
-    → All (λ t. In (laid [] types) (text_of t)) types
+    → All (λ t. In (laid [] types) (name_of t)) types
 unfolding laid
 in_order_in bytes types m sm s top i d l =
-    let others = with_last sm.stands.before (text_of m) in
-    let stands : All (λ t. Stands others (text_of t)) types = λ i d l. stands_with bytes m (get_or types i d) sm (where_is bytes m (get_or types i d) sm (s i d l) (top i d l)) in
+    let others = with_last sm.stands.before (name_of m) in
+    let stands : All (λ t. Stands others (name_of t)) types = λ i d l. stands_with bytes m (get_or types i d) sm (where_is bytes m (get_or types i d) sm (s i d l) (top i d l)) in
     let given : All (Given [] others) types = λ i d l. record { none = (s i d l).stands.ends; stands = λ free. stands i d l } in
-    let short : length others ≤ 263 = omega (arith, with_last_size sm.stands.before (text_of m), sm.stands.at, sm.low, (name_size m.name sm.named).0) in
+    let short : length others ≤ 263 = omega (arith, with_last_size sm.stands.before (name_of m), sm.stands.at, sm.low, (name_size m.name sm.named).0) in
     let t = get_or types i d in
     let size = name_size t.name (s i d l).named in
     let c = before_last [] types in
     let p = before_passed [] others types given in
     elim size.1 [
-      | inl none ↦ subst (λ (x : List ℕ). In (with_text c []) x) (sym (nothing (text_of t) none))
+      | inl none ↦ subst (λ (x : List ℕ). In (with_text c []) x) (sym (nil_from_length (name_of t) none))
           (put c [] (λ out. omega (arith, short, room_of [] c others [] 3 p.room tt (inl (omega arith)) (no_text others t (stands i d l)) out)))
-      | inr three ↦ kept c [] (text_of t) (p.inside short i d l three size.0 (not_of_none (text_of t) three))
+      | inr three ↦ kept c [] (name_of t) (p.inside short i d l three size.0 (not_of_none (name_of t) three))
     ]
 
 -- ---- no shorter ones
@@ -236,13 +233,13 @@ in_order_short (t ∷ ts) others some names =
     (All-weaker (IsNamedIn others) (Given [] others) (named_given others) (t ∷ ts) names)
 
 -- ---- what is laid
-placed_with : (bytes : List ℕ) (types : List LocalType) (m : LocalType) (sm : Served bytes m) → All (Served bytes) types → All (λ t. key_in bytes t ≤ key_in bytes m) types → In (laid [] types) (text_of m)
-    → ArePlaced (laid (text_of m) types) types
+placed_with : (bytes : List ℕ) (types : List LocalType) (m : LocalType) (sm : Served bytes m) → All (Served bytes) types → All (λ t. key_in bytes t ≤ key_in bytes m) types → In (laid [] types) (name_of m)
+    → ArePlaced (laid (name_of m) types) types
 placed_with bytes types m sm s top found =
     let inside = in_order_in bytes types m sm s top in record {
       places = places_with bytes types m sm s top;
-      short = laid_short (text_of m) (laid [] types) types sm.stands.ends (in_stands (laid [] types) (text_of m) sm.stands.ends found)
-          (λ i d l. record { none = (s i d l).stands.ends; stands = λ free. in_stands (laid [] types) (text_of (get_or types i d)) (s i d l).stands.ends (inside i d l) });
+      short = laid_short (name_of m) (laid [] types) types sm.stands.ends (in_stands (laid [] types) (name_of m) sm.stands.ends found)
+          (λ i d l. record { none = (s i d l).stands.ends; stands = λ free. in_stands (laid [] types) (name_of (get_or types i d)) (s i d l).stands.ends (inside i d l) });
     }
 
 pub none_laid : (types : List LocalType) (bytes : List ℕ) → All (λ t. IsNameOrNone t.name) types → AreNamesIn bytes types → ¬ (HavePlaces (laid [] types) types)
@@ -254,11 +251,11 @@ none_laid (t ∷ ts) bytes named names unplaced none =
     let (place, inside, greatest_of) = greatest (key_in bytes) t ts in
     let m = get_or types place t in let sm = s place t inside in let above = greatest_of t in
     let found = in_order_in bytes types m sm s above place t inside in
-    let text = text_found (laid [] types) (text_of m) sm.stands.ends found in
+    let text = text_found (laid [] types) (name_of m) sm.stands.ends found in
     elim ((name_size m.name sm.named).1) [
-      | inl nothing_there ↦ unplaced (subst (λ (x : List ℕ). HavePlaces (laid x types) types) (nothing (text_of m) nothing_there)
+      | inl nothing_there ↦ unplaced (subst (λ (x : List ℕ). HavePlaces (laid x types) types) (nil_from_length (name_of m) nothing_there)
           (places_with bytes types m sm s above))
-      | inr three ↦ none (place_of (text_of m) (laid [] types)) found (record {
+      | inr three ↦ none (place_of (name_of m) (laid [] types)) found (record {
         name = omega (arith, three, ap length text);
         placed = subst (λ (x : List ℕ). ArePlaced (laid x types) types) (sym text) (placed_with bytes types m sm s above found);
       })
@@ -269,7 +266,7 @@ abbrev AreNames : List LocalType → Type 0
 AreNames types = All (λ t. IsNameOrNone t.name) types
 
 named_in : (designations : List ℕ) (t : LocalType) → IsNameOrNone t.name → HasPlace designations t → IsNamedIn designations t
-named_in designations t name h = record { place = place_of (text_of t) designations; stands = has_text (text_of t) designations (no_zero t.name name) h.stands; named = h.named }
+named_in designations t name h = record { place = place_of (name_of t) designations; stands = has_text (name_of t) designations (no_zero t.name name) h.stands; named = h.named }
 
 shortest : (types : List LocalType) (designations : List ℕ) → 0 < length types → AreNames types → HavePlaces designations types → length designations ≤ length (laid [] types) → AreShortest designations types
 shortest types designations some names h short = record {
@@ -296,36 +293,27 @@ laid_if_any types None some names unplaced h = λ d named. none_laid types d nam
 laid_if_any types (Some d) some names unplaced h = laid_with_last types d some names unplaced h
 
 -- ---- some designations are laid, if any have the names
-place_or_not : (designations : List ℕ) (t : LocalType) → HasPlace designations t ⊎ (¬ (HasPlace designations t))
-place_or_not designations t = elim (cases_lt (place_of (text_of t) designations) (length designations)) [
-  | inl l ↦ elim (cases_lt (place_of (text_of t) designations) 256) [
-    | inl m ↦ inl (record { stands = l; named = m })
-    | inr m ↦ inr (λ h. omega (arith, m, h.named))
-  ]
-  | inr l ↦ inr (λ h. omega (arith, l, h.stands))
-]
+decided : {P : Type 0} (b : Bool) → Decides b P → P ⊎ (¬ P)
+decided true d = inl (d.0 refl)
+decided false d = inr (λ p. false≢true (d.1 p))
 
-places_or_not : (designations : List ℕ) (types : List LocalType) → HavePlaces designations types ⊎ (¬ (HavePlaces designations types))
-places_or_not designations [] = inl (All-nil (HasPlace designations))
-places_or_not designations (t ∷ ts) = elim (place_or_not designations t) [
-  | inl h ↦ elim (places_or_not designations ts) [
-    | inl more ↦ inl (All-cons (HasPlace designations) t ts h more)
-    | inr not ↦ inr (λ all. not (All-tail (HasPlace designations) t ts all))
-  ]
-  | inr not ↦ inr (λ all. not (All-head (HasPlace designations) t ts all))
-]
+abbrev has_place : List ℕ → LocalType → Bool
+has_place designations t = nat_lt (place_of (name_of t) designations) (length designations) && nat_lt (place_of (name_of t) designations) 256
+
+place_decided : (designations : List ℕ) (t : LocalType) → Decides (has_place designations t) (HasPlace designations t)
+place_decided designations t =
+    Decides-like _ (λ p. record { stands = p.0; named = p.1 }) (λ h. (h.stands, h.named)) (Decides-and _ _ (Decides-ltb _ _) (Decides-ltb _ _))
+
+places_decided : (designations : List ℕ) (types : List LocalType) → Decides (list_all (has_place designations) types) (HavePlaces designations types)
+places_decided designations =
+    Decides-by_and (has_place designations) (HasPlace designations) (list_all (has_place designations)) (place_decided designations) refl (λ _ _. refl)
 
 placed_or_not : (types : List LocalType) (place : ℕ) → IsPlacedFrom types place ⊎ (¬ (IsPlacedFrom types place))
-placed_or_not types place = elim (cases_lt (length (text_at (laid [] types) place)) 3) [
-  | inl l ↦ inr (λ h. omega (arith, l, h.name))
-  | inr three ↦ elim (cases_lt (length (laid [] types)) (length (laid_from types place))) [
-    | inl l ↦ inr (λ h. omega (arith, l, h.placed.short))
-    | inr short ↦ elim (places_or_not (laid_from types place) types) [
-      | inl h ↦ inl (record { name = three; placed = record { places = h; short = short } })
-      | inr not ↦ inr (λ h. not h.placed.places)
-    ]
-  ]
-]
+placed_or_not types place = decided _ (Decides-like _
+    (λ p. record { name = p.0; placed = record { places = p.1.0; short = omega (arith, p.1.1) } })
+    (λ h. (h.name, (h.placed.places, omega (arith, h.placed.short))))
+    (Decides-and _ _ (Decides-ltb 2 (length (text_at (laid [] types) place)))
+    (Decides-and _ _ (places_decided (laid_from types place) types) (Decides-ltb (length (laid_from types place)) (suc (length (laid [] types)))))))
 
 first_placed : (types : List LocalType) (place : ℕ) → AreNotPlacedBefore types place ⊎ ((d : List ℕ) × IsFirstPlaced types d)
 first_placed types zero = inl (λ k l. absurd (omega (arith, l)))
@@ -341,7 +329,7 @@ first_placed types (suc n) = elim (first_placed types n) [
 ]
 
 pub laid_of : (types : List LocalType) (bytes : List ℕ) → 0 < length types → AreNames types → AreNamesIn bytes types → (d : List ℕ) × AreLaid types d
-laid_of types bytes some names named = elim (places_or_not (laid [] types) types) [
+laid_of types bytes some names named = elim (decided _ (places_decided (laid [] types) types)) [
   | inl h ↦ (laid [] types, laid_in_order types (laid [] types) some names refl h)
   | inr unplaced ↦ elim (first_placed types (length (laid [] types))) [
     | inl none ↦ absurd (none_laid types bytes names named unplaced none)

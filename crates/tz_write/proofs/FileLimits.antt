@@ -5,7 +5,7 @@ use Rattle.tz_write.proofs.Words.{All, All-cons, All-nil, All-tail, AreNamesIn, 
 use Rattle.tz_write.proofs.Words.{Header, IsNamedIn, IsTzFile, IsWritable, List, LocalType, None, Option, Parts, Place, Some, SpellTypes, Spells}
 use Rattle.tz_write.proofs.Words.{SpellsLeapSecond, SpellsType, StandsAt, Transition, TransitionRule, Version, Zone, after_first_block, ap, arith, be_u32}
 use Rattle.tz_write.proofs.Words.{block, designation_of, file, first_version, get_or_append_left, header, inl, inr, later_version, length, length-append}
-use Rattle.tz_write.proofs.Words.{length-map, map, place_in, refl, six_counts, subst, suc, sym, text_or_none, tzif, version, zero, ℕ, [], ◌*◌, ◌++◌, ◌+◌, ◌<◌}
+use Rattle.tz_write.proofs.Words.{length-map, map, name_or_none, place_in, refl, six_counts, subst, suc, sym, tzif, version, zero, ℕ, [], ◌*◌, ◌++◌, ◌+◌, ◌<◌}
 use Rattle.tz_write.proofs.Words.{◌^◌, ◌∙◌, ◌∷◌, ◌≡◌}
 use Rattle.std.proofs.lemmas.List.{get_or-map}
 use Rattle.tz_base.specs.Grammar.{Byte, Check, Ended, Exact, Grammar, Marked, Nothing, Number, Refused, Rest, Run, Then}
@@ -126,14 +126,14 @@ rule_spelled extended None (Some rule) h = let none : Some rule ≡ None = h in 
 rule_spelled extended (Some footer) (Some rule) h = rule_named extended h.text rule h.says.1
 
 -- ---- names
-text_back : (text : List ℕ) → text_or_none (designation_of text) ≡ text
+text_back : (text : List ℕ) → name_or_none (designation_of text) ≡ text
 text_back [] = refl
 text_back (b ∷ bs) = refl
 
 type_named : (designations bytes : List ℕ) (t : LocalType) → length bytes ≡ 6 → Bytes bytes → SpellsType designations bytes t → IsNamedIn designations t
 type_named designations bytes t size b h = record {
   place = place_in bytes;
-  stands = subst (λ (text : List ℕ). StandsAt designations (place_in bytes) text) (sym (text_back h.text) ∙ ap text_or_none h.name) h.stands;
+  stands = subst (λ (text : List ℕ). StandsAt designations (place_in bytes) text) (sym (text_back h.text) ∙ ap name_or_none h.name) h.stands;
   named = b 5 0 (omega (arith, size));
 }
 

@@ -1,13 +1,35 @@
 -- Records that are written spell their items.
-use Rattle.tz_write.proofs.Words.{All, All-head, All-tail, AreRecords, Bool, Decides-eqb, FitsSigned, HasNoZero, HasPlace, IsEntry, IsMark, IsNameOrNone}
-use Rattle.tz_write.proofs.Words.{IsTime, IsType, IsUtOffset, LeapSecond, List, LocalType, None, Option, Some, SpellLeapSeconds, SpellTransitions, SpellTypes}
-use Rattle.tz_write.proofs.Words.{SpellsLeapSecond, SpellsType, StandsAt, Transition, and_parts, ap, arith, begins, cond, designation_of, drop, drop_more}
-use Rattle.tz_write.proofs.Words.{false, false≢true, flat_map, flat_map_single, get_or, index_bytes, ints, is_name_byte, leap_bytes, least_offset, length}
-use Rattle.tz_write.proofs.Words.{length-append, mark_byte, nat_eq, nat_lt, nat_tests, place_of, refl, signed_bytes, starts_is, starts_with, subst, suc}
-use Rattle.tz_write.proofs.Words.{text_or_none, time_bytes, time_of, true, type_bytes, w32, w64, ℕ, ℤ, [], ◌&&◌, ◌*◌, ◌++◌, ◌+◌, ◌<ℤ◌, ◌<◌, ◌==◌, ◌∙◌, ◌∷◌, ◌≡◌}
-use Rattle.tz_write.proofs.Words.{◌≢◌}
-use Rattle.tz_write.specs.FileDesignations.{text_of}
-use Rattle.tz_write.proofs.FileNumbers.{signed_32, signed_64, size_32, size_64}
+use Rattle.std.proofs.lemmas.Int.{to_z-of_z}
+use Rattle.tz_write.proofs.Words.{All, All-head, All-tail, AreRecords, Bool, Decides-eqb, Fits-of_z, FitsSigned, HasNoZero, HasPlace, IsEntry, IsMark}
+use Rattle.tz_write.proofs.Words.{IsNameOrNone, IsTime, IsType, IsUtOffset, LeapSecond, List, LocalType, None, Option, Some, SpellLeapSeconds, SpellTransitions}
+use Rattle.tz_write.proofs.Words.{SpellTypes, Spells, SpellsLeapSecond, SpellsType, StandsAt, Transition, and_parts, ap, arith, be_u32, begins, cast_signed}
+use Rattle.tz_write.proofs.Words.{cast_unsigned, cond, designation_of, drop, drop_more, eqb-true, false, false≢true, flat_map, flat_map_more, flat_map_single}
+use Rattle.tz_write.proofs.Words.{from_be_bytes-to_be_bytes_4, from_be_bytes-to_be_bytes_8, get_or, index_bytes, ints, is_name_byte, leap_bytes, least_offset}
+use Rattle.tz_write.proofs.Words.{length, length-append, ltb-true, mark_byte, name_of, name_or_none, nat_eq, nat_lt, number_bytes, place_of, refl, signed}
+use Rattle.tz_write.proofs.Words.{signed_bytes, starts_is, starts_with, subst, suc, sym, take, take_more, time_bytes, time_of, true, type_bytes, w32, w64, ℕ, ℤ}
+use Rattle.tz_write.proofs.Words.{[], ◌&&◌, ◌*◌, ◌++◌, ◌+◌, ◌<ℤ◌, ◌<◌, ◌==◌, ◌^◌, ◌∙◌, ◌∷◌, ◌≡◌, ◌≢◌}
+
+-- a count
+pub number_is : (n : ℕ) (rest : List ℕ) → n < 2 ^ 32 → Spells be_u32 (number_bytes n ++ rest) n rest
+unfolding number_bytes be_u32
+number_is n rest h = (number_bytes n, rest, (refl, refl), (sym (from_be_bytes-to_be_bytes_4 n h), refl))
+
+-- numbers in two's complement
+pub size_32 : (z : ℤ) → length (signed_bytes w32 z) ≡ 4
+unfolding signed_bytes
+size_32 z = refl
+
+pub size_64 : (z : ℤ) → length (signed_bytes w64 z) ≡ 8
+unfolding signed_bytes
+size_64 z = refl
+
+pub signed_32 : (z : ℤ) → FitsSigned w32 z → signed w32 (signed_bytes w32 z) ≡ z
+unfolding signed signed_bytes
+signed_32 z h = ap (cast_signed w32) (from_be_bytes-to_be_bytes_4 (cast_unsigned w32 z) (omega (arith, Fits-of_z {w = w32} h))) ∙ to_z-of_z w32 z h
+
+pub signed_64 : (z : ℤ) → FitsSigned w64 z → signed w64 (signed_bytes w64 z) ≡ z
+unfolding signed signed_bytes
+signed_64 z h = ap (cast_signed w64) (from_be_bytes-to_be_bytes_8 (cast_unsigned w64 z) (omega (arith, Fits-of_z {w = w64} h))) ∙ to_z-of_z w64 z h
 
 -- ---- records laid end to end
 pub record Spelled {X : Type 0} (size : ℕ) (Spells : List ℕ → X → Type 0) (f : X → List ℕ) (x : X) : Type 0 where
@@ -51,19 +73,13 @@ pub leaps_are : (leaps : List LeapSecond) → All IsEntry leaps → SpellLeapSec
 leaps_are leaps h = records_are 12 (SpellsLeapSecond 8) leap_bytes leaps (λ k d l. record { sized = leap_size _; says = leap_is _ (h k d l) })
 
 -- ---- where a text stands
-pub less : (a b : ℕ) → nat_lt a b ≡ true → a < b
-less a b h = grind (arith, nat_tests)
-
-is_zero : (a : ℕ) → (a == 0) ≡ true → a ≡ 0
-is_zero a h = grind (arith, nat_tests)
-
 pub begins_is : (text bytes : List ℕ) → begins text bytes ≡ true → bytes ≡ text ++ (0 ∷ drop (length text + 1) bytes)
 unfolding begins
 begins_is text bytes h =
     let p = and_parts (starts_with nat_eq bytes text) (nat_lt (length text) (length bytes) && (get_or bytes (length text) 0 == 0)) h in
     let q = and_parts (nat_lt (length text) (length bytes)) (get_or bytes (length text) 0 == 0) p.1 in
     let front = starts_is {E = nat_eq} Decides-eqb bytes text (starts_with nat_eq bytes text) refl in
-    front.0 p.0 ∙ ap (λ (r : List ℕ). text ++ r) (drop_more bytes (length text) 0 (less _ _ q.0) ∙ ap (λ (x : ℕ). x ∷ drop (length text + 1) bytes) (is_zero _ q.1))
+    front.0 p.0 ∙ ap (λ (r : List ℕ). text ++ r) (drop_more bytes (length text) 0 (ltb-true _ _ q.0) ∙ ap (λ (x : ℕ). x ∷ drop (length text + 1) bytes) (eqb-true _ 0 q.1))
 
 place_by : (t : Bool) (text : List ℕ) (b : ℕ) (bs : List ℕ) → HasNoZero text → begins text (b ∷ bs) ≡ t → cond t 0 (suc (place_of text bs)) < length (b ∷ bs)
     → (place_of text bs < length bs → StandsAt bs (place_of text bs) text) → StandsAt (b ∷ bs) (cond t 0 (suc (place_of text bs))) text
@@ -92,11 +108,11 @@ bytes_not_zero : (text : List ℕ) → ((i : ℕ) → i < length text → is_nam
 bytes_not_zero [] h = tt
 bytes_not_zero (b ∷ bs) h = (not_zero b (h 0 (omega arith)), bytes_not_zero bs (λ i l. h (suc i) (omega arith)))
 
-pub no_zero : (name : Option (List ℕ)) → IsNameOrNone name → HasNoZero (text_or_none name)
+pub no_zero : (name : Option (List ℕ)) → IsNameOrNone name → HasNoZero (name_or_none name)
 no_zero None h = tt
 no_zero (Some text) h = bytes_not_zero text h.2
 
-name_back : (name : Option (List ℕ)) → IsNameOrNone name → designation_of (text_or_none name) ≡ name
+name_back : (name : Option (List ℕ)) → IsNameOrNone name → designation_of (name_or_none name) ≡ name
 name_back None h = refl
 name_back (Some []) h = let l = h.0 in absurd (omega arith)
 name_back (Some (b ∷ bs)) h = refl
@@ -110,11 +126,11 @@ fits z h = let l = h.0 in let m = h.1 in omega (arith, ints)
 type_is : (designations : List ℕ) (t : LocalType) → HasPlace designations t → IsType t → SpellsType designations (type_bytes designations t) t
 unfolding type_bytes signed_bytes
 type_is designations t p h = record {
-  text = text_of t;
+  text = name_of t;
   offset = signed_32 t.offset (fits t.offset h.offset);
   above_least = above t.offset h.offset;
   mark = mark_is t.dst;
-  stands = has_text (text_of t) designations (no_zero t.name h.name) p.stands;
+  stands = has_text (name_of t) designations (no_zero t.name h.name) p.stands;
   name = name_back t.name h.name;
   name_fits = h.name;
 }
@@ -122,3 +138,8 @@ type_is designations t p h = record {
 pub types_are : (designations : List ℕ) (types : List LocalType) → All (HasPlace designations) types → All IsType types → SpellTypes designations (flat_map (type_bytes designations) types) types
 types_are designations types p h =
     records_are 6 (SpellsType designations) (type_bytes designations) types (λ k d l. record { sized = type_size designations _; says = type_is designations _ (p k d l) (h k d l) })
+
+-- the pieces of one item more
+pub flat_map_next : {X : Type 0} (f : X → List ℕ) (old : List ℕ) (xs : List X) (i : ℕ) (d : X) (now later : List ℕ) → i < length xs → now ≡ old ++ flat_map f (take i xs) → later ≡ now ++ f (get_or xs i d) → later ≡ old ++ flat_map f (take (i + 1) xs)
+flat_map_next f old xs i d now later l e g =
+    g ∙ (ap (λ (s : List ℕ). s ++ f (get_or xs i d)) e ∙ (flat_map_more f old (take i xs) (get_or xs i d) ∙ ap (λ ys. old ++ flat_map f ys) (sym (take_more xs i d l))))

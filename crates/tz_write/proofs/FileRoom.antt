@@ -1,10 +1,8 @@
 -- How much room designations take: each text that is put in has bytes of its own in any others that have the texts.
-use Rattle.tz_write.proofs.Words.{All, HasNoZero, List, LocalType, ap, append-nil, append_assoc, arith, before_last, both_ways, cases_lt, cond, ends, false}
-use Rattle.tz_write.proofs.Words.{false_unless, fold, get_or, inl, inr, length, length-append, nat_lt, nat_tests, not, place_of, refl, subst, suc, sym, true}
-use Rattle.tz_write.proofs.Words.{with_text, with_text_of, with_texts, zero, ℕ, [], ◌&&◌, ◌++◌, ◌+◌, ◌<◌, ◌==◌, ◌∙◌, ◌∷◌, ◌≡◌, ◌≤◌, ◌⊎◌}
-use Rattle.tz_write.specs.FileDesignations.{text_of}
-use Rattle.tz_write.proofs.FileMeetings.{Behind, Ends, Has_end, In_front, Is_end, Meeting, Stands, meet}
-use Rattle.tz_write.proofs.FileNames.{In, ends_again, ends_of, in_longer, less_again, put_in, same_again}
+use Rattle.tz_write.proofs.Words.{All, HasNoZero, List, LocalType, ap, append-nil, append_assoc, arith, before_last, both_ways, cases_lt, cond, ends, eq-eqb}
+use Rattle.tz_write.proofs.Words.{false, false_unless, fold, get_or, inl, inr, le-ltb, length, length-append, lt-ltb, name_of, nat_tests, not, place_of, refl}
+use Rattle.tz_write.proofs.Words.{subst, suc, sym, true, with_text, with_text_of, with_texts, zero, ℕ, [], ◌&&◌, ◌++◌, ◌+◌, ◌<◌, ◌==◌, ◌∙◌, ◌∷◌, ◌≡◌, ◌≤◌, ◌⊎◌}
+use Rattle.tz_write.proofs.FileNames.{Behind, Ends, Has_end, In, In_front, Is_end, Meeting, Stands, ends_again, ends_of, in_longer, meet, put_in}
 
 -- what is left of other bytes when the texts that stand in the designations are cut out of them: the texts that are to come, of
 -- at most that size or at the end of the last one, still stand there
@@ -73,25 +71,22 @@ put_room last designations others text size none is_size free stands out r =
     }
 
 -- ---- what a text leaves
-not_less_again : (a b : ℕ) → b ≤ a → nat_lt a b ≡ false
-not_less_again a b h = grind (arith, nat_tests)
-
 -- a text that isn't there is put in if there is room for it; else all stays as it is
 pub put_is : (designations text : List ℕ) → length designations ≤ place_of text designations → length designations + length text < 263
     → with_text designations text ≡ designations ++ (text ++ 0 ∷ [])
 unfolding with_text
-put_is designations text out room = rw (not_less_again _ _ out, less_again (length designations + length text) 263 room) refl
+put_is designations text out room = rw (le-ltb _ _ out, lt-ltb (length designations + length text) 263 room) refl
 
 pub by_text : (P : List ℕ → Type 0) (designations text : List ℕ) → P designations
     → (length designations ≤ place_of text designations → length designations + length text < 263 → P (designations ++ (text ++ 0 ∷ [])))
     → P (with_text designations text)
 unfolding with_text
 by_text P designations text same put = elim (cases_lt (place_of text designations) (length designations)) [
-  | inl there ↦ rw (less_again (place_of text designations) (length designations) there) same
+  | inl there ↦ rw (lt-ltb (place_of text designations) (length designations) there) same
   | inr out ↦ elim (cases_lt (length designations + length text) 263) [
-    | inl room ↦ rw (not_less_again (place_of text designations) (length designations) out, less_again (length designations + length text) 263 room)
+    | inl room ↦ rw (le-ltb (place_of text designations) (length designations) out, lt-ltb (length designations + length text) 263 room)
         (put out room)
-    | inr full ↦ rw (not_less_again (place_of text designations) (length designations) out, not_less_again (length designations + length text) 263 full) same
+    | inr full ↦ rw (le-ltb (place_of text designations) (length designations) out, le-ltb (length designations + length text) 263 full) same
   ]
 ]
 
@@ -108,20 +103,20 @@ put designations text room = elim (cases_lt (place_of text designations) (length
 -- ---- the texts of types
 -- the text has no 0 byte, and stands in the other bytes if it is to be put in
 pub record Given (last others : List ℕ) (t : LocalType) : Type 0 where
-  pub none : HasNoZero (text_of t)
-  pub stands : (Ends last (text_of t) → ⊥) → Stands others (text_of t)
+  pub none : HasNoZero (name_of t)
+  pub stands : (Ends last (name_of t) → ⊥) → Stands others (name_of t)
 
 -- to be put in at that size
 abbrev Turn : List ℕ → ℕ → LocalType → Type 0
-Turn last size t = (length (text_of t) ≡ size) × (Ends last (text_of t) → ⊥)
+Turn last size t = (length (name_of t) ≡ size) × (Ends last (name_of t) → ⊥)
 
 by_turn : (P : List ℕ → Type 0) (last : List ℕ) (size : ℕ) (designations : List ℕ) (t : LocalType) → P designations
-    → (Turn last size t → P (with_text designations (text_of t))) → P (with_text_of last size designations t)
-by_turn P last size designations t same put = elim (length (text_of t) == size) as (λ p. (length (text_of t) == size) ≡ p → P (cond (p && not (ends last (text_of t))) (with_text designations (text_of t)) designations)) [
+    → (Turn last size t → P (with_text designations (name_of t))) → P (with_text_of last size designations t)
+by_turn P last size designations t same put = elim (length (name_of t) == size) as (λ p. (length (name_of t) == size) ≡ p → P (cond (p && not (ends last (name_of t))) (with_text designations (name_of t)) designations)) [
   | false ↦ λ _. same
-  | true ↦ λ e. elim (ends last (text_of t)) as (λ q. ends last (text_of t) ≡ q → P (cond (not q) (with_text designations (text_of t)) designations)) [
+  | true ↦ λ e. elim (ends last (name_of t)) as (λ q. ends last (name_of t) ≡ q → P (cond (not q) (with_text designations (name_of t)) designations)) [
     | true ↦ λ _. same
-    | false ↦ λ f. put (grind (arith, nat_tests), λ k. both_ways _ f (ends_again last (text_of t) k))
+    | false ↦ λ f. put (grind (arith, nat_tests), λ k. both_ways _ f (ends_again last (name_of t) k))
   ] refl
 ] refl
 
@@ -140,29 +135,29 @@ keeps_all P step last size types designations h = by_types P last size types des
 type_room : (last designations others : List ℕ) (size : ℕ) (t : LocalType) → Given last others t → Room last designations others size
     → Room last (with_text_of last size designations t) others size
 type_room last designations others size t g r = by_turn (λ d. Room last d others size) last size designations t r (λ turn.
-    by_text (λ d. Room last d others size) designations (text_of t) r (λ out room. put_room last designations others (text_of t) size g.none turn.0 turn.1
+    by_text (λ d. Room last d others size) designations (name_of t) r (λ out room. put_room last designations others (name_of t) size g.none turn.0 turn.1
     (g.stands turn.1) out r))
 
 put_all : (last others : List ℕ) (size : ℕ) (types : List LocalType) (designations : List ℕ) → length others ≤ 263 → All (Given last others) types → Room last designations others size
-    → All (λ t. Turn last size t → In (fold (with_text_of last size) designations types) (text_of t)) types
+    → All (λ t. Turn last size t → In (fold (with_text_of last size) designations types) (name_of t)) types
 put_all last others size [] designations short g r i d l turn = absurd (omega (arith, l))
 put_all last others size (t ∷ ts) designations short g r (suc i) d l turn =
     put_all last others size ts (with_text_of last size designations t) short (λ k e m. g (suc k) e (omega (arith, m)))
     (type_room last designations others size t (g 0 t (omega arith)) r) i d (omega (arith, l)) turn
 put_all last others size (t ∷ ts) designations short g r zero d l turn =
     let given = g 0 t (omega arith) in
-    let first : In (with_text_of last size designations t) (text_of t) =
-    rw (same_again (length (text_of t)) size turn.0, false_unless (ends last (text_of t)) (λ e. turn.1 (ends_of last (text_of t) e)))
-    (put designations (text_of t) (λ out.
-    omega (arith, room_of last designations others (text_of t) size r given.none (inl (omega (arith, turn.0))) (given.stands turn.1) out, short))) in
-    keeps_all (λ d. In d (text_of t)) (λ d other. kept d other (text_of t)) last size ts (with_text_of last size designations t) first
+    let first : In (with_text_of last size designations t) (name_of t) =
+    rw (eq-eqb (length (name_of t)) size turn.0, false_unless (ends last (name_of t)) (λ e. turn.1 (ends_of last (name_of t) e)))
+    (put designations (name_of t) (λ out.
+    omega (arith, room_of last designations others (name_of t) size r given.none (inl (omega (arith, turn.0))) (given.stands turn.1) out, short))) in
+    keeps_all (λ d. In d (name_of t)) (λ d other. kept d other (name_of t)) last size ts (with_text_of last size designations t) first
 
 -- ---- in front of the last
 -- the others have room for the texts of that size, and the longer ones have been put in
 pub record Passed (last others : List ℕ) (types : List LocalType) (size : ℕ) (designations : List ℕ) : Type 0 where
   pub room : Room last designations others size
   pub inside : length others ≤ 263
-      → All (λ t. size ≤ length (text_of t) → length (text_of t) ≤ 7 → (Ends last (text_of t) → ⊥) → In designations (text_of t)) types
+      → All (λ t. size ≤ length (name_of t) → length (name_of t) ≤ 7 → (Ends last (name_of t) → ⊥) → In designations (name_of t)) types
 
 pass : (last others : List ℕ) (types : List LocalType) → All (Given last others) types → (size : ℕ) (designations : List ℕ)
     → Passed last others types (suc size) designations
@@ -170,7 +165,7 @@ pass : (last others : List ℕ) (types : List LocalType) → All (Given last oth
 pass last others types g size designations p =
     let r = smaller last designations others (suc size) size (omega arith) p.room in record {
       room = by_types (λ d. Room last d others size) last size types designations (λ i e l d k. type_room last d others size (get_or types i e) (g i e l) k) r;
-      inside = λ short i e l low high free. let text = text_of (get_or types i e) in elim (cases_lt size (length text)) [
+      inside = λ short i e l low high free. let text = name_of (get_or types i e) in elim (cases_lt size (length text)) [
         | inl more ↦ keeps_all (λ d. In d text) (λ d other. kept d other text) last size types designations
             (p.inside short i e l (omega (arith, more)) high free)
         | inr same ↦ put_all last others size types designations short g r i e l (omega (arith, low, same), free)

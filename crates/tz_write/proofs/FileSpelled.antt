@@ -7,8 +7,7 @@ use Rattle.tz_write.proofs.Words.{first_half, footer_bytes, get_or, header_bytes
 use Rattle.tz_write.proofs.Words.{least_block, least_counts, length, nat_tests, number_bytes, refl, second_half, subst, time_bytes, true, type_bytes}
 use Rattle.tz_write.proofs.Words.{zone_counts, zone_parts, ℕ, [], ◌*◌, ◌++◌, ◌+◌, ◌<◌, ◌∙◌, ◌∷◌, ◌≡◌, ◌≢◌, ◌≤◌}
 use Rattle.tz_write.proofs.FileHeads.{CountsFit, header_is, version_of}
-use Rattle.tz_write.proofs.FileNumbers.{size_64}
-use Rattle.tz_write.proofs.FileRecords.{leap_size, leaps_are, size_of_records, transitions_are, type_size, types_are}
+use Rattle.tz_write.proofs.FileRecords.{leap_size, leaps_are, size_64, size_of_records, transitions_are, type_size, types_are}
 use Rattle.tz_write.proofs.TextBytes.{AreTextBytes, begins_bare, ends_bare, is_text_byte}
 
 -- ---- footers
@@ -37,15 +36,7 @@ footer_is extended text rule p says = record {
   has_text = record {
     utf8 = IsUtf8-from_ascii (footer_bytes text) (IsAscii-from_all (footer_bytes text) (All-cons (λ b. b < 128) 10 (text ++ 10 ∷ []) (omega arith) (ascii text p.bytes)));
     newlines = record { after_first = text ++ 10 ∷ []; before_last = 10 ∷ text; starts = refl; ends = refl };
-    trimmed = record {
-      before = 10 ∷ [];
-      after = 10 ∷ [];
-      whole = refl;
-      space_before = (refl, tt);
-      space_after = (refl, tt);
-      first = begins_bare text p.bytes;
-      last = ends_bare text p.bytes;
-    };
+    trimmed = record { before = 10 ∷ []; after = 10 ∷ []; whole = refl; space_before = (refl, tt); space_after = (refl, tt); first = begins_bare text p.bytes; last = ends_bare text p.bytes };
   };
   no_colon = p.no_colon;
   no_zero = no_zeros text p.bytes;
@@ -54,15 +45,8 @@ footer_is extended text rule p says = record {
 
 -- ---- the first half
 least_parts : Parts
-least_parts = record {
-  times = [];
-  type_indexes = [];
-  types = 0 ∷ 0 ∷ 0 ∷ 0 ∷ 0 ∷ 0 ∷ [];
-  designations = 0 ∷ [];
-  leap_seconds = [];
-  standard_wall = [];
-  ut_local = [];
-}
+least_parts =
+    record { times = []; type_indexes = []; types = 0 ∷ 0 ∷ 0 ∷ 0 ∷ 0 ∷ 0 ∷ []; designations = 0 ∷ []; leap_seconds = []; standard_wall = []; ut_local = [] }
 
 -- parts of the lengths that the counts announce, end to end, are a block
 block_is : (w : ℕ) (c : Counts) (p : Parts) (rest : List ℕ) → length p.times ≡ c.transitions * w → length p.type_indexes ≡ c.transitions → length p.types ≡ c.types * 6 → length p.designations ≡ c.designations

@@ -7,9 +7,8 @@ use Rattle.tz_write.proofs.Words.{true, ℕ, [], ◌<◌, ◌∙◌, ◌≡◌}
 use Rattle.tz_write.proofs.FileLayouts.{laid_of, laid_size}
 use Rattle.tz_write.proofs.FileLimits.{writable}
 use Rattle.tz_write.proofs.FileSpelled.{IsPlain, file_is}
-use Rattle.tz_write.proofs.RuleTexts.{rule_named, text_are, text_first}
+use Rattle.tz_write.proofs.RuleTexts.{extensions, rule_named, rule_text, text_are, text_first, text_once, text_some}
 use Rattle.tz_write.proofs.TextBytes.{AreTextBytes}
-use Rattle.tz_write.proofs.WrittenLaws.{extensions, rule_text, text_once, text_some}
 use Rattle.tz_write.proofs.ZoneTexts.{not_empty}
 
 text_is : (rule : Option TransitionRule) (text : List ℕ) (extended : Bool) → IsRuleOrNone rule → IsFooterText rule text extended → IsPlain text × SaysRule extended text rule

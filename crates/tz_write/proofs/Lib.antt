@@ -5,16 +5,10 @@ mod Clocks
 mod NameTexts
 mod DayTexts
 mod RuleTexts
-mod TextParts
-mod WrittenLaws
 mod TextBytes
 mod ZoneTexts
-mod FilePushes
-mod FilePlaces
-mod FileNumbers
 mod FileHeads
 mod FileRecords
-mod FileMeetings
 mod FileNames
 mod FileRoom
 mod FileLayouts

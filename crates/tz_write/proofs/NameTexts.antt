@@ -1,8 +1,9 @@
 -- The texts of names.
+use Rattle.tz_base.proofs.RunLaws.{all_of}
 use Rattle.tz_info.specs.TzGrammar as tz
 use Rattle.tz_write.proofs.Words.{AllOf, AreInPairs, Bool, IsName, List, NoneFirst, Spells, Without, and_from, and_parts, ap, append_assoc, arith, both_ways}
-use Rattle.tz_write.proofs.Words.{colon, cond, false, get_or, greater, inl, inr, is_letter, is_name_byte, is_not_greater, length, length-append, less, list_all}
-use Rattle.tz_write.proofs.Words.{name_text, nat_tests, refl, subst, suc, sym, true, ℕ, [], ◌++◌, ◌<◌, ◌∙◌, ◌∷◌, ◌≡◌, ◌≢◌, ◌≤◌}
+use Rattle.tz_write.proofs.Words.{colon, cond, false, greater, inl, inr, is_letter, is_name_byte, is_not_greater, length, length-append, less, list_all}
+use Rattle.tz_write.proofs.Words.{name_text, nat_tests, refl, subst, sym, true, ℕ, [], ◌++◌, ◌<◌, ◌∙◌, ◌∷◌, ◌≡◌, ◌≢◌, ◌≤◌}
 use Rattle.tz_write.proofs.Shortest.{Front, front_cons}
 use Rattle.tz_write.proofs.TextBytes.{AreTextBytes, Writes, all_append, all_others, is_text_byte, names_are, writes_mark, writes_other}
 
@@ -13,10 +14,6 @@ all_from p (b ∷ bs) h = let k = and_parts (p b) (list_all p bs) h in (k.0, all
 all_to : (p : ℕ → Bool) (bs : List ℕ) → AllOf p bs → list_all p bs ≡ true
 all_to p [] h = refl
 all_to p (b ∷ bs) h = and_from (p b) (list_all p bs) h.0 (all_to p bs h.1)
-
-all_of : (p : ℕ → Bool) (bs : List ℕ) → ((k : ℕ) → k < length bs → p (get_or bs k 0) ≡ true) → AllOf p bs
-all_of p [] h = tt
-all_of p (b ∷ bs) h = (h 0 (omega arith), all_of p bs (λ k l. h (suc k) (omega arith)))
 
 not_colon : (b : ℕ) → is_name_byte b ≡ true → b ≢ colon
 not_colon b h = λ e. absurd (both_ways (is_name_byte b) (subst (λ (x : ℕ). is_name_byte x ≡ false) (sym e) refl) h)

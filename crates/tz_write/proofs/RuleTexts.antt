@@ -1,17 +1,77 @@
 -- The text of a rule: it spells the rule, and each other one is longer.
 use Rattle.tz_info.specs.TzGrammar as tz
 use Rattle.tz_info.specs.declared.rule.transition_rule.TransitionRule.TheVariants as rules
-use Rattle.tz_write.proofs.Words.{Alternate, AreInPairs, AreTimesOf, Bool, CanBeSpelled, IsAlternateRule, IsName, IsNamed, IsRule, IsTimeOf, IsTzText}
-use Rattle.tz_write.proofs.Words.{IsUnspelled, IsWithinDay, IsWrittenText, List, LocalType, NoneFirst, Some, Spells, TransitionRule, alternate_text, ap}
-use Rattle.tz_write.proofs.Words.{append-nil, append_assoc, arith, both_ways, comma, cond, day_text, dst_offset_text, false, inl, inr, int_eq, is_digit}
-use Rattle.tz_write.proofs.Words.{is_letter, name_of, name_or_none, name_text, named_type, nat_tests, not, offset_fits, offset_text, pos, refl, subst, sym}
-use Rattle.tz_write.proofs.Words.{text_of, true, type_text, ℕ, ℤ, [], ◌++◌, ◌+ℤ◌, ◌<◌, ◌∙◌, ◌∷◌, ◌≡◌, ◌≢◌, ◌≤◌}
+use Rattle.tz_write.proofs.Words.{Alternate, AreInPairs, AreTimesOf, Bool, CanBeSpelled, DayTime, IsAlternateRule, IsName, IsNamed, IsPlainTime, IsRule}
+use Rattle.tz_write.proofs.Words.{IsTimeOf, IsTzText, IsUnspelled, IsWithinDay, IsWrittenText, List, LocalType, NoneFirst, Some, Spells, TransitionRule}
+use Rattle.tz_write.proofs.Words.{alternate_text, ap, append-nil, append_assoc, arith, both_ways, cases_lt, comma, cond, day_text, dst_offset_text, false, inl}
+use Rattle.tz_write.proofs.Words.{inr, int_eq, ints, is_digit, is_letter, length, name_of, name_or_none, name_text, named_type, nat_tests, negsuc, not}
+use Rattle.tz_write.proofs.Words.{offset_fits, offset_text, pos, refl, subst, sym, text_of, true, type_text, ℕ, ℤ, [], ◌++◌, ◌+ℤ◌, ◌<◌, ◌↔◌, ◌∙◌, ◌∷◌, ◌≡◌, ◌≢◌}
+use Rattle.tz_write.proofs.Words.{◌≤◌, ◌⊎◌}
 use Rattle.tz_write.proofs.Clocks.{Stops, offset_first, offset_front, offset_writes}
 use Rattle.tz_write.proofs.DayTexts.{day_front, day_plain, day_writes, dst_offset_front, dst_offset_writes}
 use Rattle.tz_write.proofs.NameTexts.{name_first, name_front, name_writes}
 use Rattle.tz_write.proofs.Shortest.{Best, Front, front_cons, front_on}
 use Rattle.tz_write.proofs.TextBytes.{AreTextBytes, Writes, writes_byte, writes_last, writes_more, writes_then}
-use Rattle.tz_write.proofs.TextParts.{IsAlternateText, IsFixedText, parts_of}
+
+pub record IsFixedText (bytes : List ℕ) (t : LocalType) : Type 0 where
+  pub name : List ℕ
+  pub after_name : List ℕ
+  pub name_spelled : Spells tz.name bytes name after_name
+  pub offset_spelled : Spells tz.offset after_name t.offset []
+  pub named : IsNamed name false t
+
+pub record IsAlternateText (extended : Bool) (bytes : List ℕ) (a : Alternate) : Type 0 where
+  pub std_name : List ℕ
+  pub dst_name : List ℕ
+  pub after_std_name : List ℕ
+  pub after_std : List ℕ
+  pub after_dst_name : List ℕ
+  pub at_start : List ℕ
+  pub at_end : List ℕ
+  pub std_name_spelled : Spells tz.name bytes std_name after_std_name
+  pub std_offset_spelled : Spells tz.offset after_std_name a.std.offset after_std
+  pub dst_name_spelled : Spells tz.name after_std dst_name after_dst_name
+  pub dst_offset_spelled : Spells (tz.dst_offset a.std.offset) after_dst_name a.dst.offset at_start
+  pub start_spelled : Spells (tz.day extended) at_start a.start (comma ∷ at_end)
+  pub end_spelled : Spells (tz.day extended) at_end a.end []
+  pub std_named : IsNamed std_name false a.std
+  pub dst_named : IsNamed dst_name true a.dst
+
+abbrev pub HasParts : Bool → List ℕ → TransitionRule → Type 0
+HasParts extended bytes (rules.Fixed t) = IsFixedText bytes t
+HasParts extended bytes (rules.Alternate a) = IsAlternateText extended bytes a
+
+-- ---- a text has them
+pub parts_of : (extended : Bool) (bytes : List ℕ) (r : TransitionRule) → IsTzText extended bytes r → HasParts extended bytes r
+unfolding tz.text tz.rule tz.fixed tz.alternate tz.named tz.days tz.end
+parts_of extended bytes r (name, after, n, (east, end, o, inl (none, (t, _, (fits, is, _), (value, _))))) = rw (value, is) (record {
+  name = name;
+  after_name = after;
+  name_spelled = n;
+  offset_spelled = subst (Spells tz.offset after east) none o;
+  named = record { allowed = fits; named = refl; flag = refl };
+})
+parts_of extended bytes r (name, after, n, (east, end, o, inr (_, (dst_name, at_dst, d, (dst_east, at_days, f, ((x, y), last, (start, at_comma, p, (_, at_end, c, (stop, fin, q, (both, same)))), (_, _, e, (s, _, (s_fits, s_is, _), (t, _, (t_fits, t_is, _), (value, _)))))))))) =
+    let none : last ≡ [] = elim e [ inl k ↦ k.0 | inr k ↦ absurd k.1 ] in
+    let first : x ≡ start = ap (λ (z : DayTime × DayTime). z.0) both in
+    let second : y ≡ stop = ap (λ (z : DayTime × DayTime). z.1) both in
+    rw (value, s_is, t_is, first, second) (record {
+      std_name = name;
+      dst_name = dst_name;
+      after_std_name = after;
+      after_std = end;
+      after_dst_name = at_dst;
+      at_start = at_days;
+      at_end = at_end;
+      std_name_spelled = n;
+      std_offset_spelled = o;
+      dst_name_spelled = d;
+      dst_offset_spelled = f;
+      start_spelled = subst (Spells (tz.day extended) at_days start) c p;
+      end_spelled = subst (Spells (tz.day extended) at_end stop) (same ∙ none) q;
+      std_named = record { allowed = s_fits; named = refl; flag = refl };
+      dst_named = record { allowed = t_fits; named = refl; flag = refl };
+    })
 
 -- ---- what stands after a name or an offset
 not_letter : (b : ℕ) → b ≤ 57 → is_letter b ≡ false
@@ -152,3 +212,49 @@ written rule false fits h to from = record {
   needed = λ e other spelled. both_ways false refl (from (rule_plain other rule spelled));
   shortest = λ other spelled pairs. rule_best true other rule pairs spelled;
 }
+
+-- each of two is the shortest
+pub both_shortest : (s t : List ℕ) → (t ≡ s) ⊎ (length s < length t) → (s ≡ t) ⊎ (length t < length s) → s ≡ t
+both_shortest s t p q = elim p [
+  | inl e ↦ sym e
+  | inr l ↦ elim q [ inl e ↦ e | inr m ↦ absurd (omega arith) ]
+]
+
+pub text_once : (rule : TransitionRule) (s t : List ℕ) (d e : Bool) → IsWrittenText rule s d → IsWrittenText rule t e → (s ≡ t) × (d ≡ e)
+text_once rule s t true true p q = (both_shortest s t (p.shortest t q.spells q.pairs) (q.shortest s p.spells p.pairs), refl)
+text_once rule s t false false p q = (both_shortest s t (p.shortest t q.spells q.pairs) (q.shortest s p.spells p.pairs), refl)
+text_once rule s t true false p q = absurd (p.needed refl t q.spells)
+text_once rule s t false true p q = absurd (q.needed refl s p.spells)
+
+-- a rule's times need extensions, or they need none
+plain_time : (time : ℤ) → (IsPlainTime time) ⊎ (IsPlainTime time → ⊥)
+plain_time (negsuc n) = inr (λ h. let l = h.0 in omega (arith, ints))
+plain_time (pos n) = elim (cases_lt n 90_000) [
+  | inl l ↦ inl (omega (arith, ints), omega (arith, ints))
+  | inr m ↦ inr (λ h. let l = h.1 in omega (arith, ints))
+]
+
+plain_times : (rule : TransitionRule) → (AreTimesOf false rule) ⊎ (AreTimesOf false rule → ⊥)
+plain_times (rules.Fixed t) = inl tt
+plain_times (rules.Alternate a) = elim (plain_time a.start.time) [
+  | inl s ↦ elim (plain_time a.end.time) [ inl e ↦ inl (s, e) | inr n ↦ inr (λ h. n h.1) ]
+  | inr n ↦ inr (λ h. n h.0)
+]
+
+text_is : (rule : TransitionRule) → IsRule rule → CanBeSpelled rule → (needed : Bool) × IsWrittenText rule (text_of rule) needed
+text_is rule fits named = elim (plain_times rule) [
+  | inl p ↦ (false, written rule true fits named (λ e. p) (λ h. refl))
+  | inr n ↦ (true, written rule false fits named (λ e. absurd (both_ways false refl e)) (λ h. absurd (n h)))
+]
+
+pub text_some : (rule : TransitionRule) → IsRule rule → CanBeSpelled rule → (text : List ℕ) × (needed : Bool) × IsWrittenText rule text needed
+text_some rule fits named = let s = text_is rule fits named in (text_of rule, s.0, s.1)
+
+pub rule_text : (rule : TransitionRule) (text : List ℕ) (extended : Bool) → IsRule rule → IsWrittenText rule text extended → text ≡ text_of rule
+rule_text rule text extended fits h =
+    let s = text_is rule fits (rule_named extended text rule h.spells) in (text_once rule text (text_of rule) extended s.0 h s.1).0
+
+-- a text has extensions where the rule's times need them
+pub extensions : (rule : TransitionRule) (text : List ℕ) (extended : Bool) → IsRule rule → IsWrittenText rule text extended → (extended ≡ true) ↔ (¬ (AreTimesOf false rule))
+extensions rule text true fits h = ((λ e times. h.needed e (text_of rule) (rule_spelled false rule fits (rule_named true text rule h.spells) times)), λ n. refl)
+extensions rule text false fits h = ((λ e. absurd (both_ways false refl e)), λ n. absurd (n (rule_plain text rule h.spells)))

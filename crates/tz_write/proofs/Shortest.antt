@@ -19,7 +19,7 @@ best_append a b x y p q = let m = length-append a b in let n = length-append x y
   | inr k ↦ elim q [ inl f ↦ let l = ap length f in inr (omega arith) | inr l ↦ inr (omega arith) ]
 ]
 
-at_most : (a x : List ℕ) → Best a x → length a ≤ length x
+pub at_most : (a x : List ℕ) → Best a x → length a ≤ length x
 at_most a x p = elim p [ inl e ↦ let k = ap length e in omega arith | inr l ↦ omega arith ]
 
 pub front_then : (a b bytes middle rest : List ℕ) → Front a bytes middle → Front b middle rest → Front (a ++ b) bytes rest
@@ -76,8 +76,3 @@ front_optional tag v g {text = text} {bytes = bytes} {rest = rest} true given ot
 front_optional tag v g {bytes = bytes} {rest = rest} true given other (inr (_, (_, same))) = front_nothing bytes rest same
 front_optional tag v g false given other (inl (after, is, p)) = given after is p
 front_optional tag v g false given other (inr (_, (is, _))) = absurd (other refl is)
-
--- ---- pieces pushed one after the other
-pub four_pieces : (old a b c d x y z : List ℕ) → x ≡ old ++ a → y ≡ x ++ b → z ≡ y ++ c → z ++ d ≡ old ++ (a ++ (b ++ (c ++ d)))
-four_pieces old a b c d x y z e f g =
-    rw (g, f, e) (append_assoc ((old ++ a) ++ b) c d ∙ append_assoc (old ++ a) b (c ++ d) ∙ append_assoc old a (b ++ (c ++ d)))

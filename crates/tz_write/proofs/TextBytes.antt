@@ -91,12 +91,5 @@ ends_bare (b ∷ []) h = not_space b h.0
 ends_bare (b ∷ c ∷ cs) h = ends_bare (c ∷ cs) h.1
 
 pub trimmed_text : (text : List ℕ) → AreTextBytes text → IsTrimmed text text
-trimmed_text text h = record {
-  before = [];
-  after = [];
-  whole = sym (append-nil text);
-  space_before = tt;
-  space_after = tt;
-  first = begins_bare text h;
-  last = ends_bare text h;
-}
+trimmed_text text h =
+    record { before = []; after = []; whole = sym (append-nil text); space_before = tt; space_after = tt; first = begins_bare text h; last = ends_bare text h }

@@ -2,18 +2,21 @@
 pub use Rattle.std.proofs.Common.{Err, None, Ok, OnErr, OnOk, Option, Result, Some, string_bytes}
 pub use Rattle.std.proofs.Math.Facts.{Fits-of_z}
 pub use Rattle.std.proofs.Math.Seq.{drop-append_seam}
-pub use Rattle.std.proofs.lemmas.Bool.{and_from, both_ways, le-ltb, lt-ltb}
+pub use Rattle.std.proofs.lemmas.Bool.{and_from, both_ways, cases_eq, eq-eqb, eqb-true, le-ltb, lt-ltb, ltb-true}
+pub use Rattle.std.proofs.lemmas.Bool.Decides.{Decides-and, Decides-by_and, Decides-like, Decides-ltb}
 pub use Rattle.std.proofs.lemmas.List.{drop_more, flat_map_more, get_or_append_left, get_or_at, take_all}
 pub use Rattle.std.proofs.lemmas.List.Concat.{flat_map_single}
 pub use Rattle.std.proofs.lemmas.List.Elements.{All-cons, All-head, All-more, All-nil, All-tail, All-weaker}
 pub use Rattle.std.proofs.lemmas.List.Sums.{fold_more}
 pub use Rattle.std.proofs.lemmas.Nat.{from_be_bytes-to_be_bytes_4, from_be_bytes-to_be_bytes_8}
+pub use Rattle.std.proofs.lemmas.Result.{on_err_weaker}
 pub use Rattle.std.proofs.lemmas.Slice.Eq.{ends_is, starts_is}
 pub use Rattle.std.proofs.lemmas.Str.{IsUtf8-from_ascii}
 pub use Rattle.std.proofs.lemmas.Str.Ascii.{IsAscii-from_all}
+pub use Rattle.std.specs.Bool.{Decides}
 pub use Rattle.std.specs.Int.{cast_signed, cast_unsigned}
 pub use Rattle.std.specs.List.{flat_map, fold}
-pub use Rattle.naive_base.proofs.Words.{decimal, decimal_digit, decimal_step, ◌^◌}
+pub use Rattle.naive_base.proofs.Words.{decimal, ◌^◌}
 pub use Rattle.tz_base.specs.Fronts.{AllDigits, AllOf, NoneFirst, is_digit, value_from}
 pub use Rattle.tz_base.specs.Grammar.{IsNumber, Without}
 unfoldable pub use Rattle.tz_base.specs.Grammar.{be_u32}
@@ -25,9 +28,10 @@ pub use Rattle.tz_info.proofs.Words.{IsRuleDay, IsRuleOrNone, IsSpace, IsTrimmed
 pub use Rattle.tz_info.proofs.Words.{MatchOption, MatchResult, Parts, SFits, SayZone, SaysRule, SpellLeapSeconds, SpellTransitions, SpellTypes, Spells}
 pub use Rattle.tz_info.proofs.Words.{SpellsLeapSecond, SpellsType, StandsAt, Zone, and_parts, ap, append-nil, append_assoc, arith, cases_lt, cond}
 pub use Rattle.tz_info.proofs.Words.{designation_of, drop, false, false_unless, false≢true, get_or, inl, inr, int_eq, int_lt, ints, is_ascii_whitespace}
-pub use Rattle.tz_info.proofs.Words.{is_letter}
-pub use Rattle.tz_info.proofs.Words.{is_not_greater, least_offset, length, length-append, length-map, length-take, list_all, magic, map, named_type, nat_eq}
-pub use Rattle.tz_info.proofs.Words.{nat_lt, nat_tests, neg_ℤ, negsuc, not, number_of, place_in, pos, posix_zone, refl, rules, seconds_of, starts_with, subst}
+pub use Rattle.tz_info.proofs.Words.{is_letter, is_not_greater, least_offset, length, length-append, length-map, length-take, list_all, magic, map, named_type}
+pub use Rattle.tz_info.proofs.Words.{nat_eq}
+pub use Rattle.tz_info.proofs.Words.{nat_lt, nat_tests, neg_ℤ, negsuc, nil_from_length, not, number_of, place_in, pos, posix_zone, refl, rules, seconds_of}
+pub use Rattle.tz_info.proofs.Words.{starts_with, subst}
 pub use Rattle.tz_info.proofs.Words.{suc, sym, take, take_more, time_limit, time_of, true, types_of, unsigned_abs, w32, w64, zero, zone_of_rule, ℕ, ℤ, [], ◌%◌}
 pub use Rattle.tz_info.proofs.Words.{◌&&◌, ◌*◌, ◌++◌, ◌+ℤ◌, ◌+◌, ◌/◌, ◌<ℤ◌, ◌<◌, ◌==◌, ◌||◌, ◌↔◌, ◌∙◌, ◌∷◌, ◌≡◌, ◌≢◌, ◌≤ℤ◌, ◌≤◌, ◌⊎◌}
 unfoldable pub use Rattle.tz_info.proofs.Words.{after_first_block, block, file, first_version, later_version}
@@ -49,14 +53,14 @@ pub use Rattle.tz_write.specs.FileBytes.{block_bytes, footer_bytes, index_bytes,
 pub use Rattle.tz_write.specs.FileBytes.{zone_counts, zone_parts}
 unfoldable pub use Rattle.tz_write.specs.FileBytes.{counts_bytes, file_bytes, first_half, header_bytes, leap_bytes, number_bytes, second_half, signed_bytes}
 unfoldable pub use Rattle.tz_write.specs.FileBytes.{type_bytes}
-pub use Rattle.tz_write.specs.FileDesignations.{AreNamesIn, AreShortest, IsNamedIn, place_of, text_or_none}
+pub use Rattle.tz_write.specs.FileDesignations.{AreNamesIn, AreShortest, IsNamedIn, name_of, name_or_none, place_of}
 unfoldable pub use Rattle.tz_write.specs.FileDesignations.{begins}
 pub use Rattle.tz_write.specs.FileLayouts.{AreNotPlacedBefore, ArePlaced, HasPlace, HavePlaces, In_order, IsFirstPlaced, IsLaid, IsPlacedFrom, Otherwise}
 pub use Rattle.tz_write.specs.FileLayouts.{before_zero, ends, laid_from, text_at, with_text_of}
 unfoldable pub use Rattle.tz_write.specs.FileLayouts.{before_last, laid, with_text, with_texts}
 pub use Rattle.tz_write.specs.Steps.FileParts.{HasRoom}
 pub use Rattle.tz_write.specs.Steps.TextPieces.{alternate_text, clock_text_of, date_text, day_text, days_text, dst_offset_text, is_negative, is_positive}
-pub use Rattle.tz_write.specs.Steps.TextPieces.{minutes_text, name_of, name_or_none, name_text, pair_text, seconds_text, signed_text, text_of, time_after}
+pub use Rattle.tz_write.specs.Steps.TextPieces.{minutes_text, name_text, pair_text, seconds_text, signed_text, text_of, time_after}
 pub use Rattle.tz_write.specs.Steps.TextPieces.{type_text}
 unfoldable pub use Rattle.tz_write.specs.Steps.TextPieces.{clock_text, offset_text, time_text}
 pub use Rattle.tz_write.specs.WrittenFiles.{HasCounts, HasIndex, HasText, HaveVersion, IsEntry, IsFooterText, IsInNoFile, IsSound, IsTime, IsType, IsWritable}

@@ -3,10 +3,9 @@ use Rattle.tz_write.proofs.Words.{AreInPairs, CanBeSpelled, Err, HasZoneText, Is
 use Rattle.tz_write.proofs.Words.{IsTzText, IsWrittenZone, LeapSecond, List, LocalType, None, NoneFirst, Ok, OnErr, Option, Result, Some, Transition}
 use Rattle.tz_write.proofs.Words.{TransitionRule, TwoDigits, Zone, ap, append-nil, arith, false, inl, inr, is_ascii_whitespace, is_digit, length, length-append}
 use Rattle.tz_write.proofs.Words.{nat_tests, posix_zone, refl, subst, sym, text_of, true, types_of, zone_of_rule, ℕ, [], ◌++◌, ◌<◌, ◌∙◌, ◌∷◌, ◌≡◌, ◌≢◌, ◌⊎◌}
-use Rattle.tz_write.proofs.RuleTexts.{rule_best, rule_named, rule_pairs, rule_plain, rule_spelled, text_are, text_first}
+use Rattle.tz_write.proofs.RuleTexts.{both_shortest, rule_best, rule_named, rule_pairs, rule_plain, rule_spelled, text_are, text_first}
 use Rattle.tz_write.proofs.Shortest.{Best, pairs_rest}
 use Rattle.tz_write.proofs.TextBytes.{trimmed_text}
-use Rattle.tz_write.proofs.WrittenLaws.{both_shortest}
 
 -- ---- white space at the ends
 not_both : (b : ℕ) → is_digit b ≡ true → is_ascii_whitespace b ≡ true → ⊥
@@ -128,7 +127,3 @@ gives_same_zone types rule z fits h e = (text_of rule, subst (IsPosixZone (text_
 pub on_err : {A E : Type 0} (r : Result A E) (P : Type 0) → P → OnErr r P
 on_err (Ok a) P h = tt
 on_err (Err e) P h = h
-
-pub on_err_to : {A E : Type 0} (r : Result A E) (P Q : Type 0) → OnErr r P → (P → Q) → OnErr r Q
-on_err_to (Ok a) P Q h f = tt
-on_err_to (Err e) P Q h f = f h

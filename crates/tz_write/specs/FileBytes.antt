@@ -10,7 +10,7 @@ use Rattle.tz_info.specs.Zones.{Zone}
 use Rattle.tz_info.specs.declared.file.header.Counts.{Counts}
 use Rattle.tz_info.specs.declared.zone.leap_second.LeapSecond.{LeapSecond}
 use Rattle.tz_info.specs.declared.zone.transition.Transition.{Transition}
-use Rattle.tz_write.specs.FileDesignations.{text_of, place_of}
+use Rattle.tz_write.specs.FileDesignations.{name_of, place_of}
 
 -- ---- numbers, the highest byte first
 -- a number of four bytes
@@ -73,7 +73,7 @@ mark_byte dst = if dst then 1 else 0
 
 -- the offset, the mark of daylight saving time, and where in the designations its text begins
 unfoldable pub type_bytes : List ℕ → LocalType → List ℕ
-type_bytes designations t = signed_bytes w32 t.offset ++ (mark_byte t.dst ∷ place_of (text_of t) designations ∷ [])
+type_bytes designations t = signed_bytes w32 t.offset ++ (mark_byte t.dst ∷ place_of (name_of t) designations ∷ [])
 
 unfoldable pub leap_bytes : LeapSecond → List ℕ
 leap_bytes leap = signed_bytes w64 leap.unix_leap_time ++ signed_bytes w32 leap.correction

@@ -6,12 +6,12 @@ use Rattle.tz_base.specs.LocalTypes.{LocalType}
 use Rattle.tz_info.specs.FileContents.{StandsAt}
 
 -- a type without a name has the empty text
-abbrev pub text_or_none : Option (List ℕ) → List ℕ
-text_or_none (Some name) = name
-text_or_none None = []
+abbrev pub name_or_none : Option (List ℕ) → List ℕ
+name_or_none (Some name) = name
+name_or_none None = []
 
-abbrev pub text_of : LocalType → List ℕ
-text_of t = text_or_none t.name
+abbrev pub name_of : LocalType → List ℕ
+name_of t = name_or_none t.name
 
 -- the places that a byte can name
 abbrev pub place_limit : ℕ
@@ -20,7 +20,7 @@ place_limit = 256
 -- the type's text stands in the designations, at a place that a byte can name
 pub record IsNamedIn (designations : List ℕ) (t : LocalType) : Type 0 where
   pub place : ℕ
-  pub stands : StandsAt designations place (text_of t)
+  pub stands : StandsAt designations place (name_of t)
   pub named : place < place_limit
 
 -- the designations have the text of each type

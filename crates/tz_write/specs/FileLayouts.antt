@@ -5,12 +5,12 @@ use Rattle.std.specs.Prelude.{ℕ, ◌≡◌, ◌<◌, ◌≤◌, ◌+◌, Bool,
 use Rattle.std.specs.Bool.{nat_eq}
 use Rattle.std.specs.List.{fold, ends_with}
 use Rattle.tz_base.specs.LocalTypes.{LocalType}
-use Rattle.tz_write.specs.FileDesignations.{text_of, place_of, place_limit}
+use Rattle.tz_write.specs.FileDesignations.{name_of, place_of, place_limit}
 
 -- the type's text stands in the designations, and its first place is one that a byte can name
 pub record HasPlace (designations : List ℕ) (t : LocalType) : Type 0 where
-  pub stands : place_of (text_of t) designations < length designations
-  pub named : place_of (text_of t) designations < place_limit
+  pub stands : place_of (name_of t) designations < length designations
+  pub named : place_of (name_of t) designations < place_limit
 
 abbrev pub HavePlaces : List ℕ → List LocalType → Type 0
 HavePlaces designations types = All (HasPlace designations) types
@@ -32,7 +32,7 @@ ends last text = ends_with nat_eq last text
 -- the text of the type, if it has that size and doesn't end the last one
 abbrev pub with_text_of : List ℕ → ℕ → List ℕ → LocalType → List ℕ
 with_text_of last size designations t =
-    if (length (text_of t) == size) && not (ends last (text_of t)) then with_text designations (text_of t) else designations
+    if (length (name_of t) == size) && not (ends last (name_of t)) then with_text designations (name_of t) else designations
 
 -- the texts of that size
 unfoldable pub with_texts : List ℕ → ℕ → List ℕ → List LocalType → List ℕ

@@ -9,7 +9,8 @@ ghost use Rattle.tz_info.specs.declared.rule.transition_rule.TransitionRule.{Tra
 ghost use Rattle.offset_core.specs.Offset.{IsWithinDay};
 ghost use Rattle.tz_info.specs.TzGrammar.{IsTzText};
 ghost use Rattle.tz_write.specs.WrittenTexts.{IsWrittenText, IsUnspelled, IsNamedType, IsPlainTime, CanBeSpelled, AreTimesOf, HasPlainText};
-ghost use Rattle.tz_write.specs.Steps.TextPieces.{name_text, name_of, type_text, days_text, alternate_text, text_of};
+ghost use Rattle.tz_write.specs.FileDesignations.{name_of};
+ghost use Rattle.tz_write.specs.Steps.TextPieces.{name_text, type_text, days_text, alternate_text, text_of};
 
 use crate::pieces::day::push_day;
 use crate::pieces::name::push_name;
@@ -180,10 +181,9 @@ fn push_alternate(text: &mut String, alternate: &AlternateTime) -> Result<(), Al
     ensures { OnOk result
         (string_bytes text.new ≡ string_bytes text.old ++ alternate_text alternate.now) }
 {
-    let (std, dst) = (alternate.std(), alternate.dst());
-    push_type(text, std)?;
-    push_name_of(text, dst)?;
-    push_dst_offset(text, std.offset(), dst.offset())?;
+    push_type(text, alternate.std())?;
+    push_name_of(text, alternate.dst())?;
+    push_dst_offset(text, alternate)?;
     push_days(text, alternate)
 }
 

@@ -1,6 +1,5 @@
 -- The texts of the pieces of a TZ text.
 use Rattle.std.specs.Prelude.{ℕ, zero, suc, ℤ, pos, negsuc, ◌+ℤ◌, ◌+◌, ◌/◌, ◌%◌, ◌==◌, ◌&&◌, Bool, true, false, if◌then◌else◌, List, [], ◌∷◌, ◌++◌, decimal}
-use Rattle.std.specs.Prelude.{Option, Some, None}
 use Rattle.std.specs.Int.RustNames.{unsigned_abs}
 use Rattle.std.specs.Ordering.{int_eq}
 use Rattle.std.specs.List.{list_all}
@@ -12,6 +11,7 @@ use Rattle.tz_info.specs.declared.rule.day.DayForm.TheVariants.{Julian1, Julian0
 use Rattle.tz_info.specs.declared.rule.day.DayTime.{DayTime}
 use Rattle.tz_info.specs.declared.rule.transition_rule.TransitionRule.{TransitionRule}
 use Rattle.tz_info.specs.declared.rule.transition_rule.TransitionRule.TheVariants as rules
+use Rattle.tz_write.specs.FileDesignations.{name_of}
 
 -- ---- offsets and times
 -- a colon and a number below 100 in two digits
@@ -76,13 +76,6 @@ day_text d = date_text d.day ++ time_after d.time
 -- the offset of daylight saving time, left out where it is an hour more than that of standard time
 abbrev pub dst_offset_text : ℤ → ℤ → List ℕ
 dst_offset_text std dst = if int_eq dst (std +ℤ pos 3_600) then [] else offset_text dst
-
-abbrev pub name_or_none : Option (List ℕ) → List ℕ
-name_or_none (Some name) = name
-name_or_none None = []
-
-abbrev pub name_of : LocalType → List ℕ
-name_of t = name_or_none t.name
 
 -- a type's name and offset
 abbrev pub type_text : LocalType → List ℕ

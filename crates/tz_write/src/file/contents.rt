@@ -40,6 +40,7 @@ fn push_time(bytes: &mut Vec<u8>, transition: Transition) -> Result<(), AllocErr
 }
 
 /// Appends the times of the transitions.
+#[tactic(auto, using(std::proofs::lemmas::List::take_all))]
 pub fn push_times(bytes: &mut Vec<u8>, zone: &TimeZone) -> Result<(), AllocError>
     ensures appended { OnOk result
         (bytes.new.items ≡ bytes.old.items ++ flat_map time_bytes zone.now.transitions) }
@@ -74,6 +75,7 @@ fn push_leap_second(bytes: &mut Vec<u8>, leap: LeapSecond) -> Result<(), AllocEr
 }
 
 /// Appends the leap seconds.
+#[tactic(auto, using(std::proofs::lemmas::List::take_all))]
 pub fn push_leap_seconds(bytes: &mut Vec<u8>, leaps: &[LeapSecond]) -> Result<(), AllocError>
     ensures appended { OnOk result
         (bytes.new.items ≡ bytes.old.items ++ flat_map leap_bytes leaps.now) }

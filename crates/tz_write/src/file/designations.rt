@@ -3,7 +3,7 @@
 
 ghost use Rattle.std.specs.Prelude.{◌≡◌, ◌<◌, ◌≤◌, ◌+◌, ◌↔◌, [], ◌∷◌, ◌++◌, length, All, IsTrue, List, ℕ, MatchOption};
 ghost use Rattle.tz_base.specs.Names.{IsNameOrNone};
-ghost use Rattle.tz_write.specs.FileDesignations.{text_of, begins, place_of, AreNamesIn, AreShortest};
+ghost use Rattle.tz_write.specs.FileDesignations.{name_of, begins, place_of, AreNamesIn, AreShortest};
 ghost use Rattle.tz_write.specs.FileLayouts.{HasPlace, HavePlaces, with_text, ends, with_text_of, with_texts, before_last, laid, text_at, laid_from, ArePlaced, IsPlacedFrom, AreNotPlacedBefore, IsFirstPlaced, IsLaid};
 
 use std::marker::Model;
@@ -66,8 +66,8 @@ impl Designations {
 }
 
 /// The name of a type, or nothing if it has none.
-pub fn text_of(local: &LocalTimeType) -> &[u8]
-    ensures text { result.now ≡ text_of local.now }
+pub fn name_of(local: &LocalTimeType) -> &[u8]
+    ensures text { result.now ≡ name_of local.now }
     ensures sound { IsNameOrNone local.now.name }
 {
     match local.name() {
@@ -125,7 +125,7 @@ fn push_text_of(designations: &mut Designations, last: &[u8], local: &LocalTimeT
     ensures put { designations.new ≡ with_text_of last.now size designations.old local.now }
     ensures sound { IsNameOrNone local.now.name }
 {
-    let text = text_of(local);
+    let text = name_of(local);
     if text.len() == size && !last.ends_with(text) {
         push_text(designations, text);
     }
@@ -160,7 +160,7 @@ fn laid(types: &[LocalTimeType], last: &[u8]) -> Designations
 fn has_place(designations: &[u8], local: &LocalTimeType) -> bool
     ensures { IsTrue result ↔ HasPlace designations.now local.now }
 {
-    let place = place_of(text_of(local), designations);
+    let place = place_of(name_of(local), designations);
     place < designations.len() && place < 256
 }
 

@@ -6,7 +6,7 @@ ghost use Rattle.tz_write.specs.FileBytes.{mark_byte, type_bytes};
 ghost use Rattle.tz_write.specs.FileLayouts.{HasPlace, HavePlaces};
 ghost use Rattle.tz_write.specs.WrittenFiles.{IsType};
 
-use crate::file::designations::{place_of, text_of};
+use crate::file::designations::{name_of, place_of};
 use crate::file::numbers::push_signed_32;
 use std::alloc::AllocError;
 use tz_info::LocalTimeType;
@@ -28,12 +28,13 @@ fn push_type(
         (bytes.new.items ≡ bytes.old.items ++ type_bytes designations.now local.now) }
     ensures sound { OnOk result (IsType local.now) }
 {
-    let place = place_of(text_of(local), designations);
+    let place = place_of(name_of(local), designations);
     push_signed_32(bytes, local.offset())?;
     bytes.extend_from_slice(&[mark_byte(local.is_dst()), place as u8])
 }
 
 /// Appends the types.
+#[tactic(auto, using(std::proofs::lemmas::List::take_all))]
 pub fn push_types(
     bytes: &mut Vec<u8>,
     designations: &[u8],

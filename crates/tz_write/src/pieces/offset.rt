@@ -1,11 +1,11 @@
 //! Offsets and times of day.
 
 ghost use Rattle.std.specs.Prelude.{◌≡◌, ◌++◌, ◌+ℤ◌, pos, OnOk, string_bytes};
-ghost use Rattle.offset_core.specs.Offset.{IsWithinDay};
 ghost use Rattle.tz_write.specs.Steps.TextPieces.{is_positive, is_negative, offset_text, time_text, dst_offset_text};
 
 use crate::pieces::clock::push_signed;
 use std::alloc::AllocError;
+use tz_info::AlternateTime;
 
 // An offset east of UTC, which a text counts west of it.
 #[tactic(auto, unfolding(crate::specs::Steps::TextPieces::offset_text))]
@@ -24,11 +24,12 @@ pub(crate) fn push_time(text: &mut String, time: i32) -> Result<(), AllocError>
 }
 
 // The offset of daylight saving time, unless it is an hour more than that of standard time.
-pub(crate) fn push_dst_offset(text: &mut String, std: i32, dst: i32) -> Result<(), AllocError>
-    requires { IsWithinDay std }
+pub(crate) fn push_dst_offset(text: &mut String, rule: &AlternateTime) -> Result<(), AllocError>
     ensures { OnOk result
-        (string_bytes text.new ≡ string_bytes text.old ++ dst_offset_text std dst) }
+        (string_bytes text.new
+        ≡ string_bytes text.old ++ dst_offset_text rule.now.std.offset rule.now.dst.offset) }
 {
+    let (std, dst) = (rule.std().offset(), rule.dst().offset());
     if dst == std + 3_600 {
         return Ok(());
     }

@@ -1,5 +1,4 @@
-use Rattle.tz_write.proofs.RuleTexts.{rule_named}
-use Rattle.tz_write.proofs.WrittenLaws.{extensions, text_once, text_some}
+use Rattle.tz_write.proofs.RuleTexts.{extensions, rule_named, text_once, text_some}
 use Rattle.tz_write.proofs.laws.one_written_text.Goals as goal
 
 pub returns : goal.returns

@@ -1,5 +1,5 @@
-use Rattle.tz_write.proofs.Words.{All-more, IsEntry, arith, leap_bytes, take_all}
-use Rattle.tz_write.proofs.FilePushes.{flat_map_next}
+use Rattle.tz_write.proofs.Words.{All-more, IsEntry, leap_bytes}
+use Rattle.tz_write.proofs.FileRecords.{flat_map_next}
 use Rattle.tz_write.proofs.file.contents.push_leap_seconds.Goals as goal
 
 pub loop-leap-preserved : goal.loop-leap-preserved
@@ -7,13 +7,3 @@ loop-leap-preserved c = record {
   appended = flat_map_next leap_bytes c.args.bytes.now.items c.args.leaps.now c.loop-leap.leap-index _ c.loop-leap.bytes.items c.push_leap_second.new.bytes.items c.loop-leap-test.true c.loop-leap.invariant.appended c.in_ok-push_leap_second.ensures.appended;
   sound = All-more IsEntry c.args.leaps.now c.loop-leap.leap-index _ c.loop-leap-test.true c.loop-leap.invariant.sound c.in_ok-push_leap_second.ensures.sound;
 }
-
-pub returns-clause-appended : goal.returns-clause-appended
-returns-clause-appended c =
-    let whole = take_all c.loop-leap.leap-index c.args.leaps.now (omega (arith, c.loop-leap-test.false)) in
-    rw whole at c.loop-leap.invariant.appended
-
-pub returns-clause-sound : goal.returns-clause-sound
-returns-clause-sound c =
-    let whole = take_all c.loop-leap.leap-index c.args.leaps.now (omega (arith, c.loop-leap-test.false)) in
-    rw whole at c.loop-leap.invariant.sound

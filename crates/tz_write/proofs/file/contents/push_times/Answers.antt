@@ -1,5 +1,5 @@
-use Rattle.tz_write.proofs.Words.{All-more, IsTime, ap, arith, length, take_all, time_bytes, ◌++◌, ◌<◌, ◌∙◌}
-use Rattle.tz_write.proofs.FilePushes.{flat_map_next}
+use Rattle.tz_write.proofs.Words.{All-more, IsTime, ap, arith, length, time_bytes, ◌++◌, ◌<◌, ◌∙◌}
+use Rattle.tz_write.proofs.FileRecords.{flat_map_next}
 use Rattle.tz_write.proofs.file.contents.push_times.Goals as goal
 
 pub loop-place-preserved : goal.loop-place-preserved
@@ -12,13 +12,3 @@ loop-place-preserved c =
           (c.in_ok-push_time.ensures.appended ∙ ap (λ x. c.loop-place.bytes.items ++ time_bytes x) e);
       sound = All-more IsTime c.args.zone.now.transitions c.loop-place.place t below c.loop-place.invariant.sound (rw (← e) c.in_ok-push_time.ensures.sound);
     }
-
-pub returns-clause-appended : goal.returns-clause-appended
-returns-clause-appended c =
-    let whole = take_all c.loop-place.place c.args.zone.now.transitions (omega (arith, c.loop-place-test.false, c.transition_count-place-end.ensures)) in
-    rw whole at c.loop-place.invariant.appended
-
-pub returns-clause-sound : goal.returns-clause-sound
-returns-clause-sound c =
-    let whole = take_all c.loop-place.place c.args.zone.now.transitions (omega (arith, c.loop-place-test.false, c.transition_count-place-end.ensures)) in
-    rw whole at c.loop-place.invariant.sound

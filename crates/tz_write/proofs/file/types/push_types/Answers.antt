@@ -1,5 +1,5 @@
-use Rattle.tz_write.proofs.Words.{All-more, IsType, ap, arith, take_all, type_bytes, ◌++◌, ◌∙◌}
-use Rattle.tz_write.proofs.FilePushes.{flat_map_next}
+use Rattle.tz_write.proofs.Words.{All-more, IsType, ap, type_bytes, ◌++◌, ◌∙◌}
+use Rattle.tz_write.proofs.FileRecords.{flat_map_next}
 use Rattle.tz_write.proofs.file.types.push_types.Goals as goal
 
 pub loop-local-preserved : goal.loop-local-preserved
@@ -11,13 +11,3 @@ loop-local-preserved c =
           (c.in_ok-push_type.ensures.appended ∙ ap (λ x. c.loop-local.bytes.items ++ type_bytes c.args.designations.now x) e);
       sound = All-more IsType c.args.types.now c.loop-local.local-index t c.loop-local-test.true c.loop-local.invariant.sound (rw (← e) c.in_ok-push_type.ensures.sound);
     }
-
-pub returns-clause-appended : goal.returns-clause-appended
-returns-clause-appended c =
-    let whole = take_all c.loop-local.local-index c.args.types.now (omega (arith, c.loop-local-test.false)) in
-    rw whole at c.loop-local.invariant.appended
-
-pub returns-clause-sound : goal.returns-clause-sound
-returns-clause-sound c =
-    let whole = take_all c.loop-local.local-index c.args.types.now (omega (arith, c.loop-local-test.false)) in
-    rw whole at c.loop-local.invariant.sound

@@ -1,6 +1,6 @@
-use Rattle.tz_write.proofs.Words.{IfOk, IsNoPosixZone, IsOfText, IsOutOfMemory, IsRule, IsWrittenZone, MatchOption, MatchResult, None, Some, Zone, rules}
-use Rattle.tz_write.proofs.Words.{string_bytes, subst, [], ◌≡◌}
-use Rattle.tz_write.proofs.ZoneTexts.{gives_same_zone, on_err_to, zone_is}
+use Rattle.tz_write.proofs.Words.{IfOk, IsNoPosixZone, IsOfText, IsOutOfMemory, IsRule, IsWrittenZone, MatchOption, MatchResult, None, Some, Zone}
+use Rattle.tz_write.proofs.Words.{on_err_weaker, rules, string_bytes, subst, [], ◌≡◌}
+use Rattle.tz_write.proofs.ZoneTexts.{gives_same_zone, zone_is}
 use Rattle.tz_write.proofs.zone_text.TimeZoneToPosixTz.to_posix_tz.Goals as goal
 
 pub returns-in-Some : goal.returns-in-Some
@@ -14,7 +14,7 @@ returns-in-Some c =
     record {
       written = subst (λ (x : Zone). MatchResult c.text_of_rule.result (λ answer. MatchOption answer (IsNoPosixZone x) (λ text. IsWrittenZone x (string_bytes text))) (λ e. IsOutOfMemory e)) is c.text_of_rule.ensures.written;
       reason = subst (λ (x : Zone). IfOk c.text_of_rule.result (λ answer. MatchOption answer (¬ (IsOfText x)) (λ _. IsOfText x))) is c.text_of_rule.ensures.reason;
-      memory = on_err_to c.text_of_rule.result _ _ c.text_of_rule.ensures.memory (λ has. gives_same_zone types rule z fits has is);
+      memory = on_err_weaker c.text_of_rule.result (λ has. gives_same_zone types rule z fits has is) c.text_of_rule.ensures.memory;
     }
 
 pub returns-in-None : goal.returns-in-None
