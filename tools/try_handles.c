@@ -205,7 +205,7 @@ static void try_instants(struct tried *of) {
     if (of->of.at) EXPECT(zoned_at(of->of.kind, of->of.at, of->of.len, instants, MOST, expected, MOST) == ZONED_OK);
     memset(offsets, 0x55, sizeof offsets);
     memset(types, 0x55, sizeof types);
-    uint32_t number = zoned_zone_at(&of->zone, instants, count, offsets, room);
+    uint32_t number = zoned_zone_offsets(&of->zone, instants, count, offsets, room);
     EXPECT(number == due(of, count, room));
     EXPECT(number == zoned_zone_types(&of->zone, instants, count, types, room));
     size_t written = number ? 0 : count;
@@ -417,7 +417,7 @@ static void try_locals(struct tried *of) {
     memset(clocks, 0x55, sizeof clocks);
     memset(triples, 0x55, sizeof triples);
     memset(resolved, 0x55, sizeof resolved);
-    uint32_t number = zoned_zone_wall_instants(&of->zone, locals, count, clocks, room);
+    uint32_t number = zoned_zone_wall_clocks(&of->zone, locals, count, clocks, room);
     EXPECT(number == due(of, count, room));
     size_t written = number ? 0 : count;
     EXPECT(is_untouched(clocks + written, (MOST - written) * sizeof *clocks));

@@ -275,13 +275,19 @@ uint32_t zoned_zone_offset(const struct zoned_zone *zone, int64_t instant, int32
 uint32_t zoned_zone_at(const struct zoned_zone *zone,
                        const int64_t *instants, size_t instants_len,
                        int32_t *offsets, size_t offsets_len) ZONED_MUST_CHECK ZONED_NONNULL((1));
+/* zoned_zone_at by the name of its question. */
+ZONED_INLINE ZONED_MUST_CHECK uint32_t zoned_zone_offsets(const struct zoned_zone *zone,
+                                                          const int64_t *instants, size_t instants_len,
+                                                          int32_t *offsets, size_t offsets_len) {
+    return zoned_zone_at(zone, instants, instants_len, offsets, offsets_len);
+}
 
 /* No time: what a column has where a time is missing, as NaT of numpy. */
 #define ZONED_NO_TIME INT64_MIN
 
 /* locals[i] is the local time of instants[i]. Both are counted in one unit, of which per_second make a second: 1, 1000, 1000000
    or 1000000000. The local time is the instant plus the offset in force at the second that the instant lies in: -1 nanosecond
-   lies in second -1. ZONED_NO_TIME stays. Columns in the order of time are answered several times faster than by zoned_zone_at.
+   lies in second -1. ZONED_NO_TIME stays. A column in the order of time costs little more than a copy of it.
 
    ZONED_UNKNOWN_UNIT: there is no such unit, and nothing is written. ZONED_NO_LOCAL_TIME: instants[*row] is the first that has
    no local time, since the zone has no offset there or the sum doesn't fit 64 bits; the rows before it are written. In all other
@@ -377,6 +383,12 @@ uint32_t zoned_zone_wall_clock(const struct zoned_zone *zone, int64_t local, zon
 uint32_t zoned_zone_wall_instants(const struct zoned_zone *zone,
                                   const int64_t *locals, size_t locals_len,
                                   zoned_wall_clock *clocks, size_t clocks_len) ZONED_MUST_CHECK ZONED_NONNULL((1));
+/* zoned_zone_wall_instants by the name of its question. */
+ZONED_INLINE ZONED_MUST_CHECK uint32_t zoned_zone_wall_clocks(const struct zoned_zone *zone,
+                                                              const int64_t *locals, size_t locals_len,
+                                                              zoned_wall_clock *clocks, size_t clocks_len) {
+    return zoned_zone_wall_instants(zone, locals, locals_len, clocks, clocks_len);
+}
 
 /* Three numbers for each local time, as in zoned_wall.
 

@@ -1,5 +1,6 @@
 -- Answers to a column's times: by a lookup, and by what is kept of a stretch.
-use Rattle.zoned_ffi.proofs.Words.{All-contains, Choice, FitsSigned, IsCounted, IsGreatest, IsInRange, IsInstantOf, IsInstantTaken, IsKept, IsLeast}
+use Rattle.zoned_ffi.proofs.Words.{List, cases_lt, get_or, ◌+◌}
+use Rattle.zoned_ffi.proofs.Words.{All-contains, AreWithin, Choice, FitsSigned, IsCounted, IsGreatest, IsInRange, IsInstantOf, IsInstantTaken, IsKept, IsLeast}
 use Rattle.zoned_ffi.proofs.Words.{IsLocal, IsNoInstant, IsNoneTaken, IsOffsetStretch, IsRowNumber, IsShownOnce, IsTakenAs, IsWithout, Kept}
 use Rattle.zoned_ffi.proofs.Words.{LieWithin, LocalType, MatchOption, None, OffsetStretch, Option, Shows, Some, Taken, TypeAt, Unit, Zone, ℕ, ℤ, ap, arith}
 use Rattle.zoned_ffi.proofs.Words.{first_second, floor_div, floors, inl, inr, ints, neg_ℤ, offsets, per_second, pos, refl, second_of, subst, sym}
@@ -49,6 +50,16 @@ lie_within from until add k a b d e f g same = record {
     (omega (arith, ints, d, g, low, high), λ none. omega (arith, ints, none, d, low)),
   );
 }
+
+-- the stretch has one row more
+pub within_more : (times : List ℤ) (from row : ℕ) (k : Kept) → AreWithin times from row k
+    → (k.low ≤ℤ get_or times row (pos 0)) × (get_or times row (pos 0) <ℤ k.high) → AreWithin times from (row + 1) k
+within_more times from row k before this i since below = elim (cases_lt i row) [
+  | inl earlier ↦ before i since earlier
+  | inr later ↦
+      let same : row ≡ i = omega (arith, later, below) in
+      subst (λ n. (k.low ≤ℤ get_or times n (pos 0)) × (get_or times n (pos 0) <ℤ k.high)) same this
+]
 
 -- instants of a stretch
 pub instants_kept : (z : Zone) (unit : Unit) (s : OffsetStretch) (k : Kept) → IsOffsetStretch z s

@@ -7,7 +7,7 @@ pub use Rattle.std.proofs.ResultValues.{and_tt}
 pub use Rattle.std.proofs.alloc.Calls.{handle_tells}
 pub use Rattle.std.proofs.alloc.Shapes.{after}
 pub use Rattle.std.proofs.cell.Inside.{Good}
-pub use Rattle.std.proofs.lemmas.Bool.{eq-eqb}
+pub use Rattle.std.proofs.lemmas.Bool.{and_parts, eq-eqb}
 pub use Rattle.std.proofs.lemmas.List.Elements.{All-contains, All-replicate, All-set}
 pub use Rattle.std.proofs.lemmas.List.{get_or-set_other, get_or-set_same, length-set, map-append}
 pub use Rattle.std.proofs.option.Made.{Some-of, none_of}
@@ -89,7 +89,7 @@ pub use Rattle.zoned_ffi.specs.Kinds.{IsZoneOf, Spells}
 pub use Rattle.zoned_ffi.specs.Owned.{boxed, held, lent, loan, shared_row}
 pub use Rattle.zoned_ffi.specs.Refusals.{IsExtendedFault, IsFault, IsFileError, IsReaderNumber, IsRefusal, IsRefusalInDetail, IsTextFault, refusal_number}
 pub use Rattle.zoned_ffi.specs.Resolved.{AreResolved, IsGapEnd, IsNoneTaken, IsReachedAt, IsResolvedAt, IsTaken, TakesOf, policy_of}
-pub use Rattle.zoned_ffi.specs.Steps.KeptTimes.{AreKept, IsKept, LieWithin}
+pub use Rattle.zoned_ffi.specs.Steps.KeptTimes.{AreKept, AreWithin, IsKept, LieWithin}
 pub use Rattle.zoned_ffi.specs.Steps.ResolvedInstants.{IsStamp, IsTakenAs, taken_instant}
 pub use Rattle.zoned_ffi.specs.Steps.Told.{told_of}
 pub use Rattle.zoned_ffi.specs.Texts.{IsSaidOf, IsTextOf}

@@ -1,9 +1,8 @@
 //! Columns of instants as local times, and of local times as instants, in one pass.
 
-ghost use Rattle.std.specs.Prelude.{◌≡◌, ◌≢◌, length, MatchOption, MatchResult};
-ghost use Rattle.zoned_ffi.specs.Columns.{AreAnswered, IsAnswered, IsAnsweredOrNone, IsFirstWithout, IsNotAnswered, IsRowNumber};
-ghost use Rattle.zoned_ffi.specs.Steps.KeptTimes.{AreKept, IsKept};
-ghost use Rattle.zoned_ffi.specs.Units.{no_time};
+ghost use Rattle.std.specs.Prelude.{◌≡◌, ◌≢◌, ◌≤◌, ◌<◌, length, take, IsTrue, MatchOption};
+ghost use Rattle.zoned_ffi.specs.Columns.{AreAnswered, IsFirstWithout, IsRowNumber};
+ghost use Rattle.zoned_ffi.specs.Steps.KeptTimes.{AreKept, AreWithin, IsKept};
 ghost use Rattle.zoned_ffi.specs.declared.column.Way.TheVariants.{ToInstants, ToLocal};
 
 mod kept;
@@ -14,8 +13,7 @@ use crate::choice::Choice;
 use crate::refusal::{NO_LOCAL_TIME, OTHER_SIZE};
 use crate::unit::Unit;
 use kept::Kept;
-use row::{instant_of, local_of};
-use table::Recent;
+use table::{Search, answer, kept_for};
 use tz_info::TimeZone;
 
 /// No time: what a column has where a time is missing.
@@ -39,104 +37,17 @@ pub struct Stop {
     pub number: u32,
 }
 
-// What is written of the time, or the number that says why nothing is.
-#[inline(never)]
-fn looked_up(zone: &TimeZone, unit: Unit, way: Way, time: i64) -> Result<i64, u32>
-    ensures { MatchResult result (IsAnswered zone.now unit way time)
-        (IsNotAnswered zone.now unit way time) }
-{
-    match way {
-        Way::ToLocal => match local_of(zone, unit, time) {
-            Some(local) => Ok(local),
-            None => Err(NO_LOCAL_TIME),
-        },
-        Way::ToInstants(choice) => instant_of(zone, unit, choice, time),
-    }
-}
-
-// How many stretches the table of a long column holds: two for each of 256 parts of some 97 days,
-// which are 68 years.
+// The stretches in the table of a long column, two for each number of a pair.
 const PLACES: usize = 512;
+
+// The parts of the axis, 136 years or more, for which it notes the pair.
+const PARTS: usize = 2_048;
 
 // The rows of a column that pays for a table.
 const LONG: usize = 1_024;
 
-// What is written of the time in that row, or the number that says why nothing is. The first of
-// three functions, so that what the later ones need isn't stored for a time of the last stretch.
-#[inline(always)]
-fn answer(
-    zone: &TimeZone,
-    unit: Unit,
-    way: Way,
-    recent: &mut Recent,
-    table: &mut [Kept],
-    row: usize,
-    time: i64,
-) -> Result<i64, u32>
-    requires recent { IsKept zone.now unit way recent.old.kept }
-    requires table { AreKept zone.now unit way table.old }
-    ensures recent { IsKept zone.now unit way recent.new.kept }
-    ensures table { AreKept zone.now unit way table.new }
-    ensures answer { MatchResult result (IsAnsweredOrNone zone.now unit way time)
-        (λ n. (time ≢ no_time) × IsNotAnswered zone.now unit way time n) }
-{
-    if recent.kept.low <= time && time < recent.kept.high {
-        return Ok(time + recent.kept.add);
-    }
-    answer_by_table(zone, unit, way, recent, table, row, time)
-}
-
-// The same for a time that isn't in the last stretch.
-#[inline(always)]
-fn answer_by_table(
-    zone: &TimeZone,
-    unit: Unit,
-    way: Way,
-    recent: &mut Recent,
-    table: &mut [Kept],
-    row: usize,
-    time: i64,
-) -> Result<i64, u32>
-    requires recent { IsKept zone.now unit way recent.old.kept }
-    requires table { AreKept zone.now unit way table.old }
-    ensures recent { IsKept zone.now unit way recent.new.kept }
-    ensures table { AreKept zone.now unit way table.new }
-    ensures answer { MatchResult result (IsAnsweredOrNone zone.now unit way time)
-        (λ n. (time ≢ no_time) × IsNotAnswered zone.now unit way time n) }
-{
-    if time == NO_TIME {
-        return Ok(NO_TIME);
-    }
-    if let Some(found) = recent.answer_in(zone, unit, way, table, row, time) {
-        return Ok(found);
-    }
-    answer_by_zone(zone, unit, way, recent, table, row, time)
-}
-
-// The same for a time that isn't in the table either.
-#[inline(always)]
-fn answer_by_zone(
-    zone: &TimeZone,
-    unit: Unit,
-    way: Way,
-    recent: &mut Recent,
-    table: &mut [Kept],
-    row: usize,
-    time: i64,
-) -> Result<i64, u32>
-    requires recent { IsKept zone.now unit way recent.old.kept }
-    requires table { AreKept zone.now unit way table.old }
-    requires time { time ≢ no_time }
-    ensures recent { IsKept zone.now unit way recent.new.kept }
-    ensures table { AreKept zone.now unit way table.new }
-    ensures answer { MatchResult result (IsAnsweredOrNone zone.now unit way time)
-        (λ n. (time ≢ no_time) × IsNotAnswered zone.now unit way time n) }
-{
-    if let Some(found) = recent.answer_by_search(zone, unit, way, table, row, time) {
-        return Ok(found);
-    }
-    looked_up(zone, unit, way, time)
-}
+// The rows that are tried at once to lie in one stretch.
+const BLOCK: usize = 32;
 
 /// Writes the answer to each time, up to the first that has none. Returns the row of that time, if
 /// there is one, and the number that says why.
@@ -152,7 +63,8 @@ fn write_column(
         (λ s. IsFirstWithout zone.now unit way times.now answers.new s.row s.number) }
 {
     if times.len() < LONG {
-        return write_with(zone, unit, way, times, answers, &mut []);
+        let mut places = [Kept::none(zone, unit, way); 2];
+        return write_with(zone, unit, way, times, answers, &mut [], &mut places);
     }
     write_with_table(zone, unit, way, times, answers)
 }
@@ -169,8 +81,9 @@ fn write_with_table(
     ensures { MatchOption result (AreAnswered zone.now unit way times.now answers.new)
         (λ s. IsFirstWithout zone.now unit way times.now answers.new s.row s.number) }
 {
-    let mut table = [Kept::none(zone, unit, way); PLACES];
-    write_with(zone, unit, way, times, answers, &mut table)
+    let mut places = [Kept::none(zone, unit, way); PLACES];
+    let mut parts = [0; PARTS];
+    write_with(zone, unit, way, times, answers, &mut parts, &mut places)
 }
 
 #[inline(never)]
@@ -180,21 +93,133 @@ fn write_with(
     way: Way,
     times: &[i64],
     answers: &mut [i64],
-    table: &mut [Kept],
+    parts: &mut [u8],
+    places: &mut [Kept],
 ) -> Option<Stop>
     requires size { length times.now ≡ length answers.old }
-    requires table { AreKept zone.now unit way table.old }
+    requires kept { AreKept zone.now unit way places.old }
     ensures { MatchOption result (AreAnswered zone.now unit way times.now answers.new)
         (λ s. IsFirstWithout zone.now unit way times.now answers.new s.row s.number) }
 {
-    let mut recent = Recent::none(zone, unit, way);
-    for (row, time) in times.iter().enumerate() {
-        match answer(zone, unit, way, &mut recent, table, row, *time) {
+    let mut search = Search::none();
+    let blocks = times.len() / BLOCK;
+    for block in 0..blocks {
+        let from = block * BLOCK;
+        let to = from + BLOCK;
+        if let Some(stop) = write_block(
+            zone,
+            unit,
+            way,
+            times,
+            answers,
+            parts,
+            places,
+            &mut search,
+            from,
+            to,
+        ) {
+            return Some(stop);
+        }
+    }
+    let from = blocks * BLOCK;
+    let to = times.len();
+    if from == to {
+        return None;
+    }
+    write_block(
+        zone,
+        unit,
+        way,
+        times,
+        answers,
+        parts,
+        places,
+        &mut search,
+        from,
+        to,
+    )
+}
+
+// Writes the answers of the rows from `from` on and before `to`, up to the first without.
+#[inline(always)]
+fn write_block(
+    zone: &TimeZone,
+    unit: Unit,
+    way: Way,
+    times: &[i64],
+    answers: &mut [i64],
+    parts: &mut [u8],
+    places: &mut [Kept],
+    search: &mut Search,
+    from: usize,
+    to: usize,
+) -> Option<Stop>
+    requires size { length answers.old ≡ length times.now }
+    requires rows { (from < to) × (to ≤ length times.now) }
+    requires kept { AreKept zone.now unit way places.old }
+    requires before { AreAnswered zone.now unit way (take from times.now) (take from answers.old) }
+    ensures size { length answers.new ≡ length times.now }
+    ensures kept { AreKept zone.now unit way places.new }
+    ensures answered { MatchOption result
+        (AreAnswered zone.now unit way (take to times.now) (take to answers.new))
+        (λ s. IsFirstWithout zone.now unit way times.now answers.new s.row s.number) }
+{
+    let kept = kept_for(zone, unit, way, parts, places, times[from]);
+    if are_in(kept, times, from, to) {
+        write_sums(zone, unit, way, kept, times, answers, from, to);
+        return None;
+    }
+    for row in from..to {
+        match answer(zone, unit, way, parts, places, search, row, times[row]) {
             Ok(found) => answers[row] = found,
             Err(number) => return Some(Stop { row, number }),
         }
     }
     None
+}
+
+// Whether the stretch has the times of all these rows.
+#[inline(always)]
+fn are_in(kept: Kept, times: &[i64], from: usize, to: usize) -> bool
+    requires { (from < to) × (to ≤ length times.now) }
+    ensures { IsTrue result → AreWithin times.now from to kept }
+{
+    if !kept.has(times[to - 1]) {
+        return false;
+    }
+    let mut all = true;
+    for row in from..to {
+        all = all & kept.has(times[row]);
+    }
+    all
+}
+
+// Writes the answers of these rows, which lie in the stretch.
+#[inline(always)]
+fn write_sums(
+    zone: &TimeZone,
+    unit: Unit,
+    way: Way,
+    kept: Kept,
+    times: &[i64],
+    answers: &mut [i64],
+    from: usize,
+    to: usize,
+)
+    requires size { length answers.old ≡ length times.now }
+    requires rows { (from < to) × (to ≤ length times.now) }
+    requires kept { IsKept zone.now unit way kept }
+    requires within { AreWithin times.now from to kept }
+    requires before { AreAnswered zone.now unit way (take from times.now) (take from answers.old) }
+    ensures size { length answers.new ≡ length times.now }
+    ensures answered { AreAnswered zone.now unit way (take to times.now) (take to answers.new) }
+{
+    let _ = zone;
+    let _ = unit;
+    let _ = way;
+    for row in from..to {
+        answers[row] = times[row] + kept.add;
+    }
 }
 
 /// Writes the local time of each instant if there is room for as many: 0, or why not. If an instant

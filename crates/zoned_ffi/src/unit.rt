@@ -79,18 +79,22 @@ impl Unit {
         }
     }
 
-    /// The part of the axis that a time counted in this unit lies in: 94 to 105 days long, and after
-    /// 256 of them they are numbered again.
+    /// The part of the axis that a time counted in this unit lies in: each is 24 to 26 days long.
     #[inline(always)]
-    pub fn part_of(self, time: i64) -> usize
-        ensures { result < 256 }
+    pub fn part_of(self, time: i64) -> i64 {
+        time >> self.part_bits()
+    }
+
+    // Two to this power are the counts of a part.
+    #[inline(always)]
+    fn part_bits(self) -> u32
+        ensures { result < 64 }
     {
-        let part = match self {
-            Unit::Seconds => time >> 23,
-            Unit::Milliseconds => time >> 33,
-            Unit::Microseconds => time >> 43,
-            Unit::Nanoseconds => time >> 53,
-        };
-        (part.cast_unsigned() % 256) as usize
+        match self {
+            Unit::Seconds => 21,
+            Unit::Milliseconds => 31,
+            Unit::Microseconds => 41,
+            Unit::Nanoseconds => 51,
+        }
     }
 }

@@ -1,5 +1,5 @@
 -- What a column keeps of stretches of times.
-use Rattle.std.specs.Prelude.{ℤ, ◌≡◌, ◌≢◌, ◌+ℤ◌, ◌≤ℤ◌, ◌<ℤ◌, List, All}
+use Rattle.std.specs.Prelude.{ℕ, ℤ, ◌≡◌, ◌≢◌, ◌+ℤ◌, ◌≤ℤ◌, ◌<ℤ◌, ◌≤◌, ◌<◌, pos, List, All, slice_index_or}
 use Rattle.tz_info.specs.Zones.{Zone}
 use Rattle.zoned_ffi.specs.Columns.{IsAnswered}
 use Rattle.zoned_ffi.specs.Units.{IsCounted, no_time}
@@ -13,6 +13,10 @@ IsKept z unit way k = (x : ℤ) → k.low ≤ℤ x → x <ℤ k.high → IsCount
 
 abbrev pub AreKept : Zone → Unit → Way → List Kept → Type 0
 AreKept z unit way table = All (IsKept z unit way) table
+
+-- the rows from `from` on and before `to` are such times
+abbrev pub AreWithin : List ℤ → ℕ → ℕ → Kept → Type 0
+AreWithin times from to k = (i : ℕ) → from ≤ i → i < to → (k.low ≤ℤ slice_index_or times i (pos 0)) × (slice_index_or times i (pos 0) <ℤ k.high)
 
 -- such a time comes from `from` on, and before `until`, and can be counted, also with `add` more
 pub record LieWithin (from until add : ℤ) (k : Kept) : Type 0 where

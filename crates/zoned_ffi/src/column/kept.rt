@@ -33,22 +33,30 @@ impl Kept {
         let _ = unit;
         let _ = way;
         Kept {
-            low: 0,
-            high: 0,
+            low: i64::MAX,
+            high: i64::MIN,
             add: 0,
         }
     }
 
+    /// Whether the time is one of them: both comparisons without a jump between.
+    #[inline(always)]
+    pub fn has(self, time: i64) -> bool
+        ensures { IsTrue result ↔ ((self.low ≤ℤ time) × (time <ℤ self.high)) }
+    {
+        (self.low <= time) & (time < self.high)
+    }
+
     /// The answer to the time if it is one of them.
     #[inline(always)]
-    pub fn answer_to(&self, zone: &TimeZone, unit: Unit, way: Way, time: i64) -> Option<i64>
-        requires { IsKept zone.now unit way self.now }
+    pub fn answer_to(self, zone: &TimeZone, unit: Unit, way: Way, time: i64) -> Option<i64>
+        requires { IsKept zone.now unit way self }
         ensures { MatchOption result ⊤ (IsAnsweredOrNone zone.now unit way time) }
     {
         let _ = zone;
         let _ = unit;
         let _ = way;
-        if is_between(self.low, self.high, time) {
+        if self.has(time) {
             Some(time + self.add)
         } else {
             None
@@ -67,8 +75,8 @@ impl Kept {
         let high = lesser(until, last);
         if high <= low {
             return Kept {
-                low: 0,
-                high: 0,
+                low: i64::MAX,
+                high: i64::MIN,
                 add,
             };
         }
@@ -80,21 +88,21 @@ impl Kept {
     }
 }
 
-/// What is kept around the time.
-pub fn kept_about(zone: &TimeZone, unit: Unit, way: Way, time: i64) -> Kept
+/// What is kept of the stretch that the second lies in.
+pub fn kept_at(zone: &TimeZone, unit: Unit, way: Way, second: i64) -> Kept
     ensures { IsKept zone.now unit way result }
 {
     match way {
-        Way::ToLocal => instants_about(zone, unit, time),
-        Way::ToInstants(choice) => local_times_about(zone, unit, choice, time),
+        Way::ToLocal => instants_at(zone, unit, second),
+        Way::ToInstants(choice) => local_times_at(zone, unit, choice, second),
     }
 }
 
-// The instants of the stretch around the instant.
-fn instants_about(zone: &TimeZone, unit: Unit, instant: i64) -> Kept
+// The instants of the stretch.
+fn instants_at(zone: &TimeZone, unit: Unit, second: i64) -> Kept
     ensures { IsKept zone.now unit ToLocal result }
 {
-    match zone.offset_stretch_at(unit.second_of(instant)) {
+    match zone.offset_stretch_at(second) {
         Some(
             OffsetStretch {
                 from,
@@ -110,14 +118,13 @@ fn instants_about(zone: &TimeZone, unit: Unit, instant: i64) -> Kept
     }
 }
 
-// Local times around the local time that are so far inside a stretch that, whatever the offset, no
-// second outside it shows them.
-fn local_times_about(zone: &TimeZone, unit: Unit, choice: Choice, local: i64) -> Kept
+// The local times that are so far inside the stretch that, whatever the offset, no second outside it
+// shows them.
+fn local_times_at(zone: &TimeZone, unit: Unit, choice: Choice, second: i64) -> Kept
     ensures { IsKept zone.now unit (ToInstants choice) result }
 {
     let least = zone.least_offset();
     let greatest = zone.greatest_offset();
-    let second = unit.second_of(local).wrapping_sub(i64::from(greatest));
     match zone.offset_stretch_at(second) {
         Some(
             OffsetStretch {
@@ -136,14 +143,6 @@ fn local_times_about(zone: &TimeZone, unit: Unit, choice: Choice, local: i64) ->
         }
         None => Kept::none(zone, unit, Way::ToInstants(choice)),
     }
-}
-
-// Whether the time is `low` or later, and before `high`: both comparisons without a jump between.
-#[inline(always)]
-fn is_between(low: i64, high: i64, time: i64) -> bool
-    ensures { IsTrue result ↔ ((low ≤ℤ time) × (time <ℤ high)) }
-{
-    (low <= time) & (time < high)
 }
 
 fn greater(a: i128, b: i128) -> i128

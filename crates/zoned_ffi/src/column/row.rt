@@ -1,21 +1,36 @@
 //! The answer to one time of a column, by a lookup.
 
 ghost use Rattle.std.specs.Prelude.{◌≡◌, ◌+ℤ◌, ◌≤ℤ◌, neg_ℤ, pos, MatchOption, MatchResult};
-ghost use Rattle.zoned_ffi.specs.Columns.{IsInstantOf, IsNoInstant};
+ghost use Rattle.zoned_ffi.specs.Columns.{IsAnswered, IsInstantOf, IsNoInstant, IsNotAnswered};
 ghost use Rattle.zoned_ffi.specs.Steps.ResolvedInstants.{taken_instant};
 ghost use Rattle.zoned_ffi.specs.Units.{IsCounted, IsLocal, IsWithout};
 
 use crate::choice::Choice;
-use crate::column::NO_TIME;
-use crate::refusal::OUT_OF_RANGE;
+use crate::column::{NO_TIME, Way};
+use crate::refusal::{NO_LOCAL_TIME, OUT_OF_RANGE};
 use crate::resolved::{Taken, take};
 use crate::unit::{GREATEST, LEAST, Unit};
 use naive_base::NaiveDateTime;
 use tz_info::TimeZone;
 
-/// The local time of the instant, by a lookup.
+/// What is written of the time, or the number that says why nothing is.
+#[inline(never)]
+pub fn looked_up(zone: &TimeZone, unit: Unit, way: Way, time: i64) -> Result<i64, u32>
+    ensures { MatchResult result (IsAnswered zone.now unit way time)
+        (IsNotAnswered zone.now unit way time) }
+{
+    match way {
+        Way::ToLocal => match local_of(zone, unit, time) {
+            Some(local) => Ok(local),
+            None => Err(NO_LOCAL_TIME),
+        },
+        Way::ToInstants(choice) => instant_of(zone, unit, choice, time),
+    }
+}
+
+// The local time of the instant, by a lookup.
 #[inline(always)]
-pub fn local_of(zone: &TimeZone, unit: Unit, instant: i64) -> Option<i64>
+fn local_of(zone: &TimeZone, unit: Unit, instant: i64) -> Option<i64>
     ensures { MatchOption result (IsWithout zone.now unit instant)
         (λ local. IsLocal zone.now unit instant local) }
 {
@@ -38,9 +53,9 @@ fn added(instant: i64, counts: i64) -> Option<i64>
     Some(sum)
 }
 
-/// The instant of the local time, or the number that says why it has no instant.
+// The instant of the local time, or the number that says why it has no instant.
 #[inline(always)]
-pub fn instant_of(zone: &TimeZone, unit: Unit, choice: Choice, local: i64) -> Result<i64, u32>
+fn instant_of(zone: &TimeZone, unit: Unit, choice: Choice, local: i64) -> Result<i64, u32>
     ensures { MatchResult result (λ instant. IsInstantOf zone.now unit choice local instant)
         (λ n. IsNoInstant zone.now unit choice local n) }
 {

@@ -1,158 +1,249 @@
-//! The stretches that a column keeps: the last one, and in a long column a table of those before.
+//! The table of a column's stretches: pairs of neighbours, and for each part of the axis the pair that
+//! has its times.
 
-ghost use Rattle.std.specs.Prelude.{◌≡◌, ◌<◌, length, IfSome, MatchOption, ⊤};
-ghost use Rattle.zoned_ffi.specs.Columns.{IsAnsweredOrNone};
+ghost use Rattle.std.specs.Prelude.{◌≡◌, ◌≢◌, ◌<◌, length, IfSome, MatchResult};
+ghost use Rattle.zoned_ffi.specs.Columns.{IsAnsweredOrNone, IsNotAnswered};
 ghost use Rattle.zoned_ffi.specs.Steps.KeptTimes.{AreKept, IsKept};
+ghost use Rattle.zoned_ffi.specs.Units.{no_time};
 
-use crate::column::Way;
-use crate::column::kept::{Kept, kept_about};
+use crate::column::kept::{Kept, kept_at};
+use crate::column::row::looked_up;
+use crate::column::{NO_TIME, Way};
 use crate::unit::Unit;
 use tz_info::TimeZone;
 
-// The rows for which no stretch is looked at first if one has just turned out wrong: in a column
-// without order nobody can foresee which rows lie in it.
-const PAUSE: usize = 16;
+// The parts on each side of a time for which a pair that has all of a part is noted.
+const REACH: i64 = 1_024;
 
-/// The stretch that is looked at first.
+/// How many searches have been made.
 #[derive(Clone, Copy)]
-pub struct Recent {
-    /// The stretch.
-    pub kept: Kept,
-    // The row from which another stretch may take its place.
-    from_row: usize,
-    // How many stretches have been searched for.
-    searches: usize,
+pub struct Search {
+    // The pair that the next one replaces.
+    next: u8,
+    count: usize,
 }
 
-impl Recent {
+impl Search {
     /// None yet.
-    pub fn none(zone: &TimeZone, unit: Unit, way: Way) -> Recent
-        ensures { IsKept zone.now unit way result.kept }
-    {
-        Recent {
-            kept: Kept::none(zone, unit, way),
-            from_row: 0,
-            searches: 0,
-        }
-    }
-
-    /// The answer to the time by the table, if it has the time's stretch.
-    #[inline(always)]
-    pub fn answer_in(
-        &mut self,
-        zone: &TimeZone,
-        unit: Unit,
-        way: Way,
-        table: &[Kept],
-        row: usize,
-        time: i64,
-    ) -> Option<i64>
-        requires recent { IsKept zone.now unit way self.old.kept }
-        requires table { AreKept zone.now unit way table.now }
-        ensures recent { IsKept zone.now unit way self.new.kept }
-        ensures answer { MatchOption result ⊤ (IsAnsweredOrNone zone.now unit way time) }
-    {
-        let Some(place) = place_of(table, unit, time) else {
-            return None;
-        };
-        let kept = table[place];
-        self.turn_to(zone, unit, way, kept, row);
-        kept.answer_to(zone, unit, way, time)
-    }
-
-    // Looks at that stretch first, or at none if it has turned to another one less than `PAUSE` rows
-    // before.
-    #[inline(always)]
-    fn turn_to(&mut self, zone: &TimeZone, unit: Unit, way: Way, kept: Kept, row: usize)
-        requires { IsKept zone.now unit way kept }
-        ensures { IsKept zone.now unit way self.new.kept }
-    {
-        if row < self.from_row {
-            self.kept = Kept::none(zone, unit, way);
-            return;
-        }
-        self.from_row = row.wrapping_add(PAUSE);
-        self.kept = kept;
-    }
-
-    /// The answer to the time by the stretch around it, which the table gets.
-    #[inline(always)]
-    pub fn answer_by_search(
-        &mut self,
-        zone: &TimeZone,
-        unit: Unit,
-        way: Way,
-        table: &mut [Kept],
-        row: usize,
-        time: i64,
-    ) -> Option<i64>
-        requires recent { IsKept zone.now unit way self.old.kept }
-        requires table { AreKept zone.now unit way table.old }
-        ensures recent { IsKept zone.now unit way self.new.kept }
-        ensures table { AreKept zone.now unit way table.new }
-        ensures answer { MatchOption result ⊤ (IsAnsweredOrNone zone.now unit way time) }
-    {
-        if !self.may_search(row) {
-            return None;
-        }
-        self.kept = searched(zone, unit, way, table, time);
-        self.kept.answer_to(zone, unit, way, time)
+    pub fn none() -> Search {
+        Search { next: 0, count: 0 }
     }
 
     // Whether to search for another stretch at the row. Where the searches don't help, as after the
     // last transition of a zone whose rule goes on, their number grows with the root of the rows.
-    fn may_search(&mut self, row: usize) -> bool
-        ensures { self.new.kept ≡ self.old.kept }
-    {
-        if row.wrapping_mul(16) < self.searches.wrapping_mul(self.searches) {
+    fn is_due(&mut self, row: usize) -> bool {
+        if row.wrapping_mul(16) <= self.count.wrapping_mul(self.count) {
             return false;
         }
-        self.searches = self.searches.wrapping_add(1);
+        self.count = self.count.wrapping_add(1);
         true
     }
 }
 
-// The place in the table of the stretch that the time may lie in: of the two of its part of the axis
-// the later one, unless the time comes before that.
+/// What is written of the time in that row, or the number that says why nothing is.
 #[inline(always)]
-fn place_of(table: &[Kept], unit: Unit, time: i64) -> Option<usize>
-    ensures { IfSome result (λ place. place < length table.now) }
+pub fn answer(
+    zone: &TimeZone,
+    unit: Unit,
+    way: Way,
+    parts: &mut [u8],
+    places: &mut [Kept],
+    search: &mut Search,
+    row: usize,
+    time: i64,
+) -> Result<i64, u32>
+    requires { AreKept zone.now unit way places.old }
+    ensures kept { AreKept zone.now unit way places.new }
+    ensures answer { MatchResult result (IsAnsweredOrNone zone.now unit way time)
+        (λ n. (time ≢ no_time) × IsNotAnswered zone.now unit way time n) }
 {
-    let first = unit.part_of(time) * 2;
-    if first + 1 < table.len() {
-        Some(first + (table[first + 1].low <= time) as usize)
+    match kept_for(zone, unit, way, parts, places, time).answer_to(zone, unit, way, time) {
+        Some(found) => Ok(found),
+        None => answer_by_zone(zone, unit, way, parts, places, search, row, time),
+    }
+}
+
+// The same for a time that the table doesn't have.
+#[inline(never)]
+fn answer_by_zone(
+    zone: &TimeZone,
+    unit: Unit,
+    way: Way,
+    parts: &mut [u8],
+    places: &mut [Kept],
+    search: &mut Search,
+    row: usize,
+    time: i64,
+) -> Result<i64, u32>
+    requires { AreKept zone.now unit way places.old }
+    ensures kept { AreKept zone.now unit way places.new }
+    ensures answer { MatchResult result (IsAnsweredOrNone zone.now unit way time)
+        (λ n. (time ≢ no_time) × IsNotAnswered zone.now unit way time n) }
+{
+    if time == NO_TIME {
+        return Ok(NO_TIME);
+    }
+    fill(zone, unit, way, parts, places, search, row, time);
+    looked_up(zone, unit, way, time)
+}
+
+/// The stretch that the table has for the time, if it has one.
+#[inline(always)]
+pub fn kept_for(
+    zone: &TimeZone,
+    unit: Unit,
+    way: Way,
+    parts: &[u8],
+    places: &[Kept],
+    time: i64,
+) -> Kept
+    requires { AreKept zone.now unit way places.now }
+    ensures { IsKept zone.now unit way result }
+{
+    match place_of(unit, parts, places, time) {
+        Some(place) => places[place],
+        None => Kept::none(zone, unit, way),
+    }
+}
+
+// The place of the stretch that the time may lie in: the later one of its part's pair, unless the time
+// comes before that. A table without parts is one pair.
+#[inline(always)]
+fn place_of(unit: Unit, parts: &[u8], places: &[Kept], time: i64) -> Option<usize>
+    ensures { IfSome result (λ place. place < length places.now) }
+{
+    let first = pair_of(parts, unit.part_of(time)) * 2;
+    if first + 1 < places.len() {
+        Some(first + (places[first + 1].low <= time) as usize)
     } else {
         None
     }
 }
 
-// The stretch around the time, which is put into the table: the two of a part are in the order of
-// time.
-#[inline(never)]
-fn searched(zone: &TimeZone, unit: Unit, way: Way, table: &mut [Kept], time: i64) -> Kept
-    requires { AreKept zone.now unit way table.old }
-    ensures kept { IsKept zone.now unit way result }
-    ensures table { AreKept zone.now unit way table.new }
+// The pair that is noted for the part.
+#[inline(always)]
+fn pair_of(parts: &[u8], part: i64) -> usize
+    ensures { result < 256 }
 {
-    let kept = kept_about(zone, unit, way, time);
-    if let Some(place) = place_of(table, unit, time) {
-        put(zone, unit, way, table, place, kept);
+    let at = index_of(part);
+    if at < parts.len() {
+        parts[at] as usize
+    } else {
+        0
     }
-    kept
 }
 
-// Puts the stretch at its place. A later one moves the one that was there to the place before.
-fn put(zone: &TimeZone, unit: Unit, way: Way, table: &mut [Kept], place: usize, kept: Kept)
-    requires table { AreKept zone.now unit way table.old }
-    requires kept { IsKept zone.now unit way kept }
-    requires place { place < length table.old }
-    ensures { AreKept zone.now unit way table.new }
+// Where the part is noted.
+#[inline(always)]
+fn index_of(part: i64) -> usize {
+    (part.cast_unsigned() % 2_048) as usize
+}
+
+// Puts the stretch of the time into the table, with the next one or, if it begins in the part of the
+// time, the one before.
+fn fill(
+    zone: &TimeZone,
+    unit: Unit,
+    way: Way,
+    parts: &mut [u8],
+    places: &mut [Kept],
+    search: &mut Search,
+    row: usize,
+    time: i64,
+)
+    requires { AreKept zone.now unit way places.old }
+    ensures { AreKept zone.now unit way places.new }
+{
+    if !search.is_due(row) {
+        return;
+    }
+    let least = least_offset(zone, way);
+    let greatest = greatest_offset(zone, way);
+    let kept = kept_at(zone, unit, way, second_before(unit, time, greatest));
+    if !kept.has(time) {
+        return;
+    }
+    let part = unit.part_of(time);
+    if unit.part_of(kept.low) == part {
+        let second = second_before(unit, kept.low, greatest).wrapping_sub(1);
+        let early = kept_at(zone, unit, way, second);
+        put(zone, unit, way, parts, places, search, part, early, kept);
+    } else {
+        let late = kept_at(zone, unit, way, second_before(unit, kept.high, least));
+        put(zone, unit, way, parts, places, search, part, kept, late);
+    }
+}
+
+// The second of the time, less the offset.
+fn second_before(unit: Unit, time: i64, offset: i32) -> i64 {
+    unit.second_of(time).wrapping_sub(i64::from(offset))
+}
+
+fn least_offset(zone: &TimeZone, way: Way) -> i32 {
+    match way {
+        Way::ToLocal => 0,
+        Way::ToInstants(_) => zone.least_offset(),
+    }
+}
+
+fn greatest_offset(zone: &TimeZone, way: Way) -> i32 {
+    match way {
+        Way::ToLocal => 0,
+        Way::ToInstants(_) => zone.greatest_offset(),
+    }
+}
+
+// Puts the pair into the table, and notes it for the part, and for those near it that it has all of.
+fn put(
+    zone: &TimeZone,
+    unit: Unit,
+    way: Way,
+    parts: &mut [u8],
+    places: &mut [Kept],
+    search: &mut Search,
+    part: i64,
+    early: Kept,
+    late: Kept,
+)
+    requires kept { AreKept zone.now unit way places.old }
+    requires early { IsKept zone.now unit way early }
+    requires late { IsKept zone.now unit way late }
+    ensures { AreKept zone.now unit way places.new }
 {
     let _ = zone;
-    let _ = unit;
     let _ = way;
-    if place % 2 == 1 {
-        table[place - 1] = table[place];
+    let pair = if search.next as usize * 2 + 1 < places.len() {
+        search.next
+    } else {
+        0
+    };
+    let first = pair as usize * 2;
+    if first + 1 >= places.len() {
+        return;
     }
-    table[place] = kept;
+    places[first] = early;
+    places[first + 1] = late;
+    search.next = pair.wrapping_add(1);
+    note(parts, part, pair);
+    let low = unit
+        .part_of(early.low.min(late.low))
+        .max(part.wrapping_sub(REACH));
+    let high = unit
+        .part_of(early.high.max(late.high))
+        .min(part.wrapping_add(REACH));
+    note_between(parts, low, high, pair);
+}
+
+// Notes the pair for the parts between two.
+fn note_between(parts: &mut [u8], low: i64, high: i64, pair: u8) {
+    for part in low.wrapping_add(1)..high {
+        note(parts, part, pair);
+    }
+}
+
+fn note(parts: &mut [u8], part: i64, pair: u8) {
+    let at = index_of(part);
+    if at < parts.len() {
+        parts[at] = pair;
+    }
 }

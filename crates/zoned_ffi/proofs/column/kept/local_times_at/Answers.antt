@@ -1,6 +1,6 @@
 use Rattle.zoned_ffi.proofs.Words.{FitsSigned, ap, arith, ints, neg_ℤ, rules, to_z-of_z, w128, w32, w64, ◌+ℤ◌, ◌∙◌}
 use Rattle.zoned_ffi.proofs.Columns.{local_times_counted}
-use Rattle.zoned_ffi.proofs.column.kept.local_times_about.Goals as goal
+use Rattle.zoned_ffi.proofs.column.kept.local_times_at.Goals as goal
 
 pub overflow_add-end : goal.overflow_add-end
 overflow_add-end c =

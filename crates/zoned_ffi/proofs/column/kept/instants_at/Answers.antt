@@ -1,6 +1,6 @@
 use Rattle.zoned_ffi.proofs.Words.{FitsSigned, rules, to_z-of_z, w128, w32, w64}
 use Rattle.zoned_ffi.proofs.Columns.{instants_counted}
-use Rattle.zoned_ffi.proofs.column.kept.instants_about.Goals as goal
+use Rattle.zoned_ffi.proofs.column.kept.instants_at.Goals as goal
 
 pub returns-in-Some : goal.returns-in-Some
 returns-in-Some c =

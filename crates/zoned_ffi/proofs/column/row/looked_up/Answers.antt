@@ -1,5 +1,5 @@
 use Rattle.zoned_ffi.proofs.Words.{FitsSigned, IsNotAnswered, refl, subst, sym, to_z-of_z, w64}
-use Rattle.zoned_ffi.proofs.column.looked_up.Goals as goal
+use Rattle.zoned_ffi.proofs.column.row.looked_up.Goals as goal
 
 pub returns-in-None : goal.returns-in-None
 returns-in-None c =
