@@ -1,17 +1,41 @@
 -- Lengths of time and their nanoseconds.
-use Rattle.std.proofs.Common.{◌≡◌, ℤ, ap, subst}
+use Rattle.std.proofs.Common.{◌≡◌, ◌<◌, ◌<ℤ◌, ◌+ℤ◌, ◌*ℤ◌, ℕ, ℤ, pos, arith, ap, subst}
 use Rattle.std.proofs.Props.{props}
+use Rattle.std.proofs.lemmas.Int.{ints}
+use Rattle.std.specs.Cmp.{int_cmp_is, int_ranks, ranks}
+use Rattle.std.specs.declared.cmp.Ordering.{Ordering}
+use Rattle.std.specs.declared.cmp.Ordering.TheVariants.{Less, Equal, Greater}
+use Rattle.std.specs.Ordering.{MatchOrdering, int_cmp, nat_cmp, ordering_then}
 use Rattle.offset_core.specs.declared.time_delta.TimeDelta.{TimeDelta}
-use Rattle.offset_core.specs.Nanoseconds.{FitsTimeDelta}
+use Rattle.offset_core.specs.Nanoseconds.{AreParts, nanos_per_second}
 use Rattle.offset_core.specs.TimeDelta.{nanos_of}
 
-FitsTimeDelta-once : (nanos : ℤ) → IsProp (FitsTimeDelta nanos)
-FitsTimeDelta-once nanos = hlevel props
+AreParts-once : (secs : ℤ) (nanos : ℕ) → IsProp (AreParts secs nanos)
+AreParts-once secs nanos = hlevel props
+
+same_parts : (a b : TimeDelta) → a.secs ≡ b.secs → a.nanos ≡ b.nanos → a ≡ b
+same_parts a b secs nanos =
+    let SameAt : ℤ → ℕ → Type 0 = λ s n. (parts : AreParts s n) → a ≡ record { secs = s; nanos = n; in_range = parts } in
+    let at_a : SameAt a.secs a.nanos = λ parts. ap (λ p. record a { in_range = p }) (AreParts-once a.secs a.nanos a.in_range parts) in
+    subst (λ (s : ℤ). SameAt s b.nanos) secs (subst (SameAt a.secs) nanos at_a) b.in_range
 
 -- lengths of the same nanoseconds are the same
 pub one_delta : (a b : TimeDelta) → nanos_of a ≡ nanos_of b → a ≡ b
 one_delta a b e =
-    let SameAt : ℤ → Type 0 = λ nanos. (fits : FitsTimeDelta nanos) → a ≡ record { nanos = nanos; in_range = fits } in
-    let at_a : SameAt (nanos_of a) =
-    λ fits. ap (λ w. record a { in_range = w }) (FitsTimeDelta-once (nanos_of a) a.in_range fits) in
-    subst SameAt e at_a b.in_range
+    let below = a.in_range.0 in let below_too = b.in_range.0 in
+    same_parts a b (omega (arith, ints)) (omega (arith, ints))
+
+-- the order of the seconds, and of the nanoseconds after them, is that of all nanoseconds
+in_order : (s t : ℤ) (m n : ℕ) → m < 1_000_000_000 → n < 1_000_000_000 → (p q : Ordering)
+    → MatchOrdering p (s <ℤ t) (s ≡ t) (t <ℤ s) → MatchOrdering q (m < n) (m ≡ n) (n < m)
+    → let first = s *ℤ nanos_per_second +ℤ pos m in let second = t *ℤ nanos_per_second +ℤ pos n in
+    MatchOrdering (ordering_then p q) (first <ℤ second) (first ≡ second) (second <ℤ first)
+in_order s t m n a b Less q h k = omega (arith, ints)
+in_order s t m n a b Greater q h k = omega (arith, ints)
+in_order s t m n a b Equal Less h k = omega (arith, ints)
+in_order s t m n a b Equal Equal h k = omega (arith, ints)
+in_order s t m n a b Equal Greater h k = omega (arith, ints)
+
+pub order_of_parts : (a b : TimeDelta) → ordering_then (int_cmp a.secs b.secs) (nat_cmp a.nanos b.nanos) ≡ int_cmp (nanos_of a) (nanos_of b)
+order_of_parts a b =
+    int_cmp_is _ _ _ (in_order a.secs b.secs a.nanos b.nanos a.in_range.0 b.in_range.0 _ _ (int_ranks a.secs b.secs) (ranks a.nanos b.nanos))

@@ -1,5 +1,5 @@
 -- Lengths of time, as whole numbers of nanoseconds.
-use Rattle.std.specs.Prelude.{ℤ, pos, neg_ℤ, ◌≤ℤ◌}
+use Rattle.std.specs.Prelude.{ℕ, ◌<◌, ℤ, pos, neg_ℤ, ◌+ℤ◌, ◌*ℤ◌, ◌≤ℤ◌}
 
 -- at most the milliseconds of a signed 64-bit number, either way
 abbrev pub FitsTimeDelta : ℤ → Type 0
@@ -30,3 +30,7 @@ nanos_per_day = pos 86_400_000_000_000
 -- a week of seven such days
 abbrev pub nanos_per_week : ℤ
 nanos_per_week = pos 604_800_000_000_000
+
+-- the whole seconds, rounded down, and the nanoseconds after them, of a length in range
+abbrev pub AreParts : ℤ → ℕ → Type 0
+AreParts secs nanos = (nanos < 1_000_000_000) × FitsTimeDelta (secs *ℤ nanos_per_second +ℤ pos nanos)

@@ -5,7 +5,7 @@ use Rattle.offset_core.specs.Nanoseconds.{FitsTimeDelta, nanos_per_second}
 
 -- its length in nanoseconds
 abbrev pub nanos_of : TimeDelta → ℤ
-nanos_of delta = delta.nanos
+nanos_of delta = delta.secs *ℤ nanos_per_second +ℤ pos delta.nanos
 
 -- the length of so many nanoseconds, if and only if that is in range
 abbrev pub IsDeltaOf : ℤ → Option TimeDelta → Type 0

@@ -1,7 +1,7 @@
 //! Lengths of time.
-ghost use Rattle.std.specs.Prelude.{◌≡◌, pos, ◌*ℤ◌};
+ghost use Rattle.std.specs.Prelude.{◌≡◌, ◌<◌, ◌≤ℤ◌, pos, neg_ℤ, ◌+ℤ◌, ◌*ℤ◌};
 ghost use Rattle.std.specs.Duration.{as_nanos};
-ghost use Rattle.offset_core.specs.Nanoseconds.{FitsTimeDelta, nanos_per_microsecond, nanos_per_millisecond, nanos_per_second, nanos_per_minute, nanos_per_hour, nanos_per_day, nanos_per_week};
+ghost use Rattle.offset_core.specs.Nanoseconds.{AreParts, FitsTimeDelta, nanos_per_microsecond, nanos_per_millisecond, nanos_per_second, nanos_per_minute, nanos_per_hour, nanos_per_day, nanos_per_week};
 
 mod arithmetic;
 mod operators;
@@ -16,33 +16,32 @@ use std::time::Duration;
 /// A length of time in whole nanoseconds, which may be negative: at most `i64::MAX` milliseconds
 /// either way, which is some 292 million years.
 ///
-/// Lengths compare and hash by their nanoseconds. A length prints in seconds, in the form of ISO 8601,
-/// whatever width, fill or flags the formatter has:
+/// Lengths compare by their nanoseconds, and hash by their seconds, rounded down, and the nanoseconds
+/// after these. A length prints in seconds, in the form of ISO 8601, whatever width, fill or flags the
+/// formatter has:
 ///
 /// ```
 /// let nothing = TimeDelta::zero(); // P0D
 /// let six_weeks = TimeDelta::days(42); // PT3628800S
 /// let back = TimeDelta::milliseconds(-1500); // -PT1.5S
 /// ```
-#[derive(Clone, Copy, PartialEq, Eq, PartialOrd, Ord, Hash)]
+#[derive(Clone, Copy, PartialEq, Eq, PartialOrd, Ord, Hash, Debug)]
 pub struct TimeDelta {
-    nanos: i128,
-    pub ghost in_range: { FitsTimeDelta nanos },
+    secs: i64,
+    // The nanoseconds after these seconds.
+    nanos: u32,
+    pub ghost in_range: { AreParts secs nanos },
 }
 
-const NANOS_PER_MICROSECOND: i128 = 1_000;
+const SECONDS_PER_MINUTE: i64 = 60;
 
-const NANOS_PER_MILLISECOND: i128 = 1_000_000;
+const SECONDS_PER_HOUR: i64 = 60 * SECONDS_PER_MINUTE;
+
+const SECONDS_PER_DAY: i64 = 24 * SECONDS_PER_HOUR;
+
+const SECONDS_PER_WEEK: i64 = 7 * SECONDS_PER_DAY;
 
 const NANOS_PER_SECOND: i128 = 1_000_000_000;
-
-const NANOS_PER_MINUTE: i128 = 60 * NANOS_PER_SECOND;
-
-const NANOS_PER_HOUR: i128 = 60 * NANOS_PER_MINUTE;
-
-const NANOS_PER_DAY: i128 = 24 * NANOS_PER_HOUR;
-
-const NANOS_PER_WEEK: i128 = 7 * NANOS_PER_DAY;
 
 const MAX_NANOS: i128 = 9_223_372_036_854_775_807_000_000;
 
@@ -50,10 +49,16 @@ impl TimeDelta {
     ghost use Rattle.offset_core.specs.TimeDelta.{nanos_of, IsDeltaOf, IsDeltaOfParts};
 
     /// The longest length, `i64::MAX` milliseconds.
-    pub const MAX: TimeDelta = TimeDelta { nanos: MAX_NANOS };
+    pub const MAX: TimeDelta = TimeDelta {
+        secs: 9_223_372_036_854_775,
+        nanos: 807_000_000,
+    };
 
     /// The least length, `-i64::MAX` milliseconds.
-    pub const MIN: TimeDelta = TimeDelta { nanos: -MAX_NANOS };
+    pub const MIN: TimeDelta = TimeDelta {
+        secs: -9_223_372_036_854_776,
+        nanos: 193_000_000,
+    };
 
     /// Returns the length of that many seconds and nanoseconds, or `None` if it is out of range or
     /// the nanoseconds are 10^9 or more.
@@ -63,25 +68,69 @@ impl TimeDelta {
         if nanos >= 1_000_000_000 {
             return None;
         }
-        TimeDelta::of_nanos(secs as i128 * NANOS_PER_SECOND + nanos as i128)
+        TimeDelta::of_parts(secs, nanos)
     }
 
-    // So many nanoseconds, where they are in range.
+    fn of_parts(secs: i64, nanos: u32) -> Option<TimeDelta>
+        requires { nanos < 1_000_000_000 }
+        ensures { IsDeltaOf (secs *ℤ nanos_per_second +ℤ pos nanos) result }
+    {
+        let (least, greatest) = (TimeDelta::MIN, TimeDelta::MAX);
+        if secs < least.secs || secs > greatest.secs {
+            return None;
+        }
+        if secs == least.secs && nanos < least.nanos {
+            return None;
+        }
+        if secs == greatest.secs && nanos > greatest.nanos {
+            return None;
+        }
+        Some(TimeDelta { secs, nanos })
+    }
+
+    // The nanoseconds may be a second more than a length has.
+    fn carried(secs: i64, nanos: u32) -> Option<TimeDelta>
+        requires least { neg_ℤ (pos 20_000_000_000_000_000) ≤ℤ secs }
+        requires greatest { secs ≤ℤ pos 20_000_000_000_000_000 }
+        requires nanos { nanos < 2_000_000_000 }
+        ensures { IsDeltaOf (secs *ℤ nanos_per_second +ℤ pos nanos) result }
+    {
+        if nanos < 1_000_000_000 {
+            return TimeDelta::of_parts(secs, nanos);
+        }
+        TimeDelta::of_parts(secs + 1, nanos - 1_000_000_000)
+    }
+
+    fn of_seconds(secs: i128) -> Option<TimeDelta>
+        ensures { IsDeltaOf (secs *ℤ nanos_per_second) result }
+    {
+        match i64::try_from(secs) {
+            Ok(secs) => TimeDelta::of_parts(secs, 0),
+            Err(_) => None,
+        }
+    }
+
+    // Nanoseconds below 292 years fit 64 bits, which a processor divides much faster than 128.
     fn of_nanos(nanos: i128) -> Option<TimeDelta>
         ensures { IsDeltaOf nanos result }
     {
-        if -MAX_NANOS <= nanos && nanos <= MAX_NANOS {
-            Some(TimeDelta { nanos })
-        } else {
-            None
+        if let Ok(near) = i64::try_from(nanos) {
+            return Some(TimeDelta::nanoseconds(near));
         }
+        if nanos < -MAX_NANOS || nanos > MAX_NANOS {
+            return None;
+        }
+        Some(TimeDelta {
+            secs: nanos.div_euclid(NANOS_PER_SECOND) as i64,
+            nanos: nanos.rem_euclid(NANOS_PER_SECOND) as u32,
+        })
     }
 
     /// Returns the length of no time.
     pub fn zero() -> TimeDelta
         ensures { nanos_of result ≡ pos 0 }
     {
-        TimeDelta { nanos: 0 }
+        TimeDelta { secs: 0, nanos: 0 }
     }
 
     /// Returns the length of that many nanoseconds.
@@ -89,7 +138,8 @@ impl TimeDelta {
         ensures { nanos_of result ≡ nanos }
     {
         TimeDelta {
-            nanos: nanos as i128,
+            secs: nanos.div_euclid(1_000_000_000),
+            nanos: nanos.rem_euclid(1_000_000_000) as u32,
         }
     }
 
@@ -98,7 +148,8 @@ impl TimeDelta {
         ensures { nanos_of result ≡ micros *ℤ nanos_per_microsecond }
     {
         TimeDelta {
-            nanos: micros as i128 * NANOS_PER_MICROSECOND,
+            secs: micros.div_euclid(1_000_000),
+            nanos: micros.rem_euclid(1_000_000) as u32 * 1_000,
         }
     }
 
@@ -107,7 +158,8 @@ impl TimeDelta {
     pub fn try_milliseconds(millis: i64) -> Option<TimeDelta>
         ensures { IsDeltaOf (millis *ℤ nanos_per_millisecond) result }
     {
-        TimeDelta::of_nanos(millis as i128 * NANOS_PER_MILLISECOND)
+        let nanos = millis.rem_euclid(1_000) as u32 * 1_000_000;
+        TimeDelta::of_parts(millis.div_euclid(1_000), nanos)
     }
 
     /// Returns the length of that many milliseconds. Requires: [`TimeDelta::try_milliseconds`]
@@ -123,7 +175,7 @@ impl TimeDelta {
     pub fn try_seconds(secs: i64) -> Option<TimeDelta>
         ensures { IsDeltaOf (secs *ℤ nanos_per_second) result }
     {
-        TimeDelta::of_nanos(secs as i128 * NANOS_PER_SECOND)
+        TimeDelta::of_parts(secs, 0)
     }
 
     /// Returns the length of that many seconds. Requires: [`TimeDelta::try_seconds`] returns one.
@@ -138,7 +190,7 @@ impl TimeDelta {
     pub fn try_minutes(minutes: i64) -> Option<TimeDelta>
         ensures { IsDeltaOf (minutes *ℤ nanos_per_minute) result }
     {
-        TimeDelta::of_nanos(minutes as i128 * NANOS_PER_MINUTE)
+        TimeDelta::of_seconds(minutes as i128 * SECONDS_PER_MINUTE as i128)
     }
 
     /// Returns the length of that many minutes. Requires: [`TimeDelta::try_minutes`] returns one.
@@ -153,7 +205,7 @@ impl TimeDelta {
     pub fn try_hours(hours: i64) -> Option<TimeDelta>
         ensures { IsDeltaOf (hours *ℤ nanos_per_hour) result }
     {
-        TimeDelta::of_nanos(hours as i128 * NANOS_PER_HOUR)
+        TimeDelta::of_seconds(hours as i128 * SECONDS_PER_HOUR as i128)
     }
 
     /// Returns the length of that many hours. Requires: [`TimeDelta::try_hours`] returns one.
@@ -168,7 +220,7 @@ impl TimeDelta {
     pub fn try_days(days: i64) -> Option<TimeDelta>
         ensures { IsDeltaOf (days *ℤ nanos_per_day) result }
     {
-        TimeDelta::of_nanos(days as i128 * NANOS_PER_DAY)
+        TimeDelta::of_seconds(days as i128 * SECONDS_PER_DAY as i128)
     }
 
     /// Returns the length of that many days. Requires: [`TimeDelta::try_days`] returns one.
@@ -183,7 +235,7 @@ impl TimeDelta {
     pub fn try_weeks(weeks: i64) -> Option<TimeDelta>
         ensures { IsDeltaOf (weeks *ℤ nanos_per_week) result }
     {
-        TimeDelta::of_nanos(weeks as i128 * NANOS_PER_WEEK)
+        TimeDelta::of_seconds(weeks as i128 * SECONDS_PER_WEEK as i128)
     }
 
     /// Returns the length of that many weeks. Requires: [`TimeDelta::try_weeks`] returns one.

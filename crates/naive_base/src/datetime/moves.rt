@@ -1,8 +1,7 @@
 //! Local date-times moved by a length of time, and the time between two.
-ghost use Rattle.std.specs.Prelude.{◌≡◌, ◌<◌, pos, neg_ℤ, ◌+ℤ◌, ◌-ℤ◌, ◌*ℤ◌};
-ghost use Rattle.offset_core.specs.Nanoseconds.{FitsTimeDelta};
+ghost use Rattle.std.specs.Prelude.{◌≡◌, ◌<◌, ◌≤ℤ◌, ◌<ℤ◌, pos, neg_ℤ, ◌+ℤ◌, ◌-ℤ◌, ◌*ℤ◌, int_div, int_rem};
+ghost use Rattle.offset_core.specs.Nanoseconds.{nanos_per_second};
 ghost use Rattle.offset_core.specs.TimeDelta.{nanos_of};
-ghost use Rattle.gregorian.specs.Year.{floor_div, floor_mod};
 ghost use Rattle.naive_base.specs.Reading.{total, of_total, moved, moved_leap, leap_between, difference};
 ghost use Rattle.naive_base.specs.Steps.Moves.{IsSmall, IsShort, IsWithin};
 ghost use Rattle.naive_base.specs.NaiveDateTime.{reading, IsReadingOf};
@@ -12,41 +11,23 @@ use offset_core::TimeDelta;
 
 const NANOS_PER_SECOND: i128 = 1_000_000_000;
 
-// The second in which a count of nanoseconds lies, and the nanoseconds since it began. Counts of
-// the years 1678 to 2261 fit 64 bits, which a processor divides much faster than 128.
-fn split(total: i128) -> (i128, u32)
-    ensures second { result.0 ≡ floor_div total 1_000_000_000 }
-    ensures rest { result.1 ≡ floor_mod total 1_000_000_000 }
-    ensures below { result.1 < 1_000_000_000 }
-{
-    match i64::try_from(total) {
-        Ok(near) => (
-            near.div_euclid(1_000_000_000) as i128,
-            near.rem_euclid(1_000_000_000) as u32,
-        ),
-        Err(_) => (
-            total.div_euclid(NANOS_PER_SECOND),
-            total.rem_euclid(NANOS_PER_SECOND) as u32,
-        ),
-    }
-}
-
-fn opposite(delta: TimeDelta) -> i128
-    ensures value { result ≡ neg_ℤ (nanos_of delta) }
-    ensures bound { FitsTimeDelta result }
-{
-    -delta.whole_nanoseconds()
-}
-
 // So many seconds and nanoseconds.
-fn sum_of(secs: i64, nanos: i64) -> TimeDelta
+fn sum_of(secs: i64, nanos: i32) -> TimeDelta
     requires secs { IsWithin 20_000_000_000_000 secs }
-    requires nanos { IsWithin 2_000_000_000 nanos }
     ensures { nanos_of result ≡ secs *ℤ pos 1_000_000_000 +ℤ nanos }
 {
-    TimeDelta::seconds(secs)
-        .checked_add(&TimeDelta::nanoseconds(nanos))
-        .unwrap()
+    let (whole, rest) = whole_and_rest(nanos);
+    TimeDelta::new(secs + whole, rest).unwrap()
+}
+
+// The whole seconds, rounded down, and the nanoseconds after them.
+fn whole_and_rest(nanos: i32) -> (i64, u32)
+    ensures value { result.0 *ℤ pos 1_000_000_000 +ℤ pos result.1 ≡ nanos }
+    ensures whole { IsWithin 3 result.0 }
+    ensures rest { result.1 < 1_000_000_000 }
+{
+    let rest = nanos.rem_euclid(1_000_000_000) as u32;
+    (nanos.div_euclid(1_000_000_000) as i64, rest)
 }
 
 // The second and the nanoseconds of a reading that is no leap second.
@@ -56,8 +37,29 @@ fn parts_of(total: i128) -> (i64, u32)
     ensures second { IsWithin 100_000_000_000_000_000 result.0 }
     ensures fraction { result.1 < 1_000_000_000 }
 {
-    let (secs, frac) = split(total);
-    (secs as i64, frac)
+    (
+        total.div_euclid(NANOS_PER_SECOND) as i64,
+        total.rem_euclid(NANOS_PER_SECOND) as u32,
+    )
+}
+
+// The same, of so many seconds and nanoseconds, which may be less than none or more than a second.
+fn carried(secs: i64, nanos: i32) -> (i64, u32)
+    requires second { IsWithin 50_000_000_000_000_000 secs }
+    requires least { neg_ℤ (pos 1_000_000_000) ≤ℤ nanos }
+    requires greatest { nanos <ℤ pos 2_000_000_000 }
+    ensures value { record { s = result.0; f = result.1 }
+        ≡ of_total (secs *ℤ pos 1_000_000_000 +ℤ nanos) }
+    ensures second { IsWithin 100_000_000_000_000_000 result.0 }
+    ensures fraction { result.1 < 1_000_000_000 }
+{
+    if nanos < 0 {
+        return (secs - 1, (nanos + 1_000_000_000) as u32);
+    }
+    if nanos >= 1_000_000_000 {
+        return (secs + 1, (nanos - 1_000_000_000) as u32);
+    }
+    (secs, nanos as u32)
 }
 
 impl NaiveDateTime {
@@ -70,7 +72,7 @@ impl NaiveDateTime {
     pub fn checked_add_signed(self, rhs: TimeDelta) -> Option<NaiveDateTime>
         ensures { IsReadingOf (moved (reading self) (nanos_of rhs)) result }
     {
-        let (secs, frac) = self.moved(rhs.whole_nanoseconds());
+        let (secs, frac) = self.moved(rhs);
         NaiveDateTime::at_second(secs, frac)
     }
 
@@ -81,22 +83,23 @@ impl NaiveDateTime {
     pub fn checked_sub_signed(self, rhs: TimeDelta) -> Option<NaiveDateTime>
         ensures { IsReadingOf (moved (reading self) (neg_ℤ (nanos_of rhs))) result }
     {
-        let (secs, frac) = self.moved(opposite(rhs));
+        let (secs, frac) = self.moved(-rhs);
         NaiveDateTime::at_second(secs, frac)
     }
 
     // The second and the nanoseconds of the reading so much later.
     #[tactic(auto, using(crate::proofs::Moves::moves))]
-    pub(crate) fn moved(self, nanos: i128) -> (i64, u32)
-        requires { FitsTimeDelta nanos }
-        ensures value { record { s = result.0; f = result.1 } ≡ moved (reading self) nanos }
+    pub(crate) fn moved(self, delta: TimeDelta) -> (i64, u32)
+        ensures value { record { s = result.0; f = result.1 }
+            ≡ moved (reading self) (nanos_of delta) }
         ensures second { IsWithin 100_000_000_000_000_000 result.0 }
         ensures fraction { result.1 < 2_000_000_000 }
     {
         if self.frac < 1_000_000_000 {
-            return parts_of(self.total_after(nanos));
+            let (secs, nanos) = self.parts_after(delta);
+            return carried(secs, nanos);
         }
-        self.moved_leap(self.within_after(nanos))
+        self.moved_leap(self.within_after(delta))
     }
 
     // The second and the nanoseconds that lie `within` nanoseconds after the start of this second;
@@ -117,22 +120,40 @@ impl NaiveDateTime {
         (self.secs, within as u32)
     }
 
-    // The nanoseconds since this second began, so much later.
-    fn within_after(self, nanos: i128) -> i128
-        requires { FitsTimeDelta nanos }
-        ensures value { result ≡ pos (reading self).f +ℤ nanos }
-        ensures bound { IsShort result }
+    // The seconds and the nanoseconds, each so much later.
+    fn parts_after(self, delta: TimeDelta) -> (i64, i32)
+        requires { (reading self).f < 1_000_000_000 }
+        ensures value { result.0 *ℤ pos 1_000_000_000 +ℤ result.1
+            ≡ total (reading self) +ℤ nanos_of delta }
+        ensures bound { IsWithin 50_000_000_000_000_000 result.0 }
+        ensures least { neg_ℤ (pos 1_000_000_000) ≤ℤ result.1 }
+        ensures greatest { result.1 <ℤ pos 2_000_000_000 }
     {
-        self.frac as i128 + nanos
+        (self.second_after(delta), self.nanos_after(delta))
     }
 
-    // All of the reading in nanoseconds, so much later.
-    fn total_after(self, nanos: i128) -> i128
-        requires { FitsTimeDelta nanos }
-        ensures value { result ≡ total (reading self) +ℤ nanos }
-        ensures bound { IsSmall result }
+    fn second_after(self, delta: TimeDelta) -> i64
+        ensures value { result ≡ (reading self).s +ℤ int_div (nanos_of delta) nanos_per_second }
+        ensures bound { IsWithin 50_000_000_000_000_000 result }
     {
-        self.secs as i128 * NANOS_PER_SECOND + self.frac as i128 + nanos
+        self.secs + delta.num_seconds()
+    }
+
+    fn nanos_after(self, delta: TimeDelta) -> i32
+        requires { (reading self).f < 1_000_000_000 }
+        ensures value { result ≡ pos (reading self).f +ℤ int_rem (nanos_of delta) nanos_per_second }
+        ensures least { neg_ℤ (pos 1_000_000_000) ≤ℤ result }
+        ensures greatest { result <ℤ pos 2_000_000_000 }
+    {
+        self.frac as i32 + delta.subsec_nanos()
+    }
+
+    // The nanoseconds since this second began, so much later.
+    fn within_after(self, delta: TimeDelta) -> i128
+        ensures value { result ≡ pos (reading self).f +ℤ nanos_of delta }
+        ensures bound { IsShort result }
+    {
+        self.frac as i128 + delta.whole_nanoseconds()
     }
 
     // All of it in nanoseconds, at so many from the start of this second.
@@ -165,11 +186,10 @@ impl NaiveDateTime {
         sum_of(self.seconds_from(rhs), self.nanos_from(rhs))
     }
 
-    fn nanos_from(self, rhs: NaiveDateTime) -> i64
-        ensures value { result ≡ pos (reading self).f -ℤ pos (reading rhs).f }
-        ensures bound { IsWithin 2_000_000_000 result }
+    fn nanos_from(self, rhs: NaiveDateTime) -> i32
+        ensures { result ≡ pos (reading self).f -ℤ pos (reading rhs).f }
     {
-        self.frac as i64 - rhs.frac as i64
+        self.frac as i32 - rhs.frac as i32
     }
 
     fn seconds_from(self, rhs: NaiveDateTime) -> i64

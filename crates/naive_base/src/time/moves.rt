@@ -30,7 +30,7 @@ impl NaiveTime {
         ensures days { let day = reading_at (pos 0) (second_of self.now) (fraction_of self.now) in
             result.1 ≡ day_at (moved day (nanos_of rhs)) *ℤ pos 86_400 }
     {
-        let (secs, frac) = self.on_epoch().moved(rhs.whole_nanoseconds());
+        let (secs, frac) = self.on_epoch().moved(rhs);
         time_and_days(secs, frac)
     }
 

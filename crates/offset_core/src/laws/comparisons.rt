@@ -1,6 +1,7 @@
 //! Theorems: the contract of each function is proved, and none is called. Each is empty, except one
 //! that names a constant.
-ghost use Rattle.std.specs.Prelude.{◌≡◌, ◌↔◌, IsTrue, ◌<ℤ◌, pos, neg_ℤ};
+ghost use Rattle.std.specs.Prelude.{◌≡◌, ◌↔◌, ◌++◌, IsTrue, ◌<ℤ◌, pos, neg_ℤ, unsigned_abs};
+ghost use Rattle.std.specs.Int.{int_div_euclid, int_rem_euclid};
 ghost use Rattle.std.specs.Ordering.{int_cmp};
 ghost use Rattle.std.specs.Hash as fed;
 ghost use Rattle.offset_core.specs.declared.around.Around.{Around as AnyAround};
@@ -15,6 +16,7 @@ ghost use Rattle.offset_core.specs.declared.time_delta.out_of_range.OutOfRangeEr
 ghost use Rattle.offset_core.specs.Around as around;
 ghost use Rattle.offset_core.specs.FixedOffset.{seconds_of};
 ghost use Rattle.offset_core.specs.LocalResult.{AreAlike, HoldsOfEach, fed_of};
+ghost use Rattle.offset_core.specs.Nanoseconds.{nanos_per_second};
 ghost use Rattle.offset_core.specs.TimeDelta.{nanos_of};
 
 use crate::{
@@ -35,15 +37,17 @@ pub fn fixed_offsets()
     ensures infallible { (a : AnyOffset) → ⟦<FixedOffset as Clone>⟧.is_infallible a }
 {}
 
-/// Lengths of time are equal if and only if their nanoseconds are, and compare by these; a hash
-/// looks at the nanoseconds, and a clone is the length.
+/// Lengths of time are equal if and only if their nanoseconds are, and compare by these; a hash looks
+/// at the seconds, rounded down, and the nanoseconds after these, and a clone is the length.
 pub fn time_deltas()
     ensures equal { (a b : AnyDelta) → IsTrue (⟦<TimeDelta as PartialEq>⟧.eq a b)
         ↔ (nanos_of a ≡ nanos_of b) }
     ensures same { (a b : AnyDelta) → nanos_of a ≡ nanos_of b → a ≡ b }
     ensures order { (a b : AnyDelta) → ⟦<TimeDelta as Ord>⟧.cmp a b
         ≡ int_cmp (nanos_of a) (nanos_of b) }
-    ensures hashed { (a : AnyDelta) → ⟦<TimeDelta as Hash>⟧.hash_input a ≡ fed.i128 (nanos_of a) }
+    ensures hashed { (a : AnyDelta) → ⟦<TimeDelta as Hash>⟧.hash_input a
+        ≡ fed.i64 (int_div_euclid (nanos_of a) nanos_per_second)
+        ++ fed.u32 (unsigned_abs (int_rem_euclid (nanos_of a) nanos_per_second)) }
     ensures cloned { (a b : AnyDelta) → ⟦<TimeDelta as Clone>⟧.is_clone a b ↔ (a ≡ b) }
     ensures infallible { (a : AnyDelta) → ⟦<TimeDelta as Clone>⟧.is_infallible a }
 {}

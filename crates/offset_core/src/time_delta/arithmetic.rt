@@ -9,7 +9,7 @@ impl TimeDelta {
     pub fn is_zero(&self) -> bool
         ensures { IsTrue result ↔ (nanos_of self.now ≡ pos 0) }
     {
-        self.nanos == 0
+        self.secs == 0 && self.nanos == 0
     }
 
     /// Returns the length without its sign.
@@ -18,23 +18,22 @@ impl TimeDelta {
     pub fn abs(&self) -> TimeDelta
         ensures { nanos_of result ≡ pos (unsigned_abs (nanos_of self.now)) }
     {
-        TimeDelta {
-            nanos: self.nanos.abs(),
-        }
+        if self.secs < 0 { -*self } else { *self }
     }
 
     /// Returns the sum of two lengths, or `None` if that is out of range.
     pub fn checked_add(&self, other: &TimeDelta) -> Option<TimeDelta>
         ensures { IsDeltaOf (nanos_of self.now +ℤ nanos_of other.now) result }
     {
-        TimeDelta::of_nanos(self.nanos + other.nanos)
+        TimeDelta::carried(self.secs + other.secs, self.nanos + other.nanos)
     }
 
     /// Returns the difference of two lengths, or `None` if that is out of range.
     pub fn checked_sub(&self, other: &TimeDelta) -> Option<TimeDelta>
         ensures { IsDeltaOf (nanos_of self.now -ℤ nanos_of other.now) result }
     {
-        TimeDelta::of_nanos(self.nanos - other.nanos)
+        let nanos = self.nanos + (1_000_000_000 - other.nanos);
+        TimeDelta::carried(self.secs - other.secs - 1, nanos)
     }
 
     /// Returns this length times a number, or `None` if that is out of range.
@@ -46,7 +45,7 @@ impl TimeDelta {
     pub fn checked_mul(&self, rhs: i32) -> Option<TimeDelta>
         ensures { IsDeltaOf (nanos_of self.now *ℤ rhs) result }
     {
-        TimeDelta::of_nanos(self.nanos.checked_mul(rhs as i128)?)
+        TimeDelta::of_nanos(self.whole_nanoseconds().checked_mul(rhs as i128)?)
     }
 
     /// Returns this length divided by a number, in whole nanoseconds toward zero, or `None` for the
@@ -63,8 +62,7 @@ impl TimeDelta {
         if rhs == 0 {
             return None;
         }
-        Some(TimeDelta {
-            nanos: self.nanos / rhs as i128,
-        })
+        let quotient = self.whole_nanoseconds() / rhs as i128;
+        Some(TimeDelta::of_nanos(quotient).unwrap())
     }
 }

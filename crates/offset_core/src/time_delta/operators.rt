@@ -22,9 +22,7 @@ impl Add for TimeDelta {
     ghost add_gives = { λ a b sum. nanos_of sum ≡ nanos_of a +ℤ nanos_of b };
 
     fn add(self, rhs: TimeDelta) -> TimeDelta {
-        TimeDelta {
-            nanos: self.nanos + rhs.nanos,
-        }
+        self.checked_add(&rhs).unwrap()
     }
 }
 
@@ -37,9 +35,7 @@ impl Sub for TimeDelta {
     ghost sub_gives = { λ a b difference. nanos_of difference ≡ nanos_of a -ℤ nanos_of b };
 
     fn sub(self, rhs: TimeDelta) -> TimeDelta {
-        TimeDelta {
-            nanos: self.nanos - rhs.nanos,
-        }
+        self.checked_sub(&rhs).unwrap()
     }
 }
 
@@ -95,7 +91,16 @@ impl Neg for TimeDelta {
     ghost neg_gives = { λ delta answer. nanos_of answer ≡ neg_ℤ (nanos_of delta) };
 
     fn neg(self) -> TimeDelta {
-        TimeDelta { nanos: -self.nanos }
+        if self.nanos == 0 {
+            return TimeDelta {
+                secs: -self.secs,
+                nanos: 0,
+            };
+        }
+        TimeDelta {
+            secs: -self.secs - 1,
+            nanos: 1_000_000_000 - self.nanos,
+        }
     }
 }
 

@@ -14,20 +14,8 @@ impl fmt::Display for TimeDelta {
     ghost styled_output = { λ delta _. Some (printed_length delta) };
 
     fn fmt<W: fmt::Write>(&self, f: &mut fmt::Formatter<W>) -> fmt::Result {
-        let text = text_of(self.nanos);
+        let text = text_of(self.whole_nanoseconds());
         f.write_str(text.as_str())
-    }
-}
-
-// As chrono's derived `Debug` has it.
-impl fmt::Debug for TimeDelta {
-    fn fmt<W: fmt::Write>(&self, f: &mut fmt::Formatter<W>) -> fmt::Result {
-        let secs = self.nanos.div_euclid(1_000_000_000) as i64;
-        let nanos = self.nanos.rem_euclid(1_000_000_000) as i32;
-        f.debug_struct("TimeDelta")
-            .field("secs", &secs)
-            .field("nanos", &nanos)
-            .finish()
     }
 }
 

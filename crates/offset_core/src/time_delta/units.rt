@@ -6,8 +6,7 @@ ghost use Rattle.offset_core.specs.Nanoseconds.{nanos_per_microsecond, nanos_per
 ghost use Rattle.offset_core.specs.TimeDelta.{nanos_of};
 
 use super::{
-    NANOS_PER_DAY, NANOS_PER_HOUR, NANOS_PER_MICROSECOND, NANOS_PER_MILLISECOND, NANOS_PER_MINUTE,
-    NANOS_PER_SECOND, NANOS_PER_WEEK,
+    NANOS_PER_SECOND, SECONDS_PER_DAY, SECONDS_PER_HOUR, SECONDS_PER_MINUTE, SECONDS_PER_WEEK,
 };
 use crate::{OutOfRangeError, TimeDelta};
 use std::time::Duration;
@@ -17,42 +16,46 @@ impl TimeDelta {
     pub fn num_weeks(&self) -> i64
         ensures { result ≡ int_div (nanos_of self.now) nanos_per_week }
     {
-        self.in_units(NANOS_PER_WEEK as i64) as i64
+        self.num_seconds() / SECONDS_PER_WEEK
     }
 
     /// Returns the whole days of 86,400 seconds of this length, toward zero.
     pub fn num_days(&self) -> i64
         ensures { result ≡ int_div (nanos_of self.now) nanos_per_day }
     {
-        self.in_units(NANOS_PER_DAY as i64) as i64
+        self.num_seconds() / SECONDS_PER_DAY
     }
 
     /// Returns the whole hours of this length, toward zero.
     pub fn num_hours(&self) -> i64
         ensures { result ≡ int_div (nanos_of self.now) nanos_per_hour }
     {
-        self.in_units(NANOS_PER_HOUR as i64) as i64
+        self.num_seconds() / SECONDS_PER_HOUR
     }
 
     /// Returns the whole minutes of this length, toward zero.
     pub fn num_minutes(&self) -> i64
         ensures { result ≡ int_div (nanos_of self.now) nanos_per_minute }
     {
-        self.in_units(NANOS_PER_MINUTE as i64) as i64
+        self.num_seconds() / SECONDS_PER_MINUTE
     }
 
     /// Returns the whole seconds of this length, toward zero.
     pub fn num_seconds(&self) -> i64
         ensures { result ≡ int_div (nanos_of self.now) nanos_per_second }
     {
-        self.in_units(NANOS_PER_SECOND as i64) as i64
+        if self.secs < 0 && self.nanos > 0 {
+            self.secs + 1
+        } else {
+            self.secs
+        }
     }
 
     /// Returns the whole milliseconds of this length, toward zero.
     pub fn num_milliseconds(&self) -> i64
         ensures { result ≡ int_div (nanos_of self.now) nanos_per_millisecond }
     {
-        self.in_units(NANOS_PER_MILLISECOND as i64) as i64
+        self.num_seconds() * 1_000 + self.subsec_millis() as i64
     }
 
     /// Returns the whole microseconds of this length, toward zero, or `None` if they leave an
@@ -61,30 +64,32 @@ impl TimeDelta {
         ensures { let micros = int_div (nanos_of self.now) nanos_per_microsecond in
             SomeIff result (FitsSigned w64 micros) micros }
     {
-        i64::try_from(self.in_units(NANOS_PER_MICROSECOND as i64)).ok()
+        let micros = self.num_seconds() as i128 * 1_000_000 + self.subsec_micros() as i128;
+        i64::try_from(micros).ok()
     }
 
     /// Returns all of this length in nanoseconds, or `None` if they leave an `i64`.
     pub fn num_nanoseconds(&self) -> Option<i64>
         ensures { SomeIff result (FitsSigned w64 (nanos_of self.now)) (nanos_of self.now) }
     {
-        i64::try_from(self.nanos).ok()
+        i64::try_from(self.whole_nanoseconds()).ok()
     }
 
     /// Returns all of this length in nanoseconds.
     pub fn whole_nanoseconds(&self) -> i128
         ensures { result ≡ nanos_of self.now }
     {
-        self.nanos
+        self.secs as i128 * NANOS_PER_SECOND + self.nanos as i128
     }
 
     /// Returns the nanoseconds that the whole seconds leave, with the sign of the length.
     pub fn subsec_nanos(&self) -> i32
         ensures { result ≡ int_rem (nanos_of self.now) nanos_per_second }
     {
-        match i64::try_from(self.nanos) {
-            Ok(nanos) => (nanos % NANOS_PER_SECOND as i64) as i32,
-            Err(_) => (self.nanos % NANOS_PER_SECOND) as i32,
+        if self.secs < 0 && self.nanos > 0 {
+            self.nanos as i32 - 1_000_000_000
+        } else {
+            self.nanos as i32
         }
     }
 
@@ -113,22 +118,9 @@ impl TimeDelta {
         ensures { MatchResult result (λ duration. nanos_of self.now ≡ pos (as_nanos duration))
             (λ _. nanos_of self.now <ℤ pos 0) }
     {
-        match u128::try_from(self.nanos) {
+        match u128::try_from(self.whole_nanoseconds()) {
             Ok(nanos) => Ok(Duration::from_nanos_u128(nanos)),
             Err(_) => Err(OutOfRangeError::new()),
-        }
-    }
-
-    // How many whole units of so many nanoseconds the length has, toward zero. Lengths below 292
-    // years fit 64 bits, which a processor divides much faster than 128.
-    #[inline(always)]
-    fn in_units(&self, unit: i64) -> i128
-        requires { pos 0 <ℤ unit }
-        ensures { result ≡ int_div (nanos_of self.now) unit }
-    {
-        match i64::try_from(self.nanos) {
-            Ok(nanos) => (nanos / unit) as i128,
-            Err(_) => self.nanos / unit as i128,
         }
     }
 }
