@@ -30,7 +30,7 @@
         }                                                                                                                  \
     } while (0)
 
-enum { HANDLES = 12, MOST = 6, ROOM = 24, COLUMN = 48, LONG = 2000, THREADS = 8, NONE = -1, SIZE_OF_RANDOM_BYTES = 300 };
+enum { HANDLES = 12, MOST = 6, ROOM = 24, COLUMN = 48, LONG = 6000, THREADS = 8, NONE = -1, SIZE_OF_RANDOM_BYTES = 300 };
 
 static uint64_t calls;
 
