@@ -275,15 +275,32 @@ def second_of_year(year):
     return int(datetime(year, 1, 1, tzinfo=timezone.utc).timestamp())
 
 
-def line_due(zone, seconds, first, last):
-    """The line of a picture with a step at each of those seconds, to the offset that zoneinfo tells."""
+def seconds_of_tick(words):
+    """The offset that a tick has: `UTC`, `UTC-5`, `UTC+5:45`."""
+    sign, *parts = re.match(r"UTC([+-]?)(\d*):?(\d*):?(\d*)$", words).groups()
+    return (-1 if sign == "-" else 1) * sum(int(part or 0) * unit for part, unit in zip(parts, (3600, 60, 1)))
+
+
+def wrong_steps(picture, zone, seconds, first, last):
+    """The clock changes that are neither a step of the line nor in a band, and the steps at which clocks don't change: by
+    zoneinfo's offsets, the ticks of the picture and the sides of its chart."""
     start, until = second_of_year(first), second_of_year(last + 1)
+    ticks = sorted((seconds_of_tick(tick.text), float(tick.get("y")) - 4) for tick in shapes(picture, "end"))
+    (low, bottom), (high, top) = ticks[0], ticks[-1]
     offsets = [int(datetime.fromtimestamp(second, timezone.utc).astimezone(zone).utcoffset().total_seconds())
                for second in [start, *seconds]]
-    low, high = 3600 * (min(offsets) // 3600 - 1), 3600 * (max(offsets) // 3600 + 1)
-    across = [70 + (second - start) * 800 // (until - start) for second in seconds]
-    down = [70 + (high - offset) * 140 // (high - low) for offset in offsets]
-    return f"M70 {down[0]}" + "".join(f"H{x}V{y}" for x, y in zip(across, down[1:])) + "H870"
+    across = [90 + 780 * (second - start) / (until - start) for second in seconds]
+    down = [top + (high - offset) * (bottom - top) / (high - low) for offset in offsets]
+    due = [(x, before, after) for x, before, after in zip(across, down, down[1:]) if before != after]
+    line, = shapes(picture, "line")
+    steps = [tuple(map(float, step)) for step in re.findall(r"M([\d.]+) ([\d.]+)V([\d.]+)", line.get("d"))]
+    bands = [[float(band.get(side)) for side in ("x", "y", "width", "height")] for band in shapes(picture, "dense")]
+    near = lambda one, other: all(abs(a - b) < 0.2 for a, b in zip(one, other))
+    inside = lambda x, *ys: any(
+        left - 0.2 < x < left + width + 0.2 and all(y - 0.2 < each < y + height + 0.2 for each in ys) for left, y, width, height in bands
+    )
+    missed = [change for change in due if not inside(*change) and not any(near(change, step) for step in steps)]
+    return missed + [step for step in steps if not any(near(change, step) for change in due)]
 
 
 def clocks_due(table):
@@ -312,8 +329,7 @@ def try_svg(program, folder):
         span = ["--from", str(first), "--to", str(last)]
         run(program, *span, "--svg", "line", "good", folder=folder)
         seconds = seconds_of_table(run(program, *span, "good", folder=folder)[1])
-        line, = shapes((folder / "line").read_bytes(), "line")
-        check(f"  its line from {first} to {last}", line_due(zone, seconds, first, last), line.get("d"))
+        check(f"  its line from {first} to {last}", [], wrong_steps((folder / "line").read_bytes(), zone, seconds, first, last))
     text = "<-03>3<-02>,M3.5.0/22,M10.5.0/23:30"
     check("--svg of a text", (0, "", ""), run(program, *year, "--svg", "by_text", "--text", text, folder=folder))
     check("  its title", [text], [title.text for title in shapes((folder / "by_text").read_bytes(), "title")])

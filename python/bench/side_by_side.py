@@ -10,7 +10,7 @@ local time: in no order, sorted, all of one day (2021-07-01), and all equal. The
 by up to an hour and a half at random so that some are skipped or shown twice, are asked for their
 instants: gaps and folds become NaT. pandas and this package get the same Series of datetime64[ns],
 by turns. The processor time of the process counts, the least of 5 turns (2 to instants), so other
-work on the machine shows little.
+work on the machine has little effect.
 
 A call on one row is the mean of 1,000 calls, the least of 9 turns. Memory is what tracemalloc finds
 at the peak of a call, less the answer, for each row. Answers are compared with pandas', whose zones

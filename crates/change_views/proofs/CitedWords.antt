@@ -18,13 +18,6 @@ pub use Rattle.tz_base.specs.declared.change.Change.{Change}
 pub use Rattle.change_views.specs.ChangeLines.{change_lines, line}
 pub use Rattle.change_views.specs.ChangeValues.{change_value, name_value, type_value}
 pub use Rattle.change_views.specs.JsonSteps.{Puts}
-pub use Rattle.change_views.specs.PictureChart.{greatest, hour_ticks, labels_text, least, lesser, line_parts, months_text, year_tick_at, years_text}
-unfoldable pub use Rattle.change_views.specs.PictureChart.{hour_tick, month_tick, year_tick}
-unfoldable pub use Rattle.change_views.specs.PictureFrame.{size_text}
-pub use Rattle.change_views.specs.PicturePanels.{panels_text}
-unfoldable pub use Rattle.change_views.specs.PicturePanels.{place_text, types_text}
-pub use Rattle.change_views.specs.PictureWords.{escaped}
 pub use Rattle.change_views.specs.Spans.{AreYears, IsInYears, IsNearYears, year_second, year_until}
-pub use Rattle.change_views.specs.Steps.Axes.{axes_of}
 unfoldable pub use Rattle.change_views.specs.Words.{step_words}
 pub use Rattle.change_views.specs.ZdumpLines.{pair_lines, second_text}

@@ -1,5 +1,4 @@
 pub mod CitedWords
 mod LineLaws
 pub mod JsonPutting
-mod PictureLaws
 pub mod ForCallers

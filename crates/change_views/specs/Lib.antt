@@ -5,9 +5,4 @@ pub mod Spans
 pub mod Words
 pub mod ChangeLines
 pub mod ZdumpLines
-pub mod PictureChart
-pub mod PictureFrame
-pub mod PicturePanels
-pub mod PictureWords
-pub mod Pictures
 pub mod Steps

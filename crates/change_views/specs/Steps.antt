@@ -1,4 +1,3 @@
 -- What private functions ensure. No public contract cites these pages.
-pub mod Axes
 pub mod Sides
 pub mod Seconds

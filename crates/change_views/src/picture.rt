@@ -1,24 +1,23 @@
-//! A picture of changes of the clocks, as SVG.
-
-ghost use Rattle.std.specs.Prelude.{◌≡◌, OnOk, string_bytes, ◌++◌};
-ghost use Rattle.change_views.specs.Pictures.{head_text, last_text, picture_text};
+//! A picture of clock changes, as SVG. Tests hold it: no contract says what is drawn.
 
 mod chart;
 mod frame;
+mod line;
 mod panels;
 mod scale;
 mod words;
 
-use crate::years::Years;
+use crate::years::{SECONDS_PER_DAY, Years};
 use chart::put_chart;
 use frame::{put_heading, put_opening, put_title};
+use gregorian::{is_day, year_of, year_start};
 use panels::put_panels;
 use std::alloc::AllocError;
 use tz_base::{Change, LocalTimeType};
 
-/// Writes a picture of those changes in the years, under that title: a chart, whose line begins at
-/// the offset of `start`, and a panel for each of the `recent` ones, which are those of the last
-/// year.
+/// Appends a picture of those changes in the years, under that title: a chart, whose line begins at
+/// the offset of `start`, and a panel for each change of the last year that has one. Changes are in
+/// order of time.
 ///
 /// # Errors
 ///
@@ -29,31 +28,28 @@ pub fn put_picture(
     years: Years,
     start: LocalTimeType,
     changes: &[Change],
-    recent: &[Change],
-) -> Result<(), AllocError>
-    ensures { OnOk result (string_bytes out.new ≡ string_bytes out.old
-        ++ picture_text title.now years.first years.last start changes.now recent.now) }
-{
-    put_head(out, title, years, recent.len())?;
+) -> Result<(), AllocError> {
+    let year = last_year(changes);
+    let recent = since(changes, year);
+    put_opening(out, title, years, recent.len())?;
+    put_title(out, title, years)?;
     put_chart(out, years, &start, changes)?;
-    put_last(out, years.last, recent)
-}
-
-// What stands before the chart.
-fn put_head(out: &mut String, title: &str, years: Years, panels: usize) -> Result<(), AllocError>
-    ensures { OnOk result (string_bytes out.new ≡ string_bytes out.old
-        ++ head_text title.now years.first years.last panels) }
-{
-    put_opening(out, panels)?;
-    put_title(out, title, years)
-}
-
-// The panels of a year, and the end.
-fn put_last(out: &mut String, year: i32, changes: &[Change]) -> Result<(), AllocError>
-    ensures { OnOk result
-        (string_bytes out.new ≡ string_bytes out.old ++ last_text year changes.now) }
-{
-    put_heading(out, year, changes.len())?;
-    put_panels(out, changes)?;
+    put_heading(out, years, year, recent.len())?;
+    put_panels(out, recent)?;
     write!(out, "</svg>\n")
+}
+
+// The year of the last change, by UTC.
+fn last_year(changes: &[Change]) -> i32 {
+    let day = changes
+        .last()
+        .map_or(0, |change| change.at.div_euclid(SECONDS_PER_DAY));
+    if is_day(day) { year_of(day) } else { 0 }
+}
+
+// The changes from the first second of a year on.
+fn since(changes: &[Change], year: i32) -> &[Change] {
+    let first = year_start(year).saturating_mul(SECONDS_PER_DAY);
+    let earlier = changes.iter().filter(|change| change.at < first).count();
+    changes.get(earlier..).unwrap_or(&[])
 }

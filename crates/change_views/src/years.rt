@@ -5,7 +5,7 @@ ghost use Rattle.change_views.specs.Spans.{AreYears, IsInYears, year_second, yea
 
 use gregorian::year_start;
 
-const SECONDS_PER_DAY: i64 = 86_400;
+pub(crate) const SECONDS_PER_DAY: i64 = 86_400;
 
 /// Years of UTC from one to another, both of them included.
 #[derive(Clone, Copy, Debug, PartialEq, Eq)]
@@ -48,7 +48,7 @@ impl Years {
 }
 
 // The first second of a year that is in range, or the year after one.
-pub(crate) fn start_of(year: i32) -> i64
+fn start_of(year: i32) -> i64
     requires from { pos 1 ≤ℤ year }
     requires to { year ≤ℤ pos 10_000 }
     ensures value { result ≡ year_second year }

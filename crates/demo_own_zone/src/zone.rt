@@ -14,9 +14,9 @@ use zoned_time::{ShownDay, TimeZone, ZoneDays};
 /// So no clock shows an odd second of the day, and each even one is shown twice: first by a clock
 /// that is a second ahead, and a second later by one that isn't.
 ///
-/// ```text
-/// Odd.with_ymd_and_hms(1970, 1, 1, 0, 0, 1)  None
-/// Odd.with_ymd_and_hms(1970, 1, 1, 0, 0, 2)  Ambiguous(1970-01-01T00:00:02+00:00:01, 1970-01-01T00:00:02+00:00)
+/// ```
+/// let one = Odd.with_ymd_and_hms(1970, 1, 1, 0, 0, 1); // None
+/// let two = Odd.with_ymd_and_hms(1970, 1, 1, 0, 0, 2); // Ambiguous: the Unix times 1 and 2
 /// ```
 #[derive(Clone, Copy, Debug)]
 pub struct Odd;

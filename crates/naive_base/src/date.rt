@@ -136,7 +136,7 @@ impl NaiveDate {
     }
 
     /// [`NaiveDate::and_hms_opt`] with milliseconds: below 1000, or, for a leap second after a
-    /// second 59, below 2000.
+    /// second 59, below 2000. `None` for others.
     pub fn and_hms_milli_opt(
         &self,
         hour: u32,
@@ -156,7 +156,7 @@ impl NaiveDate {
     }
 
     /// [`NaiveDate::and_hms_opt`] with microseconds: below 10^6, or, for a leap second after a
-    /// second 59, below 2*10^6.
+    /// second 59, below 2*10^6. `None` for others.
     pub fn and_hms_micro_opt(
         &self,
         hour: u32,
@@ -176,7 +176,7 @@ impl NaiveDate {
     }
 
     /// [`NaiveDate::and_hms_opt`] with nanoseconds: below 10^9, or, for a leap second after a
-    /// second 59, below 2*10^9.
+    /// second 59, below 2*10^9. `None` for others.
     pub fn and_hms_nano_opt(
         &self,
         hour: u32,

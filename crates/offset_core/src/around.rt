@@ -39,10 +39,10 @@ impl<T, G> Around<T, G> {
     /// [`ResolveError::Gap`] in a gap under [`GapChoice::Refuse`], and [`ResolveError::Fold`] in a
     /// fold under [`FoldChoice::Refuse`]. [`ResolveError::OutOfRange`] never.
     ///
-    /// ```text
+    /// ```
     /// let choice = Choice { gap: GapChoice::ShiftForward, fold: FoldChoice::Earliest };
-    /// Around::<u8, u8>::Ambiguous(1, 2).take(choice); // Ok(Taken::Shown(1))
-    /// Around::<u8, u8>::Gap(3).take(choice); // Ok(Taken::InGap(3))
+    /// let shown = Around::<u8, u8>::Ambiguous(1, 2).take(choice); // Ok(Taken::Shown(1))
+    /// let skipped = Around::<u8, u8>::Gap(3).take(choice); // Ok(Taken::InGap(3))
     /// ```
     #[inline(always)]
     pub fn take(self, choice: Choice) -> Result<Taken<T, G>, ResolveError>

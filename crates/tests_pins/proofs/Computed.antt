@@ -2,7 +2,6 @@
 use Rattle.tz_info.specs.TzGrammar.{day_number as day_of_text, hours_minutes_seconds, minutes_seconds, more, name, optional_minutes, quoted, rule_day, sign}
 use Rattle.tz_info.specs.TzGrammar.{time_sign}
 use Rattle.tz_timeline.specs.Digits.{digits as binary_digits}
-use Rattle.change_views.specs.PictureChart.{month_words as chart_months, year_gap}
 use Rattle.zoneq_lib.specs.Questions.{date as date_of_line, fold, gap, seconds as seconds_of_line, text as text_of_line}
 use Rattle.zoneq_lib.proofs.CitedWords.{Begins, Word, at, data_of_file, int_at, integer, local_time, next, question, resolve, show, tag_at, wall}
 use Rattle.tz_info.proofs.Words.{alternate, date, day, days, dst_offset, duration, end, fixed, given_offset, julian_date, month_date, named, next_hour, offset}
@@ -10,7 +9,6 @@ use Rattle.tz_info.proofs.Words.{optional_time, time}
 use Rattle.tz_write.proofs.Words.{begins, counts_bytes, file_bytes, first_half, header_bytes, later_version, leap_bytes, number_bytes, second_half}
 use Rattle.tz_write.proofs.Words.{signed_bytes, type_bytes}
 use Rattle.zonedump_lib.specs.RuleWords.{moment_words, month_words, week_words, weekday_words}
-use Rattle.change_views.specs.PicturePanels.{shape_text}
 use Rattle.tests_pins.proofs.Words.{after_first_block, be_u32, block, choice, clock_words, day_number, days_of_months, digits, escape_byte, exact_at, file}
 use Rattle.tests_pins.proofs.Words.{first_version, header, in_digits, line, offset_words, optional_tag_at, print_from, rule, seconds, short_day, short_month}
 use Rattle.tests_pins.proofs.Words.{short_weekday, signed, six_counts, step_words, text, tzif, version, version_1, year_start, year_text, ℕ}
@@ -25,10 +23,10 @@ unfoldable pub printing : ℕ
 unfolding digits in_digits year_text
 printing = 0
 
--- changes and rules in words, as JSON and in pictures
+-- changes and rules in words and as JSON
 unfoldable pub wording : ℕ
 unfolding printing print_from escape_byte clock_words offset_words step_words short_weekday short_month short_day week_words weekday_words month_words
-    moment_words chart_months year_gap shape_text
+    moment_words
 wording = 0
 
 -- how many digits a number has in base two

@@ -11,7 +11,6 @@ pub mod calendar;
 pub mod choices;
 pub mod clock_changes;
 pub mod days;
-pub mod drawn_changes;
 pub mod fields;
 pub mod files;
 pub mod gaps;

@@ -6,17 +6,15 @@ ghost use Rattle.json.specs.Print.{print};
 ghost use Rattle.json.specs.Tree.{json_tokens};
 ghost use Rattle.tz_info.specs.declared.rule.day.DayForm.TheVariants.{Julian1, Julian0, MonthWeekday};
 ghost use Rattle.change_views.specs.ZdumpLines.{zdump_text};
-ghost use Rattle.change_views.specs.Pictures.{picture_text};
 ghost use Rattle.zonedump_lib.specs.Forms.{IsTold};
 ghost use Rattle.zonedump_lib.specs.JsonValues.{day_value, rule_value, zone_value, leap_value};
-ghost use Rattle.zonedump_lib.specs.Pictures.{IsPicture};
 ghost use Rattle.zonedump_lib.specs.RuleWords.{rule_words, day_words, moment_words, month_words, week_words, weekday_words};
 ghost use Rattle.zonedump_lib.specs.Tables.{head_text, leap_text, table_text};
 ghost use Rattle.zonedump_lib.specs.Zdump.{IsZdump};
 ghost use Rattle.zonedump_lib.specs.declared.form.Form.TheVariants as forms;
 ghost use Rattle.tests_pins.specs.Changes.{spring, autumn};
 ghost use Rattle.tests_pins.specs.LeapSeconds.{entry};
-ghost use Rattle.tests_pins.specs.NewYork.{new_york_rule, new_york_zone, est};
+ghost use Rattle.tests_pins.specs.NewYork.{new_york_rule, new_york_zone};
 ghost use Rattle.tests_pins.specs.Texts.{utc_rule};
 ghost use Rattle.tests_pins.specs.Zones.{utc_zone};
 
@@ -73,15 +71,12 @@ pub fn table_heads()
         ≡ codes "leap second: correction 1 from leap time 78796800" }
 {}
 
-/// New York in 2021 has two changes, in the table, in the lines of zdump and in the picture.
+/// New York in 2021 has two changes, in the table and in the lines of zdump.
 pub fn year_2021()
     ensures table { IsTold forms.Table new_york_zone (pos 2021) (pos 2021)
         (table_text new_york_zone (pos 2021) (pos 2021) (spring ∷ autumn ∷ [])) }
     ensures zdump { IsZdump (codes "NY") new_york_zone (pos 2021) (pos 2021)
         (zdump_text (codes "NY") (spring ∷ autumn ∷ [])) }
-    ensures picture { IsPicture new_york_zone (codes "NY") (pos 2021) (pos 2021)
-        (picture_text (codes "NY") (pos 2021) (pos 2021) est (spring ∷ autumn ∷ [])
-        (spring ∷ autumn ∷ [])) }
 {}
 
 /// Rules, leap seconds and a zone as JSON.

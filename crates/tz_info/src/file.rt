@@ -32,7 +32,7 @@ impl TimeZone {
     ///
     /// Running out of memory is answered only where every block is there.
     ///
-    /// ```text
+    /// ```
     /// let zone = TimeZone::from_tz_data(alloc, &bytes)?;    // of /usr/share/zoneinfo/Europe/Paris
     /// let local = zone.find_local_time_type(1_625_097_600)?;
     /// let seconds = local.offset();                         // 7200

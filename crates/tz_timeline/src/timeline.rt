@@ -1,4 +1,4 @@
-//! Items in order of time, and the search for the latest one. Both calls that are made for lookups,
+//! Items in order of time, and the search for the latest one. The two calls meant for lookups,
 //! `read` and `passed`, count each probe of an item; `items` returns all of them uncounted.
 //!
 //! The times of the first and the last item are kept as well, and so are hints at the places of the

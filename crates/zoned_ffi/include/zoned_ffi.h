@@ -56,7 +56,7 @@
    ------
    An array is a pointer and a count of elements, and the bytes of a zone are one too. The pointer may be NULL if the count is 0;
    no other pointer may be, but for that of zoned_close. Pointers are aligned for what they point to. Within a call the answers
-   overlap neither the bytes, nor the questions, nor a handle, two handles are two structs, and nobody else changes any of them.
+   overlap neither the bytes, nor the questions, nor a handle, two handles are two structs, and no other thread changes them.
    The answers need not be initialised before a call.
 
    Lists of changes

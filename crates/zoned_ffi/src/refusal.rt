@@ -5,13 +5,13 @@ ghost use Rattle.zoned_ffi.specs.Refusals.{detail_number, list_number, refusal_n
 
 use tz_info::{Error, Expected};
 
-/// What a question by a handle returns where no zone is open.
+/// What a question by a handle returns if no zone is open.
 pub const NOT_OPEN: u32 = 33;
 
-/// What it returns where there is room for another count of answers.
+/// What it returns if the array of answers has the wrong length.
 pub const OTHER_SIZE: u32 = 32;
 
-/// What it returns where no choice for gaps and folds has these numbers.
+/// What it returns if no policy for gaps and folds has these numbers.
 pub const UNKNOWN_CHOICE: u32 = 34;
 
 /// What it returns where no change of the clocks comes after a second, or up to it.

@@ -113,7 +113,7 @@ impl WallClock {
     }
 }
 
-/// Writes what is told of each local time, where there is room for as many: 0, or why not.
+/// Writes the answer for each local time. Returns 0, or 32 if the arrays differ in length.
 pub fn answer_wall_clocks(zone: &TimeZone, locals: &[i64], clocks: &mut [WallClock]) -> u32
     ensures answered { result ≡ 0 → AreWallClocks zone.now locals.now clocks.new }
     ensures refused { result ≢ 0 → (result ≡ 32)
@@ -126,7 +126,7 @@ pub fn answer_wall_clocks(zone: &TimeZone, locals: &[i64], clocks: &mut [WallClo
     0
 }
 
-/// Writes what is told of each local time.
+/// Writes the answer for each local time.
 pub fn write_wall_clocks(zone: &TimeZone, locals: &[i64], clocks: &mut [WallClock])
     requires { length locals.now ≡ length clocks.old }
     ensures { AreWallClocks zone.now locals.now clocks.new }

@@ -35,8 +35,8 @@ pub struct KeptZone {
 }
 
 impl KeptZone {
-    /// Keeps the zone until the program ends. It takes a block of the global allocator, the only
-    /// one whose memory surely lasts so long, and never gives it back.
+    /// Keeps the zone until the program ends, in a block of the global allocator, the only one whose
+    /// memory is known to last that long. The block is never freed.
     ///
     /// # Errors
     ///

@@ -55,7 +55,7 @@ impl Source<'_> {
         }
     }
 
-    // Writes its zone in a form behind what `out` holds.
+    // Appends its zone in a form to `out`.
     fn tell(
         self,
         alloc: Global,
@@ -78,7 +78,7 @@ impl Source<'_> {
     }
 }
 
-// Writes the zone of a TZ string with extensions in a form behind what `out` holds.
+// Appends the zone of a TZ string with extensions in a form to `out`.
 fn tell_extended(
     alloc: Global,
     text: &str,

@@ -4,4 +4,3 @@ pub mod JsonValues
 pub mod Tables
 pub mod Zdump
 pub mod Forms
-pub mod Pictures

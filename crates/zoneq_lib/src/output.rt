@@ -1,4 +1,4 @@
-//! Bytes on their way to a writer.
+//! Bytes written to a writer, and flushed.
 
 ghost use Rattle.std.specs.Prelude.{◌≡◌, ℕ, true, false, take, OnOk, IfErr};
 ghost use Rattle.std.specs.Io.KnownBytes.{Appends, Keeps};

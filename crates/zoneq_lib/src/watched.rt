@@ -11,7 +11,7 @@ use std::marker::Model;
 
 /// A reader or a writer, with a record of its failures, its end and what is unsent.
 ///
-/// It hands its calls on. A call that answers an error has failed, `Interrupted` too, and so has
+/// It passes calls through. A call that returns an error has failed, `Interrupted` too, and so has
 /// one that writes none of some bytes. What was written is sent once a flush succeeds.
 ///
 /// The bytes in the contracts are those that the end itself shows. So an answer that the end did

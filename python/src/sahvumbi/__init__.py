@@ -1,8 +1,8 @@
 """Time zones for columns of time: numpy arrays, pandas Series and Indexes.
 
-When do the clocks of a zone show a time, and what do they show at an instant? The answers come from
-a library in which each function is proved to meet its contract. This package calls it and is
-tested; it is not proved.
+Which instant does a local time mean, and what do clocks show at an instant? The answers come from a
+library in which each function is proved to meet its contract. This package calls that library; it is
+tested, not proved.
 
 >>> import numpy as np, sahvumbi
 >>> new_york = sahvumbi.Zone("America/New_York")

@@ -29,7 +29,8 @@ impl NaiveDate {
         self.months_later(months.as_u32() as i64)
     }
 
-    /// Returns the date that many months earlier, by the rule of [`NaiveDate::checked_add_months`].
+    /// Returns the date that many months earlier, or `None`, by the rule of
+    /// [`NaiveDate::checked_add_months`].
     pub fn checked_sub_months(self, months: Months) -> Option<NaiveDate>
         ensures { IsMonthsLater day_of IsDateOn (day_of self)
             (neg_ℤ (pos (months_of months))) result }
@@ -70,7 +71,7 @@ impl NaiveDate {
         self.days_later(rhs.num_days() as i128)
     }
 
-    /// Returns the date as many days earlier as the length has whole days, by the rule of
+    /// Returns the date as many days earlier as the length has whole days, or `None`, by the rule of
     /// [`NaiveDate::checked_add_signed`].
     pub fn checked_sub_signed(self, rhs: TimeDelta) -> Option<NaiveDate>
         ensures { IsDaysLater day_of IsDateOn (day_of self)

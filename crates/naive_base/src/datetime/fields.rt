@@ -131,7 +131,7 @@ impl NaiveDateTime {
         )
     }
 
-    /// Returns the local date-time that many months earlier, by the rule of
+    /// Returns the local date-time that many months earlier, or `None`, by the rule of
     /// [`NaiveDateTime::checked_add_months`].
     pub fn checked_sub_months(self, months: Months) -> Option<NaiveDateTime>
         ensures { IsMonthsLater day_shown_by (IsReadingOnDay (reading self)) (day_shown_by self)
@@ -155,7 +155,7 @@ impl NaiveDateTime {
         Some(self.date().checked_add_days(days)?.and_time(self.time()))
     }
 
-    /// Returns the local date-time that many days earlier, by the rule of
+    /// Returns the local date-time that many days earlier, or `None`, by the rule of
     /// [`NaiveDateTime::checked_add_days`].
     pub fn checked_sub_days(self, days: Days) -> Option<NaiveDateTime>
         ensures { IsDaysLater day_shown_by (IsReadingOnDay (reading self)) (day_shown_by self)

@@ -70,7 +70,7 @@ impl RuleDay {
     ///
     /// [`Error::TransitionRule`] unless 1 <= n <= 365.
     ///
-    /// ```text
+    /// ```
     /// let day = RuleDay::julian_1(60)?;
     /// let date = day.transition_date(2024);          // (3, 1), also in a leap year
     /// ```
@@ -92,7 +92,7 @@ impl RuleDay {
     ///
     /// [`Error::TransitionRule`] unless n <= 365.
     ///
-    /// ```text
+    /// ```
     /// let day = RuleDay::julian_0(59)?;
     /// let date = day.transition_date(2024);          // (2, 29)
     /// ```
@@ -139,7 +139,7 @@ impl RuleDay {
 
     /// The day's form and its numbers, which are in their limits.
     ///
-    /// ```text
+    /// ```
     /// let day = RuleDay::month_weekday(3, 2, 0)?;
     /// let form = day.form();                         // DayForm::MonthWeekday(3, 2, 0)
     /// ```
@@ -161,7 +161,7 @@ impl RuleDay {
     /// A plain day number of 365 is the day after 31 December in a common year; its date is
     /// `(12, 32)`.
     ///
-    /// ```text
+    /// ```
     /// let day = RuleDay::month_weekday(3, 2, 0)?;    // M3.2.0: the second Sunday of March
     /// let date = day.transition_date(2021);          // (3, 14)
     /// ```
@@ -184,7 +184,7 @@ impl RuleDay {
     ///
     /// Requires: the day time, in seconds, is from -2^62 to 2^62.
     ///
-    /// ```text
+    /// ```
     /// let day = RuleDay::month_weekday(3, 2, 0)?;
     /// let second = day.unix_time(2021, 7_200);       // 1615687200, 2021-03-14 02:00:00
     /// ```

@@ -61,7 +61,7 @@ impl DayTime {
         ]
     }
 
-    // The same where so many days of the year come before the day.
+    // The second at a place, given how many days of the year come before the day.
     #[inline(always)]
     fn second_at(&self, offset: i32, place: u32) -> i64
         requires time { IsWithinWeek self.now.time }

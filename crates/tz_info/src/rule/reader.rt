@@ -23,13 +23,13 @@ impl TransitionRule {
     ///
     /// # Errors
     ///
-    /// The first of what follows that stands in the text: [`Error::UnexpectedEnd`] or
+    /// The first of these faults in the string: [`Error::UnexpectedEnd`] or
     /// [`Error::MissingTag`] where a `>`, a `.` or a comma must come; [`Error::ParseInt`] where a
     /// number must come; [`Error::InvalidTzString`] for hours, minutes, seconds or an offset of
     /// daylight saving time out of their limits, and for bytes left over; [`Error::TransitionRule`]
-    /// for a date out of its limits; [`Error::UnsupportedTzString`] where the text ends behind the
+    /// for a date out of its limits; [`Error::UnsupportedTzString`] if the string ends after the
     /// name of daylight saving time or its offset; and, looked at last, [`Error::LocalTimeType`]
-    /// for a name that is none of three to seven letters, digits, `+` or `-`.
+    /// for a name that isn't three to seven letters, digits, `+` or `-`.
     pub fn from_tz_string(bytes: &[u8], extended: bool) -> Result<TransitionRule, Error>
         // What is read is spelled so.
         ensures found { IfOk result (λ rule. IsTzText extended bytes.now rule) }

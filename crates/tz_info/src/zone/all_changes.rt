@@ -29,7 +29,7 @@ impl TimeZone {
     /// takes no memory; each step asks [`TimeZone::next_change`] or
     /// [`TimeZone::previous_change`] once.
     ///
-    /// ```text
+    /// ```
     /// let zone = TimeZone::from_posix_tz(alloc, "EST5EDT,M3.2.0,M11.1.0")?;
     /// let mut changes = zone.changes(1_609_459_200, 1_640_995_200);    // of the year 2021 in UTC
     /// let first = changes.next()?.at;                                  // 1615705200, in March

@@ -31,7 +31,7 @@ impl TimeZone {
     /// transition is. It takes no memory. Transitions that change nothing are passed one by one, so
     /// the time of a call grows with their number before the change.
     ///
-    /// ```text
+    /// ```
     /// let zone = TimeZone::from_posix_tz(alloc, "EST5EDT,M3.2.0,M11.1.0")?;
     /// let change = zone.next_change(1_609_459_200)?;    // from 2021-01-01 00:00:00 UTC on
     /// let at = change.at;                               // 1615705200: 14 March, 02:00 EST
@@ -83,7 +83,7 @@ impl TimeZone {
     /// second of 64 bits. Transitions that change nothing are passed one by one, as in
     /// [`TimeZone::next_change`].
     ///
-    /// ```text
+    /// ```
     /// let zone = TimeZone::from_posix_tz(alloc, "EST5EDT,M3.2.0,M11.1.0")?;
     /// let change = zone.previous_change(1_609_459_200)?; // up to 2021-01-01 00:00:00 UTC
     /// let at = change.at;                                // 1604210400: 1 November, 02:00 EDT

@@ -40,7 +40,7 @@ impl TimeZone {
     ///
     /// [`Error::OutOfMemory`] if there is no memory for the list.
     ///
-    /// ```text
+    /// ```
     /// let old = TimeZone::from_posix_tz(alloc, "<+06>-6")?;
     /// let new = TimeZone::from_posix_tz(alloc, "<+05>-5")?;
     /// let found = old.differences(alloc, &new, 1_709_229_600, 1_709_233_200)?;

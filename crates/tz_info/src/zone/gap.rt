@@ -64,12 +64,12 @@ impl TimeZone {
         }
     }
 
-    /// In a gap the type in force before it: of all seconds take the first at which clocks show
-    /// more than the reading; it is the type at the second before that one. `None` if and only if
-    /// some second shows the reading.
+    /// Returns the type in force before the gap that the local time lies in: the type at the second
+    /// before the first of all seconds at which clocks show a later time. `None` if and only if
+    /// some second shows the local time.
     ///
-    /// In New York clocks were set forward from 02:00 to 03:00 on 14 March 2021. Of 02:30 that day
-    /// it tells EST.
+    /// In New York clocks were set forward from 02:00 to 03:00 on 14 March 2021: for 02:30 that day
+    /// the answer is EST.
     pub fn find_local_time_type_before_gap(&self, local: NaiveDateTime) -> Option<LocalTimeType>
         ensures { MatchOption result
             (IsShown (TypeAt self.now) (reading local).s)

@@ -1,4 +1,4 @@
-//! The type in force at an instant, and the looks that lookups share.
+//! The type in force at an instant, and the reads that several lookups share.
 
 ghost use Rattle.std.specs.Prelude.{◌≡◌, ◌+◌, ◌<◌, ◌≤◌, ◌^◌, length, take, slice_index_or, IfOk, MatchResult, Some, None};
 ghost use Rattle.tz_base.specs.declared.error.Error.TheVariants.{FindLocalTimeType};
@@ -22,7 +22,7 @@ use tz_timeline::Probes;
 impl TimeZone {
     /// The type in force at the second of Unix time.
     ///
-    /// ```text
+    /// ```
     /// let zone = TimeZone::from_posix_tz(alloc, "CET-1CEST,M3.5.0,M10.5.0/3")?;
     /// let winter = zone.find_local_time_type(1_609_459_200)?;    // CET, 3600 seconds east of UTC
     /// ```
@@ -58,10 +58,10 @@ impl TimeZone {
     ///
     /// Requires: [`Probes::has_room`].
     ///
-    /// ```text
+    /// ```
     /// let mut probes = Probes::new();
     /// let local = zone.find_local_time_type_counted(0, &mut probes)?;
-    /// let looks = probes.reads();
+    /// let reads = probes.reads();
     /// ```
     ///
     /// # Errors

@@ -52,7 +52,7 @@ impl<'a> Model for Lookups<'a> {
 impl TimeZone {
     /// Returns the zone's lookups at one instant after another.
     ///
-    /// ```text
+    /// ```
     /// let mut lookups = zone.lookups();
     /// let first = lookups.find_local_time_type(1_609_459_200)?;
     /// let next = lookups.find_local_time_type(1_609_462_800)?;

@@ -45,8 +45,8 @@ pub(super) fn pieces_in_one_pass(alloc: Global, lists: Lists) -> Result<Option<P
     }
 }
 
-// The same where there may be leap seconds. It is not inlined: the pass without them is to have
-// the registers.
+// The pieces of a zone that may have leap seconds. It is not inlined, so that the pass without them
+// has the registers.
 #[inline(never)]
 fn pieces_with_leaps(alloc: Global, lists: Lists) -> Result<Option<Pieces>, Error>
     requires valid { IsValid (zone_in lists) }

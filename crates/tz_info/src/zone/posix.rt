@@ -17,7 +17,7 @@ impl TimeZone {
     /// the zone of [`TimeZone::utc`]. Otherwise spaces, tabs, line feeds, form feeds and carriage
     /// returns at both ends do not count, and the text is read without extensions.
     ///
-    /// ```text
+    /// ```
     /// let zone = TimeZone::from_posix_tz(alloc, "EST5EDT,M3.2.0,M11.1.0")?;
     /// let local = zone.find_local_time_type(1_615_705_200)?;    // EDT
     /// ```
@@ -49,7 +49,7 @@ impl TimeZone {
     /// Returns the zone of a TZ string that may have the extensions of RFC 8536, section 3.3.1: its
     /// rule at every instant. Nothing is trimmed.
     ///
-    /// ```text
+    /// ```
     /// let nuuk = TimeZone::from_extended_tz(alloc, b"<-03>3<-02>,M3.5.0/-2,M10.5.0/-1")?;
     /// ```
     ///

@@ -63,9 +63,9 @@ impl TimeZone {
     /// An ordinary day has 86,400 seconds. Two days may overlap: if clocks are set back over
     /// midnight, they show the old date again after they have shown the new one.
     ///
-    /// ```text
+    /// ```
     /// let apia = TimeZone::from_tz_data(alloc, bytes)?;
-    /// apia.find_seconds_of_day(NaiveDate::from_ymd_opt(2011, 12, 30)?); // None: 29 was followed by 31
+    /// let skipped = apia.find_seconds_of_day(NaiveDate::from_ymd_opt(2011, 12, 30)?); // None: skipped
     /// let day = apia.find_seconds_of_day(NaiveDate::from_ymd_opt(2011, 12, 31)?)?;
     /// let at = day.first.at; // 1325239200: 2011-12-30 10:00:00 UTC
     /// ```
@@ -84,8 +84,7 @@ impl TimeZone {
     /// first of its two seconds. A later local time never has an earlier answer. So the seconds of
     /// midnights divide time into days, each of which lasts until the next one begins.
     ///
-    /// ```text
-    /// let new_york = TimeZone::from_tz_data(alloc, bytes)?;
+    /// ```
     /// let local = NaiveDate::from_ymd_opt(2021, 3, 14)?.and_hms_opt(2, 30, 0)?; // in a gap
     /// let at = new_york.find_first_at_or_after(local).at; // 1615705200: 03:00 EDT
     /// ```

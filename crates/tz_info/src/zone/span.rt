@@ -19,7 +19,7 @@ impl TimeZone {
     /// that began it, and the one that ends it, as [`TimeZone::previous_change`] and
     /// [`TimeZone::next_change`] find them.
     ///
-    /// ```text
+    /// ```
     /// let zone = TimeZone::from_posix_tz(alloc, "EST5EDT,M3.2.0,M11.1.0")?;
     /// let span = zone.span_at(1_609_459_200)?;          // at 2021-01-01 00:00:00 UTC
     /// let name = span.local_time_type.name();           // EST

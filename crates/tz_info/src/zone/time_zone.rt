@@ -29,7 +29,7 @@ use tz_timeline::Probes;
 
 /// A time zone: which type of local time is in force at each instant.
 ///
-/// ```text
+/// ```
 /// let types = vec![in alloc; LocalTimeType::utc(), LocalTimeType::with_offset(3600)?]?;
 /// let transitions = vec![in alloc; Transition::new(0, 1)]?;
 /// let zone = TimeZone::new(alloc, transitions, types, Vec::new(alloc), None)?;

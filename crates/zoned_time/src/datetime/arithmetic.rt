@@ -34,12 +34,12 @@ impl<Tz: TimeZone> DateTime<Tz> {
     /// The instant so much later, or earlier for a negative length, with the offset that its zone
     /// has then. `None` if that is out of range.
     ///
-    /// From a leap second on, that leap second is counted; no other ever is.
+    /// If the instant lies in a leap second, that one is counted; no other is.
     ///
-    /// ```text
+    /// ```
     /// // In New York clocks were set back at 06:00:00 UTC on 2021-11-07.
     /// let before = new_york.timestamp(1_636_263_000, 0); // 2021-11-07 01:30:00 -04:00
-    /// before.checked_add_signed(TimeDelta::hours(1)); // 2021-11-07 01:30:00 -05:00
+    /// let after = before.checked_add_signed(TimeDelta::hours(1))?; // 2021-11-07 01:30:00 -05:00
     /// ```
     pub fn checked_add_signed(&self, rhs: TimeDelta) -> Option<DateTime<Tz>>
         ensures { IsAtInRange (home_of Tz.meaning self.now)
@@ -50,7 +50,8 @@ impl<Tz: TimeZone> DateTime<Tz> {
         Some(self.at(&utc))
     }
 
-    /// [`DateTime::checked_add_signed`] of the opposite length.
+    /// Returns what [`DateTime::checked_add_signed`] of the opposite length does. `None` if that is
+    /// out of range.
     pub fn checked_sub_signed(&self, rhs: TimeDelta) -> Option<DateTime<Tz>>
         ensures { IsAtInRange (home_of Tz.meaning self.now)
             (moved (zoned self.now).utc (neg_ℤ (nanos_of rhs)))

@@ -21,11 +21,11 @@ impl<Tz: TimeZone> DateTime<Tz> {
     /// never or more than once, if its UTC date-time is out of range, or if the year is not one from
     /// -262143 to 262142, unless it is the date that the clock shows now.
     ///
-    /// ```text
+    /// ```
     /// let noon = new_york.with_ymd_and_hms(2021, 1, 31, 12, 0, 0).single()?;
-    /// noon.checked_add_months(Months::new(1))  // 2021-02-28 12:00:00 -05:00
+    /// let later = noon.checked_add_months(Months::new(1))?; // 2021-02-28 12:00:00 -05:00
     /// let night = new_york.with_ymd_and_hms(2021, 2, 14, 2, 30, 0).single()?;
-    /// night.checked_add_months(Months::new(1)) // None: a gap
+    /// let in_gap = night.checked_add_months(Months::new(1)); // None
     /// ```
     pub fn checked_add_months(&self, months: Months) -> Option<DateTime<Tz>>
         ensures { IsOnlyMonthsLater Tz.meaning self.now (pos (months_of months)) result }

@@ -68,8 +68,8 @@ impl<Tz, O: Offset> Hash for Instant<Tz, O> {
 impl<Tz, O: Offset> Instant<Tz, O> {
     /// Returns whether it is the same instant. The two may be in different zones.
     ///
-    /// ```text
-    /// Utc.timestamp(0, 0).same_instant(&FixedOffset::east(3600).timestamp(0, 0)) // true
+    /// ```
+    /// let same = Utc.timestamp(0, 0).same_instant(&FixedOffset::east(3600).timestamp(0, 0)); // true
     /// ```
     pub fn same_instant<Tz2: TimeZone>(&self, other: &DateTime<Tz2>) -> bool
         ensures { IsTrue result ↔ ((zoned self.now).utc ≡ (zoned other.now).utc) }
