@@ -1,6 +1,6 @@
 -- The first and the last change among seconds, and in a stretch.
 use Rattle.tz_base.specs.contracts.local_time_type.LocalTimeTypePartialEq.TheImpl.{eq-value as type_eq}
-use Rattle.tz_info.proofs.Words.{Bool, Change, HasNoChange, IsAhead, IsChange, IsFirst, IsIdle, IsInStretch, IsLast, IsLastChange, IsNearest, IsOneOf}
+use Rattle.tz_info.proofs.Words.{Bool, Change, HasNoChange, IfSome, IsAhead, IsChange, IsFirst, IsIdle, IsInStretch, IsLast, IsLastChange, IsNearest, IsOneOf}
 use Rattle.tz_info.proofs.Words.{IsStretchAhead, List, LocalType, MatchOption, None, Option, Precedes, SFits, Some, arith, by_lt_z, cases_lt, false, get_or}
 use Rattle.tz_info.proofs.Words.{inl, inr, ints, lt_false, lt_true, nearer_one, negsuc, pos, refl, subst, suc, sym, true, type_exact, w64, zero, ℕ, ℤ, ⊎_elim}
 use Rattle.tz_info.proofs.Words.{◌+ℤ◌, ◌+◌, ◌-ℤ◌, ◌<ℤ◌, ◌∙◌, ◌≡◌, ◌≢◌, ◌≤ℤ◌, ◌⊎◌}
@@ -124,9 +124,12 @@ last_moved f g p q (Some c) to from h =
     record { is = m.0; inside = m.1; last = λ d is k. let n = to d is k in h.last d n.0 n.1 }
 
 -- the last change up to a second, if it comes after `begin`
-pub last_after : (f : InForce) (begin last : ℤ) (c : Change) (r : Option Change) → IsLastChange f (λ u. u ≤ℤ last) c → MatchOption r (c.at ≤ℤ begin) (λ d. (begin <ℤ c.at) × (d ≡ c)) → IsLast f (λ u. (begin <ℤ u) × (u ≤ℤ last)) r
-last_after f begin last c None h early = λ d is inside. let l = h.last d is inside.1 in let m = inside.0 in omega (arith, ints)
-last_after f begin last c (Some d) h late = rw late.1 (record { is = h.is; inside = (late.0, h.inside); last = λ e is inside. h.last e is inside.1 })
+pub last_after : (f : InForce) (begin last : ℤ) (found r : Option Change) → IsLast f (λ u. u ≤ℤ last) found
+    → MatchOption r (IfSome found (λ c. c.at ≤ℤ begin)) (λ c. (begin <ℤ c.at) × (found ≡ Some c)) → IsLast f (λ u. (begin <ℤ u) × (u ≤ℤ last)) r
+last_after f begin last None None h early = λ d is inside. h d is inside.1
+last_after f begin last (Some c) None h early = λ d is inside. let l = h.last d is inside.1 in let m = inside.0 in omega (arith, ints)
+last_after f begin last found (Some c) h late =
+    let k = rw late.1 at h in record { is = k.is; inside = (late.0, k.inside); last = λ d is inside. k.last d is inside.1 }
 
 -- ---- where no change comes the type stays
 -- some type is in force at the second

@@ -42,6 +42,7 @@ pub mod WindowLaws
 pub mod GapLaws
 pub mod AroundLaws
 pub mod SecondEquality
+pub mod IdleRuns
 pub mod ZoneChanges
 pub mod LeaplessChanges
 pub mod SpanLaws

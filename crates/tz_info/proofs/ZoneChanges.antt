@@ -1,9 +1,9 @@
 -- Where a zone's types change: at its transitions, and behind them where the rule's types do.
-use Rattle.tz_info.proofs.Words.{Alternate as AlternateRule, AlternateAt, AreAhead, AreComeAt, AreComeOrAll, AreLeapSeconds, Change, ComesAt, HasNoChange}
-use Rattle.tz_info.proofs.Words.{HasNoneAt, HaveCome, IsBegin, IsByRule, IsChange, IsFirst, IsFirstChange, IsInTable, IsLast, IsLastChange, IsLaterOf}
+use Rattle.tz_info.proofs.Words.{Alternate as AlternateRule, AlternateAt, AreAhead, AreAlike, AreComeAt, AreComeOrAll, AreLeapSeconds, Change, ComesAt, HasNoChange}
+use Rattle.tz_info.proofs.Words.{HasNoneAt, HaveCome, IsAtEnd, IsBegin, IsByRule, IsChange, IsFirst, IsFirstChange, IsInTable, IsLast, IsLastChange, IsLaterOf}
 use Rattle.tz_info.proofs.Words.{IsLeapTime, IsLeapTimeRefused, IsRuleTime, IsValid, LeapSecond, List, LocalType, MatchOption, None, Option, RuleOrType, SFits}
-use Rattle.tz_info.proofs.Words.{Some, Transition, TransitionRule, TypeAt, Zone, ap, arith, by_lt_z, cases_lt, cond, count_by, get_or, inl, inr, int_le, ints}
-use Rattle.tz_info.proofs.Words.{length, length-take, nat_tests, passed, passed_count, pos, refl, segment_of, suc, sum_by-cons, sym, take, thresholds, w64}
+use Rattle.tz_info.proofs.Words.{Some, Transition, TransitionRule, TypeAt, Zone, ap, arith, by_lt_z, cases_lt, cond, count_by, get_or, index_of, inl, inr, int_le, ints}
+use Rattle.tz_info.proofs.Words.{length, length-take, nat_tests, passed, passed_count, pos, refl, segment_of, slice_get, suc, sum_by-cons, sym, take, thresholds, w64}
 use Rattle.tz_info.proofs.Words.{zero, ℕ, ℤ, [], ◌+◌, ◌-ℤ◌, ◌-◌, ◌<ℤ◌, ◌<◌, ◌↔◌, ◌∙◌, ◌∷◌, ◌≡◌, ◌≤ℤ◌, ◌≤◌, ◌⊎◌}
 use Rattle.tz_info.specs.declared.rule.transition_rule.TransitionRule.TheVariants.{Alternate, Fixed}
 use Rattle.tz_info.proofs.ChangeSearch.{first_moved, last_moved}
@@ -13,8 +13,8 @@ use Rattle.tz_info.proofs.LeapOrder.{bounded}
 use Rattle.tz_info.proofs.LeapStarts.{correction_behind, reached_later, times_rise}
 use Rattle.tz_info.proofs.PassedTransitions.{no_items}
 use Rattle.tz_info.proofs.RuleChanges.{rule_second}
-use Rattle.tz_info.proofs.SegmentLaws.{come_at_time, come_by_time, later_segment, segment_at, segment_most, segments_rise, type_from, type_in_from}
-use Rattle.tz_info.proofs.ZoneLaws.{leap_time_decided}
+use Rattle.tz_info.proofs.SegmentLaws.{come_at_time, come_by_time, later_segment, segment_at, segment_most, segments_rise, type_before, type_from, type_in_from}
+use Rattle.tz_info.proofs.ZoneLaws.{leap_time_decided, some_once}
 
 -- ---- which seconds have a leap time
 one_counted : (t u v : ℤ) → u ≤ℤ v → cond (int_le t u) 1 0 ≤ cond (int_le t v) 1 0
@@ -60,41 +60,32 @@ changes_segment z d valid is one = elim (cases_lt (segment_of z (d.at -ℤ pos 1
       absurd (is.differ (one_type z (segment_of z (d.at -ℤ pos 1)) (d.at -ℤ pos 1) d.at d.before d.after valid one refl (omega arith) is.before is.after))
 ]
 
--- a change from the segment before a transition comes with that transition
-pub comes_with : (z : Zone) (place : ℕ) (start : ℤ) (d : Change) → IsValid z → place < length z.transitions → ComesAt z place start → IsChange (TypeAt z) d → segment_of z (d.at -ℤ pos 1) ≡ place → d.at ≡ start
-comes_with z place start d valid some comes is e =
-    let later = changes_segment z d valid is (inl (omega arith)) in
-    let here = (comes d.at is.after.leap_time (time_of z d.at d.after (omega arith) is.after)).0 (omega arith) in
+-- a change with a transition comes where that one does
+comes_with : (z : Zone) (place : ℕ) (start : ℤ) (d : Change) → place < length z.transitions → ComesAt z place start → IsChange (TypeAt z) d
+    → segment_of z (d.at -ℤ pos 1) ≤ place → place < segment_of z d.at → d.at ≡ start
+comes_with z place start d some comes is low high =
+    let here = (comes d.at is.after.leap_time (time_of z d.at d.after (omega arith) is.after)).0 high in
     by_lt_z (d.at -ℤ pos 1) start
     (λ l. omega (arith, ints))
     (λ m. let come = (comes (d.at -ℤ pos 1) is.before.leap_time (time_of z (d.at -ℤ pos 1) d.before (omega arith) is.before)).1 m in absurd (omega arith))
 
+-- no change leads from one segment to another where they have one type
+no_change_alike : (z : Zone) (d : Change) (first last : ℕ) → IsValid z → last < length z.transitions → AreAlike z.transitions z.types first last → IsChange (TypeAt z) d
+    → first ≤ segment_of z (d.at -ℤ pos 1) → segment_of z (d.at -ℤ pos 1) ≤ last → first ≤ segment_of z d.at → segment_of z d.at ≤ last → ⊥
+no_change_alike z d first last valid some alike is a b c e =
+    let before = type_before z (segment_of z (d.at -ℤ pos 1)) (d.at -ℤ pos 1) d.before valid.transitions.rising (record { type = is.before; segment = refl }) (omega arith) in
+    let after = type_before z (segment_of z d.at) d.at d.after valid.transitions.rising (record { type = is.after; segment = refl }) (omega arith) in
+    is.differ (some_once (slice_get z.types (index_of z.transitions first)) d.before d.after (sym (alike (segment_of z (d.at -ℤ pos 1)) a b) ∙ before) (sym (alike (segment_of z d.at) c e) ∙ after))
+
 -- ---- the next change of the table
--- each change after that second comes behind the first transitions, of which there are so many
-pub record AreBehind (z : Zone) (after : ℤ) (place : ℕ) : Type 0 where
-  pub behind : (d : Change) → IsChange (TypeAt z) d → after <ℤ d.at → place ≤ segment_of z (d.at -ℤ pos 1)
+-- each of the table's changes after that second comes with the transition at that place, or later
+abbrev pub AreYet : Zone → ℤ → ℕ → Type 0
+AreYet z after place = (d : Change) → IsChange (TypeAt z) d → IsInTable z (λ u. after <ℤ u) d.at → place < segment_of z d.at
 
-pub behind_first : (z : Zone) (after : ℤ) (place : ℕ) → IsValid z → AreComeAt z after place → AreBehind z after place
-behind_first z after place valid count = record {
-  behind = λ d is later. let n = count.is in let r = segments_rise z after (d.at -ℤ pos 1) valid.transitions.rising valid.leaps (omega (arith, ints)) in omega arith;
-}
-
-refused_after : (z : Zone) (after : ℤ) → IsValid z → IsLeapTimeRefused z.leaps after → HasNoChange (TypeAt z) (IsInTable z (λ u. after <ℤ u))
+pub refused_after : (z : Zone) (after : ℤ) → IsValid z → IsLeapTimeRefused z.leaps after → HasNoChange (TypeAt z) (IsInTable z (λ u. after <ℤ u))
 refused_after z after valid r d is inside =
     let t = inside.table in let l = inside.inside in
     refused_on z.leaps after (d.at -ℤ pos 1) is.before.leap_time valid.leaps (omega (arith, ints)) r (time_of z (d.at -ℤ pos 1) d.before (omega arith) is.before)
-
--- a change with a later transition comes later, and one with an earlier transition sooner
-place_order : (z : Zone) (place : ℕ) (start : ℤ) (d : Change) → IsValid z → place < length z.transitions → ComesAt z place start → IsChange (TypeAt z) d
-    → (place ≤ segment_of z (d.at -ℤ pos 1) → start ≤ℤ d.at) × (segment_of z (d.at -ℤ pos 1) ≤ place → d.at ≤ℤ start)
-place_order z place start d valid some comes is =
-    let come = comes (d.at -ℤ pos 1) is.before.leap_time (time_of z (d.at -ℤ pos 1) d.before (omega arith) is.before) in (
-      λ low. elim (cases_lt place (segment_of z (d.at -ℤ pos 1))) [
-        | inl k ↦ let f = come.0 k in omega (arith, ints)
-        | inr m ↦ let e = comes_with z place start d valid some comes is (omega arith) in omega (arith, ints)
-      ],
-      λ high. by_lt_z start d.at (λ less. let k = come.1 (omega (arith, ints)) in absurd (omega arith)) (λ m. m),
-    )
 
 -- before the change that comes with a transition, that one has not come
 not_come : (z : Zone) (place : ℕ) (c : Change) → place < length z.transitions → IsChange (TypeAt z) c → ComesAt z place c.at → segment_of z (c.at -ℤ pos 1) < length z.transitions
@@ -102,39 +93,54 @@ not_come z place c some is comes =
     let come = comes (c.at -ℤ pos 1) is.before.leap_time (time_of z (c.at -ℤ pos 1) c.before (omega arith) is.before) in
     elim (cases_lt place (segment_of z (c.at -ℤ pos 1))) [ inl k ↦ let b = come.0 k in absurd (omega (arith, ints)) | inr m ↦ omega arith ]
 
+pub yet_come : (z : Zone) (after : ℤ) (place : ℕ) → IsValid z → AreComeOrAll z after place → AreYet z after place
+yet_come z after place valid (inl come) d is inside =
+    let n = come.is in let later = inside.inside in
+    let r = segments_rise z after (d.at -ℤ pos 1) valid.transitions.rising valid.leaps (omega (arith, ints)) in
+    let c = changes_segment z d valid is (inl inside.table) in
+    omega arith
+yet_come z after place valid (inr r) d is inside = absurd (refused_after z after valid r.0 d is inside)
+
+-- nor do they come with the next ones, if these change nothing
+pub yet_after : (z : Zone) (after : ℤ) (place next : ℕ) → IsValid z → AreYet z after place → HasNoneAt z place → AreAlike z.transitions z.types (place + 1) next
+    → (length z.transitions ≤ next → next ≡ place + 1) → AreYet z after next
+yet_after z after place next valid yet none alike end d is inside =
+    let table = inside.table in
+    let h = yet d is inside in
+    let c = changes_segment z d valid is (inl table) in
+    elim (cases_lt place (segment_of z (d.at -ℤ pos 1))) [
+      | inl behind ↦ elim (cases_lt next (segment_of z d.at)) [
+        | inl l ↦ l
+        | inr m ↦ elim (cases_lt next (length z.transitions)) [
+          | inl some ↦ absurd (no_change_alike z d (place + 1) next valid some alike is (omega arith) (omega arith) (omega arith) (omega arith))
+          | inr all ↦ let e = end (omega arith) in omega arith
+        ]
+      ]
+      | inr m ↦ absurd (none d is (omega arith) h)
+    ]
+
 -- the change that comes with the transition at that place is the first one in the table
-pub table_found : (z : Zone) (after : ℤ) (first place : ℕ) (c : Change) → IsValid z → place < length z.transitions → AreComeAt z after first → first ≤ place
-    → AreBehind z after place → IsChange (TypeAt z) c → ComesAt z place c.at → IsFirstChange (TypeAt z) (IsInTable z (λ u. after <ℤ u)) c
-table_found z after first place c valid some count at h is comes =
+pub yet_found : (z : Zone) (after : ℤ) (first place : ℕ) (c : Change) → place < length z.transitions → AreComeOrAll z after first → first ≤ place
+    → AreYet z after place → IsChange (TypeAt z) c → ComesAt z place c.at → IsFirstChange (TypeAt z) (IsInTable z (λ u. after <ℤ u)) c
+yet_found z after first place c some (inr r) at yet is comes = let all = r.1 in absurd (omega arith)
+yet_found z after first place c some (inl count) at yet is comes =
     let begun = comes after count.leap_time count.of_second in let n = count.is in
     record {
       is = is;
       inside = record { inside = by_lt_z after c.at (λ k. k) (λ m. let b = begun.1 m in absurd (omega arith)); table = not_come z place c some is comes };
-      first = λ d is_d inside. (place_order z place c.at d valid some comes is_d).0 (h.behind d is_d inside.inside);
+      first = λ d is_d inside. (comes d.at is_d.after.leap_time (time_of z d.at d.after (omega arith) is_d.after)).0 (yet d is_d inside);
     }
 
-pub behind_come : (z : Zone) (after : ℤ) (place : ℕ) → IsValid z → AreComeOrAll z after place → AreBehind z after place
-behind_come z after place valid (inl come) = behind_first z after place valid come
-behind_come z after place valid (inr (refused, all)) = record {
-  behind = λ d is later. elim (cases_lt (segment_of z (d.at -ℤ pos 1)) (length z.transitions)) [
-    | inl t ↦ absurd (refused_after z after valid refused d is (record { inside = later; table = t }))
-    | inr m ↦ omega arith
-  ];
-}
-
-pub found_behind : (z : Zone) (after : ℤ) (first place : ℕ) (c : Change) → IsValid z → place < length z.transitions → AreComeOrAll z after first
-    → first ≤ place → AreBehind z after place → IsChange (TypeAt z) c → ComesAt z place c.at
-    → IsFirstChange (TypeAt z) (IsInTable z (λ u. after <ℤ u)) c
-found_behind z after first place c valid some (inl come) from h is comes = table_found z after first place c valid some come from h is comes
-found_behind z after first place c valid some (inr (refused, all)) from h is comes = absurd (omega arith)
+pub yet_none : (z : Zone) (after : ℤ) (place : ℕ) → IsValid z → length z.transitions ≤ place → AreYet z after place → HasNoChange (TypeAt z) (IsInTable z (λ u. after <ℤ u))
+yet_none z after place valid all yet d is inside = let h = yet d is inside in let m = segment_most z d.at valid.transitions.rising in omega arith
 
 -- the second at which a transition comes is none of 64 bits
 pub none_outside : (z : Zone) (place : ℕ) (start : ℤ) → IsValid z → place < length z.transitions → ComesAt z place start → (SFits w64 start → ⊥) → HasNoneAt z place
-none_outside z place start valid some comes out d is e = out (rw (comes_with z place start d valid some comes is e) at is.fits)
+none_outside z place start valid some comes out d is low high = out (rw (comes_with z place start d some comes is low high) at is.fits)
 
 -- or has no change
 pub none_there : (z : Zone) (place : ℕ) (start : ℤ) → IsValid z → place < length z.transitions → ComesAt z place start → HasNoChange (TypeAt z) (λ u. u ≡ start) → HasNoneAt z place
-none_there z place start valid some comes none d is e = none d is (comes_with z place start d valid some comes is e)
+none_there z place start valid some comes none d is low high = none d is (comes_with z place start d some comes is low high)
 
 -- ---- behind the last transition
 last_too : (z : Zone) (u : ℤ) → IsValid z → segment_of z (u -ℤ pos 1) ≡ length z.transitions → segment_of z u ≡ length z.transitions
@@ -184,6 +190,17 @@ begun : (z : Zone) (begin u : ℤ) (t : LocalType) → IsValid z → IsBegin z b
 begun z begin u t valid h fits k e = elim (cases_lt 0 (length z.transitions)) [
   | inl some ↦ (h.comes (length z.transitions - 1) (omega arith) u k.leap_time (time_of z u t some k)).0 (omega arith)
   | inr none ↦ let b = h.alone (omega arith) in omega (arith, ints)
+]
+
+-- `begin` comes no later than a second with a type at which all have come
+pub begun_by : (z : Zone) (begin u : ℤ) → IsValid z → IsBegin z begin → SFits w64 u → IsAtEnd z u → IsLaterOf u begin u
+begun_by z begin u valid h fits at = let b = begun z begin u at.1 valid h fits at.2 at.0 in λ v. ((λ l. (l, omega (arith, ints))), (λ l. l.0))
+
+pub at_end : (z : Zone) (u : ℤ) (t : LocalType) → IsValid z → AreComeOrAll z u (length z.transitions) → TypeAt z u t → IsAtEnd z u
+at_end z u t valid (inl come) k = (sym come.is, t, k)
+at_end z u t valid (inr r) k = elim (cases_lt 0 (length z.transitions)) [
+  | inl some ↦ absurd (refused_on z.leaps u u k.leap_time valid.leaps (omega (arith, ints)) r.0 (time_of z u t some k))
+  | inr none ↦ let m = segment_most z u valid.transitions.rising in (omega arith, t, k)
 ]
 
 begins : (z : Zone) (begin u : ℤ) → IsValid z → IsBegin z begin → IsRuleTime u → begin ≤ℤ u → segment_of z u ≡ length z.transitions
@@ -319,14 +336,23 @@ pub ahead_come : (z : Zone) (last : ℤ) (count : ℕ) → IsValid z → AreCome
 ahead_come z last count valid (inl come) = ahead_first z last count valid come
 ahead_come z last count valid (inr (refused, all)) = rw all (ahead_all z last valid refused)
 
-pub ahead_less : (z : Zone) (last : ℤ) (place : ℕ) → AreAhead z last (place + 1) → HasNoneAt z place → AreAhead z last place
-ahead_less z last place h none =
+-- nor do they come with the last ones of these, if they change nothing
+pub ahead_less : (z : Zone) (last : ℤ) (place left : ℕ) → IsValid z → AreAhead z last (place + 1) → HasNoneAt z place → left ≤ place → AreAlike z.transitions z.types left place
+    → AreAhead z last left
+ahead_less z last place left valid h none low alike =
     let w = h.within in
     record {
       within = omega arith;
       ahead = λ d is up_to table.
           let a = h.ahead d is up_to table in
-          elim (cases_lt (segment_of z (d.at -ℤ pos 1)) place) [ inl l ↦ l | inr m ↦ absurd (none d is (omega arith)) ];
+          let c = changes_segment z d valid is (inl table) in
+          elim (cases_lt (segment_of z (d.at -ℤ pos 1)) left) [
+            | inl l ↦ l
+            | inr m ↦ elim (cases_lt place (segment_of z d.at)) [
+              | inl with ↦ absurd (none d is (omega arith) with)
+              | inr within ↦ absurd (no_change_alike z d left place valid (omega arith) alike is (omega arith) (omega arith) (omega arith) (omega arith))
+            ]
+          ];
       come = λ p start y below comes k. h.come p start y (omega arith) comes k;
     }
 
@@ -340,7 +366,10 @@ table_last z last place c valid h is comes =
     record {
       is = is;
       inside = record { inside = up_to; table = not_come z place c (omega arith) is comes };
-      last = λ d is_d inside. let a = h.ahead d is_d inside.inside inside.table in (place_order z place c.at d valid (omega arith) comes is_d).1 (omega arith);
+      last = λ d is_d inside.
+          let a = h.ahead d is_d inside.inside inside.table in
+          let come = comes (d.at -ℤ pos 1) is_d.before.leap_time (time_of z (d.at -ℤ pos 1) d.before (omega arith) is_d.before) in
+          by_lt_z c.at d.at (λ less. let k = come.1 (omega (arith, ints)) in absurd (omega arith)) (λ m. m);
     }
 
 -- ---- the rule's changes come after the table's

@@ -1,6 +1,6 @@
 //! Changes of the clocks, made of two types, and chosen by their seconds.
 
-ghost use Rattle.std.specs.Prelude.{◌≡◌, ◌≢◌, ◌≤ℤ◌, ◌<ℤ◌, IsTrue, ◌↔◌, MatchOption};
+ghost use Rattle.std.specs.Prelude.{◌≡◌, ◌≢◌, ◌≤ℤ◌, ◌<ℤ◌, IsTrue, ◌↔◌, IfSome, MatchOption, Some};
 ghost use Rattle.tz_info.specs.Steps.Changes.{nearer_one};
 
 use tz_base::{Change, LocalTimeType};
@@ -34,10 +34,14 @@ pub(crate) fn nearer(found: Option<Change>, other: Option<Change>, forward: bool
     if is_nearer { Some(second) } else { Some(one) }
 }
 
-// The change, if it comes after that second.
-pub(crate) fn if_after(change: Change, second: i128) -> Option<Change>
-    ensures { MatchOption result (change.at ≤ℤ second) (λ c. (second <ℤ change.at) × (c ≡ change)) }
+// The change that was found, if it comes after that second.
+pub(crate) fn if_after(found: Option<Change>, second: i128) -> Option<Change>
+    ensures { MatchOption result (IfSome found (λ c. c.at ≤ℤ second))
+        (λ c. (second <ℤ c.at) × (found ≡ Some c)) }
 {
+    let Some(change) = found else {
+        return None;
+    };
     if second < change.at as i128 {
         Some(change)
     } else {

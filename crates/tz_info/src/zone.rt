@@ -5,6 +5,7 @@ mod changes;
 pub(crate) mod differences;
 mod extremes;
 mod gap;
+mod idle;
 mod index;
 mod leap_second;
 mod leap_time;

@@ -1,6 +1,5 @@
 //! The changes of a rule on both sides of a second.
 
-ghost use Rattle.std.specs.Prelude.{MatchOption, ⊤};
 ghost use Rattle.tz_info.specs.Moments.{AlternateAt};
 ghost use Rattle.tz_info.specs.Steps.Beside.{IsBeside};
 
@@ -15,16 +14,15 @@ pub(crate) struct Beside {
 }
 
 impl AlternateTime {
-    // The changes on both sides of the second, if its year's moments decide at it.
+    // The changes on both sides of the second.
     #[inline(always)]
-    pub(crate) fn changes_beside(&self, second: i64) -> Option<Beside>
-        ensures { MatchOption result ⊤ (IsBeside (AlternateAt self.now) second) }
+    pub(crate) fn changes_beside(&self, second: i64) -> Beside
+        ensures { IsBeside (AlternateAt self.now) second result }
     {
-        let Some(season) = self.season_at(second) else {
-            return None;
-        };
-        let previous = self.change_from(season, second, false);
-        let next = self.change_from(season, second, true);
-        Some(Beside { previous, next })
+        let season = self.season_at(second);
+        Beside {
+            previous: self.change_by(season, second, false),
+            next: self.change_by(season, second, true),
+        }
     }
 }

@@ -46,15 +46,12 @@ impl Stretch {
 }
 
 impl AlternateTime {
-    // The nearest change ahead of the second in that direction, by the moments of the second's year
-    // if these decide at it, or else by those of other years.
+    // The nearest change ahead of the second in that direction.
+    #[inline(always)]
     pub(crate) fn nearest_change(&self, second: i64, forward: bool) -> Option<Change>
         ensures { IsNearest forward (AlternateAt self.now) (IsAhead forward second) result }
     {
-        match self.season_at(second) {
-            Some(season) => self.change_from(season, second, forward),
-            None => self.change_beyond(second, forward),
-        }
+        self.change_by(self.season_at(second), second, forward)
     }
 
     // The moments of the second's year, if these decide at it.
@@ -74,14 +71,22 @@ impl AlternateTime {
         }
     }
 
-    // The nearest change, by the season's moments if there is one among them.
+    // The nearest change, by the moments of the second's year if these decide at it, or else by those
+    // of other years.
     #[inline(always)]
-    pub(super) fn change_from(&self, season: Season, second: i64, forward: bool) -> Option<Change>
-        requires season { IsSeason self.now season }
-        requires time { IsRuleTime second }
-        requires decides { IsDecidedIn season second }
+    pub(super) fn change_by(
+        &self,
+        season: Option<Season>,
+        second: i64,
+        forward: bool,
+    ) -> Option<Change>
+        requires { MatchOption season ⊤
+            (λ s. IsSeason self.now s × IsRuleTime second × IsDecidedIn s second) }
         ensures { IsNearest forward (AlternateAt self.now) (IsAhead forward second) result }
     {
+        let Some(season) = season else {
+            return self.change_by_years(second, forward);
+        };
         match self.change_in_season(season, second, forward) {
             Ok(change) => Some(change),
             Err(other) => self.change_beyond(other, forward),

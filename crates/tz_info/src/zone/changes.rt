@@ -10,12 +10,12 @@ ghost use Rattle.tz_info.specs.Changes.{IsChange, HasNoChange, IsFirst, IsLast};
 ghost use Rattle.tz_info.specs.Leaps.{AreLeapSeconds, IsLeapTime, IsLeapTimeRefused};
 ghost use Rattle.tz_info.specs.Rules.{Alternate as AlternateRule};
 ghost use Rattle.tz_info.specs.Steps.Changes.{AreComeAt, AreComeOrAll, ComesAt, HasNoneAt};
-ghost use Rattle.tz_info.specs.Steps.Changes.{IsBegin, IsByRule, IsInTable};
+ghost use Rattle.tz_info.specs.Steps.Changes.{IsAtEnd, IsBegin, IsByRule, IsInTable};
 ghost use Rattle.tz_info.specs.Zones.{HasType, TypeAt};
 ghost use Rattle.tz_info.specs.declared.rule.transition_rule.TransitionRule.TheVariants.{Alternate};
 
 use crate::change::{change_between, if_after};
-use crate::rule::{AlternateTime, TransitionRule, later_of};
+use crate::rule::{AlternateTime, Beside, TransitionRule, later_of};
 use crate::zone::leap_second::LeapSecond;
 use crate::zone::leap_time::leap_time;
 use crate::zone::starts::{correction_behind, entries_come};
@@ -28,8 +28,8 @@ impl TimeZone {
     /// of 64 bits.
     ///
     /// A transition that changes nothing is no change, and what a rule does after the last
-    /// transition is. It takes no memory. Transitions that change nothing are passed one by one, so
-    /// the time of a call grows with their number before the change.
+    /// transition is. It takes no memory. A run of transitions that change nothing is stepped over
+    /// at once.
     ///
     /// ```
     /// let zone = TimeZone::from_posix_tz(alloc, "EST5EDT,M3.2.0,M11.1.0")?;
@@ -40,24 +40,36 @@ impl TimeZone {
     pub fn next_change(&self, after: i64) -> Option<Change>
         ensures { IsFirst (TypeAt self.now) (λ u. after <ℤ u) result }
     {
+        let come = self.come_at(after);
+        self.next_from(after, come)
+    }
+
+    // The first change after a second at which that number of transitions have come.
+    #[inline(always)]
+    pub(super) fn next_from(&self, after: i64, come: usize) -> Option<Change>
+        requires { AreComeOrAll self.now after come }
+        ensures { IsFirst (TypeAt self.now) (λ u. after <ℤ u) result }
+    {
         let _ = &self.table;
-        match self.next_in_table(after) {
+        match self.next_in_table(after, come) {
             Some(change) => Some(change),
             None => self.next_by_rule(after),
         }
     }
 
-    // The first change after that second that comes with a transition.
-    fn next_in_table(&self, after: i64) -> Option<Change>
+    // The first one of those that come with a transition.
+    #[inline(always)]
+    fn next_in_table(&self, after: i64, come: usize) -> Option<Change>
+        requires { AreComeOrAll self.now after come }
         ensures { IsFirst (TypeAt self.now) (IsInTable self.now (λ u. after <ℤ u)) result }
     {
         let _ = &self.table;
         let count = self.transition_count();
-        let first = self.come_at(after);
-        for place in first..count {
+        let mut place = come;
+        while place < count {
             match self.change_with(place) {
                 Some(change) => return Some(change),
-                None => {}
+                None => place = self.place_after(place),
             }
         }
         None
@@ -80,8 +92,7 @@ impl TimeZone {
     }
 
     /// The last change of the clocks at that second or before it, or `None` if none comes at such a
-    /// second of 64 bits. Transitions that change nothing are passed one by one, as in
-    /// [`TimeZone::next_change`].
+    /// second of 64 bits.
     ///
     /// ```
     /// let zone = TimeZone::from_posix_tz(alloc, "EST5EDT,M3.2.0,M11.1.0")?;
@@ -94,20 +105,25 @@ impl TimeZone {
         let _ = &self.table;
         match self.previous_by_rule(before_or_at) {
             Some(change) => Some(change),
-            None => self.previous_in_table(before_or_at),
+            None => {
+                let come = self.come_at(before_or_at);
+                self.previous_in_table(before_or_at, come)
+            }
         }
     }
 
-    // The last change up to that second that comes with a transition.
-    fn previous_in_table(&self, last: i64) -> Option<Change>
+    // The last change with a transition up to a second at which that number of them have come.
+    #[inline(always)]
+    pub(super) fn previous_in_table(&self, last: i64, come: usize) -> Option<Change>
+        requires { AreComeOrAll self.now last come }
         ensures { IsLast (TypeAt self.now) (IsInTable self.now (λ u. u ≤ℤ last)) result }
     {
         let _ = &self.table;
-        let count = self.come_at(last);
-        for back in 0..count {
-            match self.change_with(count - 1 - back) {
+        let mut left = come;
+        while left > 0 {
+            match self.change_with(left - 1) {
                 Some(change) => return Some(change),
-                None => {}
+                None => left = self.count_before(left - 1),
             }
         }
         None
@@ -148,9 +164,31 @@ impl TimeZone {
         if begin >= last as i128 {
             return None;
         }
-        match turns.nearest_change(last, false) {
-            None => None,
-            Some(change) => if_after(change, begin),
+        if_after(turns.nearest_change(last, false), begin)
+    }
+
+    // The changes on both sides of a second from the last transition on, of those that come after
+    // all transitions.
+    #[inline(always)]
+    pub(super) fn beside_by_rule(&self, second: i64) -> Beside
+        requires { IsAtEnd self.now second }
+        ensures previous { IsLast (TypeAt self.now) (IsByRule self.now (λ u. u ≤ℤ second))
+            result.previous }
+        ensures next { IsFirst (TypeAt self.now) (IsByRule self.now (λ u. second <ℤ u))
+            result.next }
+    {
+        let _ = &self.table;
+        let Some(turns) = self.turns() else {
+            return Beside {
+                previous: None,
+                next: None,
+            };
+        };
+        let begin = self.rule_begin();
+        let beside = turns.changes_beside(second);
+        Beside {
+            previous: if_after(beside.previous, begin),
+            next: beside.next,
         }
     }
 

@@ -83,6 +83,7 @@ impl TimeZone {
     }
 
     // The gap in the table, or from the last transition on.
+    #[inline(always)]
     fn gap_at(&self, local: i64, shown: Shown, probes: &mut Probes) -> Change
         requires local { IsWide local }
         requires never { IsNeverShown (Shows (TypeAt self.now) local) }
@@ -120,6 +121,7 @@ impl TimeZone {
 
     // The gap from the last transition on, before which clocks show less: mostly by the moments of
     // the local time's year.
+    #[inline(always)]
     fn gap_behind_table(&self, local: i64) -> Change
         requires local { IsWide local }
         requires never { IsNeverShown (Shows (TypeAt self.now) local) }

@@ -1,18 +1,16 @@
 //! Spans: the type in force at an instant, since which change, and until which one.
 //!
-//! One search finds a span, if the transitions on both sides of the second change the type, or the
-//! rule's moments near it do.
+//! One search finds the second's place between transitions, or between moments of the rule. The
+//! changes on both sides are looked for from there on.
 
-ghost use Rattle.std.specs.Prelude.{◌≡◌, ◌≢◌, ◌<◌, length, option_map, MatchOption, MatchResult, Some, ⊤};
-ghost use Rattle.tz_info.specs.Rules.{Alternate as AlternateRule};
+ghost use Rattle.std.specs.Prelude.{◌≡◌, ◌<◌, length, option_map, MatchResult};
 ghost use Rattle.tz_info.specs.Spans.{IsSpanAt};
-ghost use Rattle.tz_info.specs.Steps.Changes.{AreComeAt};
+ghost use Rattle.tz_info.specs.Steps.Changes.{AreComeOrAll};
 ghost use Rattle.tz_info.specs.Zones.{TypeAt, IsTypeError};
-ghost use Rattle.tz_info.specs.declared.rule.transition_rule.TransitionRule.TheVariants.{Alternate};
 
-use crate::rule::{AlternateTime, Beside};
 use crate::zone::time_zone::TimeZone;
 use tz_base::{Change, Error, LocalTimeType, Span};
+use tz_timeline::Probes;
 
 impl TimeZone {
     /// Returns the span of the second of Unix time: the local time type in force, the clock change
@@ -34,119 +32,57 @@ impl TimeZone {
         ensures { MatchResult result (IsSpanAt (TypeAt self.now) unix_time)
             (IsTypeError self.now unix_time) }
     {
-        match self.span_by_search(unix_time) {
-            Some(span) => return Ok(span),
-            None => {}
+        let _ = &self.table;
+        let come = self.come_at(unix_time);
+        if come < self.transition_count() {
+            return Ok(self.span_in_table(unix_time, come));
         }
         match self.find_local_time_type(unix_time) {
-            Ok(local) => Ok(self.span_by_changes(unix_time, *local)),
+            Ok(local) => Ok(self.span_at_end(unix_time, *local)),
             Err(error) => Err(error),
-        }
-    }
-
-    // The span of the second, in which that type is in force.
-    fn span_by_changes(&self, unix_time: i64, local_time_type: LocalTimeType) -> Span
-        requires { TypeAt self.now unix_time local_time_type }
-        ensures { IsSpanAt (TypeAt self.now) unix_time result }
-    {
-        let _ = &self.table;
-        Span {
-            local_time_type,
-            from: second_of(self.previous_change(unix_time)),
-            until: second_of(self.next_change(unix_time)),
-        }
-    }
-
-    // The span of the second by one search, if it ends at a transition or a moment of the rule next
-    // to it.
-    fn span_by_search(&self, unix_time: i64) -> Option<Span>
-        ensures { MatchOption result ⊤ (IsSpanAt (TypeAt self.now) unix_time) }
-    {
-        let _ = &self.table;
-        let Some(passed) = self.come_by(unix_time) else {
-            return None;
-        };
-        if passed < self.transition_count() {
-            return self.span_in_table(unix_time, passed);
-        }
-        match self.turns() {
-            Some(turns) => self.span_by_turns(unix_time, turns),
-            None => self.span_at_end(unix_time),
         }
     }
 
     // The span of a second before the last transition, at which that number of them have come.
     #[inline(always)]
-    fn span_in_table(&self, unix_time: i64, passed: usize) -> Option<Span>
-        requires come { AreComeAt self.now unix_time passed }
-        requires table { passed < length self.now.transitions }
-        ensures { MatchOption result ⊤ (IsSpanAt (TypeAt self.now) unix_time) }
+    fn span_in_table(&self, unix_time: i64, come: usize) -> Span
+        requires come { AreComeOrAll self.now unix_time come }
+        requires table { come < length self.now.transitions }
+        ensures { IsSpanAt (TypeAt self.now) unix_time result }
     {
         let _ = &self.table;
-        let Some(next) = self.change_with(passed) else {
-            return None;
-        };
-        if passed == 0 {
-            return Some(Span {
-                local_time_type: next.before,
-                from: None,
-                until: Some(next.at),
-            });
+        let latest = self.latest(come, &mut Probes::new());
+        Span {
+            local_time_type: *self.listed(latest.type_index),
+            from: second_of(self.previous_in_table(unix_time, come)),
+            until: second_of(self.next_from(unix_time, come)),
         }
-        let Some(previous) = self.change_with(passed - 1) else {
-            return None;
-        };
-        Some(Span {
-            local_time_type: next.before,
-            from: Some(previous.at),
-            until: Some(next.at),
-        })
     }
 
-    // The span of a second from the last transition on, without a rule of two types.
-    fn span_at_end(&self, unix_time: i64) -> Option<Span>
-        requires come { AreComeAt self.now unix_time (length self.now.transitions) }
-        requires rule { (a : AlternateRule) → self.now.rule ≢ Some (Alternate a) }
-        ensures { MatchOption result ⊤ (IsSpanAt (TypeAt self.now) unix_time) }
+    // The span of a second from the last transition on, at which that type is in force.
+    fn span_at_end(&self, unix_time: i64, local_time_type: LocalTimeType) -> Span
+        requires in_force { TypeAt self.now unix_time local_time_type }
+        requires come { AreComeOrAll self.now unix_time (length self.now.transitions) }
+        ensures { IsSpanAt (TypeAt self.now) unix_time result }
     {
         let _ = &self.table;
-        let count = self.transition_count();
-        if count == 0 {
-            return None;
+        let beside = self.beside_by_rule(unix_time);
+        let until = second_of(beside.next);
+        match beside.previous {
+            Some(_) => Span {
+                local_time_type,
+                from: second_of(beside.previous),
+                until,
+            },
+            None => {
+                let count = self.transition_count();
+                Span {
+                    local_time_type,
+                    from: second_of(self.previous_in_table(unix_time, count)),
+                    until,
+                }
+            }
         }
-        let Some(change) = self.change_with(count - 1) else {
-            return None;
-        };
-        Some(Span {
-            local_time_type: change.after,
-            from: Some(change.at),
-            until: None,
-        })
-    }
-
-    // The span of a second from the last transition on, by a rule of two types.
-    fn span_by_turns(&self, unix_time: i64, turns: &AlternateTime) -> Option<Span>
-        requires come { AreComeAt self.now unix_time (length self.now.transitions) }
-        requires rule { self.now.rule ≡ Some (Alternate turns.now) }
-        ensures { MatchOption result ⊤ (IsSpanAt (TypeAt self.now) unix_time) }
-    {
-        let _ = &self.table;
-        let begin = self.rule_begin();
-        let Some(beside) = turns.changes_beside(unix_time) else {
-            return None;
-        };
-        let Beside { previous, next } = beside;
-        let Some(previous) = previous else {
-            return None;
-        };
-        if previous.at as i128 <= begin {
-            return None;
-        }
-        Some(Span {
-            local_time_type: previous.after,
-            from: Some(previous.at),
-            until: second_of(next),
-        })
     }
 }
 

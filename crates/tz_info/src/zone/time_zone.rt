@@ -14,6 +14,7 @@ ghost use Rattle.tz_info.specs.Zones.{Zone, IsValid, ListFault, IsRuleOrNone, pl
 
 use crate::rule::TransitionRule;
 use crate::zone::extremes::{Extremes, extremes_of};
+use crate::zone::idle::Idle;
 use crate::zone::index::Index;
 use crate::zone::leap_second::LeapSecond;
 use crate::zone::leap_time::{leap_time, unix_time};
@@ -44,6 +45,8 @@ pub struct TimeZone {
     pub(super) last_rule: Option<TransitionRule>,
     // The least and the greatest offset of the types and of the rule.
     pub(super) extremes: Extremes,
+    // Where runs of transitions that change nothing start.
+    pub(super) idle: Idle,
     // The pieces of the wall-clock axis.
     pub(super) index: Index,
 }
@@ -66,10 +69,10 @@ impl Model for TimeZone {
       types = z.local_types.items;
       leaps = z.leap_seconds.items;
       rule = z.last_rule;
-    }) z.extremes z.index };
+    }) z.extremes z.idle z.index };
 }
 
-// Of the lists alone: extremes and index follow from them.
+// Of the lists alone: the rest follows from them.
 impl fmt::Debug for TimeZone {
     fn fmt<W: fmt::Write>(&self, f: &mut fmt::Formatter<W>) -> fmt::Result {
         f.debug_struct("TimeZone")
@@ -151,6 +154,7 @@ impl TimeZone {
             rule: &rule,
         };
         let index = Index::new(alloc, lists)?;
+        let idle = Idle::new(alloc, lists)?;
         let extremes = extremes_of(&types, &rule);
         Ok(TimeZone {
             table: Table::new(alloc, transitions)?,
@@ -158,6 +162,7 @@ impl TimeZone {
             leap_seconds: leaps,
             last_rule: rule,
             extremes,
+            idle,
             index,
         })
     }
@@ -210,6 +215,7 @@ impl TimeZone {
             leap_seconds: leaps,
             last_rule: rule,
             extremes,
+            idle: Idle::none(alloc),
             index,
         }
     }

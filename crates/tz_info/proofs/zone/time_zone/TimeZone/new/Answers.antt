@@ -1,7 +1,7 @@
 use Rattle.tz_info.proofs.zone.time_zone.TimeZone.new.Goals as goal
 
-pub new-requires-2 : goal.new-requires-2
-new-requires-2 c =
+pub new-requires-3 : goal.new-requires-3
+new-requires-3 c =
     let valid = rw (c.deref.ensures.value, c.deref-2.ensures.value, c.deref-3.ensures.value) at c.in_ok-check.ensures in
     valid.transitions.rising
 
@@ -11,5 +11,6 @@ invariant_of-result c =
       valid = rw (c.deref.ensures.value, c.deref-2.ensures.value, c.deref-3.ensures.value) at c.in_ok-check.ensures;
       limits = c.extremes_of-extremes.ensures.limits;
       extremes = rw c.deref-7.ensures.value at c.extremes_of-extremes.ensures.extremes;
+      runs = rw (c.deref-4.ensures.value, c.deref-5.ensures.value) at c.in_ok-idle.ensures;
       index = rw (c.deref-4.ensures.value, c.deref-5.ensures.value, c.deref-6.ensures.value) at c.in_ok-index.ensures;
     })

@@ -1,3 +1,4 @@
+use Rattle.tz_info.proofs.Words.{arith}
 use Rattle.tz_info.proofs.ZoneLaws.{zone_of_rule_valid}
 use Rattle.tz_info.proofs.zone.time_zone.TimeZone.with_rule.Goals as goal
 
@@ -11,5 +12,6 @@ invariant_of-result c =
       valid = zone_of_rule_valid c.args.types.items c.args.rule c.requires;
       limits = c.extremes_of-extremes.ensures.limits;
       extremes = rw c.deref-4.ensures.value at c.extremes_of-extremes.ensures.extremes;
+      runs = λ k below. absurd (omega (arith, c.none-2.ensures));
       index = rw (c.deref.ensures.value, c.new-transitions.ensures.items, c.deref-2.ensures.value, c.deref-3.ensures.value, c.new-leaps.ensures.items) at c.without_pieces-index.ensures;
     })

@@ -1,6 +1,6 @@
 use Rattle.tz_info.proofs.Words.{AlternateAt, SFits, rules, to_z-of_z, w64}
 use Rattle.tz_info.proofs.SeasonChanges.{nearest_on}
-use Rattle.tz_info.proofs.rule.alternate.AlternateTime.change_from.Goals as goal
+use Rattle.tz_info.proofs.rule.alternate.AlternateTime.change_by.Goals as goal
 
 pub returns-in-Err : goal.returns-in-Err
 returns-in-Err c =

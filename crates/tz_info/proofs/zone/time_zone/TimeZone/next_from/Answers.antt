@@ -1,6 +1,6 @@
 use Rattle.tz_info.proofs.Words.{to_z-of_z, ◌<ℤ◌}
 use Rattle.tz_info.proofs.ZoneChanges.{rule_first, table_first}
-use Rattle.tz_info.proofs.zone.time_zone.TimeZone.next_change.Goals as goal
+use Rattle.tz_info.proofs.zone.time_zone.TimeZone.next_from.Goals as goal
 
 pub returns-in-Some : goal.returns-in-Some
 returns-in-Some c = let fa = c.ranges.after in table_first c.args.self.now (λ u. c.args.after <ℤ u) c.in-Some.change (rw (← c.self.view_is) c.self.invariant.valid) (simp to_z-of_z at c.in-Some.ensures)
