@@ -44,7 +44,12 @@ const PLACES: usize = 512;
 const PARTS: usize = 2_048;
 
 // The rows of a column that pays for a table.
-const LONG: usize = 1_024;
+const LONG: usize = 4_096;
+
+// How eagerly stretches are searched for, in a short column and in a long one.
+const SHORT_PACE: usize = 1;
+
+const LONG_PACE: usize = 16;
 
 // The rows that are tried at once to lie in one stretch.
 const BLOCK: usize = 32;
@@ -64,7 +69,16 @@ fn write_column(
 {
     if times.len() < LONG {
         let mut places = [Kept::none(zone, unit, way); 2];
-        return write_with(zone, unit, way, times, answers, &mut [], &mut places);
+        return write_with(
+            zone,
+            unit,
+            way,
+            times,
+            answers,
+            &mut [],
+            &mut places,
+            SHORT_PACE,
+        );
     }
     write_with_table(zone, unit, way, times, answers)
 }
@@ -83,7 +97,16 @@ fn write_with_table(
 {
     let mut places = [Kept::none(zone, unit, way); PLACES];
     let mut parts = [0; PARTS];
-    write_with(zone, unit, way, times, answers, &mut parts, &mut places)
+    write_with(
+        zone,
+        unit,
+        way,
+        times,
+        answers,
+        &mut parts,
+        &mut places,
+        LONG_PACE,
+    )
 }
 
 #[inline(never)]
@@ -95,13 +118,14 @@ fn write_with(
     answers: &mut [i64],
     parts: &mut [u8],
     places: &mut [Kept],
+    pace: usize,
 ) -> Option<Stop>
     requires size { length times.now ≡ length answers.old }
     requires kept { AreKept zone.now unit way places.old }
     ensures { MatchOption result (AreAnswered zone.now unit way times.now answers.new)
         (λ s. IsFirstWithout zone.now unit way times.now answers.new s.row s.number) }
 {
-    let mut search = Search::none();
+    let mut search = Search::none(pace);
     let blocks = times.len() / BLOCK;
     for block in 0..blocks {
         let from = block * BLOCK;

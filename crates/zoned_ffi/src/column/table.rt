@@ -21,18 +21,24 @@ pub struct Search {
     // The pair that the next one replaces.
     next: u8,
     count: usize,
+    pace: usize,
 }
 
 impl Search {
-    /// None yet.
-    pub fn none() -> Search {
-        Search { next: 0, count: 0 }
+    /// None yet. Where searches don't help, as in a short column in no order, or after the last
+    /// transition of a zone whose rule goes on, their number grows with the root of the rows times
+    /// that pace.
+    pub fn none(pace: usize) -> Search {
+        Search {
+            next: 0,
+            count: 0,
+            pace,
+        }
     }
 
-    // Whether to search for another stretch at the row. Where the searches don't help, as after the
-    // last transition of a zone whose rule goes on, their number grows with the root of the rows.
+    // Whether to search for another stretch at the row.
     fn is_due(&mut self, row: usize) -> bool {
-        if row.wrapping_mul(16) <= self.count.wrapping_mul(self.count) {
+        if row.wrapping_mul(self.pace) <= self.count.wrapping_mul(self.count) {
             return false;
         }
         self.count = self.count.wrapping_add(1);
@@ -139,8 +145,8 @@ fn index_of(part: i64) -> usize {
     (part.cast_unsigned() % 2_048) as usize
 }
 
-// Puts the stretch of the time into the table, with the next one or, if it begins in the part of the
-// time, the one before.
+// Puts the stretch of the time into the table: twice if that is one pair, else with the next one or, if
+// it begins in the part of the time, the one before.
 fn fill(
     zone: &TimeZone,
     unit: Unit,
@@ -164,7 +170,9 @@ fn fill(
         return;
     }
     let part = unit.part_of(time);
-    if unit.part_of(kept.low) == part {
+    if parts.is_empty() {
+        put(zone, unit, way, parts, places, search, part, kept, kept);
+    } else if unit.part_of(kept.low) == part {
         let second = second_before(unit, kept.low, greatest).wrapping_sub(1);
         let early = kept_at(zone, unit, way, second);
         put(zone, unit, way, parts, places, search, part, early, kept);
@@ -236,6 +244,9 @@ fn put(
 
 // Notes the pair for the parts between two.
 fn note_between(parts: &mut [u8], low: i64, high: i64, pair: u8) {
+    if parts.is_empty() {
+        return;
+    }
     for part in low.wrapping_add(1)..high {
         note(parts, part, pair);
     }
