@@ -7,8 +7,7 @@ use Rattle.zoneq_lib.proofs.CitedWords.{inl, inr, length, length-append, posix_z
 use Rattle.zoneq_lib.proofs.CitedWords.{wall_decided, wall_text, ℕ, [], ◌++◌, ◌<◌, ◌∙◌, ◌∷◌, ◌≡◌, ◌≢◌}
 use Rattle.zoneq_lib.proofs.Joining.{answered_join, answers_all}
 use Rattle.zoneq_lib.proofs.LineLaws.{asks_or_bad, resolved_in_range}
-use Rattle.zoneq_lib.proofs.Resolving.{resolve_covered}
-use Rattle.zoneq_lib.proofs.Showing.{show_covered}
+use Rattle.zoneq_lib.proofs.Showing.{resolve_covered, show_covered}
 
 -- the zone, if there is one, is valid, and the numbers of its rule are in their limits
 abbrev pub IsGiven : Option Zone → Type 0

@@ -2,10 +2,9 @@
 use Rattle.hex.proofs.HexLemmas.{decode_of-even, decode_of-ok, decode_of-same}
 use Rattle.hex.proofs.Pairs.{cons_byte, decode_pairs-ok_pair}
 use Rattle.std.specs.Str.Parse.{AllDigits}
-use Rattle.zoneq_lib.proofs.CitedWords.{All-head, All-tail, AllPass, Bool, Decides, Decides-and, Decides-eqb, Decides-ltb, IsNotAsciiHexdigit, List, Ok, Some}
-use Rattle.zoneq_lib.proofs.CitedWords.{ap, are_hex, arith, bytes_of, cases_lt, decode_of, decode_pairs, digit_value, false, get_or, hex_digit_value, inl, inr}
-use Rattle.zoneq_lib.proofs.CitedWords.{is_hex_digit, length, nat_le, nat_tests, pair_value, refl, spells_bytes, suc, sym, true, zero, ℕ, [], ◌%◌, ◌&&◌, ◌*◌}
-use Rattle.zoneq_lib.proofs.CitedWords.{◌+◌, ◌-◌, ◌<◌, ◌∙◌, ◌∷◌, ◌≡◌, ◌≤◌}
+use Rattle.zoneq_lib.proofs.CitedWords.{All-head, All-tail, AllPass, Bool, Decides, IsNotAsciiHexdigit, List, Ok, Some, ap, arith, bytes_of, cases_lt}
+use Rattle.zoneq_lib.proofs.CitedWords.{decode_of, decode_pairs, digit_value, false, get_or, hex_digit_value, inl, inr, is_hex_digit, length, nat_le, nat_tests}
+use Rattle.zoneq_lib.proofs.CitedWords.{pair_value, refl, suc, sym, true, zero, ℕ, [], ◌%◌, ◌&&◌, ◌*◌, ◌+◌, ◌-◌, ◌<◌, ◌∙◌, ◌∷◌, ◌≡◌, ◌≤◌}
 
 pub refuted : {P : Type 0} (t : Bool) → Decides t P → (P → ⊥) → t ≡ false
 refuted true d never = absurd (never (d.0 refl))

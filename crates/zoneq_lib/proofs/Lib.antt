@@ -7,7 +7,6 @@ pub mod ZoneAnswers
 pub mod Joining
 pub mod Bytes
 pub mod Stopping
-pub mod Resolving
 pub mod Showing
 pub mod Covering
 pub mod Ending

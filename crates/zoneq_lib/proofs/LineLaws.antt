@@ -1,9 +1,8 @@
 -- Each line asks something or is bad, and a local time that is asked for is in range.
-use Rattle.zoneq_lib.proofs.CitedWords.{After, Asks, At, BadLine, Choice, Data, Decides, Decides-and, Err, Grammar, IsBadLine, IsDateOf, IsDayInRange}
-use Rattle.zoneq_lib.proofs.CitedWords.{IsInRange, IsYearInRange, List, NaiveDate, None, Ok, Query, Reading, Resolve, Result, Show, Some, Spells, Text, Wall}
-use Rattle.zoneq_lib.proofs.CitedWords.{ap, arith, at, between, codes, data_of_file, date, date_in_years, days_in_month, false, inl, inr, integer, ints}
-use Rattle.zoneq_lib.proofs.CitedWords.{is_leap, line, local_time, nat_le, nat_tests, next, question, refl, resolve, show, subst, sym, text, true, wall, ℕ, ℤ}
-use Rattle.zoneq_lib.proofs.CitedWords.{[], ◌&&◌, ◌∙◌, ◌≡◌, ◌≤◌, ◌⊎◌}
+use Rattle.zoneq_lib.proofs.CitedWords.{Asks, BadLine, Choice, Err, IsBadLine, IsDateOf, IsDayInRange, IsInRange, IsYearInRange, List, NaiveDate, None, Ok}
+use Rattle.zoneq_lib.proofs.CitedWords.{Query, Reading, Resolve, Result, Some, Spells, ap, arith, at, between, data_of_file, date, date_in_years, days_in_month}
+use Rattle.zoneq_lib.proofs.CitedWords.{false, inl, inr, integer, ints, is_leap, line, local_time, nat_le, next, question, refl, resolve, show, subst, sym}
+use Rattle.zoneq_lib.proofs.CitedWords.{text, true, wall, ℕ, ℤ, [], ◌&&◌, ◌∙◌, ◌≡◌, ◌≤◌, ◌⊎◌}
 use Rattle.zoneq_lib.specs.Steps.LineReading.{scan}
 use Rattle.zoneq_lib.proofs.HexLaws.{refuted}
 use Rattle.zoneq_lib.proofs.ScanLaws.{not_scanned, scanned}
@@ -53,48 +52,16 @@ dated y m d found h = (between 1 d (days_in_month (is_leap y) m)).decides.1 (h.1
 pub undated : (y : ℤ) (m d : ℕ) → IsYearInRange y → 1 ≤ m → m ≤ 12 → IsDateOf y m d None → (nat_le 1 d && nat_le d (days_in_month (is_leap y) m)) ≡ false
 undated y m d year first last none = refuted (nat_le 1 d && nat_le d (days_in_month (is_leap y) m)) (between 1 d (days_in_month (is_leap y) m)).decides (λ e. none year (first, last, e.0, e.1))
 
--- what both grammars keep, their choice keeps
-after_word : {X : Type 0} (P : X → Type 0) (word : List ℕ) (g h : Grammar X) → ((bytes rest : List ℕ) (x : X) → Spells g bytes x rest → P x)
-    → ((bytes rest : List ℕ) (x : X) → Spells h bytes x rest → P x) → (bytes rest : List ℕ) (x : X) → Spells (After word g h) bytes x rest → P x
-after_word P word g h first second bytes rest x (true, after, begins, spelled) = first after rest x spelled
-after_word P word g h first second bytes rest x (false, after, begins, spelled) = second after rest x spelled
-
-abbrev IsFine : Query → Type 0
-IsFine (Resolve l choice) = IsInRange l.s
-IsFine (Text bytes) = Unit {0}
-IsFine (Data bytes) = Unit {0}
-IsFine (At seconds) = Unit {0}
-IsFine (Wall local) = Unit {0}
-IsFine (Show seconds nanos) = Unit {0}
-
-text_fine : (bytes rest : List ℕ) (query : Query) → Spells text bytes query rest → IsFine query
-unfolding text
-text_fine bytes rest query (t, a, all, (utf8, value, same)) = rw value tt
-
-data_fine : (bytes rest : List ℕ) (query : Query) → Spells data_of_file bytes query rest → IsFine query
-unfolding data_of_file
-data_fine bytes rest query (digits, a, all, (hex, value, same)) = rw value tt
-
-at_fine : (bytes rest : List ℕ) (query : Query) → Spells at bytes query rest → IsFine query
-unfolding at
-at_fine bytes rest query (seconds, a, number, (value, same)) = rw value tt
-
-wall_fine : (bytes rest : List ℕ) (query : Query) → Spells wall bytes query rest → IsFine query
-unfolding wall resolve
-wall_fine bytes rest query (l, a, time, inl (nil, (value, same))) = rw value tt
-wall_fine bytes rest query (l, a, time, inr (some, (u, b, space, (choice, c, chosen, (value, same))))) = rw value (time_in_range bytes a l time)
-
-show_fine : (bytes rest : List ℕ) (query : Query) → Spells show bytes query rest → IsFine query
-unfolding show
-show_fine bytes rest query (seconds, a, number, (nanos, b, more, (value, same))) = rw value tt
-
-fine : (bytes rest : List ℕ) (query : Query) → Spells question bytes query rest → IsFine query
-unfolding question
-fine =
-    after_word IsFine (codes "text ") text _ text_fine (after_word IsFine (codes "data ") data_of_file _ data_fine
-    (after_word IsFine (codes "at ") at _ at_fine (after_word IsFine (codes "wall ") wall _ wall_fine
-    (after_word IsFine (codes "show ") show _ show_fine (λ bytes rest query none. absurd none)))))
-
+-- only `wall` asks for an instant, and of a local time that it read
 pub resolved_in_range : (bytes : List ℕ) (l : Reading) (choice : Choice) → Asks bytes (Resolve l choice) → IsInRange l.s
-unfolding line
-resolved_in_range bytes l choice (q, after, asked, (u, end, ended, (value, same))) = subst IsFine (sym value) (fine bytes after q asked)
+unfolding line question text data_of_file at wall resolve show
+resolved_in_range bytes l choice (q, _, (true, _, _, (t, _, _, (_, is, _))), (_, _, _, (same, _))) = cc
+resolved_in_range bytes l choice (q, _, (false, _, _, (true, _, _, (t, _, _, (_, is, _)))), (_, _, _, (same, _))) = cc
+resolved_in_range bytes l choice (q, _, (false, _, _, (false, _, _, (true, _, _, (t, _, _, (is, _))))), (_, _, _, (same, _))) = cc
+resolved_in_range bytes l choice (q, _, (false, _, _, (false, _, _, (false, _, _, (true, _, _, (t, _, _, inl (_, (is, _))))))), (_, _, _, (same, _))) = cc
+resolved_in_range bytes l choice (q, _, (false, _, _, (false, _, _, (false, _, _, (true, from, _, (t, a, time, inr (_, (_, _, _, (c, _, _, (is, _))))))))), (_, _, _, (same, _))) =
+    let whole : Resolve l choice ≡ Resolve t c = same ∙ is in
+    let read : l ≡ t = cc in
+    subst (λ (r : Reading). IsInRange r.s) (sym read) (time_in_range _ a t time)
+resolved_in_range bytes l choice (q, _, (false, _, _, (false, _, _, (false, _, _, (false, _, _, (true, _, _, (t, _, _, (n, _, _, (is, _)))))))), (_, _, _, (same, _))) = cc
+resolved_in_range bytes l choice (q, _, (false, _, _, (false, _, _, (false, _, _, (false, _, _, (false, _, _, none))))), _) = absurd none

@@ -1,7 +1,5 @@
 -- The number that digits spell, read one by one.
-use Rattle.tz_base.proofs.RunLaws.{value_grows}
-use Rattle.tz_base.specs.declared.error.Error.TheVariants.{ParseInt}
-use Rattle.tz_base.specs.declared.error.Expected.TheVariants.{NumberWithinItsLimit}
+use Rattle.tz_base.proofs.RunLaws.{above_is, value_grows}
 use Rattle.zoneq_lib.proofs.CitedWords.{BadLine, Err, IsAsciiDigit, IsNotAsciiDigit, List, Number, Ok, Result, after_run, ap, arith, cases_lt, drop, drop_all}
 use Rattle.zoneq_lib.proofs.CitedWords.{drop_more, false, get_or, inl, inr, int_at, is_digit, length, nat_le, nat_tests, number_within, refl, run_of, stop, suc}
 use Rattle.zoneq_lib.proofs.CitedWords.{true, value_from, zero, ℕ, [], ◌*◌, ◌+◌, ◌-◌, ◌<◌, ◌∷◌, ◌≡◌, ◌≤◌}
@@ -34,10 +32,6 @@ ended text i n stops = elim (cases_lt i (length text)) [
 number_is : (max n : ℕ) (run : List ℕ) → 0 < length run → value_from 0 run ≡ n → n ≤ max → number_within max run ≡ Ok n
 number_is max n [] some value limit = absurd (omega (arith, some))
 number_is max n (d ∷ ds) some value limit = let t : nat_le (value_from 0 (d ∷ ds)) max ≡ true = grind (arith, nat_tests) in rw t (ap Ok value)
-
-above_is : (max : ℕ) (run : List ℕ) → 0 < length run → max < value_from 0 run → number_within max run ≡ Err (ParseInt NumberWithinItsLimit)
-above_is max [] some above = absurd (omega (arith, some))
-above_is max (d ∷ ds) some above = let t : nat_le (value_from 0 (d ∷ ds)) max ≡ false = grind (arith, nat_tests) in rw t refl
 
 pub number_ends : (text : List ℕ) (max i n : ℕ) → 0 < i → n ≤ max → (i < length text → is_digit (get_or text i 0) ≡ false) → ReadTo text i n
     → scan (Number max) text ≡ Ok (n, drop i text)

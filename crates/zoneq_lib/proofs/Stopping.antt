@@ -1,8 +1,8 @@
 -- What stands written where a step of a run goes on or stops.
-use Rattle.zoneq_lib.proofs.CitedWords.{Answered, AnswersAtEnd, AnswersLast, AnswersLine, Appends, Bool, Err, HasNoNewline, IfErr, IfErr-weaker, IsKeptFor}
-use Rattle.zoneq_lib.proofs.CitedWords.{List, Ok, OnOk, Option, Replies, Result, RunError, StopsAt, StopsAtEnd, StopsIn, Zone, ap, append-nil, append_assoc}
-use Rattle.zoneq_lib.proofs.CitedWords.{arith, codes, drop, false, inl, length, length-append, nat_tests, nil_from_length, on_ok_weaker, refl, subst, sym, take}
-use Rattle.zoneq_lib.proofs.CitedWords.{take-append-drop, true, without_return, ℕ, [], ◌++◌, ◌<◌, ◌==◌, ◌∙◌, ◌∷◌, ◌≡◌}
+use Rattle.zoneq_lib.proofs.CitedWords.{Answered, AnswersAtEnd, AnswersLast, AnswersLine, Appends, Bool, Err, HasNoNewline, IfErr, IsKeptFor, List, Ok, OnOk}
+use Rattle.zoneq_lib.proofs.CitedWords.{Option, Replies, Result, RunError, StopsAt, StopsAtEnd, StopsIn, Zone, ap, append-nil, append_assoc, arith, codes, drop}
+use Rattle.zoneq_lib.proofs.CitedWords.{false, inl, length, length-append, nat_tests, nil_from_length, refl, subst, sym, take, take-append-drop, true}
+use Rattle.zoneq_lib.proofs.CitedWords.{without_return, ℕ, [], ◌++◌, ◌<◌, ◌==◌, ◌∙◌, ◌∷◌, ◌≡◌}
 use Rattle.zoneq_lib.specs.declared.run_error.RunError.TheVariants as errors
 use Rattle.zoneq_lib.proofs.Bytes.{appends_join}
 use Rattle.zoneq_lib.proofs.Joining.{answered_join, answered_line, answered_more}
@@ -14,16 +14,14 @@ no_items b n xs e h k = let none : length xs ≡ 0 = grind (arith, nat_tests) in
 pub some_items : (b : Bool) (n : ℕ) (xs : List ℕ) → b ≡ (n == 0) → b ≡ false → n ≡ length xs → 0 < length xs
 some_items b n xs e h k = grind (arith, nat_tests)
 
--- an answer that was written
-pub reply_made : (r : Result (Unit {0}) RunError) (f : Bool) (a c : Option (List ℕ)) (z : Option Zone) (line bytes answer : List ℕ) (after : Option Zone) → AnswersLine z line answer after → bytes ≡ answer ++ codes "\n" → OnOk r ((f ≡ false) × Appends a c bytes) → OnOk r (Replies f a c z line after)
-reply_made r f a c z line bytes answer after h k ok = on_ok_weaker r (λ written. (written.0, (answer, h, subst (Appends a c) k written.1))) ok
-
--- an answer that was written in part
-pub reply_stops : (r : Result (Unit {0}) RunError) (f : Bool) (a c : Option (List ℕ)) (z : Option Zone) (line bytes answer : List ℕ) (after : Option Zone) → AnswersLine z line answer after → bytes ≡ answer ++ codes "\n" → IfErr r (λ e. (e ≡ errors.Write) × (f ≡ true) × ((n : ℕ) × Appends a c (take n bytes))) → IfErr r (StopsAt f a c z line)
-reply_stops (Ok u) f a c z line bytes answer after h k stop = tt
-reply_stops (Err e) f a c z line bytes answer after h k stop =
-    let n = stop.2.0 in
-    subst (StopsAt f a c z line) (sym stop.0) (stop.1, take n bytes, drop n bytes, answer, after, h, take-append-drop n bytes ∙ k, stop.2.1)
+-- an answer that was written, or a part of it
+pub reply_is : (r : Result (Unit {0}) RunError) (f : Bool) (a c : Option (List ℕ)) (z : Option Zone) (line bytes answer : List ℕ) (after : Option Zone)
+    → AnswersLine z line answer after → bytes ≡ answer ++ codes "\n" → OnOk r ((f ≡ false) × Appends a c bytes)
+    → IfErr r (λ e. (e ≡ errors.Write) × (f ≡ true) × ((n : ℕ) × Appends a c (take n bytes)))
+    → OnOk r (Replies f a c z line after) × IfErr r (StopsAt f a c z line)
+reply_is (Ok u) f a c z line bytes answer after h k ok stop = ((ok.0, (answer, h, subst (Appends a c) k ok.1)), tt)
+reply_is (Err e) f a c z line bytes answer after h k ok (is, failed, (n, part)) =
+    (tt, subst (StopsAt f a c z line) (sym is) (failed, take n bytes, drop n bytes, answer, after, h, take-append-drop n bytes ∙ k, part))
 
 -- the same line in other words
 pub same_reply : (r : Result (Unit {0}) RunError) (f : Bool) (a c : Option (List ℕ)) (z : Option Zone) (line line' : List ℕ) (next : Option Zone) (b : List ℕ) → b ≡ [] → line ≡ line' → OnOk r (Replies f a c z line next) → OnOk r ((b ≡ []) × Replies f a c z line' next)
@@ -76,10 +74,8 @@ last_stops f a c z l errors.Write some stop =
 last_stops f a c z l errors.Memory some stop = (stop.0, some, stop.1)
 last_stops f a c z l _ some stop = absurd stop
 
--- the last line's answer was written
-pub last_replied : (r : Result (Unit {0}) RunError) (f : Bool) (a c : Option (List ℕ)) (z : Option Zone) (l : List ℕ) (after : Option Zone) → 0 < length l → OnOk r (Replies f a c z l after) → OnOk r (AnswersAtEnd f a c z l)
-last_replied r f a c z l after some ok = on_ok_weaker r (λ h. (h.0, (h.1.0 ++ codes "\n", last_answered z l h.1.0 after some h.1.1, h.1.2))) ok
-
--- it was not
-pub last_not_replied : (r : Result (Unit {0}) RunError) (f : Bool) (a c : Option (List ℕ)) (z : Option Zone) (l : List ℕ) → 0 < length l → IfErr r (StopsAt f a c z l) → IfErr r (StopsAtEnd f a c z l)
-last_not_replied r f a c z l some err = IfErr-weaker r (StopsAt f a c z l) (StopsAtEnd f a c z l) (λ e stop. last_stops f a c z l e some stop) err
+-- what became of the last line's answer
+pub last_is : (r : Result (Unit {0}) RunError) (f : Bool) (a c : Option (List ℕ)) (z : Option Zone) (l : List ℕ) (after : Option Zone) → 0 < length l
+    → OnOk r (Replies f a c z l after) → IfErr r (StopsAt f a c z l) → OnOk r (AnswersAtEnd f a c z l) × IfErr r (StopsAtEnd f a c z l)
+last_is (Ok u) f a c z l after some (works, (answer, answers, wrote)) err = ((works, (answer ++ codes "\n", last_answered z l answer after some answers, wrote)), tt)
+last_is (Err e) f a c z l after some ok stop = (tt, last_stops f a c z l e some stop)

@@ -21,16 +21,8 @@ returns c = record {
   n59_leap = refl;
   second_sunday =
       (14, in_a_week (pos 2021) 3 2 0 14 (omega arith, omega arith, omega arith, omega arith) refl (omega arith) (omega arith) (omega arith), refl);
-  last_sunday = (
-    28,
-    record {
-      date = (omega arith, omega arith, omega arith, omega arith);
-      falls = refl;
-      in_week = λ h. absurd (omega (arith, h));
-      last = λ e. last_sunday;
-    },
-    refl,
-  );
+  last_sunday =
+      (28, record { date = (omega arith, omega arith, omega arith, omega arith); falls = refl; in_week = λ h. absurd (omega (arith, h)); last = λ e. last_sunday }, refl);
   first_monday =
       (1, in_a_week (pos 2021) 11 1 1 1 (omega arith, omega arith, omega arith, omega arith) refl (omega arith) (omega arith) (omega arith), refl);
   seventh_of_month =

@@ -8,15 +8,7 @@ returns c = record {
     some = some_bytes _ _;
     trimmed = utc_text;
     rule = utc_rule;
-    trims = record {
-      before = 32 ∷ [];
-      after = 10 ∷ [];
-      whole = refl;
-      space_before = (refl, tt);
-      space_after = (refl, tt);
-      first = refl;
-      last = refl;
-    };
+    trims = record { before = 32 ∷ []; after = 10 ∷ []; whole = refl; space_before = (refl, tt); space_after = (refl, tt); first = refl; last = refl };
     spells = utc false;
     zone = refl;
   });

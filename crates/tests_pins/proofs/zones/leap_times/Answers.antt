@@ -2,23 +2,21 @@ use Rattle.tests_pins.proofs.Words.{arith, pos, refl, utc_leaps}
 use Rattle.tests_pins.proofs.LeapSeconds.{small_fits, utc_small}
 use Rattle.tests_pins.proofs.zones.leap_times.Goals as goal
 
-pub returns-clause-before : goal.returns-clause-before
-returns-clause-before c = record {
-  leap_time = pos 78_796_799;
-  of_second = λ _. record { sum = refl; fits = λ k h. small_fits utc_leaps utc_small (pos 78_796_799) (omega arith) (omega arith) k };
-  in_force = record { before_last = λ _. refl; from_last = λ e. absurd (omega (arith, e)) };
-}
-
-pub returns-clause-from : goal.returns-clause-from
-returns-clause-from c = record {
-  leap_time = pos 78_796_801;
-  of_second = λ _. record { sum = refl; fits = λ k h. small_fits utc_leaps utc_small (pos 78_796_800) (omega arith) (omega arith) k };
-  in_force = record { before_last = λ h. absurd (omega (arith, h)); from_last = λ _. refl };
-}
-
-pub returns-clause-none_by_unix_time : goal.returns-clause-none_by_unix_time
-returns-clause-none_by_unix_time c = record {
-  leap_time = pos 78_796_801;
-  of_second = λ _. record { sum = refl; fits = λ k h. small_fits utc_leaps utc_small (pos 78_796_800) (omega arith) (omega arith) k };
-  in_force = record { before_last = λ _. refl; from_last = λ e. absurd (omega (arith, e)) };
+pub returns : goal.returns
+returns c = record {
+  before = record {
+    leap_time = pos 78_796_799;
+    of_second = λ _. record { sum = refl; fits = λ k h. small_fits utc_leaps utc_small (pos 78_796_799) (omega arith) (omega arith) k };
+    in_force = record { before_last = λ _. refl; from_last = λ e. absurd (omega (arith, e)) };
+  };
+  from = record {
+    leap_time = pos 78_796_801;
+    of_second = λ _. record { sum = refl; fits = λ k h. small_fits utc_leaps utc_small (pos 78_796_800) (omega arith) (omega arith) k };
+    in_force = record { before_last = λ h. absurd (omega (arith, h)); from_last = λ _. refl };
+  };
+  none_by_unix_time = record {
+    leap_time = pos 78_796_801;
+    of_second = λ _. record { sum = refl; fits = λ k h. small_fits utc_leaps utc_small (pos 78_796_800) (omega arith) (omega arith) k };
+    in_force = record { before_last = λ _. refl; from_last = λ e. absurd (omega (arith, e)) };
+  };
 }

@@ -2,16 +2,10 @@ use Rattle.tests_pins.proofs.Words.{AreLeapSeconds, AreTransitions, Transition, 
 use Rattle.tests_pins.proofs.zones.lists.Goals as goal
 
 no_leap_seconds : AreLeapSeconds []
-no_leap_seconds = record {
-  first = λ d some. absurd (omega (arith, some));
-  next = λ k d next. absurd (omega (arith, next));
-}
+no_leap_seconds = record { first = λ d some. absurd (omega (arith, some)); next = λ k d next. absurd (omega (arith, next)) }
 
 none : AreTransitions 1 []
-none = record {
-  indexes = λ k d place. absurd (omega (arith, place));
-  rising = λ i j d before place. absurd (omega (arith, place));
-}
+none = record { indexes = λ k d place. absurd (omega (arith, place)); rising = λ i j d before place. absurd (omega (arith, place)) }
 
 index : (k : ℕ) (d : Transition) → k < 2 → (slice_index_or (change (pos 5) 0 ∷ change (pos 6) 1 ∷ []) k d).type_index < 2
 index zero d place = omega arith

@@ -1,6 +1,6 @@
 use Rattle.offset_core.specs.ResolveNumbers.{number_of}
 use Rattle.zoneq_lib.proofs.CitedWords.{ahead_of, codes, inl, instant_text, law_of, off_of, on_ok_weaker, reading, refl, refusal_text, zoned}
-use Rattle.zoneq_lib.proofs.Resolving.{refused_reading, resolved_instant}
+use Rattle.zoneq_lib.proofs.Showing.{refused_reading, resolved_instant}
 use Rattle.zoneq_lib.proofs.answer.tell_resolved.Goals as goal
 
 pub returns-in_default : goal.returns-in_default
