@@ -44,7 +44,7 @@ impl TimeDelta {
     pub fn num_seconds(&self) -> i64
         ensures { result ≡ int_div (nanos_of self.now) nanos_per_second }
     {
-        if self.secs < 0 && self.nanos > 0 {
+        if (self.secs < 0) & (self.nanos > 0) {
             self.secs + 1
         } else {
             self.secs
@@ -86,7 +86,7 @@ impl TimeDelta {
     pub fn subsec_nanos(&self) -> i32
         ensures { result ≡ int_rem (nanos_of self.now) nanos_per_second }
     {
-        if self.secs < 0 && self.nanos > 0 {
+        if (self.secs < 0) & (self.nanos > 0) {
             self.nanos as i32 - 1_000_000_000
         } else {
             self.nanos as i32
