@@ -1,7 +1,8 @@
 -- Spans by the changes on both sides of a second, from the place between transitions where it lies.
 use Rattle.tz_info.proofs.Words.{Alternate as AlternateRule, AlternateAt, AreComeAt, AreComeOrAll, Change, HasNoChange, HasType, IsAhead, IsBegin, IsByRule}
 use Rattle.tz_info.proofs.Words.{IsFirst, IsInTable, IsLast, IsLaterOf, IsNearest, IsRuleOrNone, IsSpanAt, IsValid, LocalType, MatchOption, None, Option, SFits}
-use Rattle.tz_info.proofs.Words.{Some, TypeAt, Zone, arith, cases_lt, false, index_of, inl, inr, ints, length, option_map, pos, segment_of, subst, sym, true, w64, ℕ, ℤ}
+use Rattle.tz_info.proofs.Words.{Some, TypeAt, Zone, arith, cases_lt, false, index_of, inl, inr, ints, length, option_map, pos, segment_of, subst}
+use Rattle.tz_info.proofs.Words.{sym, true, w64, ℕ, ℤ}
 use Rattle.tz_info.proofs.Words.{◌-ℤ◌, ◌<ℤ◌, ◌<◌, ◌≡◌, ◌≤ℤ◌, ◌≤◌}
 use Rattle.tz_info.specs.declared.rule.transition_rule.TransitionRule.TheVariants.{Alternate}
 use Rattle.tz_info.proofs.ChangeSearch.{first_nearest, last_after, last_nearest}
@@ -23,7 +24,8 @@ no_rule_yet z u k valid some come d is inside =
     let r = segments_rise z (d.at -ℤ pos 1) u valid.transitions.rising valid.leaps (omega (arith, ints)) in
     omega arith
 
-pub span_in_table : (z : Zone) (u : ℤ) (k : ℕ) (t : LocalType) (last next : Option Change) → IsValid z → IsRuleOrNone z.rule → SFits w64 u → k < length z.transitions
+pub span_in_table : (z : Zone) (u : ℤ) (k : ℕ) (t : LocalType) (last next : Option Change) → IsValid z → IsRuleOrNone z.rule → SFits w64 u
+    → k < length z.transitions
     → AreComeOrAll z u k → HasType z (index_of z.transitions k) t → IsLast (TypeAt z) (IsInTable z (λ v. v ≤ℤ u)) last → IsFirst (TypeAt z) (λ v. u <ℤ v) next
     → IsSpanAt (TypeAt z) u (record { local_time_type = t; from = seconds_of last; until = seconds_of next })
 span_in_table z u k t last next valid limits fits some (inr r) has before after = let all = r.1 in absurd (omega arith)

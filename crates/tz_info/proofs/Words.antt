@@ -57,7 +57,8 @@ pub use Rattle.tz_base.specs.declared.span.Span.{Span}
 pub use Rattle.tz_timeline.proofs.ForCallers.{count_first, count_least, digits-le, digits-more, filter_first, first_come, le_false, le_is, le_is_not, le_true}
 pub use Rattle.tz_timeline.proofs.ForCallers.{lt_false, lt_is, lt_true, mapped_at, rises, times_ordered}
 pub use Rattle.tz_timeline.proofs.Words.{AreOrdered, ArePassed, Bool, Counts, IsLastOf, List, SFits, add-suc, add-zero, ap, arith, cases_lt, cond, count_by}
-pub use Rattle.tz_timeline.proofs.Words.{cases_eq, drop, false, filter, get_or, get_or-set_at, get_or-set_other, length-set, set, inl, inr, int_le, int_lt, ints, length, length-map, map, negsuc, option_map, pos, refl}
+pub use Rattle.tz_timeline.proofs.Words.{cases_eq, drop, false, filter, get_or, get_or-set_at, get_or-set_other, length-set, set, inl, inr, int_le}
+pub use Rattle.tz_timeline.proofs.Words.{int_lt, ints, length, length-map, map, negsuc, option_map, pos, refl}
 pub use Rattle.tz_timeline.proofs.Words.{rules, slice_index, suc, sum_by-cons, sym, take, to_z-of_z, true, w64, zero, ℕ, ℤ, [], ◌*◌, ◌+ℤ◌, ◌+◌, ◌-ℤ◌, ◌-◌, ◌/◌}
 pub use Rattle.tz_timeline.proofs.Words.{◌<ℤ◌, ◌<◌, ◌∙◌, ◌∷◌, ◌≡◌, ◌≢◌, ◌≤ℤ◌, ◌≤◌, ◌⊎◌}
 unfoldable pub use Rattle.tz_timeline.proofs.Words.{digits}
@@ -103,7 +104,8 @@ pub use Rattle.tz_info.specs.Steps.ChangeLists.{all_fit, alternate_type, change_
 pub use Rattle.tz_info.specs.Steps.ChangeLists.{rule_type, rule_type_or, type_at_leap_time}
 unfoldable pub use Rattle.tz_info.specs.Steps.ChangeLists.{changes_of, seconds_between, type_or_none}
 pub use Rattle.tz_info.specs.Steps.Idle.{AreAlike, AreStarts, AreStartsUpTo, IsCarried, IsRun}
-pub use Rattle.tz_info.specs.Steps.Changes.{AreAhead, AreComeAt, AreComeOrAll, AreIn, ComesAt, HasNoneAt, IsAhead, IsAtEnd, IsBegin, IsByRule, IsEarlierOf, IsIdle}
+pub use Rattle.tz_info.specs.Steps.Changes.{AreAhead, AreComeAt, AreComeOrAll, AreIn, ComesAt, HasNoneAt, IsAhead, IsAtEnd, IsBegin, IsByRule}
+pub use Rattle.tz_info.specs.Steps.Changes.{IsEarlierOf, IsIdle}
 pub use Rattle.tz_info.specs.Steps.Changes.{IsIdleTo, IsInStretch, IsInTable, IsLaterOf, IsNearRuleTime, IsNearest, IsNearestChange, IsOfYear, IsOneOf}
 pub use Rattle.tz_info.specs.Steps.Changes.{IsStretchAhead, IsUpTo, Precedes, far_side, near_end, near_side, nearer_one, new_year, year_at}
 unfoldable pub use Rattle.tz_info.specs.Steps.Changes.{moments_near}

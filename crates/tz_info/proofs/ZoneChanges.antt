@@ -1,9 +1,12 @@
 -- Where a zone's types change: at its transitions, and behind them where the rule's types do.
-use Rattle.tz_info.proofs.Words.{Alternate as AlternateRule, AlternateAt, AreAhead, AreAlike, AreComeAt, AreComeOrAll, AreLeapSeconds, Change, ComesAt, HasNoChange}
+use Rattle.tz_info.proofs.Words.{Alternate as AlternateRule, AlternateAt, AreAhead, AreAlike, AreComeAt, AreComeOrAll, AreLeapSeconds, Change}
+use Rattle.tz_info.proofs.Words.{ComesAt, HasNoChange}
 use Rattle.tz_info.proofs.Words.{HasNoneAt, HaveCome, IsAtEnd, IsBegin, IsByRule, IsChange, IsFirst, IsFirstChange, IsInTable, IsLast, IsLastChange, IsLaterOf}
 use Rattle.tz_info.proofs.Words.{IsLeapTime, IsLeapTimeRefused, IsRuleTime, IsValid, LeapSecond, List, LocalType, MatchOption, None, Option, RuleOrType, SFits}
-use Rattle.tz_info.proofs.Words.{Some, Transition, TransitionRule, TypeAt, Zone, ap, arith, by_lt_z, cases_lt, cond, count_by, get_or, index_of, inl, inr, int_le, ints}
-use Rattle.tz_info.proofs.Words.{length, length-take, nat_tests, passed, passed_count, pos, refl, segment_of, slice_get, suc, sum_by-cons, sym, take, thresholds, w64}
+use Rattle.tz_info.proofs.Words.{Some, Transition, TransitionRule, TypeAt, Zone, ap, arith, by_lt_z, cases_lt, cond, count_by, get_or, index_of, inl}
+use Rattle.tz_info.proofs.Words.{inr, int_le, ints}
+use Rattle.tz_info.proofs.Words.{length, length-take, nat_tests, passed, passed_count, pos, refl, segment_of, slice_get, suc, sum_by-cons, sym, take}
+use Rattle.tz_info.proofs.Words.{thresholds, w64}
 use Rattle.tz_info.proofs.Words.{zero, ℕ, ℤ, [], ◌+◌, ◌-ℤ◌, ◌-◌, ◌<ℤ◌, ◌<◌, ◌↔◌, ◌∙◌, ◌∷◌, ◌≡◌, ◌≤ℤ◌, ◌≤◌, ◌⊎◌}
 use Rattle.tz_info.specs.declared.rule.transition_rule.TransitionRule.TheVariants.{Alternate, Fixed}
 use Rattle.tz_info.proofs.ChangeSearch.{first_moved, last_moved}
@@ -70,12 +73,14 @@ comes_with z place start d some comes is low high =
     (λ m. let come = (comes (d.at -ℤ pos 1) is.before.leap_time (time_of z (d.at -ℤ pos 1) d.before (omega arith) is.before)).1 m in absurd (omega arith))
 
 -- no change leads from one segment to another where they have one type
-no_change_alike : (z : Zone) (d : Change) (first last : ℕ) → IsValid z → last < length z.transitions → AreAlike z.transitions z.types first last → IsChange (TypeAt z) d
+no_change_alike : (z : Zone) (d : Change) (first last : ℕ) → IsValid z → last < length z.transitions → AreAlike z.transitions z.types first last
+    → IsChange (TypeAt z) d
     → first ≤ segment_of z (d.at -ℤ pos 1) → segment_of z (d.at -ℤ pos 1) ≤ last → first ≤ segment_of z d.at → segment_of z d.at ≤ last → ⊥
 no_change_alike z d first last valid some alike is a b c e =
     let before = type_before z (segment_of z (d.at -ℤ pos 1)) (d.at -ℤ pos 1) d.before valid.transitions.rising (record { type = is.before; segment = refl }) (omega arith) in
     let after = type_before z (segment_of z d.at) d.at d.after valid.transitions.rising (record { type = is.after; segment = refl }) (omega arith) in
-    is.differ (some_once (slice_get z.types (index_of z.transitions first)) d.before d.after (sym (alike (segment_of z (d.at -ℤ pos 1)) a b) ∙ before) (sym (alike (segment_of z d.at) c e) ∙ after))
+    is.differ (some_once (slice_get z.types (index_of z.transitions first)) d.before d.after (sym (alike (segment_of z (d.at -ℤ pos 1)) a b) ∙ before)
+    (sym (alike (segment_of z d.at) c e) ∙ after))
 
 -- ---- the next change of the table
 -- each of the table's changes after that second comes with the transition at that place, or later
@@ -131,7 +136,8 @@ yet_found z after first place c some (inl count) at yet is comes =
       first = λ d is_d inside. (comes d.at is_d.after.leap_time (time_of z d.at d.after (omega arith) is_d.after)).0 (yet d is_d inside);
     }
 
-pub yet_none : (z : Zone) (after : ℤ) (place : ℕ) → IsValid z → length z.transitions ≤ place → AreYet z after place → HasNoChange (TypeAt z) (IsInTable z (λ u. after <ℤ u))
+pub yet_none : (z : Zone) (after : ℤ) (place : ℕ) → IsValid z → length z.transitions ≤ place → AreYet z after place
+    → HasNoChange (TypeAt z) (IsInTable z (λ u. after <ℤ u))
 yet_none z after place valid all yet d is inside = let h = yet d is inside in let m = segment_most z d.at valid.transitions.rising in omega arith
 
 -- the second at which a transition comes is none of 64 bits
@@ -337,7 +343,8 @@ ahead_come z last count valid (inl come) = ahead_first z last count valid come
 ahead_come z last count valid (inr (refused, all)) = rw all (ahead_all z last valid refused)
 
 -- nor do they come with the last ones of these, if they change nothing
-pub ahead_less : (z : Zone) (last : ℤ) (place left : ℕ) → IsValid z → AreAhead z last (place + 1) → HasNoneAt z place → left ≤ place → AreAlike z.transitions z.types left place
+pub ahead_less : (z : Zone) (last : ℤ) (place left : ℕ) → IsValid z → AreAhead z last (place + 1) → HasNoneAt z place → left ≤ place
+    → AreAlike z.transitions z.types left place
     → AreAhead z last left
 ahead_less z last place left valid h none low alike =
     let w = h.within in

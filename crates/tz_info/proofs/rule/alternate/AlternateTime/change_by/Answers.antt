@@ -6,4 +6,5 @@ pub returns-in-Err : goal.returns-in-Err
 returns-in-Err c =
     let fs = c.ranges.second in
     let fo : SFits w64 c.in-Err.other = search rules in
-    nearest_on c.args.forward (AlternateAt c.args.self.now) c.args.second c.in-Err.other c.change_beyond.result (simp to_z-of_z at c.in-Err.ensures) (simp to_z-of_z at c.change_beyond.ensures)
+    nearest_on c.args.forward (AlternateAt c.args.self.now) c.args.second c.in-Err.other c.change_beyond.result (simp to_z-of_z at
+    c.in-Err.ensures) (simp to_z-of_z at c.change_beyond.ensures)

@@ -21,7 +21,8 @@ returns c =
     let beside = simp to_z-of_z at c.changes_beside-beside.ensures in
     record {
       previous = rule_until z a s b c.if_after.result valid c.in-Some.ensures c.rule_begin-begin.ensures.begin
-          (last_after (AlternateAt a) b s c.changes_beside-beside.result.previous c.if_after.result (last_nearest (AlternateAt a) (λ u. u ≤ℤ s) _ beside.previous) (simp to_z-of_z at c.if_after.ensures));
+          (last_after (AlternateAt a) b s c.changes_beside-beside.result.previous c.if_after.result
+          (last_nearest (AlternateAt a) (λ u. u ≤ℤ s) _ beside.previous) (simp to_z-of_z at c.if_after.ensures));
       next = rule_found z a s b s c.changes_beside-beside.result.next valid c.in-Some.ensures c.rule_begin-begin.ensures.begin
           (begun_by z b s valid c.rule_begin-begin.ensures.begin fs c.requires) (first_nearest (AlternateAt a) (λ u. s <ℤ u) _ beside.next);
     }

@@ -19,4 +19,5 @@ returns c =
     let fa = c.ranges.last in
     let fw : SFits w128 c.rule_begin-begin.result = search rules in
     rule_until c.args.self.now c.in-Some.turns.now c.args.last c.rule_begin-begin.result c.if_after.result (rw (← c.self.view_is) c.self.invariant.valid) c.in-Some.ensures c.rule_begin-begin.ensures.begin
-    (last_after (AlternateAt c.in-Some.turns.now) c.rule_begin-begin.result c.args.last c.nearest_change.result c.if_after.result (last_nearest (AlternateAt c.in-Some.turns.now) (λ u. u ≤ℤ c.args.last) c.nearest_change.result (simp to_z-of_z at c.nearest_change.ensures)) (simp to_z-of_z at c.if_after.ensures))
+    (last_after (AlternateAt c.in-Some.turns.now) c.rule_begin-begin.result c.args.last c.nearest_change.result c.if_after.result
+    (last_nearest (AlternateAt c.in-Some.turns.now) (λ u. u ≤ℤ c.args.last) c.nearest_change.result (simp to_z-of_z at c.nearest_change.ensures)) (simp to_z-of_z at c.if_after.ensures))

@@ -9,4 +9,5 @@ pub span_at_end-requires-clause-come : goal.span_at_end-requires-clause-come
 span_at_end-requires-clause-come c =
     let fu = c.ranges.unix_time in
     let n = c.transition_count.ensures in
-    simp to_z-of_z (come_all c.args.self.now c.args.unix_time c.come_at-come.result (rw (← c.self.view_is) c.self.invariant.valid) (simp to_z-of_z at c.come_at-come.ensures) (omega arith))
+    simp to_z-of_z (come_all c.args.self.now c.args.unix_time c.come_at-come.result (rw (← c.self.view_is) c.self.invariant.valid)
+    (simp to_z-of_z at c.come_at-come.ensures) (omega arith))
