@@ -26,8 +26,9 @@ fn whole_and_rest(nanos: i32) -> (i64, u32)
     ensures whole { IsWithin 3 result.0 }
     ensures rest { result.1 < 1_000_000_000 }
 {
-    let rest = nanos.rem_euclid(1_000_000_000) as u32;
-    (nanos.div_euclid(1_000_000_000) as i64, rest)
+    // Counted from three seconds before, so that no sign is tested.
+    let above = (nanos as i64 + 3_000_000_000) as u64;
+    ((above / 1_000_000_000) as i64 - 3, (above % 1_000_000_000) as u32)
 }
 
 // The second and the nanoseconds of a reading that is no leap second.
