@@ -1,7 +1,7 @@
 -- Runs of transitions that change nothing.
-use Rattle.tz_info.proofs.Words.{AreAlike, AreStarts, AreStartsUpTo, IsCarried, IsRun, List, LocalType, Transition, arith, cases_eq, get_or-set_at}
+use Rattle.tz_info.proofs.Words.{AreAlike, AreStartsUpTo, IsCarried, IsRun, List, LocalType, Transition, arith, cases_eq, get_or-set_at}
 use Rattle.tz_info.proofs.Words.{get_or-set_other}
-use Rattle.tz_info.proofs.Words.{index_of, inl, inr, length, length-set, refl, set, slice_get, slice_index, sym, ℕ, ◌+◌, ◌-◌, ◌<◌, ◌∙◌, ◌≡◌, ◌≤◌}
+use Rattle.tz_info.proofs.Words.{index_of, inl, inr, length-set, refl, set, slice_get, ℕ, ◌+◌, ◌-◌, ◌<◌, ◌∙◌, ◌≡◌}
 
 -- one segment is as itself
 pub alike_one : (ts : List Transition) (types : List LocalType) (place : ℕ) → AreAlike ts types place place
