@@ -7,9 +7,6 @@ use Rattle.tz_info.proofs.Words.{index_of, inl, inr, length-set, refl, set, slic
 pub alike_one : (ts : List Transition) (types : List LocalType) (place : ℕ) → AreAlike ts types place place
 alike_one ts types place k low high = let e : k ≡ place = omega arith in rw e refl
 
-pub run_alone : (ts : List Transition) (types : List LocalType) (place : ℕ) → IsRun ts types place place
-run_alone ts types place = (omega arith, alike_one ts types (place + 1))
-
 -- a run goes on with a transition that changes nothing
 pub run_more : (ts : List Transition) (types : List LocalType) (place start : ℕ) → 0 < place → IsCarried ts types place start
     → slice_get types (index_of ts (place + 1)) ≡ slice_get types (index_of ts place) → IsRun ts types place start
