@@ -1,6 +1,6 @@
 -- The first and the last change among seconds, and in a stretch.
 use Rattle.tz_base.specs.contracts.local_time_type.LocalTimeTypePartialEq.TheImpl.{eq-value as type_eq}
-use Rattle.tz_info.proofs.Words.{Bool, Change, HasNoChange, IfSome, IsAhead, IsChange, IsFirst, IsIdle, IsInStretch, IsLast, IsLastChange, IsNearest, IsOneOf}
+use Rattle.tz_info.proofs.Words.{Bool, Change, HasNoChange, IfSome, IsAhead, IsChange, IsFirst, IsIdle, IsInStretch, IsLast, IsNearest, IsOneOf}
 use Rattle.tz_info.proofs.Words.{IsStretchAhead, List, LocalType, MatchOption, None, Option, Precedes, SFits, Some, arith, by_lt_z, cases_lt, false, get_or}
 use Rattle.tz_info.proofs.Words.{inl, inr, ints, lt_false, lt_true, nearer_one, negsuc, pos, refl, subst, suc, sym, true, type_exact, w64, zero, ℕ, ℤ, ⊎_elim}
 use Rattle.tz_info.proofs.Words.{◌+ℤ◌, ◌+◌, ◌-ℤ◌, ◌<ℤ◌, ◌∙◌, ◌≡◌, ◌≢◌, ◌≤ℤ◌, ◌⊎◌}

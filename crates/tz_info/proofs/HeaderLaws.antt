@@ -1,6 +1,6 @@
 -- Four bytes that are not `TZif`.
-use Rattle.tz_info.proofs.Words.{Decides, Decides-eqb, Exact, HasOtherMagic, List, Ok, exact_at, exact_cut, is_magic, lawful, magic, magic_test, refl}
-use Rattle.tz_info.proofs.Words.{slice_eq-Decides, true, ℕ, ◌∙◌, ◌≡◌}
+use Rattle.tz_info.proofs.Words.{Exact, HasOtherMagic, List, Ok, exact_at, exact_cut, is_magic, lawful, magic_test}
+use Rattle.tz_info.proofs.Words.{true, ℕ, ◌∙◌, ◌≡◌}
 
 -- four other bytes are at the front
 pub not_magic : (bytes : List ℕ) (x : List ℕ × List ℕ) → HasOtherMagic bytes → exact_at 4 bytes ≡ Ok x → is_magic x.0 ≡ true → ⊥

@@ -1,14 +1,11 @@
 -- Runs of transitions that change nothing.
-use Rattle.tz_info.proofs.Words.{AreAlike, AreStarts, AreStartsUpTo, IsCarried, IsRun, List, LocalType, Transition, arith, cases_eq, get_or-set_at}
+use Rattle.tz_info.proofs.Words.{AreAlike, AreStartsUpTo, IsCarried, IsRun, List, LocalType, Transition, arith, cases_eq, get_or-set_at}
 use Rattle.tz_info.proofs.Words.{get_or-set_other}
-use Rattle.tz_info.proofs.Words.{index_of, inl, inr, length, length-set, refl, set, slice_get, slice_index, sym, ℕ, ◌+◌, ◌-◌, ◌<◌, ◌∙◌, ◌≡◌, ◌≤◌}
+use Rattle.tz_info.proofs.Words.{index_of, inl, inr, length-set, refl, set, slice_get, ℕ, ◌+◌, ◌-◌, ◌<◌, ◌∙◌, ◌≡◌}
 
 -- one segment is as itself
 pub alike_one : (ts : List Transition) (types : List LocalType) (place : ℕ) → AreAlike ts types place place
 alike_one ts types place k low high = let e : k ≡ place = omega arith in rw e refl
-
-pub run_alone : (ts : List Transition) (types : List LocalType) (place : ℕ) → IsRun ts types place place
-run_alone ts types place = (omega arith, alike_one ts types (place + 1))
 
 -- a run goes on with a transition that changes nothing
 pub run_more : (ts : List Transition) (types : List LocalType) (place start : ℕ) → 0 < place → IsCarried ts types place start

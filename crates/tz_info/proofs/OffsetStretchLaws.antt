@@ -1,6 +1,6 @@
 -- The type in force between two transitions, and behind the last, of a zone without leap seconds.
 use Rattle.tz_info.proofs.Words.{HasType, IsValid, LocalType, None, RuleOrType, Some, Transition, TypeAt, Zone, arith, begin_of, get_or, index_of, ints, length}
-use Rattle.tz_info.proofs.Words.{refl, ℕ, ℤ, ◌<ℤ◌, ◌<◌, ◌≡◌, ◌≤ℤ◌, ◌≤◌}
+use Rattle.tz_info.proofs.Words.{refl, ℕ, ℤ, ◌<ℤ◌, ◌<◌, ◌≡◌, ◌≤ℤ◌}
 use Rattle.tz_info.specs.declared.rule.transition_rule.TransitionRule.TheVariants.{Fixed}
 use Rattle.tz_info.proofs.LeaplessChanges.{own_leap_time}
 use Rattle.tz_info.proofs.SegmentLaws.{between_of, type_in_before, type_in_from}

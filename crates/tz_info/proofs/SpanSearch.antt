@@ -1,14 +1,12 @@
 -- Spans by the changes on both sides of a second, from the place between transitions where it lies.
-use Rattle.tz_info.proofs.Words.{Alternate as AlternateRule, AlternateAt, AreComeAt, AreComeOrAll, Change, HasNoChange, HasType, IsAhead, IsBegin, IsByRule}
-use Rattle.tz_info.proofs.Words.{IsFirst, IsInTable, IsLast, IsLaterOf, IsNearest, IsRuleOrNone, IsSpanAt, IsValid, LocalType, MatchOption, None, Option, SFits}
-use Rattle.tz_info.proofs.Words.{Some, TypeAt, Zone, arith, cases_lt, false, index_of, inl, inr, ints, length, option_map, pos, segment_of, subst}
-use Rattle.tz_info.proofs.Words.{sym, true, w64, ℕ, ℤ}
+use Rattle.tz_info.proofs.Words.{AreComeAt, AreComeOrAll, Change, HasNoChange, HasType, IsByRule}
+use Rattle.tz_info.proofs.Words.{IsFirst, IsInTable, IsLast, IsRuleOrNone, IsSpanAt, IsValid, LocalType, Option, SFits}
+use Rattle.tz_info.proofs.Words.{TypeAt, Zone, arith, index_of, inl, inr, ints, length, pos, subst}
+use Rattle.tz_info.proofs.Words.{sym, w64, ℕ, ℤ}
 use Rattle.tz_info.proofs.Words.{◌-ℤ◌, ◌<ℤ◌, ◌<◌, ◌≡◌, ◌≤ℤ◌, ◌≤◌}
-use Rattle.tz_info.specs.declared.rule.transition_rule.TransitionRule.TheVariants.{Alternate}
-use Rattle.tz_info.proofs.ChangeSearch.{first_nearest, last_after, last_nearest}
 use Rattle.tz_info.proofs.SegmentLaws.{segment_at, segment_most, segments_rise, type_in_before}
 use Rattle.tz_info.proofs.SpanLaws.{seconds_of, span_between}
-use Rattle.tz_info.proofs.ZoneChanges.{refused_after, rule_first, rule_found, rule_is_last, rule_until, table_is_last, time_of}
+use Rattle.tz_info.proofs.ZoneChanges.{refused_after, rule_first, table_is_last}
 
 -- ---- before the last transition
 type_then : (z : Zone) (u : ℤ) (k : ℕ) (t : LocalType) → IsValid z → k < length z.transitions → AreComeAt z u k

@@ -1,10 +1,9 @@
 -- The numbers of a rule that a TZ text spells are in their limits.
 use Rattle.tz_info.proofs.Words.{Bool, DayForm, DayTime, IsAlternateRule, IsRule, IsRuleDay, IsTzText, IsWithinDay, IsWithinWeek, List, LocalType, Spells}
-use Rattle.tz_info.proofs.Words.{TransitionRule, alternate, arith, date, day, days, dst_offset, duration, false, fixed, given_offset, inl, inr, int_le, ints}
-use Rattle.tz_info.proofs.Words.{julian_date, month_date, named, named_type, nat_tests, next_hour, not, offset, optional_time, pos, rule, seconds_of, subst}
+use Rattle.tz_info.proofs.Words.{TransitionRule, alternate, arith, date, day, days, dst_offset, duration, false, fixed, given_offset, inl, inr, ints}
+use Rattle.tz_info.proofs.Words.{julian_date, month_date, named, named_type, next_hour, not, offset, optional_time, pos, rule, seconds_of, subst}
 use Rattle.tz_info.proofs.Words.{sym, text, time, time_limit, true, ℕ, ℤ, ◌+ℤ◌, ◌≡◌, ◌≤ℤ◌, ◌≤◌}
 use Rattle.tz_info.specs.TzGrammar.{day_number, rule_day}
-use Rattle.tz_info.specs.declared.rule.day.DayForm.TheVariants.{Julian0, Julian1, MonthWeekday}
 
 -- ---- offsets and times
 within_day : (negative : Bool) (h m s : ℕ) → (h ≤ 23) × (m ≤ 59) × (s ≤ 59) → IsWithinDay (seconds_of negative h m s)

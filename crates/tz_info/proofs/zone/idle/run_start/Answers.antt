@@ -1,5 +1,4 @@
-use Rattle.tz_info.proofs.Words.{arith}
-use Rattle.tz_info.proofs.IdleRuns.{run_alone, run_more}
+use Rattle.tz_info.proofs.IdleRuns.{run_more}
 use Rattle.tz_info.proofs.zone.idle.run_start.Goals as goal
 
 pub returns-then-is_idle : goal.returns-then-is_idle

@@ -1,4 +1,4 @@
-use Rattle.tz_info.proofs.Words.{IsAmidFrom, IsNear, LocalType, SFits, ap, arith, false, ints, not, rules}
+use Rattle.tz_info.proofs.Words.{IsAmidFrom, IsNear, LocalType, SFits, ap, arith, ints, rules}
 use Rattle.tz_info.proofs.Words.{to_z-of_z, w32, w64, ◌+ℤ◌, ◌∙◌, ◌≡◌}
 use Rattle.tz_info.proofs.RuleGaps.{gap_at_end, gap_at_start}
 use Rattle.tz_info.proofs.rule.alternate.AlternateTime.gap_from.Goals as goal

@@ -1,4 +1,4 @@
-use Rattle.tz_info.proofs.Words.{SFits, arith, ints, pos, rules, to_z-of_z, w32, w64, ◌+ℤ◌, ◌-ℤ◌, ◌≡◌}
+use Rattle.tz_info.proofs.Words.{SFits, arith, ints, pos, rules, to_z-of_z, w32, w64, ◌+ℤ◌, ◌-ℤ◌}
 use Rattle.tz_info.proofs.zone.time_zone.TimeZone.beyond_jumps.Goals as goal
 
 pub returns-clause-beyond : goal.returns-clause-beyond

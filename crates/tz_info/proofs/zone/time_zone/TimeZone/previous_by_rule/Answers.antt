@@ -1,4 +1,4 @@
-use Rattle.tz_info.proofs.Words.{AlternateAt, None, SFits, Some, arith, ints, rules, to_z-of_z, w128, ◌≤ℤ◌}
+use Rattle.tz_info.proofs.Words.{AlternateAt, SFits, arith, ints, rules, to_z-of_z, w128, ◌≤ℤ◌}
 use Rattle.tz_info.proofs.ChangeSearch.{last_after, last_nearest}
 use Rattle.tz_info.proofs.ZoneChanges.{none_begun, rule_until, steady}
 use Rattle.tz_info.proofs.zone.time_zone.TimeZone.previous_by_rule.Goals as goal

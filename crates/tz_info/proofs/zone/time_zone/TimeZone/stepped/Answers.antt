@@ -1,4 +1,4 @@
-use Rattle.tz_info.proofs.Words.{arith, inl, inr, ◌+◌, ◌-◌, ◌≡◌}
+use Rattle.tz_info.proofs.Words.{arith, inr, ◌+◌, ◌-◌, ◌≡◌}
 use Rattle.tz_info.proofs.zone.time_zone.TimeZone.stepped.Goals as goal
 
 pub returns-then-is_idle_from : goal.returns-then-is_idle_from
