@@ -98,20 +98,49 @@ spells a b mark before after west dst first second offset above marked whole som
 
 pub types : SpellTypes designations type_records (honolulu hst10).types
 unfolding signed
-types =
-    (255 ∷ 255 ∷ 108 ∷ 2 ∷ 0 ∷ 0 ∷ [], _, refl, refl,
-    spells 108 2 0 [] _ (pos 37_886) false 76 77 refl (omega arith) refl refl (omega arith) (omega arith) refl,
-    (255 ∷ 255 ∷ 108 ∷ 88 ∷ 0 ∷ 4 ∷ [], _, refl, refl,
+types = (
+  255 ∷ 255 ∷ 108 ∷ 2 ∷ 0 ∷ 0 ∷ [],
+  _,
+  refl,
+  refl,
+  spells 108 2 0 [] _ (pos 37_886) false 76 77 refl (omega arith) refl refl (omega arith) (omega arith) refl,
+  (
+    255 ∷ 255 ∷ 108 ∷ 88 ∷ 0 ∷ 4 ∷ [],
+    _,
+    refl,
+    refl,
     spells 108 88 0 (76 ∷ 77 ∷ 84 ∷ 0 ∷ []) _ (pos 37_800) false 72 83 refl (omega arith) refl refl (omega arith) (omega arith) refl,
-    (255 ∷ 255 ∷ 122 ∷ 104 ∷ 1 ∷ 8 ∷ [], _, refl, refl,
-    spells 122 104 1 (76 ∷ 77 ∷ 84 ∷ 0 ∷ 72 ∷ 83 ∷ 84 ∷ 0 ∷ []) _ (pos 34_200) true 72 68 refl (omega arith) refl refl (omega arith) (omega arith) refl,
-    (255 ∷ 255 ∷ 122 ∷ 104 ∷ 1 ∷ 12 ∷ [], _, refl, refl,
-    spells 122 104 1 (76 ∷ 77 ∷ 84 ∷ 0 ∷ 72 ∷ 83 ∷ 84 ∷ 0 ∷ 72 ∷ 68 ∷ 84 ∷ 0 ∷ []) _ (pos 34_200) true 72 87 refl (omega arith) refl refl (omega arith) (omega arith) refl,
-    (255 ∷ 255 ∷ 122 ∷ 104 ∷ 1 ∷ 16 ∷ [], _, refl, refl,
-    spells 122 104 1 (76 ∷ 77 ∷ 84 ∷ 0 ∷ 72 ∷ 83 ∷ 84 ∷ 0 ∷ 72 ∷ 68 ∷ 84 ∷ 0 ∷ 72 ∷ 87 ∷ 84 ∷ 0 ∷ []) _ (pos 34_200) true 72 80 refl (omega arith) refl refl (omega arith) (omega arith) refl,
-    (255 ∷ 255 ∷ 115 ∷ 96 ∷ 0 ∷ 4 ∷ [], _, refl, refl,
-    spells 115 96 0 (76 ∷ 77 ∷ 84 ∷ 0 ∷ []) _ (pos 36_000) false 72 83 refl (omega arith) refl refl (omega arith) (omega arith) refl,
-    refl))))))
+    (
+      255 ∷ 255 ∷ 122 ∷ 104 ∷ 1 ∷ 8 ∷ [],
+      _,
+      refl,
+      refl,
+      spells 122 104 1 (76 ∷ 77 ∷ 84 ∷ 0 ∷ 72 ∷ 83 ∷ 84 ∷ 0 ∷ []) _ (pos 34_200) true 72 68 refl (omega arith) refl refl (omega arith) (omega arith) refl,
+      (
+        255 ∷ 255 ∷ 122 ∷ 104 ∷ 1 ∷ 12 ∷ [],
+        _,
+        refl,
+        refl,
+        spells 122 104 1 (76 ∷ 77 ∷ 84 ∷ 0 ∷ 72 ∷ 83 ∷ 84 ∷ 0 ∷ 72 ∷ 68 ∷ 84 ∷ 0 ∷ []) _ (pos 34_200) true 72 87 refl (omega arith) refl refl (omega arith) (omega arith) refl,
+        (
+          255 ∷ 255 ∷ 122 ∷ 104 ∷ 1 ∷ 16 ∷ [],
+          _,
+          refl,
+          refl,
+          spells 122 104 1 (76 ∷ 77 ∷ 84 ∷ 0 ∷ 72 ∷ 83 ∷ 84 ∷ 0 ∷ 72 ∷ 68 ∷ 84 ∷ 0 ∷ 72 ∷ 87 ∷ 84 ∷ 0 ∷ []) _ (pos 34_200) true 72 80 refl (omega arith) refl refl (omega arith) (omega arith) refl,
+          (
+            255 ∷ 255 ∷ 115 ∷ 96 ∷ 0 ∷ 4 ∷ [],
+            _,
+            refl,
+            refl,
+            spells 115 96 0 (76 ∷ 77 ∷ 84 ∷ 0 ∷ []) _ (pos 36_000) false 72 83 refl (omega arith) refl refl (omega arith) (omega arith) refl,
+            refl,
+          ),
+        ),
+      ),
+    ),
+  ),
+)
 
 pub footer : IsFooter false hst_footer hst10
 footer = record {

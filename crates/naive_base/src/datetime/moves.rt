@@ -28,7 +28,10 @@ fn whole_and_rest(nanos: i32) -> (i64, u32)
 {
     // Counted from three seconds before, so that no sign is tested.
     let above = (nanos as i64 + 3_000_000_000) as u64;
-    ((above / 1_000_000_000) as i64 - 3, (above % 1_000_000_000) as u32)
+    (
+        (above / 1_000_000_000) as i64 - 3,
+        (above % 1_000_000_000) as u32,
+    )
 }
 
 // The second and the nanoseconds of a reading that is no leap second.
