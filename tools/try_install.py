@@ -10,9 +10,11 @@ CMake are used if they are installed. It tries that
 - libzoned.so has the SONAME of the header's version;
 - examples/zones.c and zones.cc are built over each library, with pkg-config and with CMake, and all print the same lines;
 - a program that has a function rattle_alloc of its own keeps it to itself;
-- the man page names each call of the header.
+- the man page names each call of the header;
+- the library for 64-bit ARM gives the same lines under qemu, if `tools/build_archive.py --target aarch64-unknown-linux-gnu` has
+  built it. This needs Debian's gcc-aarch64-linux-gnu, libc6-dev-arm64-cross and qemu-user.
 
-It takes a few seconds. The gate runs it. Ends with status 1 if anything differs.
+It takes a few seconds. The gate runs it, without the last point. Ends with status 1 if anything differs.
 """
 
 import os
@@ -27,6 +29,7 @@ TOP = Path(__file__).resolve().parent.parent
 PREFIX = "/usr/local"
 HEADER = TOP / "crates/zoned_ffi/include/zoned_ffi.h"
 EXAMPLES = TOP / "examples"
+ARM, ARM_ARCHIVE, ARM_HEAP = "aarch64-linux-gnu", TOP / "crates/zoned_ffi/out/libzoned_ffi-aarch64.a", TOP / "crates/zoned_ffi/install/heap.c"
 NEEDED = {"malloc", "realloc", "free", "memcpy", "memmove", "memset"}
 ASKED = ["/usr/share/zoneinfo/America/New_York", "1615705200", "1615689000", "1636248600"]
 WARNINGS = ["-O2", "-Wall", "-Wextra", "-Werror"]
@@ -127,13 +130,35 @@ def complaints_of_man_page(root):
         yield f"the man page doesn't name {call}"
 
 
+def installed(root, **more):
+    """Installs below that folder. Returns the folder of the libraries."""
+    run(TOP / "tools/install.sh", env={**os.environ, "DESTDIR": str(root), "PREFIX": PREFIX, **more})
+    return root / f"{PREFIX[1:]}/lib"
+
+
+def complaints_of_arm(room):
+    run(f"{ARM}-gcc", *WARNINGS, "-fPIC", "-c", "-o", room / "heap.o", ARM_HEAP)
+    run(f"{ARM}-ar", "rcsD", room / "heap.a", room / "heap.o")
+    crossed = {name.upper(): f"{ARM}-{name}" for name in ("ld", "nm", "ar", "objcopy")}
+    lib = installed(room / "arm", ARCHIVE=str(ARM_ARCHIVE), HEAP=str(room / "heap.a"), CC=f"{ARM}-gcc", **crossed)
+    include = lib.parent / "include"
+    run(f"{ARM}-gcc", *WARNINGS, "-I", include, "-o", room / "for_arm", EXAMPLES / "zones.c", "-L", lib, "-lzoned", f"-Wl,-rpath,{lib}")
+    run(f"{ARM}-gcc", *WARNINGS, "-static", "-I", include, "-o", room / "for_arm_static", EXAMPLES / "zones.c", lib / "libzoned.a")
+    wanted = run(room / "shared", *ASKED)
+    for program in ("for_arm", "for_arm_static"):
+        if run("qemu-aarch64", "-L", f"/usr/{ARM}", room / program, *ASKED) != wanted:
+            yield f"{program} prints other lines than on this processor"
+    print("2 programs for 64-bit ARM")
+
+
 def main():
     with tempfile.TemporaryDirectory() as folder:
         root, room = Path(folder) / "root", Path(folder) / "room"
         room.mkdir()
-        run(TOP / "tools/install.sh", env={**os.environ, "DESTDIR": str(root), "PREFIX": PREFIX})
-        lib = root / f"{PREFIX[1:]}/lib"
+        lib = installed(root)
         found = [*complaints_of_names(lib), *complaints_of_programs(root, room), *complaints_of_man_page(root)]
+        if ARM_ARCHIVE.exists():
+            found += complaints_of_arm(room)
     for complaint in found:
         print(complaint)
     print(f"the installed library: {len(found)} differences")

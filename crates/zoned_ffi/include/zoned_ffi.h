@@ -106,7 +106,8 @@
    crates/zoned_ffi/out/libzoned_ffi.a and after it the kit's c/liblibc_c.a. A shared library made of these two archives also
    exports rattle_alloc, rattle_realloc and rattle_dealloc, unless it is linked with -Wl,--exclude-libs,liblibc_c.a.
 
-   The code is for Linux on x86-64-v2 processors (with SSE4.2 and popcnt) or later ones. It has neither frame pointers nor
+   The code is for Linux on x86-64-v2 processors (with SSE4.2 and popcnt) or later ones; `tools/build_archive.py --target
+   aarch64-unknown-linux-gnu` builds it for 64-bit ARM, where install/heap.c is its heap. It has neither frame pointers nor
    .eh_frame: debuggers, profilers and backtrace() can't unwind a stack through it. It has no note for Intel's CET, so a program
    can't be linked with -z cet-report=error. */
 #ifndef ZONED_FFI_H
