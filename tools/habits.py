@@ -31,7 +31,7 @@ HABITS = [
     ("refused", "rejected, returns an error", r"\brefus\w+", 2, 17),
     ("reading for a local time", "local time, local date-time", r"\breadings?\b", 5, 12),
     ("TZ text", "TZ string", r"\bTZ texts?\b", 1, 22),
-    ("where for a condition", "if, when", r"\bwhere (?:that|it|there|the|a|no|one|they|clocks|these|none|its|all|each|both|any)\b", 21, 51),
+    ("where for a condition", "if, when", r"\bwhere (?:that|it|there|the|a|no|one|they|clocks|these|none|its|all|each|both|any)\b", 20, 51),
     ("wrong body", "planted bug", r"\bwrong bod\w+", 0, 0),
 ]
 

@@ -355,8 +355,8 @@ typedef struct zoned_change {
 
    A transition of the file that changes nothing is no change, and what a rule does after the last transition is. Where the zone
    begins or ends to have a type is no change either: the last change of the rule EST5EDT,M3.2.0,M11.1.0, which answers up to the
-   year 2147483645, is that of November of that year, 67767976165557600, also before INT64_MAX. The calls step over transitions
-   that change nothing one by one. */
+   year 2147483645, is that of November of that year, 67767976165557600, also before INT64_MAX. The calls pass over any
+   number of transitions that change nothing at once. */
 uint32_t zoned_zone_next_change(const struct zoned_zone *zone, int64_t after, zoned_change *change)
     ZONED_MUST_CHECK ZONED_NONNULL((1, 3));
 uint32_t zoned_zone_previous_change(const struct zoned_zone *zone, int64_t before_or_at, zoned_change *change)
