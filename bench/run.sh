@@ -2,7 +2,7 @@
 # Times lookups of this library, what it does with instants and its programs, compared with other libraries and programs, and
 # writes the tables into bench/results/, with the date as its name. `bench/write_speed.py` puts them into the documents then.
 #
-# usage: bench/run.sh [PART ..]     of sahvumbi work cctz hinnant java glibc cpython chrono lines dumps calls kept misses (else all)
+# usage: bench/run.sh [PART ..]     of sahvumbi work cctz hinnant java glibc cpython chrono lines dumps calls columns kept misses (else all)
 #
 # First `rt lib` in crates/zoned_ffi builds the archive, and `rt run` in crates/zoneq, crates/zonedump and crates/bench_instants
 # the programs. Debian has the peers:
@@ -21,7 +21,7 @@ folder=${BENCH_DIR:-${TMPDIR:-/tmp}/sahvumbi-bench}
 kit=$(dirname "$(rt doc)")
 archive=${ARCHIVE:-$here/../crates/zoned_ffi/out/libzoned_ffi.a}
 results=${RESULTS:-$here/results/$(date -u +%Y-%m-%d).md}
-parts=${*:-sahvumbi work cctz hinnant java glibc cpython chrono lines dumps calls kept misses}
+parts=${*:-sahvumbi work cctz hinnant java glibc cpython chrono lines dumps calls columns kept misses}
 python=${PYTHON:-python3}
 # As `rt lib` compiles the library.
 processor=x86-64-v2
@@ -107,6 +107,11 @@ for part in $parts; do
             build calls "$archive" "$kit/c/liblibc_c.a" && echo "running calls" >&2 &&
                 "$folder/calls" "$inputs" > "$outputs/calls.md"
             ;;
+        columns)
+            # shellcheck disable=SC2086
+            build columns "$archive" "$kit/c/liblibc_c.a" $absl -ldate-tz -lpthread &&
+                echo "running columns" >&2 && "$folder/columns" > "$outputs/columns.md"
+            ;;
         kept)
             echo "running time_instants.py" >&2 &&
                 python3 "$here/time_instants.py" "$inputs/zones/New_York" > "$outputs/kept.md"
@@ -120,7 +125,7 @@ for part in $parts; do
 done
 {
     python3 "$here/print_tables.py" "$inputs" "$outputs" &&
-        for part in calls kept misses; do [ ! -f "$outputs/$part.md" ] || cat "$outputs/$part.md"; done
+        for part in calls columns kept misses; do [ ! -f "$outputs/$part.md" ] || cat "$outputs/$part.md"; done
 } > "$outputs/tables.md" || exit 1
 cp "$outputs/tables.md" "$results"
 echo "the tables are in $results" >&2

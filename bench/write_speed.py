@@ -103,6 +103,7 @@ def parts(results):
         "parsing": lambda: table(found["Reading a zone"]),
         "at work": lambda: table(found["Instants at work"]),
         "changes": lambda: changes(found),
+        "columns": lambda: table(found["Columns of instants"]),
         "programs": lambda: table(found["The programs"]),
         "listed": lambda: listed(found),
         "differ": lambda: differences(found),
