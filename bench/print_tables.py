@@ -22,6 +22,7 @@ PEERS = {
     OURS: "Sahvumbi",
     "cctz": "cctz",
     "hinnant": "date",
+    "standard": "libc++",
     "java": "java.time",
     "glibc": "glibc",
     "cpython": "CPython",
@@ -32,6 +33,7 @@ PEERS = {
 PACKAGES = {
     "cctz": "libabsl-dev",
     "hinnant": "libhowardhinnant-date-dev",
+    "standard": "libc++-22-dev",
     "java": "openjdk-17-jdk-headless",
     "glibc": "libc6",
     "chrono": "librust-chrono-dev",
@@ -269,6 +271,28 @@ def print_work(outputs):
         print(f"- {WORK[question]}: {PEERS[peer]} answers {differ:,} of {count:,} otherwise: {theirs} for {ours}.")
 
 
+def print_columns(path):
+    """A row for each column: the time of a row, by one call of this library, and by a loop over the others."""
+    if not path.exists():
+        return
+    figures, wrong = {}, set()
+    for line in path.read_text().splitlines():
+        peer, zone, rows, took, _, differ = line.split("\t")
+        key = ("column", rows, zone, peer)
+        figures[key] = min(float(took), figures.get(key, float("inf")))
+        if differ != "0":
+            wrong.add(key)
+    peers = [peer for peer in PEERS if any(key[3] == peer for key in figures)]
+    print("\n### Columns of instants\n")
+    print(f"| zone | rows | {heads(peers)} | ratio |")
+    print("| --- | --- |" + " --: |" * (len(peers) + 1))
+    for rows, zone in dict.fromkeys(key[1:3] for key in figures):
+        cells = [cell(figures, wrong, ("column", rows, zone, peer)) for peer in peers]
+        by = ratio(figures, wrong, "column", rows, zone)
+        cells.append(f"{by[0]:.2f} ({by[1]})" if by else "-")
+        print(f"| {zone} | {rows} | " + " | ".join(cells) + " |")
+
+
 def command(*words):
     try:
         said = subprocess.run(words, capture_output=True, text=True)
@@ -349,6 +373,7 @@ def main():
     print_work(outputs / "work")
     print_growth(inputs / "growth", outputs / "growth")
     print_lines(figures)
+    print_columns(outputs / "columns" / "figures")
     print("\n### Answers that differ\n")
     print("| peer | zone | question | differ | in the years | one of them | the peer | Sahvumbi |")
     print("|---|---|---|--:|---|---|---|---|")

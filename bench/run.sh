@@ -2,12 +2,12 @@
 # Times lookups of this library, what it does with instants and its programs, compared with other libraries and programs, and
 # writes the tables into bench/results/, with the date as its name. `bench/write_speed.py` puts them into the documents then.
 #
-# usage: bench/run.sh [PART ..]     of sahvumbi work cctz hinnant java glibc cpython chrono lines dumps calls columns kept misses (else all)
+# usage: bench/run.sh [PART ..]     of sahvumbi work cctz hinnant standard java glibc cpython chrono lines dumps calls columns kept misses (else all)
 #
 # First `rt lib` in crates/zoned_ffi builds the archive, and `rt run` in crates/zoneq, crates/zonedump and crates/bench_instants
 # the programs. Debian has the peers:
 #   apt-get install g++ pkg-config libabsl-dev libhowardhinnant-date-dev openjdk-17-jdk-headless mawk python3 tzdata valgrind \
-#     cargo librust-chrono-dev librust-chrono-tz-dev
+#     cargo librust-chrono-dev librust-chrono-tz-dev clang-22 libc++-22-dev
 # A part that lacks something is left out. All times are the processor's. `misses` counts in a simulation, by valgrind.
 #
 #   BENCH_DIR   where inputs, programs and figures are kept (else sahvumbi-bench in the folder for temporary files)
@@ -21,17 +21,19 @@ folder=${BENCH_DIR:-${TMPDIR:-/tmp}/sahvumbi-bench}
 kit=$(dirname "$(rt doc)")
 archive=${ARCHIVE:-$here/../crates/zoned_ffi/out/libzoned_ffi.a}
 results=${RESULTS:-$here/results/$(date -u +%Y-%m-%d).md}
-parts=${*:-sahvumbi work cctz hinnant java glibc cpython chrono lines dumps calls columns kept misses}
+parts=${*:-sahvumbi work cctz hinnant standard java glibc cpython chrono lines dumps calls columns kept misses}
 python=${PYTHON:-python3}
 # As `rt lib` compiles the library.
 processor=x86-64-v2
 compile="${CXX:-g++} -std=c++17 -O2 -march=$processor"
+# The zones of C++20, which g++ 12 lacks, and which libc++ calls experimental.
+standard="${CLANG:-clang++-22} -std=c++20 -stdlib=libc++ -fexperimental-library -O2 -march=$processor -DSTANDARD_ZONES"
 absl=$(pkg-config --cflags --libs absl_time 2> /dev/null)
 inputs=$folder/inputs outputs=$folder/outputs
 
-mkdir -p "$outputs/growth" "$outputs/work"
+mkdir -p "$outputs/growth" "$outputs/work" "$outputs/columns"
 { [ -f "$inputs/names" ] && [ -f "$inputs/stamps_at" ]; } || python3 "$here/make_inputs.py" "$inputs" || exit 1
-[ -n "${KEEP:-}" ] || for part in . growth work; do : > "$outputs/$part/figures"; done
+[ -n "${KEEP:-}" ] || for part in . growth work columns; do : > "$outputs/$part/figures"; done
 
 # Builds a driver in C++, and links what else is named.
 build() {
@@ -58,6 +60,11 @@ run() {
 # The same, and then over the zones that grow.
 run_both() {
     run "$@" && "$@" "$inputs/growth" "$outputs/growth" >> "$outputs/growth/figures"
+}
+
+run_columns() {
+    echo "running $1" >&2
+    "$1" >> "$outputs/columns/figures"
 }
 
 # What is done with instants, by the program that is named.
@@ -93,6 +100,12 @@ for part in $parts; do
             build hinnant -ldate-tz -lpthread && run "$folder/hinnant" &&
                 build work_hinnant -ldate-tz -lpthread && run_work "$folder/work_hinnant"
             ;;
+        standard)
+            # shellcheck disable=SC2086
+            $standard -o "$folder/standard" "$here/drivers/hinnant.cc" && run "$folder/standard" &&
+                $standard -o "$folder/columns_standard" "$here/drivers/columns.cc" "$archive" "$kit/c/liblibc_c.a" &&
+                run_columns "$folder/columns_standard"
+            ;;
         java)
             javac -d "$folder" "$here/drivers/Zones.java" && run_both java -Xmx4g -cp "$folder" Zones && run_java_work
             ;;
@@ -110,7 +123,7 @@ for part in $parts; do
         columns)
             # shellcheck disable=SC2086
             build columns "$archive" "$kit/c/liblibc_c.a" $absl -ldate-tz -lpthread &&
-                echo "running columns" >&2 && "$folder/columns" > "$outputs/columns.md"
+                run_columns "$folder/columns"
             ;;
         kept)
             echo "running time_instants.py" >&2 &&
@@ -125,7 +138,7 @@ for part in $parts; do
 done
 {
     python3 "$here/print_tables.py" "$inputs" "$outputs" &&
-        for part in calls columns kept misses; do [ ! -f "$outputs/$part.md" ] || cat "$outputs/$part.md"; done
+        for part in calls kept misses; do [ ! -f "$outputs/$part.md" ] || cat "$outputs/$part.md"; done
 } > "$outputs/tables.md" || exit 1
 cp "$outputs/tables.md" "$results"
 echo "the tables are in $results" >&2

@@ -1,29 +1,42 @@
-// Times a column of instants that becomes one of local times, by this library and by a loop over what other libraries answer.
+// Times a column of instants that becomes one of local times, by this library and by a loop over what other libraries answer; with
+// -DSTANDARD_ZONES only by one over the zones of C++20.
 //
 // usage: columns
 //
-// It prints a table of docs/SPEED.md: 200,000 instants of the years 1970 to 2036 in nanoseconds, at random, in order, of one day
-// (2021-07-01) and all equal; the processor's time of a row, the least of the passes of 0.3 seconds. All answers of
-// the other libraries are compared with this one's.
+// The columns have 200,000 instants of the years 1970 to 2036 in nanoseconds: at random, in order, of one day (2021-07-01), and all
+// equal. It prints a line for each figure, its fields parted by tabs:  PEER  ZONE  ROWS  NANOSECONDS  ASKED  DIFFER
+//   NANOSECONDS  the processor's time of a row, the least of the passes of 0.3 seconds
+//   ASKED        how many rows it was asked: all of them, or each 1,000th
+//   DIFFER       how many of its answers are not this library's
 #include "common.h"
 #include "../../crates/zoned_ffi/include/zoned_ffi.h"
 
-#include "absl/time/time.h"
 #include <algorithm>
 #include <chrono>
 #include <cstring>
-#include <date/tz.h>
 #include <functional>
 #include <random>
+#ifdef STANDARD_ZONES
+namespace date = std::chrono;
+#else
+#include "absl/time/time.h"
+#include <date/tz.h>
+#endif
 
 static const int64_t NANOS = 1000000000, BEGIN = 0, END = 2114380800, DAY = 1625097600;
 static const size_t ROWS = 200000;
+#ifdef STANDARD_ZONES
+static const size_t STEP = 1000;
+#else
+static const size_t STEP = 1;
+#endif
 
 typedef std::vector<int64_t> Column;
 typedef std::function<void(const Column &, Column &)> Answer;
 
 static int64_t second_of(int64_t instant) { return instant / NANOS - (instant % NANOS < 0); }
 
+// The time of a row that is asked.
 static double least(const Answer &answer, const Column &instants, Column &locals) {
     double best = 1e300;
     for (double spent = 0; spent < PASS_NANOSECONDS;) {
@@ -33,8 +46,48 @@ static double least(const Answer &answer, const Column &instants, Column &locals
         best = std::min(best, took);
         spent += took;
     }
-    return best / (double)instants.size();
+    return best / (double)locals.size();
 }
+
+// The local times by the peer's offset at a second, of each row that is asked.
+template <class Offset> Answer row_by_row(Offset offset) {
+    return [=](const Column &instants, Column &locals) {
+        for (size_t i = 0; i < locals.size(); i++) locals[i] = instants[i * STEP] + offset(second_of(instants[i * STEP])) * NANOS;
+    };
+}
+
+struct Peer {
+    const char *name;
+    Answer answer;
+};
+
+static Answer by_date(const char *name) {
+    const date::time_zone *zone = date::locate_zone(name);
+    return row_by_row([=](int64_t second) -> int64_t {
+        return zone->get_info(date::sys_seconds{std::chrono::seconds{second}}).offset.count();
+    });
+}
+
+#ifdef STANDARD_ZONES
+static std::vector<Peer> peers(const char *name) { return {{"standard", by_date(name)}}; }
+#else
+static std::vector<Peer> peers(const char *name) {
+    absl::TimeZone zone;
+    if (!absl::LoadTimeZone(name, &zone)) exit(2);
+    setenv("TZ", (std::string(":") + name).c_str(), 1);
+    tzset();
+    return {
+        {"cctz", row_by_row([=](int64_t second) -> int64_t { return zone.At(absl::FromUnixSeconds(second)).offset; })},
+        {"hinnant", by_date(name)},
+        {"glibc", row_by_row([=](int64_t second) -> int64_t {
+             time_t asked = second;
+             struct tm fields;
+             localtime_r(&asked, &fields);
+             return fields.tm_gmtoff;
+         })},
+    };
+}
+#endif
 
 int main() {
     const char *names[] = {"America/New_York", "Australia/Lord_Howe", "Africa/Casablanca", "Europe/Dublin", "Asia/Kolkata", "Pacific/Apia"};
@@ -47,52 +100,29 @@ int main() {
     Column random = drawn(BEGIN, END), sorted = random, day = drawn(DAY, DAY + 86400), equal(ROWS, DAY * NANOS);
     std::sort(sorted.begin(), sorted.end());
     std::sort(day.begin(), day.end());
-    printf("\n### Columns of instants\n\n| zone | rows | Sahvumbi | cctz | date | glibc | ratio |\n| --- | --- | --: | --: | --: | --: | --: |\n");
+    const std::pair<const char *, const Column *> columns[] = {{"at random", &random}, {"in order", &sorted}, {"of a day", &day}, {"equal", &equal}};
     for (const char *name : names) {
         std::string bytes = read_file(std::string("/usr/share/zoneinfo/") + name);
         struct zoned_zone zone = {0};
-        absl::TimeZone absl_zone;
-        const date::time_zone *date_zone = date::locate_zone(name);
-        if (zoned_open(ZONED_FILE, bytes.data(), bytes.size(), &zone) != ZONED_OK || !absl::LoadTimeZone(name, &absl_zone)) return 2;
-        setenv("TZ", (std::string(":") + name).c_str(), 1);
-        tzset();
-        const Answer answers[] = {
-            [&](const Column &instants, Column &locals) {
-                size_t row;
-                if (zoned_zone_local(&zone, NANOS, instants.data(), ROWS, locals.data(), ROWS, &row) != ZONED_OK) exit(2);
-            },
-            [&](const Column &instants, Column &locals) {
-                for (size_t i = 0; i < ROWS; i++)
-                    locals[i] = instants[i] + absl_zone.At(absl::FromUnixSeconds(second_of(instants[i]))).offset * NANOS;
-            },
-            [&](const Column &instants, Column &locals) {
-                for (size_t i = 0; i < ROWS; i++) {
-                    date::sys_seconds second{std::chrono::seconds{second_of(instants[i])}};
-                    locals[i] = instants[i] + date_zone->get_info(second).offset.count() * NANOS;
-                }
-            },
-            [&](const Column &instants, Column &locals) {
-                for (size_t i = 0; i < ROWS; i++) {
-                    time_t second = second_of(instants[i]);
-                    struct tm fields;
-                    localtime_r(&second, &fields);
-                    locals[i] = instants[i] + fields.tm_gmtoff * NANOS;
-                }
-            },
+        if (zoned_open(ZONED_FILE, bytes.data(), bytes.size(), &zone) != ZONED_OK) return 2;
+        const Answer one_call = [&](const Column &instants, Column &locals) {
+            size_t row;
+            if (zoned_zone_local(&zone, NANOS, instants.data(), ROWS, locals.data(), ROWS, &row) != ZONED_OK) exit(2);
         };
-        const std::pair<const char *, const Column *> columns[] = {{"at random", &random}, {"in order", &sorted}, {"of a day", &day}, {"equal", &equal}};
+        const std::vector<Peer> others = peers(name);
         for (const auto &column : columns) {
-            double times[4], best = 1e300;
-            Column ours(ROWS), theirs(ROWS);
-            printf("| %s | %s ", strrchr(name, '/') + 1, column.first);
-            for (int peer = 0; peer < 4; peer++) {
-                times[peer] = least(answers[peer], *column.second, peer ? theirs : ours);
-                size_t other = 0;
-                for (size_t i = 0; peer && i < ROWS; i++) other += ours[i] != theirs[i];
-                if (peer && !other) best = std::min(best, times[peer]);
-                printf("| %.1f ns%s ", times[peer], other ? " ≠" : "");
+            Column ours(ROWS);
+            auto print = [&](const char *peer, double took, size_t asked, size_t differ) {
+                printf("%s\t%s\t%s\t%.2f\t%zu\t%zu\n", peer, strrchr(name, '/') + 1, column.first, took, asked, differ);
+            };
+            print("sahvumbi", least(one_call, *column.second, ours), ROWS, 0);
+            for (const Peer &peer : others) {
+                Column theirs(ROWS / STEP);
+                double took = least(peer.answer, *column.second, theirs);
+                size_t differ = 0;
+                for (size_t i = 0; i < theirs.size(); i++) differ += ours[i * STEP] != theirs[i];
+                print(peer.name, took, theirs.size(), differ);
             }
-            printf("| %.2f |\n", times[0] / best);
         }
         zoned_close(&zone);
     }

@@ -1,7 +1,15 @@
-// Howard Hinnant's date as Debian builds it, which reads the system's zones by name alone, and its ptz.h for the TZ text.
+// Howard Hinnant's date as Debian builds it, which reads the system's zones by name alone, and its ptz.h for the TZ text; with
+// -DSTANDARD_ZONES the zones of C++20, which have the same calls.
 #include "common.h"
+#ifdef STANDARD_ZONES
+#include <chrono>
+namespace date = std::chrono;
+static const char PEER[] = "standard";
+#else
 #include <date/ptz.h>
 #include <date/tz.h>
+static const char PEER[] = "hinnant";
+#endif
 #include <utility>
 
 static date::sys_seconds at(int64_t second) { return date::sys_seconds{std::chrono::seconds{second}}; }
@@ -37,15 +45,8 @@ template <class Zone> void time_changes(const Run &run, const std::string &name,
         [&](size_t i) -> int64_t { return gaps[i] - zone.get_info(local(gaps[i])).first.offset.count(); });
 }
 
-int main(int count, char **words) {
-    Run run("hinnant", count, words);
-    const std::pair<const char *, const char *> zones[] = {{"New_York", "America/New_York"},
-                                                           {"London", "Europe/London"},
-                                                           {"Tehran", "Asia/Tehran"},
-                                                           {"Casablanca", "Africa/Casablanca"},
-                                                           {"Sao_Paulo", "America/Sao_Paulo"}};
-    for (auto &[name, full_name] : zones)
-        for (const std::string &years : run.words("years")) time_lookups(run, name, *date::locate_zone(full_name), years);
+#ifndef STANDARD_ZONES
+static void time_text(const Run &run) {
     std::string text = read_file(run.inputs + "/text");
     size_t used;
     double took = least_time(100000, &used, [&](size_t) {
@@ -55,6 +56,21 @@ int main(int count, char **words) {
     run.figure("Text", "read", "-", took, used);
     const Posix::time_zone zone{text};
     for (const std::string &years : run.words("years")) time_lookups(run, "Text", zone, years);
-    time_changes(run, "New_York", *date::locate_zone("America/New_York"));
     time_changes(run, "Text", zone);
+}
+#endif
+
+int main(int count, char **words) {
+    Run run(PEER, count, words);
+    const std::pair<const char *, const char *> zones[] = {{"New_York", "America/New_York"},
+                                                           {"London", "Europe/London"},
+                                                           {"Tehran", "Asia/Tehran"},
+                                                           {"Casablanca", "Africa/Casablanca"},
+                                                           {"Sao_Paulo", "America/Sao_Paulo"}};
+    for (auto &[name, full_name] : zones)
+        for (const std::string &years : run.words("years")) time_lookups(run, name, *date::locate_zone(full_name), years);
+    time_changes(run, "New_York", *date::locate_zone("America/New_York"));
+#ifndef STANDARD_ZONES
+    time_text(run);
+#endif
 }
