@@ -18,8 +18,8 @@ usage: tools/check_documents.py [--write]
 - Each wrong definition of crates/tests_pins/wrong has its texts once in its page and names pins that there are, and docs/DEFINITIONS.md
   has each pin once, with the wrong definitions that it rejects, which --write puts there (tools/try_definitions.py).
 - No call for C requires anything: what C passes is checked, or is what the header says.
-- The numbers of tz_info::Error, 1 to 17, have the same words in docs/PROGRAMS.md, in the comments of `Error`, in the texts of
-  zoned_ffi, in its header and in the Python package, and these have all that C returns.
+- docs/PROGRAMS.md has the numbers of tz_info::Error, 1 to 17, with the words of the comments of `Error`, which --write puts there. The
+  texts of zoned_ffi, its header and the Python package have the same words, and all numbers that C returns.
 - Turns of phrase that CONTRIBUTING.md asks to avoid aren't more often in documents and doc comments than tools/habits.py allows.
 - No document has a line that a merge left behind.
 - The code blocks in Rattle are code of the crates (tools/try_documents.py).
@@ -63,6 +63,7 @@ FROM_CHRONO = TOP / "docs/FROM_CHRONO.md"
 SPEED = TOP / "docs/SPEED.md"
 PROGRAMS = TOP / "docs/PROGRAMS.md"
 ERROR = TOP / "crates/tz_base/src/error.rt"
+NUMBERS = TOP / "crates/tz_base/specs/Errors.antt"
 TEXTS = TOP / "crates/zoned_ffi/specs/Texts.antt"
 HEADER = TOP / "crates/zoned_ffi/include/zoned_ffi.h"
 PYTHON = TOP / "python/src/sahvumbi/errors.py"
@@ -380,17 +381,28 @@ def first_sentence(comment):
     return sentence[:1].lower() + sentence[1:]
 
 
-def number_faults():
-    """Numbers 1 to 17 whose words differ from those of PROGRAMS.md."""
-    rows = re.findall(r"(?m)^\| (\d+) \| `(\w+)` \| (.*) \|$", text_of(PROGRAMS))
-    words = {int(number): said for number, _, said in rows}
-    names = {name: int(number) for number, name, _ in rows}
+def numbers_of_errors():
+    """The number of each variant of `Error`, with its name and the words of its comment."""
     error = text_of(ERROR).partition("\npub enum Error {\n")[2].partition("\n}\n")[0]
     variants = re.findall(r"((?: *///[^\n]*\n)+) *#\[error[^\n]*\n *(\w+)", error)
+    numbers = dict(re.findall(r"(?m)^number_of \(?errors\.(\w+).* = (\d+)$", text_of(NUMBERS)))
+    return {int(numbers[name]): (name, first_sentence(comment)) for comment, name in variants}
+
+
+def with_numbers(text):
+    """The page of the programs with a row for each number of an error."""
+    rows = [f"| {number} | `{name}` | {words} |" for number, (name, words) in sorted(numbers_of_errors().items())]
+    table = "\n".join(["| number | variant | means |", "|---|---|---|", *rows])
+    return re.sub(r"(?s)(<!-- numbers of errors -->\n).*?(\n<!-- end -->)", lambda found: found[1] + table + found[2], text)
+
+
+def number_faults():
+    """Numbers 1 to 17 whose words differ from those of the comments of `Error`."""
+    words = {number: said for number, (_, said) in numbers_of_errors().items()}
+    names = {name: number for number, (name, _) in numbers_of_errors().items()}
     constants = {"ZONED_" + re.sub(r"(?<=[a-z])(?=[A-Z])", "_", name).upper(): number for name, number in names.items()}
     defines = re.findall(r"(?m)^ {4}(ZONED_\w+) = (\d+),? */\* (.*) \*/$", text_of(HEADER))
     places = {
-        ERROR: {names.get(name, name): first_sentence(comment) for comment, name in variants},
         TEXTS: {int(number): said for number, said in re.findall(r'IsSaidOf (\d+) \(codes "(.*)"\)', text_of(TEXTS))},
         HEADER: {int(number): said for name, number, said in defines if constants.get(name) == int(number)},
         PYTHON: {int(number): said for number, said in re.findall(r'(?m)^ {4}(\d+): "(.*)",$', text_of(PYTHON))},
@@ -398,13 +410,15 @@ def number_faults():
     at_instants = re.search(r'(?m)^ {4}NO_OFFSET: "(.*)",$', text_of(PYTHON))
     places[PYTHON][2] = at_instants and at_instants[1]
     returned = {number for number in places[TEXTS] if 0 < number < 18}
-    due = {ERROR: set(range(1, 18)), TEXTS: returned, HEADER: returned, PYTHON: returned | {2}}
+    due = {TEXTS: returned, HEADER: returned, PYTHON: returned | {2}}
     if sorted(words) != list(range(1, 18)) or len(returned) < 12:
-        yield f"{shown(PROGRAMS)}: its table of numbers isn't read, or that of {shown(TEXTS)}"
+        yield f"{shown(ERROR)}: its comments aren't read, or the table of {shown(TEXTS)}"
+    if with_numbers(text_of(PROGRAMS)) != text_of(PROGRAMS):
+        yield f"{shown(PROGRAMS)}: its table of numbers isn't that of {shown(ERROR)} (--write puts it there)"
     for path, said in places.items():
         for number in sorted(due[path] | {number for number in said if number in words}):
             if said.get(number) != words.get(number):
-                yield f"{shown(path)}: {number} is {said.get(number)!r}, and {words.get(number)!r} in {shown(PROGRAMS)}"
+                yield f"{shown(path)}: {number} is {said.get(number)!r}, and {words.get(number)!r} in {shown(ERROR)}"
 
 
 # What README and FROM_CHRONO say of the kit and of the code
@@ -479,6 +493,7 @@ def main():
         write_index()
         write_planted()
         MAP.write_text(with_crates(text_of(MAP)))
+        PROGRAMS.write_text(with_numbers(text_of(PROGRAMS)))
         write_rejected()
         write_counts()
         lower_long_lines()
