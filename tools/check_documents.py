@@ -15,6 +15,7 @@ usage: tools/check_documents.py [--write]
   each module begins with a comment that says what it is.
 - Each page that a public contract of the libraries of `zoned` cites is passed on by zoned/specs/Lib.antt, and each type that
   one cites is a name of `zoned`.
+- docs/PYTHON.md has the calls about a column, each with the first sentence of its docstring, which --write puts there.
 - Each wrong definition of crates/tests_pins/wrong has its texts once in its page and names pins that there are, and docs/DEFINITIONS.md
   has each pin once, with the wrong definitions that it rejects, which --write puts there (tools/try_definitions.py).
 - No call for C requires anything: what C passes is checked, or is what the header says.
@@ -34,6 +35,7 @@ usage: tools/check_documents.py [--write]
 Prints a line for each fault, with its place, and ends with status 1 if there is one.
 """
 
+import ast
 import re
 import shutil
 import subprocess
@@ -67,6 +69,9 @@ NUMBERS = TOP / "crates/tz_base/specs/Errors.antt"
 TEXTS = TOP / "crates/zoned_ffi/specs/Texts.antt"
 HEADER = TOP / "crates/zoned_ffi/include/zoned_ffi.h"
 PYTHON = TOP / "python/src/sahvumbi/errors.py"
+PYTHON_PAGE = TOP / "docs/PYTHON.md"
+# The modules whose calls PYTHON.md lists: those of a zone, and functions of the package.
+OF_ZONES, OF_PACKAGE = ["zone", "_stretches"], ["_differences", "_many"]
 INDEX = "## Index of the words that contracts cite\n"
 PLANTED = "## The list of planted bugs\n"
 IN_PART, BY_HAND = "mutants", "mutants-by-hand"
@@ -421,6 +426,31 @@ def number_faults():
                 yield f"{shown(path)}: {number} is {said.get(number)!r}, and {words.get(number)!r} in {shown(ERROR)}"
 
 
+# The calls of the Python package
+
+
+def documented_calls(module):
+    """The calls of a module that users have, each with the first sentence of its docstring."""
+    for node in ast.walk(ast.parse(text_of(PYTHON.parent / f"{module}.py"))):
+        says = isinstance(node, ast.FunctionDef) and not node.name.startswith("_") and ast.get_docstring(node)
+        if says and (module in OF_ZONES or f'"{node.name}"' in text_of(PYTHON.parent / "__init__.py")):
+            parameters = [each.arg for each in node.args.args if each.arg != "self"]
+            sentence = " ".join(says.partition("\n\n")[0].split()).removeprefix("Returns ").removesuffix(".")
+            yield f"{'zone.' * (module in OF_ZONES)}{node.name}({', '.join(parameters)})", sentence
+
+
+def with_calls(text):
+    """The page of the Python package with a row for each call about a column."""
+    rows = [f"| `{call}` | {says} |" for module in OF_ZONES + OF_PACKAGE for call, says in documented_calls(module)]
+    table = "\n".join(["| call | returns |", "|---|---|", *rows])
+    return re.sub(r"(?s)(<!-- calls -->\n).*?(\n<!-- end -->)", lambda found: found[1] + table + found[2], text)
+
+
+def call_faults():
+    if with_calls(text_of(PYTHON_PAGE)) != text_of(PYTHON_PAGE):
+        yield f"{shown(PYTHON_PAGE)}: its table of calls isn't that of the docstrings (--write puts it there)"
+
+
 # What README and FROM_CHRONO say of the kit and of the code
 
 
@@ -483,7 +513,7 @@ def not_passed_on():
 
 CHECKS = [
     links, merge_lines, habits, unknown_words, stale_words, index_faults, edits, unused_lemmas, unlisted_pages, map_faults,
-    not_passed_on, required_of_c, number_faults, facts_of_documents, figure_faults, count_faults, line_faults,
+    not_passed_on, required_of_c, number_faults, call_faults, facts_of_documents, figure_faults, count_faults, line_faults,
     rattle_blocks, wrong_definitions,
 ]
 
@@ -494,6 +524,7 @@ def main():
         write_planted()
         MAP.write_text(with_crates(text_of(MAP)))
         PROGRAMS.write_text(with_numbers(text_of(PROGRAMS)))
+        PYTHON_PAGE.write_text(with_calls(text_of(PYTHON_PAGE)))
         write_rejected()
         write_counts()
         lower_long_lines()

@@ -24,14 +24,14 @@ HABITS = [
     ("want of", "lack of, out of", r"\bwant of\b", 0, 0),
     ("be they", "whether", r"\bbe (?:they|it)\b", 0, 0),
     ("so many, such a one", "n, one", r"\b(?:so many|such a one|no more do)\b", 0, 7),
-    ("is none", "does not count, is not one", r"\b(?:is|are) none\b", 3, 9),
+    ("is none", "does not count, is not one", r"\b(?:is|are) none\b", 1, 9),
     ("alone after a noun", "only", r"\balone\b", 0, 8),
     ("beside", "with, compared with, as well as", r"\bbeside\b", 0, 2),
-    ("behind", "after", r"\bbehind\b(?! UTC)", 2, 3),
+    ("behind", "after", r"\bbehind\b(?! UTC)", 1, 3),
     ("refused", "rejected, returns an error", r"\brefus\w+", 2, 17),
     ("reading for a local time", "local time, local date-time", r"\breadings?\b", 5, 12),
     ("TZ text", "TZ string", r"\bTZ texts?\b", 1, 22),
-    ("where for a condition", "if, when", r"\bwhere (?:that|it|there|the|a|no|one|they|clocks|these|none|its|all|each|both|any)\b", 20, 51),
+    ("where for a condition", "if, when", r"\bwhere (?:that|it|there|the|a|no|one|they|clocks|these|none|its|all|each|both|any)\b", 19, 51),
     ("wrong body", "planted bug", r"\bwrong bod\w+", 0, 0),
 ]
 
