@@ -90,10 +90,10 @@ pub fn leap_times_law()
         -ℤ (slice_index_or leaps k d).correction }
 {}
 
-/// At each second a zone has one type, which stands in its list or is its rule's, or it has none.
+/// At each second a zone has one type, which is in its list or its rule's, or it has none.
 /// At the last transition's second the transition's type is in force, with a rule or without one,
-/// unless the second's leap time is before the transition: that is so where a leap second is left
-/// out at the transition.
+/// unless the second's leap time is before the transition, as if a leap second is left out at the
+/// transition.
 pub fn zone_types_law()
     ensures once { (z : Zone) (u : ℤ) (s t : LocalType) → TypeAt z u s → TypeAt z u t → s ≡ t }
     ensures apart { (z : Zone) (u : ℤ) (t : LocalType) → TypeAt z u t → ¬ (IsTypeRefused z u) }

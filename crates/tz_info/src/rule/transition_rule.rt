@@ -1,4 +1,4 @@
-//! The rule of a TZ text.
+//! The rule of a TZ string.
 
 ghost use Rattle.std.specs.Prelude.{◌≡◌, MatchResult};
 ghost use Rattle.tz_base.specs.declared.error.Error.TheVariants.{OutOfRange};
@@ -7,7 +7,7 @@ ghost use Rattle.tz_base.specs.declared.error.Expected.TheVariants.{YearThatRule
 use crate::rule::alternate::AlternateTime;
 use tz_base::{Error, LocalTimeType};
 
-/// What a TZ text says: one type for ever, or two that take turns each year.
+/// What a TZ string says: one type forever, or two that take turns each year.
 #[derive(Clone, Copy, Debug, PartialEq, Eq)]
 pub enum TransitionRule {
     /// One type at every instant.

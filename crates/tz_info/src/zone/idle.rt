@@ -12,7 +12,7 @@ use crate::zone::segments::{Lists, index_of_segment};
 use crate::zone::time_zone::TimeZone;
 use std::alloc::{AllocError, Global};
 
-// Longer steps than this are not tried: no list has so many transitions.
+// Longer steps than this are not tried: no list has that many transitions.
 const LONGEST_STEP: usize = 2_147_483_648;
 
 // Where runs of transitions that change nothing start.
@@ -122,7 +122,7 @@ impl TimeZone {
         next
     }
 
-    // The place so many places on, if no transition from the first place up to there changes
+    // The place that many places on, if no transition from the first place up to there changes
     // anything, or else that place.
     fn stepped(&self, first: usize, next: usize, step: usize, count: usize) -> usize
         requires some { 0 < step }
