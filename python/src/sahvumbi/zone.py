@@ -204,7 +204,8 @@ class Zone(Stretches):
     def explain(self, local_times: Any) -> Any:
         """Returns how often, and when, the zone's clocks show each local time: a `WallClocks`.
 
-        Of a Series or an Index it is a DataFrame with its labels, and a column for each field of
+        `shown` is 0 for never, 1 for once, 2 for several times, 3 for out of range and -1 for NaT. Of a
+        Series or an Index the answer is a DataFrame with its labels, and a column for each field of
         `WallClocks`. Raises `OutOfRangeError` if an instant doesn't fit the column's type.
 
         >>> explained = Zone("America/New_York").explain([1_615_689_000, 1_636_248_600])
