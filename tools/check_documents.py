@@ -1,10 +1,10 @@
 #!/usr/bin/env python3
-"""Holds the documents beside the code, in seconds and without a proof.
+"""Checks the documents against the code, in seconds and without a proof.
 
 usage: tools/check_documents.py [--write]
 
 - Each relative link of a document leads to a file, and its anchor to a heading there.
-- Each word between backquotes in README.md and docs/ is a name of the code, or stands in tools/known_words.txt, which lists
+- Each word between backquotes in README.md and docs/ is a name of the code, or is in tools/known_words.txt, which lists
   the names of chrono, of the kit and of other programs that the documents speak of.
 - The index at the end of docs/DEFINITIONS.md has each word of specs/ that a public contract cites, other than a pin: its page and
   its meaning, which is the comment before its definition, or before that of several words. --write writes the index.
@@ -122,7 +122,7 @@ def merge_lines():
 
 @lru_cache(maxsize=None)
 def names_of_code():
-    """Each name that stands in the code, outside comments, and the names of files and folders."""
+    """Each name of the code, outside comments, and the names of files and folders."""
     names = set()
     for folder in ("src", "specs", "proofs"):
         for path in chain(files(folder, ".rt"), files(folder, ".antt")):
@@ -266,7 +266,7 @@ def write_planted():
 
 
 def edit_faults(crate, path):
-    """An edit that can't be applied: an old text that stands nowhere, or twice."""
+    """An edit that can't be applied: its old text isn't in the file, or is there twice."""
     texts, file = {}, None
     for row in text_of(path).splitlines():
         key, _, value = row.partition(": ")
@@ -381,7 +381,7 @@ def required_of_c():
 
 
 def first_sentence(comment):
-    """A comment's first sentence, as it stands in a table."""
+    """A comment's first sentence, as a table has it."""
     sentence = re.split(r"\.(?:\s|$)", " ".join(comment.replace("///", " ").split()))[0]
     return sentence[:1].lower() + sentence[1:]
 
