@@ -4,7 +4,7 @@
 usage: tools/try_zoneq.py [ZONEQ]
 
 ZONEQ is the built program (crates/zoneq/out/zoneq). It is run on its stored input, on a full and on a closed standard output,
-on a closed standard input and one that is a folder, with a closed standard error, on a dialogue that waits for each answer,
+on a closed standard input and one that is a folder, with a full standard error, on a dialogue that waits for each answer,
 and on long lines in little memory. Each run must end with the status, the output and the line on standard error that are
 due. Prints a line for each run, and ends with status 1 if an answer differs. It takes a few seconds and builds nothing.
 """
