@@ -67,7 +67,7 @@ pub fn rule_moments_law()
 {}
 
 /// Leap times rise weakly with Unix times, and within 10^13 seconds of 1970 each second has one.
-/// Where the corrections are 1, 2, 3 and so on, the Unix time of a Unix time's leap time is that
+/// If the corrections are 1, 2, 3 and so on, the Unix time of a Unix time's leap time is that
 /// Unix time. At the first entry's own leap time the Unix time is equal to it, and at a later one's
 /// it is less by the correction of the entry before.
 pub fn leap_times_law()
