@@ -105,7 +105,7 @@ def tables(text):
 
 
 def nanoseconds(cell):
-    """The time in a cell, and None where there is none."""
+    """The time in a cell, or None if it has none."""
     words = cell.split()
     return float(words[0]) * UNITS[words[1]] if len(words) > 1 and words[1] in UNITS else None
 

@@ -85,7 +85,7 @@ ASKED = {"at": "an instant", "wall": "a wall clock", "next": "the next change", 
 # How many instants an answer has.
 SIZES = {"daily": 28}
 GOAL = 0.5
-# The answer of this library where a wall clock shows no time, or several.
+# The answer of this library if a wall clock shows no time, or several.
 NO_INSTANT = str(-(1 << 63))
 # The peers whose answers are of another kind than the question's: mktime answers one instant, whatever the wall clock shows.
 NO_ANSWER = {("glibc", "wall")}
@@ -155,7 +155,7 @@ def cell(figures, wrong, key):
 
 
 def best_peer(figures, wrong, question, years, zone):
-    """The least time of a peer whose answers are ours, and the peer; None where there is none."""
+    """The least time of a peer whose answers are ours, and the peer; None if there isn't one."""
     times = [
         (figures[key], peer)
         for peer in PEERS
@@ -190,7 +190,7 @@ def above(by):
 
 
 def differences(figures, answers):
-    """Of each figure whose answers differ from this library's, what Answers.difference tells."""
+    """Of each figure whose answers differ from this library's, what Answers.difference returns."""
     wrong = {}
     for question, years, zone, peer in figures:
         if question in ("read", *LINES) or peer == OURS or (peer, question) in NO_ANSWER:

@@ -86,6 +86,12 @@ def conditions(text, results):
     return f"{line}{by_the_clock} [All tables](../bench/results/{results.name})."
 
 
+def at_once(text):
+    """How many programs ran at a time, if the file says so."""
+    found = re.search(r"Up to \w+ programs ran at a time[^.]*\.", text)
+    return f" {found[0]}" if found else ""
+
+
 def listed(found):
     """README's sentence on zonedump."""
     times = {row["program"]: row["processor's time for each"] for row in found["The programs"]}
@@ -108,7 +114,7 @@ def parts(results):
         "listed": lambda: listed(found),
         "differ": lambda: differences(found),
         "measured": lambda: conditions(text, results),
-        "New York": lambda: f"{lookup_of_new_york(found)}\n\n({measured(text)}{BUSY if ONE_CALL in text else ''}.)",
+        "New York": lambda: f"{lookup_of_new_york(found)}\n\n({measured(text)}{BUSY if ONE_CALL in text else ''}.{at_once(text)})",
     }
     for name, part in made.items():
         try:

@@ -100,7 +100,7 @@ def answer(folder, number, zones):
     save(path(folder, "instants", number), instants)
     days = (shown.astype("M8[D]") - FIRST_DAY).astype(np.int64)
     counts = np.bincount(codes * DAYS + days, minlength=len(zones) * DAYS)
-    # A sum that tells each row's place, so that two orders of the same instants differ.
+    # A sum that depends on each row's place, so that two orders of the same instants differ.
     places = np.arange(1, 2 * local.size, 2, dtype=np.uint64)
     weighed = int((instants.view(np.uint64) * places).sum(dtype=np.uint64))
     return Answer(local.size, int((shown != local).sum()), counts.astype(np.int32), [weighed])

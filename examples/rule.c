@@ -1,11 +1,11 @@
-/* What a TZ text says, and when: an example of zoned.h with the calls that zones.c leaves out. From the top of the
+/* What a TZ string says, and when: an example of zoned.h with the calls that zones.c leaves out. From the top of the
    repository, after `rt lib` in crates/zoned_ffi:
 
      gcc -O2 -Icrates/zoned_ffi/include -o ./rule_c examples/rule.c crates/zoned_ffi/out/libzoned_ffi.a "$(dirname "$(rt doc)")/c/liblibc_c.a"
      ./rule_c EST5EDT,M3.2.0,M11.1.0 1615705200 1615689000 1636248600
 
-   The text is read once by itself, so that a fault is told before any question. Of each number it says the offset at that
-   Unix second, and at which offsets a clock shows as many seconds since 1970-01-01 00:00:00. */
+   The string is read once by itself, so that a fault is reported before any question. For each number it prints the offset at
+   that Unix second, and at which offsets a clock shows as many seconds since 1970-01-01 00:00:00. */
 #include <zoned.h>
 
 #include <inttypes.h>

@@ -12,7 +12,7 @@
 #include <stdio.h>
 #include <stdlib.h>
 
-/* The bytes of a file; NULL where it can't be read. */
+/* The bytes of a file; NULL if it can't be read. */
 static uint8_t *read_file(const char *path, size_t *len) {
     FILE *file = fopen(path, "rb");
     if (!file) return NULL;
@@ -49,7 +49,7 @@ static void print_clock(int64_t second, const zoned_wall_clock *clock) {
     }
 }
 
-/* Asks the zone of each second: what a call refuses, or ZONED_OK. */
+/* Asks the zone about each second. Returns the error of a call, or ZONED_OK. */
 static uint32_t answer(const struct zoned_zone *zone, int count, char **seconds) {
     for (int i = 0; i < count; i++) {
         int64_t second = strtoll(seconds[i], NULL, 10);

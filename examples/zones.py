@@ -61,7 +61,7 @@ class Resolved(ctypes.Structure):
 
 
 class Refused(Exception):
-    """The number of a refusal, and what it means."""
+    """The number of an error, and what it means."""
 
 
 class Zones:

@@ -58,7 +58,7 @@ extern "C" {
     fn zoned_error_text(number: u32, text: *mut u8, text_len: usize) -> usize;
 }
 
-/// The number of a refusal; docs/PROGRAMS.md says what it means.
+/// The number of an error; docs/PROGRAMS.md says what it means.
 #[derive(Debug)]
 struct Refused(u32);
 

@@ -1,10 +1,10 @@
 #!/usr/bin/env python3
-"""Holds the documents beside the code, in seconds and without a proof.
+"""Checks the documents against the code, in seconds and without a proof.
 
 usage: tools/check_documents.py [--write]
 
 - Each relative link of a document leads to a file, and its anchor to a heading there.
-- Each word between backquotes in README.md and docs/ is a name of the code, or stands in tools/known_words.txt, which lists
+- Each word between backquotes in README.md and docs/ is a name of the code, or is in tools/known_words.txt, which lists
   the names of chrono, of the kit and of other programs that the documents speak of.
 - The index at the end of docs/DEFINITIONS.md has each word of specs/ that a public contract cites, other than a pin: its page and
   its meaning, which is the comment before its definition, or before that of several words. --write writes the index.
@@ -15,11 +15,12 @@ usage: tools/check_documents.py [--write]
   each module begins with a comment that says what it is.
 - Each page that a public contract of the libraries of `zoned` cites is passed on by zoned/specs/Lib.antt, and each type that
   one cites is a name of `zoned`.
+- docs/PYTHON.md has the calls about a column, each with the first sentence of its docstring, which --write puts there.
 - Each wrong definition of crates/tests_pins/wrong has its texts once in its page and names pins that there are, and docs/DEFINITIONS.md
   has each pin once, with the wrong definitions that it rejects, which --write puts there (tools/try_definitions.py).
 - No call for C requires anything: what C passes is checked, or is what the header says.
-- The numbers of tz_info::Error, 1 to 17, have the same words in docs/PROGRAMS.md, in the comments of `Error`, in the texts of
-  zoned_ffi, in its header and in the Python package, and these have all that C returns.
+- docs/PROGRAMS.md has the numbers of tz_info::Error, 1 to 17, with the words of the comments of `Error`, which --write puts there. The
+  texts of zoned_ffi, its header and the Python package have the same words, and all numbers that C returns.
 - Turns of phrase that CONTRIBUTING.md asks to avoid aren't more often in documents and doc comments than tools/habits.py allows.
 - No document has a line that a merge left behind.
 - The code blocks in Rattle are code of the crates (tools/try_documents.py).
@@ -34,6 +35,7 @@ usage: tools/check_documents.py [--write]
 Prints a line for each fault, with its place, and ends with status 1 if there is one.
 """
 
+import ast
 import re
 import shutil
 import subprocess
@@ -63,9 +65,13 @@ FROM_CHRONO = TOP / "docs/FROM_CHRONO.md"
 SPEED = TOP / "docs/SPEED.md"
 PROGRAMS = TOP / "docs/PROGRAMS.md"
 ERROR = TOP / "crates/tz_base/src/error.rt"
+NUMBERS = TOP / "crates/tz_base/specs/Errors.antt"
 TEXTS = TOP / "crates/zoned_ffi/specs/Texts.antt"
 HEADER = TOP / "crates/zoned_ffi/include/zoned_ffi.h"
 PYTHON = TOP / "python/src/sahvumbi/errors.py"
+PYTHON_PAGE = TOP / "docs/PYTHON.md"
+# The modules whose calls PYTHON.md lists: those of a zone, and functions of the package.
+OF_ZONES, OF_PACKAGE = ["zone", "_stretches"], ["_differences", "_many"]
 INDEX = "## Index of the words that contracts cite\n"
 PLANTED = "## The list of planted bugs\n"
 IN_PART, BY_HAND = "mutants", "mutants-by-hand"
@@ -116,7 +122,7 @@ def merge_lines():
 
 @lru_cache(maxsize=None)
 def names_of_code():
-    """Each name that stands in the code, outside comments, and the names of files and folders."""
+    """Each name of the code, outside comments, and the names of files and folders."""
     names = set()
     for folder in ("src", "specs", "proofs"):
         for path in chain(files(folder, ".rt"), files(folder, ".antt")):
@@ -260,7 +266,7 @@ def write_planted():
 
 
 def edit_faults(crate, path):
-    """An edit that can't be applied: an old text that stands nowhere, or twice."""
+    """An edit that can't be applied: its old text isn't in the file, or is there twice."""
     texts, file = {}, None
     for row in text_of(path).splitlines():
         key, _, value = row.partition(": ")
@@ -375,22 +381,33 @@ def required_of_c():
 
 
 def first_sentence(comment):
-    """A comment's first sentence, as it stands in a table."""
+    """A comment's first sentence, as a table has it."""
     sentence = re.split(r"\.(?:\s|$)", " ".join(comment.replace("///", " ").split()))[0]
     return sentence[:1].lower() + sentence[1:]
 
 
-def number_faults():
-    """Numbers 1 to 17 whose words differ from those of PROGRAMS.md."""
-    rows = re.findall(r"(?m)^\| (\d+) \| `(\w+)` \| (.*) \|$", text_of(PROGRAMS))
-    words = {int(number): said for number, _, said in rows}
-    names = {name: int(number) for number, name, _ in rows}
+def numbers_of_errors():
+    """The number of each variant of `Error`, with its name and the words of its comment."""
     error = text_of(ERROR).partition("\npub enum Error {\n")[2].partition("\n}\n")[0]
     variants = re.findall(r"((?: *///[^\n]*\n)+) *#\[error[^\n]*\n *(\w+)", error)
+    numbers = dict(re.findall(r"(?m)^number_of \(?errors\.(\w+).* = (\d+)$", text_of(NUMBERS)))
+    return {int(numbers[name]): (name, first_sentence(comment)) for comment, name in variants}
+
+
+def with_numbers(text):
+    """The page of the programs with a row for each number of an error."""
+    rows = [f"| {number} | `{name}` | {words} |" for number, (name, words) in sorted(numbers_of_errors().items())]
+    table = "\n".join(["| number | variant | means |", "|---|---|---|", *rows])
+    return re.sub(r"(?s)(<!-- numbers of errors -->\n).*?(\n<!-- end -->)", lambda found: found[1] + table + found[2], text)
+
+
+def number_faults():
+    """Numbers 1 to 17 whose words differ from those of the comments of `Error`."""
+    words = {number: said for number, (_, said) in numbers_of_errors().items()}
+    names = {name: number for number, (name, _) in numbers_of_errors().items()}
     constants = {"ZONED_" + re.sub(r"(?<=[a-z])(?=[A-Z])", "_", name).upper(): number for name, number in names.items()}
     defines = re.findall(r"(?m)^ {4}(ZONED_\w+) = (\d+),? */\* (.*) \*/$", text_of(HEADER))
     places = {
-        ERROR: {names.get(name, name): first_sentence(comment) for comment, name in variants},
         TEXTS: {int(number): said for number, said in re.findall(r'IsSaidOf (\d+) \(codes "(.*)"\)', text_of(TEXTS))},
         HEADER: {int(number): said for name, number, said in defines if constants.get(name) == int(number)},
         PYTHON: {int(number): said for number, said in re.findall(r'(?m)^ {4}(\d+): "(.*)",$', text_of(PYTHON))},
@@ -398,13 +415,40 @@ def number_faults():
     at_instants = re.search(r'(?m)^ {4}NO_OFFSET: "(.*)",$', text_of(PYTHON))
     places[PYTHON][2] = at_instants and at_instants[1]
     returned = {number for number in places[TEXTS] if 0 < number < 18}
-    due = {ERROR: set(range(1, 18)), TEXTS: returned, HEADER: returned, PYTHON: returned | {2}}
+    due = {TEXTS: returned, HEADER: returned, PYTHON: returned | {2}}
     if sorted(words) != list(range(1, 18)) or len(returned) < 12:
-        yield f"{shown(PROGRAMS)}: its table of numbers isn't read, or that of {shown(TEXTS)}"
+        yield f"{shown(ERROR)}: its comments aren't read, or the table of {shown(TEXTS)}"
+    if with_numbers(text_of(PROGRAMS)) != text_of(PROGRAMS):
+        yield f"{shown(PROGRAMS)}: its table of numbers isn't that of {shown(ERROR)} (--write puts it there)"
     for path, said in places.items():
         for number in sorted(due[path] | {number for number in said if number in words}):
             if said.get(number) != words.get(number):
-                yield f"{shown(path)}: {number} is {said.get(number)!r}, and {words.get(number)!r} in {shown(PROGRAMS)}"
+                yield f"{shown(path)}: {number} is {said.get(number)!r}, and {words.get(number)!r} in {shown(ERROR)}"
+
+
+# The calls of the Python package
+
+
+def documented_calls(module):
+    """The calls of a module that users have, each with the first sentence of its docstring."""
+    for node in ast.walk(ast.parse(text_of(PYTHON.parent / f"{module}.py"))):
+        says = isinstance(node, ast.FunctionDef) and not node.name.startswith("_") and ast.get_docstring(node)
+        if says and (module in OF_ZONES or f'"{node.name}"' in text_of(PYTHON.parent / "__init__.py")):
+            parameters = [each.arg for each in node.args.args if each.arg != "self"]
+            sentence = " ".join(says.partition("\n\n")[0].split()).removeprefix("Returns ").removesuffix(".")
+            yield f"{'zone.' * (module in OF_ZONES)}{node.name}({', '.join(parameters)})", sentence
+
+
+def with_calls(text):
+    """The page of the Python package with a row for each call about a column."""
+    rows = [f"| `{call}` | {says} |" for module in OF_ZONES + OF_PACKAGE for call, says in documented_calls(module)]
+    table = "\n".join(["| call | returns |", "|---|---|", *rows])
+    return re.sub(r"(?s)(<!-- calls -->\n).*?(\n<!-- end -->)", lambda found: found[1] + table + found[2], text)
+
+
+def call_faults():
+    if with_calls(text_of(PYTHON_PAGE)) != text_of(PYTHON_PAGE):
+        yield f"{shown(PYTHON_PAGE)}: its table of calls isn't that of the docstrings (--write puts it there)"
 
 
 # What README and FROM_CHRONO say of the kit and of the code
@@ -469,7 +513,7 @@ def not_passed_on():
 
 CHECKS = [
     links, merge_lines, habits, unknown_words, stale_words, index_faults, edits, unused_lemmas, unlisted_pages, map_faults,
-    not_passed_on, required_of_c, number_faults, facts_of_documents, figure_faults, count_faults, line_faults,
+    not_passed_on, required_of_c, number_faults, call_faults, facts_of_documents, figure_faults, count_faults, line_faults,
     rattle_blocks, wrong_definitions,
 ]
 
@@ -479,6 +523,8 @@ def main():
         write_index()
         write_planted()
         MAP.write_text(with_crates(text_of(MAP)))
+        PROGRAMS.write_text(with_numbers(text_of(PROGRAMS)))
+        PYTHON_PAGE.write_text(with_calls(text_of(PYTHON_PAGE)))
         write_rejected()
         write_counts()
         lower_long_lines()

@@ -1,4 +1,4 @@
-"""What is due beside what was given, for the scripts beside it that try built programs."""
+"""Compares what is due with what was given, for the scripts that try built programs."""
 
 failures = 0
 

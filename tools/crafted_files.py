@@ -1,15 +1,15 @@
 #!/usr/bin/env python3
-"""Tells what a TZif file comes to when one of its bytes is another: a reading of RFC 8536 of its own, beside the library's.
+"""Says what a TZif file means when one of its bytes is changed: a second reader of RFC 8536, to compare with the library's.
 
 usage: tools/crafted_files.py [--check]
 
 For each file of crates/zoned_vectors/src/vectors.rt, and for each of the bytes 0x00, 0x7f, 0x80 and 0xff, each byte of the
 file is replaced by that byte in turn. Prints a constant of crates/zoned_vectors/tests/answers.txt for each of these rows: a
-letter for each place, `.` for a zone, and else the number of the refusal, from 10 on as a letter (`a` for 10). With
---check, compares them with that file, and ends with status 1 where it says something else.
+letter for each place, `.` for a zone, and else the number of the error, from 10 on as a letter (`a` for 10). With
+--check, compares them with that file, and ends with status 1 if they differ.
 
-The reading is written from RFC 8536 and from what the library says of its numbers and of the order of its checks, in another
-language, and shares no code with it. So where both agree, a fault would have to stand twice.
+The reader is written from RFC 8536 and from what the library says of its numbers and of the order of its checks, in another
+language, and shares no code with it. So if both agree, a mistake would have to be made twice.
 """
 
 import re

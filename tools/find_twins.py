@@ -1,11 +1,11 @@
 #!/usr/bin/env python3
-"""Finds where code, contracts or proofs stand twice: runs of six or more lines that are equal once names are exchanged.
+"""Finds duplicates in code, contracts or proofs: runs of six or more lines that are equal once names are exchanged.
 
 usage: tools/find_twins.py [--lines N] [--most N] [FOLDER ..]
 
-FOLDER is a crate or a folder of it (all crates). In a run each name may stand for another one, as long as it does so
+FOLDER is a crate or a folder of it (all crates). In a run each name may be exchanged for another one, as long as it is so
 throughout; words of the language and numbers stay. Blank lines, comments, imports and lines without a name don't count. Prints a
-row for each pair, the longest first: two places that may be one piece of code, which only a reader can tell. Run by hand.
+row for each pair, the longest first: two places that may be one piece of code, which only a reader can decide. Run by hand.
 """
 
 import argparse

@@ -1,5 +1,5 @@
-/* What zoned_ffi.h says of sizes, places and numbers, held beside the archive. The assertions are tried when this file is
-   compiled, and fail where the header says something else than the callers of today were built with. The program is linked
+/* What zoned_ffi.h says of sizes, places and numbers, compared with the archive. The assertions are tried when this file is
+   compiled, and fail if the header says something else than the callers of today were built with. The program is linked
    with the archive and asks it: the numbers and the places that the archive writes are those of the header. With -DOWN_HEAP
    the library takes its memory by the three functions below, and not by those of the kit. It prints nothing and ends with 0,
    or names the line that differs. tools/try_examples.py compiles and runs it both ways. */
@@ -220,8 +220,8 @@ int main(void) {
     IS(zoned_zone_gap(&zone, LOCALS[1], &gap), ZONED_NO_GAP);
     IS(zoned_zone_gap(&zone, LOCALS[3], &gap), ZONED_INSTANT_OUT_OF_RANGE);
     IS(gap.at, 1615705200);
-    /* The changes of 2021, from the first one on and before the second, and on into 2022 (2022-03-13 07:00:00 UTC). What is
-       refused, and what stands behind the list, is as it was. */
+    /* The changes of 2021, from the first one on and before the second, and on into 2022 (2022-03-13 07:00:00 UTC). After an
+       error all is as it was, and so is what comes after the list. */
     zoned_change changes[3], next;
     size_t count = 77;
     memset(changes, 0x55, sizeof changes);
@@ -353,7 +353,7 @@ int main(void) {
     IS(zoned_zone_local(&zone, 1000, column, 4, locals, 4, &row), ZONED_NO_LOCAL_TIME);
     IS(row, 3);
     IS(locals[3], 77);
-    /* Of the gap and of the fold by half a second more; no time; and a row in a gap, under a choice that refuses it. */
+    /* Of the gap and of the fold by half a second more; no time; and a row in a gap, under a policy that rejects it. */
     const int64_t shown[4] = {1615689000500, 1636248600500, ZONED_NO_TIME, 1615689000500};
     int64_t times[4] = {77, 77, 77, 77};
     row = 77;
@@ -380,7 +380,7 @@ int main(void) {
     IS(zoned_error_text(17, text, 4), 13);
     IS(memcmp(text, "out\000567", 8), 0);
 
-    /* A count that is wrong is told, and nothing is written: also one whose product by three is the room, as it wraps. */
+    /* A wrong count is reported, and nothing is written: also one whose product by three is the room, as it wraps. */
     int32_t guarded[4] = {77, 77, 77, 77};
     IS(zoned_wall(ZONED_TEXT, NEW_YORK, LEN, LOCALS, (size_t)0x5555555555555556, guarded + 1, 2), ZONED_OTHER_SIZE);
     IS(zoned_wall(ZONED_TEXT, NEW_YORK, LEN, LOCALS, 1, guarded + 1, 2), ZONED_OTHER_SIZE);

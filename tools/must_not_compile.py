@@ -3,10 +3,10 @@
 
 usage: tools/must_not_compile.py [NAME ..]
 
-Each text is a test, which says in its head why it is refused, by `//! error: ` and words of the compiler's message. Lines that
-end with `// refused` make the fault, and lines that end with `// accepted` mend it. The texts are tried both ways, beside a
+Each text is a test, which says in its head why it is rejected, by `//! error: ` and words of the compiler's message. Lines that
+end with `// refused` make the fault, and lines that end with `// accepted` mend it. The texts are tried both ways, with a
 copy of this repository's libraries: without their faults all tests must pass, in one crate, so that nothing else is amiss; with
-its fault the compiler must refuse each text, with those words at a line of that text.
+its fault the compiler must reject each text, with those words at a line of that text.
 """
 
 import re
@@ -19,7 +19,7 @@ from kit import REFUSED, tried
 from sources import TOP, libraries_below
 
 TEXTS = TOP / "tools/refused"
-# The gate tries them beside its proofs, where they take longer than alone.
+# The gate tries them while it proves, so that they take longer.
 SECONDS = "1200"
 LIBRARIES = sorted({*libraries_below("zoned_ref"), "zoned_ref"})
 
@@ -29,7 +29,7 @@ def without(text, mark):
 
 
 def repository(top):
-    """A copy of this repository's libraries, beside which texts are tried."""
+    """A copy of this repository's libraries, with which texts are tried."""
     (top / "HANDLES").write_text((TOP / "HANDLES").read_text())
     listed = (TOP / "crates.txt").read_text().splitlines()
     listed = [line for line in listed if line.split(":")[0] in LIBRARIES]
@@ -55,7 +55,7 @@ def try_texts(crate, texts):
 def faults_of(crate, texts):
     """What is amiss with each of these texts when they are tried with their faults, or None for it.
 
-    They are tried in one crate. The compiler tells those faults that it meets first, and the rest once those texts are left out.
+    They are tried in one crate. The compiler reports those faults that it meets first, and the rest once those texts are left out.
     """
     found, left = {}, {name: without(text, "accepted") for name, text in texts.items()}
     while left:

@@ -10,8 +10,8 @@ request left to refuse. It takes a few seconds, and needs the C compiler cc for 
 tests_out_of_memory makes zones by each constructor, and prints a line for each. In each run
 
 - every line is one of a run with memory enough, in their order;
-- where all lines are there, the status is 0;
-- where the status is 17, one line is missing, which is a zone's: there was no memory for what its constructor is given, or
+- if all lines are there, the status is 0;
+- if the status is 17, one line is missing, which is a zone's: there was no memory for what its constructor is given, or
   the constructor said that it had none.
 
 The lines of headers whose counts say more than there is are never missing: they were refused before memory was asked for. And
@@ -46,7 +46,7 @@ QUESTIONS = [
 
 
 class Program:
-    """A built program, beside what refuses its requests."""
+    """A built program, and what refuses its requests."""
 
     def __init__(self, path, shim, room):
         self.path, self.shim, self.met = str(path), str(shim), room / "refused"

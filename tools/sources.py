@@ -1,4 +1,4 @@
-"""Reads this repository's .rt and .antt files as far as the scripts beside it need: names, clauses, imports, lemmas."""
+"""Reads this repository's .rt and .antt files as far as these scripts need: names, clauses, imports, lemmas."""
 
 import re
 from dataclasses import dataclass, field
@@ -31,12 +31,12 @@ def crates():
 
 
 def is_static(crate):
-    """Whether crates.txt makes it a static library, which no crate can stand on."""
+    """Whether crates.txt makes it a static library, which no crate can use."""
     return any(row.split(":")[0].split() == [crate, "staticlib"] for row in text_of(TOP / "crates.txt").splitlines())
 
 
 def libraries_below(crate):
-    """This repository's libraries that a crate stands on, also through others."""
+    """This repository's libraries that a crate uses, also through others."""
     direct = [library for library in uses()[crate] if library in uses()]
     return {below for library in direct for below in [library, *libraries_below(library)]}
 
@@ -52,7 +52,7 @@ def files(folder, ending, of=None):
 
 
 def shown(path, place=None):
-    """A path as it is told, with the line of that place in the text."""
+    """A path as messages have it, with the line of that place in the text."""
     line = f":{text_of(path).count(chr(10), 0, place) + 1}" if place is not None else ""
     return f"{path.relative_to(TOP)}{line}"
 
@@ -73,7 +73,7 @@ class Word:
 
 
 def words_of(page):
-    """The public definitions of a page, each with the comment before it, or before the group that it stands in."""
+    """The public definitions of a page, each with the comment before it, or before its group."""
     meaning, found, place = "", [], 0
     comment = []
     for line in text_of(page).splitlines(keepends=True):
@@ -101,7 +101,7 @@ class Clause:
 
 
 def imports_of(text):
-    """What names stand for under the imports of a text: name -> (page, name there)."""
+    """What names mean under the imports of a text: name -> (page, name there)."""
     found = {}
     for page, names, alias in re.findall(r"(?m)^[ \t]*(?:ghost )?(?:pub )?use ([\w.+-]+?)(?:\.\{([^}]*)\})?(?: as (\S+?))?;?\s*$", text):
         if not names:

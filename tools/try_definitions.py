@@ -3,8 +3,8 @@
 
 usage: tools/try_definitions.py [--lanes N] [--write] [NAME ..]
 
-A wrong definition is a file crates/tests_pins/wrong/NAME.edit: the page and the texts that it exchanges there, each of which stands once
-in the page, what the definition says then, and the pins that are not proved of it any more:
+A wrong definition is a file crates/tests_pins/wrong/NAME.edit: the page and the texts that it exchanges there, each of which is once
+in the page, what the definition says then, and the pins that are no longer proved:
 
     file: crates/tz_info/specs/Changes.antt
     old: pub differ : c.before ≢ c.after
@@ -12,7 +12,7 @@ in the page, what the definition says then, and the pins that are not proved of 
     says: change: by another offset only
     pins: clock_changes::differences
 
-A line `law: CRATE FUNCTION` in place of `pins:` names a law that must reject it, where no pin does.
+A line `law: CRATE FUNCTION` in place of `pins:` names a law that must reject it, if no pin does.
 
 The pins are checked over the pages alone, in a copy of the repository: the libraries keep their types and their pages, and lose
 their functions; each of their lemmas is taken as given, with a hole for its proof. So it is the words that reject an edit, and no
@@ -20,7 +20,7 @@ library needs to be built. First the pins are checked over the pages as they are
 keeps its functions and its lemmas.
 
 Edits are tried together if none of them changes a definition that a pin of another one speaks of, also through other definitions
-and through lemmas of crates/tests_pins. An edit doesn't count where a page can't be read any more, or where a proof misses a name.
+and through lemmas of crates/tests_pins. An edit doesn't count if a page can't be read any more, or if a proof misses a name.
 
 With no names all are tried, N at a time (2). It takes half an hour of a processor and more, and is run by hand. --write only
 writes into docs/DEFINITIONS.md which of them each pin rejects. Ends with status 1 unless each edit is rejected.

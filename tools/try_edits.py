@@ -114,7 +114,7 @@ def bodies(text):
 
 
 def function_at(text, part):
-    """The name of the function that has that part of the text, for one of a trait behind its type and the trait."""
+    """The name of the function that has that part of the text, for one of a trait after its type and the trait."""
     place = text.find(part)
     name = next((head[2] for head, _, end in bodies(text) if head.start() <= place <= end), None)
     if name is None:
@@ -140,7 +140,7 @@ def wanted(names):
 
 
 def apart(edits):
-    """The edits in rounds. Those of a round change different functions, and each finds its texts where the others are made."""
+    """The edits in rounds. Those of a round change different functions, and each finds its texts after the others are made."""
     rounds = []
     for edit in edits:
         for others in [] if edit.is_alone else rounds:
@@ -203,7 +203,7 @@ def edits_function(edit, path):
 
 
 def is_of(path, part):
-    """Whether the function of that path is the one that the part names, or stands in the module that it names."""
+    """Whether the function of that path is the one that the part names, or is in the module that it names."""
     return f"::{path}::".find(f"::{part}::") >= 0
 
 
@@ -315,7 +315,7 @@ def proved_of(crate, log):
 
 
 def plain_functions(crate):
-    """The functions that stand in no impl, and the methods of types without parameters."""
+    """The functions that are in no impl, and the methods of types without parameters."""
     texts = {path: path.read_text() for path in files("src", ".rt", [crate])}
     declared = r"(?m)^(?:pub(?:\([a-z]+\))? )?(?:struct|enum) (\w+)"
     homes, found = defaultdict(list), set()

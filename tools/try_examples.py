@@ -1,5 +1,5 @@
 #!/usr/bin/env python3
-"""Tries the calls for C: the programs of examples/ over the static library, and the header beside it.
+"""Tries the calls for C: the programs of examples/ over the static library, and the header.
 
 usage: tools/try_examples.py [ZONEINFO]
 
@@ -12,7 +12,7 @@ crates/zoned_ffi, and gcc, g++, rustc and python3. Three things are tried:
 - tools/header_pins.c, which pins the header's sizes, places and numbers, compiles, and finds them in the archive's answers,
   over the kit's heap and over one of its own.
 
-It takes a few seconds. The gate runs it. Ends with status 1 where anything differs.
+It takes a few seconds. The gate runs it. Ends with status 1 if anything differs.
 """
 
 import re
@@ -52,7 +52,7 @@ def recipe(name):
 
 
 def shown(zone, local):
-    """The seconds at which a clock of the zone shows the local time, beside their offsets."""
+    """The seconds at which a clock of the zone shows the local time, with their offsets."""
     seconds = {}
     for fold in (0, 1):
         reading = (EPOCH + timedelta(seconds=local)).replace(tzinfo=zone, fold=fold)

@@ -3,15 +3,15 @@
 
 usage: tools/try_tests.py [--fmt] [NAME ..]
 
-`rt ci` proves each test of a crate's src/, which takes seconds to minutes for a test. What a test tells of values from outside
-it tells when it runs. So tests stand beside their crate: each text of crates/NAME/tests is a module that uses the crate by its
-name, and others that it needs, as a client does. All of them, or those of the named crates, are laid into one crate beside a
+`rt ci` proves each test of a crate's src/, which takes seconds to minutes for a test. What a test says of values from outside
+it says when it runs. So tests are next to `src/`: each text of crates/NAME/tests is a module that uses the crate by its
+name, and others that it needs, as a client does. All of them, or those of the named crates, are laid into one crate with a
 copy of this repository's libraries, and are run as `rt try --test` does: it stops at what Rust would panic at, and proves nothing. No
-crate can stand on a static library: its texts are laid into the copy of that crate itself.
+crate can use a static library: its texts are laid into the copy of that crate itself.
 
 With --fmt the texts are laid out as `rt fmt` lays out code, and none is run.
 
-Ends with status 1 if a test fails, or if not each `#[test]` that stands there ran.
+Ends with status 1 if a test fails, or if not each `#[test]` of the texts ran.
 
 Takes the command rt from the variable RT, if that is set.
 """
@@ -27,7 +27,7 @@ from kit import RT, tried
 from sources import TOP, crates, is_static, uses
 
 LAID = "tests"
-# The gate runs them beside its proofs, where they take longer than alone.
+# The gate runs them while it proves, so that they take longer.
 SECONDS = "1200"
 
 

@@ -5,9 +5,9 @@ writes.
 usage: tools/try_zonedump.py [ZONEDUMP]
 
 ZONEDUMP is the built program (crates/zonedump/out/zonedump). It is run on a folder, a zip, an empty file, a text file, a file
-cut short, one above the limit, one that isn't there, a wrong TZ text and wrong arguments, on a good file among wrong ones, on
+cut short, one above the limit, one that isn't there, a wrong TZ string and wrong arguments, on a good file among wrong ones, on
 names that aren't UTF-8, and with a full standard output. Each run must end with the status, the output and the line on standard error that are due. The JSON
-of a file and of a TZ text must have the changes of the table. A file that is written must be told as the one that was read, and
+of a file and of a TZ string must have the changes of the table. A file that is written must print as the one that was read, and
 show the same times in Python's zoneinfo. A file that can't be written whole must be left as it was, without a temporary file
 beside it, and one that is written again and again must never be seen in part. A picture must be the one in docs/, have the changes of the table as steps of its line
 at their places, and the wall clocks of the table in its panels. Prints a line for each run, and ends with status 1 if an answer
@@ -78,7 +78,7 @@ def seconds_of_table(output):
 
 
 def try_json(program, words, folder):
-    """The JSON of a zone beside its table."""
+    """Compares the JSON of a zone with its table."""
     table = run(program, *words, folder=folder)[1]
     status, output, errors = run(program, "--json", *words, folder=folder)
     told = json.loads(output)
@@ -304,7 +304,7 @@ def wrong_steps(picture, zone, seconds, first, last):
 
 
 def clocks_due(table):
-    """What stands in the panels of a picture for the changes of a table: before, after, and in UTC."""
+    """What the panels of a picture say for the changes of a table: before, after, and in UTC."""
     form = r"(\S+ \S+ UTC)  (\S+ \S+) \S+ \w+ (\S+) -> (\S+ \S+) \S+ \w+ (\S+)  "
     changes = [re.match(form, line).groups() for line in table.splitlines() if " UTC  " in line]
     return sorted(word for c in changes for word in (c[0], f"{c[1]} {c[2]}", f"{c[3]} {c[4]}"))

@@ -4,7 +4,7 @@
 usage: tools/try_zoneq.py [ZONEQ]
 
 ZONEQ is the built program (crates/zoneq/out/zoneq). It is run on its stored input, on a full and on a closed standard output,
-on a closed standard input and one that is a folder, with nowhere to tell a fault, on a dialogue that waits for each answer,
+on a closed standard input and one that is a folder, with a full standard error, on a dialogue that waits for each answer,
 and on long lines in little memory. Each run must end with the status, the output and the line on standard error that are
 due. Prints a line for each run, and ends with status 1 if an answer differs. It takes a few seconds and builds nothing.
 """
@@ -35,7 +35,7 @@ def run(program, given=b"", redirect="", memory=None, words=""):
 
 
 def try_long_line(program, name, front, answer, filler=b"x"):
-    """Tries a line of 100 MB, of which no more than a block is to be held, and a line behind it."""
+    """Tries a line of 100 MB, of which no more than a block may be kept, and a line after it."""
     given = b"text UTC0\n" + front + filler * (100 * MEGABYTE // len(filler)) + b"\nat 0\n"
     want = (0, b"ok 0 1 0 fixed\n" + answer + b"\n0 std UTC\n", b"")
     check(name, want, run(program, given, memory=LITTLE))

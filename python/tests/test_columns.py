@@ -399,7 +399,7 @@ def test_a_file(tmp_path):
         Zone.from_file(tmp_path / "none")
     (tmp_path / "bad").write_bytes(data[:100])
     with pytest.raises(
-        sahvumbi.ZoneRefusedError, match="bad is refused: unexpected end of input"
+        sahvumbi.ZoneRefusedError, match="bad: unexpected end of input"
     ) as raised:
         Zone.from_file(tmp_path / "bad")
     assert raised.value.number == 7

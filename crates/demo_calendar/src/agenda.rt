@@ -28,12 +28,20 @@ impl Agenda {
     }
 
     /// Adds an event.
+    ///
+    /// # Errors
+    ///
+    /// Running out of memory.
     pub fn add(&mut self, event: Event) -> Result<(), AllocError> {
         self.events.push(event)?;
         Ok(())
     }
 
     /// Returns the events of a date, the one that starts first at the front.
+    ///
+    /// # Errors
+    ///
+    /// Running out of memory.
     pub fn on(&self, alloc: Global, date: NaiveDate) -> Result<Vec<Entry>, AllocError> {
         let mut entries = Vec::new(alloc);
         for event in self.events.iter().copied() {

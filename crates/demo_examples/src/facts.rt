@@ -185,7 +185,7 @@ pub fn later<Tz: TimeZone>(
     choice: Choice,
     length: TimeDelta,
 ) -> Option<DateTime<Tz>>
-    // Its offset is in force then, with all that it tells; so in those below.
+    // Its offset is in force then, with all its parts; so in those below.
     ensures { IfSome result (IsIn (Tz.law zone.now)) }
 {
     let first = zone.resolve(local, choice).ok()?;

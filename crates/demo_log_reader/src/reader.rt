@@ -15,6 +15,10 @@ pub struct Reader {
 
 impl Reader {
     /// Returns a reader of a log with the clock of a TZif file.
+    ///
+    /// # Errors
+    ///
+    /// The bytes are not a zone, or have an offset of a day or more; running out of memory.
     pub fn of_file(alloc: Global, file: &[u8]) -> Result<Reader, LogError> {
         let parsed = tz_info::TimeZone::from_tz_data(alloc, file)?;
         Ok(Reader::new(KeptZone::keep(alloc, parsed)?))

@@ -5,6 +5,10 @@ use std::collections::BTreeMap;
 use zoned::{DateTime, KeptZone, NaiveDate, TimeDelta, Timelike};
 
 /// Returns the instants of two logs, the earliest first; their zones may differ.
+///
+/// # Errors
+///
+/// Running out of memory.
 pub fn in_order(
     alloc: Global,
     one: &[DateTime<KeptZone>],
@@ -32,6 +36,10 @@ pub fn by_hour(instants: &[DateTime<KeptZone>]) -> [u64; 24] {
 }
 
 /// Returns how many lines there are on each date that clocks show.
+///
+/// # Errors
+///
+/// Running out of memory.
 pub fn by_day(
     alloc: Global,
     instants: &[DateTime<KeptZone>],

@@ -3,7 +3,7 @@
 //!
 //! The clocks of the zone [`Odd`] are set forward by a second at each odd second, and back at each
 //! even one. No place has such clocks. But each call of an instant means the same there as in any
-//! zone, since it is proved from the laws of the trait alone, and they don't ask that a zone is
+//! zone, since it is proved from only the laws of the trait, and they don't ask that a zone is
 //! reasonable.
 //!
 //! ```text

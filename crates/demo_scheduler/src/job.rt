@@ -15,6 +15,10 @@ pub struct Job {
 
 impl Job {
     /// Returns a job by the clocks of a TZif file.
+    ///
+    /// # Errors
+    ///
+    /// The bytes are not a zone, or have an offset of a day or more; running out of memory.
     pub fn by_file(
         alloc: Global,
         name: &'static str,

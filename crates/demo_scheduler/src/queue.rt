@@ -32,6 +32,10 @@ impl Queue {
     }
 
     /// Adds a job, which runs after that instant.
+    ///
+    /// # Errors
+    ///
+    /// Running out of memory.
     pub fn add(&mut self, job: Job, now: &DateTime<KeptZone>) -> Result<(), SchedulerError> {
         let place = self.jobs.len();
         let next = job.next_fire(now);
@@ -50,6 +54,10 @@ impl Queue {
 
     /// Takes the next run that is due at an instant, and queues the job's next one; `None` if no run is
     /// due.
+    ///
+    /// # Errors
+    ///
+    /// Running out of memory.
     pub fn take_due(&mut self, now: &DateTime<KeptZone>) -> Result<Option<Fire>, SchedulerError> {
         if self.next_due().is_none_or(|at| at > *now) {
             return Ok(None);
@@ -66,6 +74,10 @@ impl Queue {
     }
 
     /// Takes the runs that are due at an instant, the earliest first, at most as many as the limit.
+    ///
+    /// # Errors
+    ///
+    /// Running out of memory.
     pub fn take_all_due(
         &mut self,
         alloc: Global,
@@ -82,7 +94,7 @@ impl Queue {
         Ok(taken)
     }
 
-    /// Returns the job of a run.
+    /// Returns the job of a run, or `None` if the queue has no such job.
     pub fn job(&self, fire: &Fire) -> Option<&Job> {
         self.jobs.get(fire.job)
     }

@@ -40,6 +40,10 @@ impl<Tz: TimeZone> fmt::Display for Rfc3339<'_, Tz> {
 }
 
 /// Returns what `{:?}` writes of an instant at a fixed offset: what the clock shows, then the offset.
+///
+/// # Errors
+///
+/// Running out of memory.
 pub fn rfc3339_text(alloc: Global, instant: &DateTime<FixedOffset>) -> Result<String, AllocError>
     ensures { IfOk result (λ text. string_bytes text ≡ reading_text 84 (wall_of instant.now)
         ++ printed_offset (zoned instant.now).offset) }

@@ -6,7 +6,7 @@
 //! [`LAST_DAY`], which are theirs ([`is_day`]); the laws speak of all years.
 //!
 //! Inside, days and years are counted from a year far before every `i32`, so that all sums are of
-//! unsigned numbers. A date is found by years that begin in March, where the leap day is the last
+//! unsigned numbers. A date is found by years that begin in March, in which the leap day is the last
 //! day of the year.
 #![tactic(auto)]
 

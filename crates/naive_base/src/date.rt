@@ -60,6 +60,11 @@ impl NaiveDate {
 
     /// Returns the date of a year, a month from 1 and a day of the month from 1. `None` if the
     /// calendar has no such date, or the year is not one from -262143 to 262142.
+    ///
+    /// ```
+    /// let leap_day = NaiveDate::from_ymd_opt(2024, 2, 29); // Some(2024-02-29)
+    /// let none = NaiveDate::from_ymd_opt(2023, 2, 29); // None
+    /// ```
     pub fn from_ymd_opt(year: i32, month: u32, day: u32) -> Option<NaiveDate>
         ensures value { IsDateOf year month day result }
         ensures in_range { IfSome result (λ d. IsDayInRange (day_of d)) }
@@ -88,6 +93,10 @@ impl NaiveDate {
 
     /// Returns the date by its number in the common era, in which 0001-01-01 is day 1 and
     /// 1970-01-01 is day 719163. `None` if the year is not one from -262143 to 262142.
+    ///
+    /// ```
+    /// let epoch = NaiveDate::from_num_days_from_ce_opt(719_163); // Some(1970-01-01)
+    /// ```
     pub fn from_num_days_from_ce_opt(days: i32) -> Option<NaiveDate>
         ensures { IsDateOfDay (days -ℤ pos 719_163) result }
     {
@@ -105,6 +114,10 @@ impl NaiveDate {
     }
 
     /// Returns the number of the date in the common era, in which 0001-01-01 is day 1.
+    ///
+    /// ```
+    /// let number = NaiveDate::from_ymd_opt(2000, 1, 1)?.num_days_from_ce(); // 730120
+    /// ```
     pub fn num_days_from_ce(&self) -> i32
         ensures { result ≡ day_of self.now +ℤ pos 719_163 }
     {
@@ -112,6 +125,11 @@ impl NaiveDate {
     }
 
     /// Returns the local date-time of this day at that time of day.
+    ///
+    /// ```
+    /// let date = NaiveDate::from_ymd_opt(2021, 3, 14)?;
+    /// let noon = date.and_time(NaiveTime::from_hms_opt(12, 0, 0)?); // 2021-03-14T12:00:00
+    /// ```
     pub fn and_time(&self, time: NaiveTime) -> NaiveDateTime
         ensures value { reading result ≡ reading_at (day_of self.now) (second_of time)
             (fraction_of time) }
@@ -123,6 +141,12 @@ impl NaiveDate {
 
     /// Returns the local date-time of this day at an hour from 0 to 23, a minute and a second from
     /// 0 to 59. `None` for any other.
+    ///
+    /// ```
+    /// let date = NaiveDate::from_ymd_opt(2021, 3, 14)?;
+    /// let noon = date.and_hms_opt(12, 0, 0); // Some(2021-03-14T12:00:00)
+    /// let none = date.and_hms_opt(24, 0, 0); // None
+    /// ```
     pub fn and_hms_opt(&self, hour: u32, min: u32, sec: u32) -> Option<NaiveDateTime>
         ensures value { IsReadingOn (day_of self.now) (IsClock hour min sec)
             (clock_second hour min sec) 0 result }
@@ -137,6 +161,11 @@ impl NaiveDate {
 
     /// [`NaiveDate::and_hms_opt`] with milliseconds: below 1000, or, for a leap second after a
     /// second 59, below 2000. `None` for others.
+    ///
+    /// ```
+    /// let date = NaiveDate::from_ymd_opt(2016, 12, 31)?;
+    /// let leap_second = date.and_hms_milli_opt(23, 59, 59, 1_500); // Some(2016-12-31T23:59:60.500)
+    /// ```
     pub fn and_hms_milli_opt(
         &self,
         hour: u32,
@@ -157,6 +186,11 @@ impl NaiveDate {
 
     /// [`NaiveDate::and_hms_opt`] with microseconds: below 10^6, or, for a leap second after a
     /// second 59, below 2*10^6. `None` for others.
+    ///
+    /// ```
+    /// let date = NaiveDate::from_ymd_opt(2021, 3, 14)?;
+    /// let start = date.and_hms_micro_opt(8, 30, 0, 250); // Some(2021-03-14T08:30:00.000250)
+    /// ```
     pub fn and_hms_micro_opt(
         &self,
         hour: u32,
@@ -177,6 +211,11 @@ impl NaiveDate {
 
     /// [`NaiveDate::and_hms_opt`] with nanoseconds: below 10^9, or, for a leap second after a
     /// second 59, below 2*10^9. `None` for others.
+    ///
+    /// ```
+    /// let date = NaiveDate::from_ymd_opt(2021, 3, 14)?;
+    /// let start = date.and_hms_nano_opt(8, 30, 0, 7); // Some(2021-03-14T08:30:00.000000007)
+    /// ```
     pub fn and_hms_nano_opt(
         &self,
         hour: u32,

@@ -15,9 +15,18 @@ use crate::{IsoWeek, Weekday};
 ///
 /// ```
 /// let date = NaiveDate::from_ymd_opt(2020, 2, 29)?;
+/// let ymd = (date.year(), date.month(), date.day()); // (2020, 2, 29)
+/// let from_0 = (date.month0(), date.day0()); // (1, 28)
+/// let of_the_year = (date.ordinal(), date.ordinal0()); // (60, 59)
 /// let weekday = date.weekday(); // Sat
 /// let week = date.iso_week().week(); // 9
 /// let in_march = date.with_month(3); // Some(2020-03-29)
+/// let in_april = date.with_month0(3); // Some(2020-04-29)
+/// let first = date.with_day(1); // Some(2020-02-01)
+/// let second = date.with_day0(1); // Some(2020-02-02)
+/// let new_year = date.with_ordinal(1); // Some(2020-01-01)
+/// let day_after = date.with_ordinal0(1); // Some(2020-01-02)
+/// let in_2024 = date.with_year(2024); // Some(2024-02-29)
 /// let none = date.with_year(2021); // None
 /// ```
 pub trait Datelike: Sized {

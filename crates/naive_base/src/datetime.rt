@@ -46,6 +46,11 @@ impl NaiveDateTime {
     };
 
     /// Returns the local date-time of a date and a time of day, as [`NaiveDate::and_time`] does.
+    ///
+    /// ```
+    /// let date = NaiveDate::from_ymd_opt(2021, 3, 14)?;
+    /// let noon = NaiveDateTime::new(date, NaiveTime::from_hms_opt(12, 0, 0)?); // 2021-03-14T12:00:00
+    /// ```
     pub fn new(date: NaiveDate, time: NaiveTime) -> NaiveDateTime
         ensures value { reading result ≡ reading_at (day_of date) (second_of time)
             (fraction_of time) }
@@ -89,6 +94,10 @@ impl NaiveDateTime {
     }
 
     /// Returns the day that the clock shows.
+    ///
+    /// ```
+    /// let day = NaiveDate::from_ymd_opt(2021, 3, 14)?.and_hms_opt(12, 0, 0)?.date(); // 2021-03-14
+    /// ```
     pub fn date(&self) -> NaiveDate
         ensures { day_of result ≡ day_at (reading self.now) }
     {
@@ -96,6 +105,10 @@ impl NaiveDateTime {
     }
 
     /// Returns the time of day that the clock shows.
+    ///
+    /// ```
+    /// let noon = NaiveDate::from_ymd_opt(2021, 3, 14)?.and_hms_opt(12, 0, 0)?.time(); // 12:00:00
+    /// ```
     pub fn time(&self) -> NaiveTime
         ensures second { second_of result ≡ second_at (reading self.now) }
         ensures fraction { fraction_of result ≡ (reading self.now).f }

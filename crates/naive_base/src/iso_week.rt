@@ -6,8 +6,12 @@ ghost use Rattle.naive_base.specs.Range.{IsWideDay, IsWideYear};
 /// A week by the rule of ISO 8601: it runs from Monday to Sunday, and belongs to the year that its
 /// Thursday lies in, whose weeks are counted from 1.
 ///
-/// 2021-01-03 was the Sunday of the last week of 2020, which had 53. Weeks compare and hash by
-/// their years, then by their numbers. `{:?}` prints a week as `2020-W53`.
+/// Weeks compare and hash by their years, then by their numbers. `{:?}` prints a week as `2020-W53`.
+///
+/// ```
+/// let week = NaiveDate::from_ymd_opt(2021, 1, 3)?.iso_week(); // 2020-W53
+/// let numbers = (week.year(), week.week(), week.week0()); // (2020, 53, 52)
+/// ```
 #[derive(Clone, Copy, PartialEq, Eq, PartialOrd, Ord, Hash)]
 pub struct IsoWeek {
     year: i32,

@@ -96,6 +96,10 @@ impl Month {
     }
 
     /// Returns the English name of the month, such as `January`.
+    ///
+    /// ```
+    /// let name = Month::March.name(); // March
+    /// ```
     pub fn name(&self) -> &'static str
         ensures { result.now ≡ month_name self.now }
     {

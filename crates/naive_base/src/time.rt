@@ -31,6 +31,11 @@ impl NaiveTime {
 
     /// Returns the time at an hour from 0 to 23, a minute and a second from 0 to 59. `None` for any
     /// other.
+    ///
+    /// ```
+    /// let last = NaiveTime::from_hms_opt(23, 59, 59); // Some(23:59:59)
+    /// let none = NaiveTime::from_hms_opt(23, 59, 60); // None
+    /// ```
     pub fn from_hms_opt(hour: u32, min: u32, sec: u32) -> Option<NaiveTime>
         ensures { IsTimeOf (IsClock hour min sec) (clock_second hour min sec) 0 result }
     {
@@ -40,7 +45,10 @@ impl NaiveTime {
     /// Returns the time at an hour, a minute, a second and a number of milliseconds: below 1000,
     /// or, for a leap second after a second 59, below 2000. `None` for any other.
     ///
-    /// `from_hms_milli_opt(23, 59, 59, 1_500)` is half a second into the leap second `23:59:60`.
+    /// ```
+    /// let leap_second = NaiveTime::from_hms_milli_opt(23, 59, 59, 1_500); // Some(23:59:60.500)
+    /// let none = NaiveTime::from_hms_milli_opt(23, 59, 58, 1_500); // None
+    /// ```
     pub fn from_hms_milli_opt(hour: u32, min: u32, sec: u32, milli: u32) -> Option<NaiveTime>
         ensures { IsTimeOf (IsClock hour min sec) (clock_second hour min sec)
             (milli * 1_000_000) result }
@@ -51,6 +59,10 @@ impl NaiveTime {
 
     /// Returns the time at an hour, a minute, a second and a number of microseconds: below 10^6,
     /// or, for a leap second after a second 59, below 2*10^6. `None` for any other.
+    ///
+    /// ```
+    /// let time = NaiveTime::from_hms_micro_opt(8, 30, 0, 250); // Some(08:30:00.000250)
+    /// ```
     pub fn from_hms_micro_opt(hour: u32, min: u32, sec: u32, micro: u32) -> Option<NaiveTime>
         ensures { IsTimeOf (IsClock hour min sec) (clock_second hour min sec)
             (micro * 1_000) result }
@@ -61,6 +73,10 @@ impl NaiveTime {
 
     /// Returns the time at an hour, a minute, a second and a number of nanoseconds: below 10^9, or,
     /// for a leap second after a second 59, below 2*10^9. `None` for any other.
+    ///
+    /// ```
+    /// let time = NaiveTime::from_hms_nano_opt(8, 30, 0, 7); // Some(08:30:00.000000007)
+    /// ```
     pub fn from_hms_nano_opt(hour: u32, min: u32, sec: u32, nano: u32) -> Option<NaiveTime>
         ensures { IsTimeOf (IsClock hour min sec) (clock_second hour min sec) nano result }
     {
@@ -72,6 +88,11 @@ impl NaiveTime {
 
     /// Returns the time at a second of the day below 86400 and a number of nanoseconds: below 10^9,
     /// or, for a leap second after the last second of a minute, below 2*10^9. `None` for any other.
+    ///
+    /// ```
+    /// let time = NaiveTime::from_num_seconds_from_midnight_opt(30_600, 0); // Some(08:30:00)
+    /// let none = NaiveTime::from_num_seconds_from_midnight_opt(86_400, 0); // None
+    /// ```
     pub fn from_num_seconds_from_midnight_opt(secs: u32, nano: u32) -> Option<NaiveTime>
         ensures { IsTimeOf (secs < 86_400) secs nano result }
     {
@@ -85,6 +106,10 @@ impl NaiveTime {
     }
 
     /// Returns the second of the day.
+    ///
+    /// ```
+    /// let second = NaiveTime::from_hms_opt(8, 30, 0)?.num_seconds_from_midnight(); // 30600
+    /// ```
     pub fn num_seconds_from_midnight(&self) -> u32
         ensures { result ≡ second_of self.now }
     {

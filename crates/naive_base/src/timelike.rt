@@ -11,9 +11,13 @@ ghost use Rattle.naive_base.specs.Fields.{TimeOfDay, IsGiven, with_hour, with_mi
 ///
 /// ```
 /// let time = NaiveTime::from_hms_opt(23, 56, 4)?;
-/// let minute = time.minute(); // 56
+/// let hands = (time.hour(), time.minute(), time.second()); // (23, 56, 4)
 /// let at_seven = time.with_hour(7); // Some(07:56:04)
+/// let on_the_hour = time.with_minute(0); // Some(23:00:04)
+/// let last = time.with_second(59); // Some(23:56:59)
 /// let none = time.with_second(60); // None
+/// let later = time.with_nanosecond(250_000_000)?; // 23:56:04.250
+/// let nanos = later.nanosecond(); // 250000000
 /// ```
 pub trait Timelike: Sized {
     // the time that it shows

@@ -15,9 +15,12 @@ use std::ops::RangeInclusive;
 /// no [`NaiveDate`] is.
 ///
 /// ```
-/// let week = NaiveDate::from_ymd_opt(2022, 4, 18)?.week(Weekday::Sun);
+/// let day = NaiveDate::from_ymd_opt(2022, 4, 18)?;
+/// let week = day.week(Weekday::Sun);
 /// let first = week.checked_first_day(); // Some(2022-04-17)
 /// let last = week.checked_last_day(); // Some(2022-04-23)
+/// let ends = (week.first_day(), week.last_day()); // (2022-04-17, 2022-04-23)
+/// let holds = week.days().contains(&day); // true
 /// ```
 #[derive(Clone, Copy, PartialEq, Eq, Hash, Debug)]
 pub struct NaiveWeek {

@@ -28,6 +28,10 @@ impl FixedOffset {
 
     /// Returns the offset of that many seconds ahead of UTC, as clocks east of Greenwich are, or
     /// `None` if it is a day or more either way.
+    ///
+    /// ```
+    /// let india = FixedOffset::east_opt(19_800); // Some(+05:30)
+    /// ```
     pub fn east_opt(secs: i32) -> Option<FixedOffset>
         ensures { IsOffsetOf secs result }
     {
@@ -42,6 +46,11 @@ impl FixedOffset {
 
     /// Returns the offset of that many seconds behind UTC, as clocks west of Greenwich are, or
     /// `None` if it is a day or more either way.
+    ///
+    /// ```
+    /// let last = FixedOffset::west_opt(86_399); // Some(-23:59:59)
+    /// let none = FixedOffset::west_opt(86_400); // None
+    /// ```
     pub fn west_opt(secs: i32) -> Option<FixedOffset>
         ensures { IsOffsetOf (neg_ℤ secs) result }
     {

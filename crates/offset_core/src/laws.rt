@@ -19,7 +19,7 @@ pub fn single_at_both_ends<T>()
         → latest_of values ≡ Some value }
 {}
 
-/// `east_opt(secs)` and `west_opt(-secs)` are the same, where both arguments exist.
+/// `east_opt(secs)` and `west_opt(-secs)` are the same, if both arguments exist.
 pub fn east_is_west_of_negative()
     ensures { (secs : ℤ) (east west : Option FixedOffset) → IsOffsetOf secs east
         → IsOffsetOf (neg_ℤ (neg_ℤ secs)) west → east ≡ west }

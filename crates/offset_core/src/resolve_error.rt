@@ -7,10 +7,10 @@ use thiserror::Error;
 /// Why a wall clock gives no instant under a choice.
 #[derive(Clone, Copy, PartialEq, Eq, Debug, Error)]
 pub enum ResolveError {
-    /// No clock shows the time, and gaps are refused.
+    /// No clock shows the time, and the policy for gaps is `Refuse`.
     #[error("no clock of the zone shows that time")]
     Gap,
-    /// Clocks show the time several times, and folds are refused.
+    /// Clocks show the time several times, and the policy for folds is `Refuse`.
     #[error("clocks of the zone show that time more than once")]
     Fold,
     /// The instant that is taken is out of range.

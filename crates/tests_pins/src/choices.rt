@@ -34,7 +34,7 @@ pub fn folds()
         } }
 {}
 
-/// On clocks an hour ahead of UTC the first reading of the range has no instant in range, and the
+/// On clocks an hour ahead of UTC the first local date-time of the range has no instant in range, and the
 /// last second has one.
 pub fn range()
     ensures below { IsUnresolved set_back first_second refuse OutOfRange }

@@ -70,7 +70,7 @@ pub fn times()
     ensures four_bytes { time_of 4 least_time ≡ neg_ℤ (pos 2_147_483_648) }
 {}
 
-/// Version 3 alone has the extensions of TZ texts.
+/// Only version 3 has the extensions of TZ strings.
 pub fn extended()
     ensures one { is_extended One ≡ false }
     ensures two { is_extended Two ≡ false }

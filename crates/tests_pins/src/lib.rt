@@ -1,4 +1,4 @@
-//! Facts about the definitions alone: each function is empty, its contract is proved; never called.
+//! Facts about only the definitions: each function is empty, its contract is proved; never called.
 //!
 //! Contracts are written in the words of `specs/`. A wrong word makes each proof that uses it a
 //! proof of something else, and no proof of code can notice. These facts can: they are worked

@@ -13,7 +13,7 @@ pub fn offsets()
     ensures even_before_1970 { odd_offset (neg_ℤ (pos 2)) ≡ pos 0 }
 {}
 
-/// The reading 1 is shown at no second, and 2 at two, first with the offset 1 and then with 0.
+/// The local time 1 is shown at no second, and 2 at two, first with the offset 1 and then with 0.
 pub fn clocks()
     ensures odd { IsNeverShown (Shows odd_offset (pos 1)) }
     ensures even { IsShownBetween (Shows odd_offset (pos 2)) (pos 1) (pos 0) }

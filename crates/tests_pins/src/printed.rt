@@ -1,4 +1,4 @@
-//! Printed bytes of offsets, times, dates and readings.
+//! Printed bytes of offsets, times, dates and local date-times.
 #![tactic(auto, unfolding(crate::proofs::Computed::printing))]
 
 ghost use Rattle.std.specs.Prelude.{◌≡◌, ◌∷◌, pos, neg_ℤ, codes};

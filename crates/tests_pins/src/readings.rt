@@ -1,4 +1,4 @@
-//! Readings in a leap second: moves and differences, as chrono's documentation gives them.
+//! Local date-times in a leap second: moves and differences, as chrono's documentation gives them.
 
 ghost use Rattle.std.specs.Prelude.{◌≡◌, ℕ, ◌<◌, pos, neg_ℤ};
 ghost use Rattle.naive_base.specs.Reading.{Reading, moved, difference, IsEarlier};
@@ -22,7 +22,7 @@ pub fn moves()
     ensures not_into { moved (at 3 5 59 0) (pos 1_000_000_000) ≡ at 3 6 0 0 }
 {}
 
-/// A leap second counts where one of the two readings lies in it and the other one's second of the
+/// A leap second counts if one of the two local date-times lies in it and the other one's second of the
 /// day comes later.
 pub fn differences()
     ensures plain { difference (at 3 5 7 950) (at 3 5 7 900) ≡ pos 50_000_000 }

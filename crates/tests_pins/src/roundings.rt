@@ -23,7 +23,7 @@ pub fn multiples()
     ensures itself { multiple_above (pos 43_200_150) 10 ≡ pos 43_200_150 }
 {}
 
-/// A length of nothing, and a clock whose nanoseconds don't fit: the length's fault is told. What
+/// A length of nothing, and a clock whose nanoseconds don't fit: the length's fault is returned. What
 /// each fault prints is chrono's text.
 pub fn refusals()
     ensures no_length { ¬ (IsSpan (pos 0)) }

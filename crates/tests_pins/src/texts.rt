@@ -1,4 +1,4 @@
-//! TZ texts and the rules that they spell (POSIX.1 section 8.3, RFC 8536 section 3.3.1).
+//! TZ strings and the rules that they spell (POSIX.1 section 8.3, RFC 8536 section 3.3.1).
 
 ghost use Rattle.std.specs.Prelude.{◌≡◌, ℕ, [], ◌∷◌, ◌++◌, List, Bool, true, false, codes, pos, neg_ℤ};
 ghost use Rattle.tz_base.specs.Names.{IsName};

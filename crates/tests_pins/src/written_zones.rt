@@ -1,4 +1,4 @@
-//! TZ texts and files that are written: the shortest text, and the bytes of a file.
+//! TZ strings and files that are written: the shortest string, and the bytes of a file.
 #![tactic(auto, unfolding(crate::proofs::Computed::written))]
 
 ghost use Rattle.std.specs.Prelude.{◌≡◌, ◌∷◌, [], ◌++◌, Bool, true, false, codes, pos};

@@ -26,7 +26,7 @@ use tz_base::Error;
 
 impl TimeZone {
     /// The zone of a TZif file of version 1, 2 or 3 (RFC 8536 section 3). Of version 1 the one data
-    /// block says all; from version 2 on the second block does, with the TZ text of the footer, and
+    /// block says all; from version 2 on the second block does, with the TZ string of the footer, and
     /// of the first one only the header and the length count. In version 3 that text may have the
     /// extensions of RFC 8536 section 3.3.1.
     ///
@@ -45,7 +45,7 @@ impl TimeZone {
     /// version; [`Error::InvalidTzFile`] for any other fault of the file's form, such as bytes
     /// after a file of version 1. Then, once both blocks are there: [`Error::InvalidTzFile`] and
     /// [`Error::LocalTimeType`] for a type, one after the other; [`Error::InvalidTzFile`] for a
-    /// standard/wall indicator of 0 beside a UT/local indicator of 1, and for no other pair;
+    /// standard/wall indicator of 0 with a UT/local indicator of 1, and for no other pair;
     /// [`Error::Utf8`] and [`Error::InvalidTzFile`] for a footer, and the errors of
     /// [`TransitionRule::from_tz_string`](crate::TransitionRule::from_tz_string) for its text; last
     /// [`Error::TimeZone`] for lists that [`TimeZone::new`] does not take. [`Error::OutOfMemory`]

@@ -67,7 +67,7 @@ pub fn rule_moments_law()
 {}
 
 /// Leap times rise weakly with Unix times, and within 10^13 seconds of 1970 each second has one.
-/// Where the corrections are 1, 2, 3 and so on, the Unix time of a Unix time's leap time is that
+/// If the corrections are 1, 2, 3 and so on, the Unix time of a Unix time's leap time is that
 /// Unix time. At the first entry's own leap time the Unix time is equal to it, and at a later one's
 /// it is less by the correction of the entry before.
 pub fn leap_times_law()
@@ -90,10 +90,10 @@ pub fn leap_times_law()
         -ℤ (slice_index_or leaps k d).correction }
 {}
 
-/// At each second a zone has one type, which stands in its list or is its rule's, or it has none.
+/// At each second a zone has one type, which is in its list or its rule's, or it has none.
 /// At the last transition's second the transition's type is in force, with a rule or without one,
-/// unless the second's leap time is before the transition: that is so where a leap second is left
-/// out at the transition.
+/// unless the second's leap time is before the transition, as if a leap second is left out at the
+/// transition.
 pub fn zone_types_law()
     ensures once { (z : Zone) (u : ℤ) (s t : LocalType) → TypeAt z u s → TypeAt z u t → s ≡ t }
     ensures apart { (z : Zone) (u : ℤ) (t : LocalType) → TypeAt z u t → ¬ (IsTypeRefused z u) }

@@ -1,4 +1,4 @@
-//! The rule of a TZ text: one type for ever, or two that take turns each year.
+//! The rule of a TZ string: one type forever, or two that take turns each year.
 
 mod alternate;
 mod beside;

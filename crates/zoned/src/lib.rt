@@ -4,9 +4,9 @@
 //! passes on what the libraries below it make, and the words of their contracts. Its own are the theorems of [`headline`], which join those
 //! contracts, and those of [`client_laws`], for a client's own contracts.
 //!
-//! Each call answers what its contract says, and no call panics, overflows, reads out of bounds or
-//! loops for ever; no contract bounds the stack. What a call requires, such as a range, its caller
-//! proves; for a literal the check mostly finds it by itself.
+//! Each call returns what its contract says, and no call panics, overflows, reads out of bounds or
+//! loops forever; no contract bounds the stack. The caller proves what a call requires, such as a
+//! range; for a literal the check mostly finds the proof by itself.
 //!
 //! # Programs to read first
 //!
@@ -35,7 +35,7 @@
 //! | [`TimeZoneRef`] | such a zone, borrowed, as the zone of `DateTime`s |
 //! | [`KeptZone`] | such a zone, kept until the program ends: a zone of `DateTime`s without a lifetime |
 //! | [`TimeZone`], [`Offset`] | the traits that each zone, and each zone's offset, implements |
-//! | [`LocalResult`] | what a lookup by wall clock answers: `None`, `Single` or `Ambiguous` |
+//! | [`LocalResult`] | what a lookup by wall clock returns: `None`, `Single` or `Ambiguous` |
 //! | [`Choice`] | what to take in gaps and in folds |
 //! | [`ZoneDays`], [`ShownDay`] | the trait of zones whose days can be found, and a day |
 //! | [`DailySeries`] | a wall-clock time on each day |
@@ -146,7 +146,7 @@
 //! | a borrowed or a kept zone | when its clocks change next | [`TimeZoneRef::next_change`] |
 //! | a borrowed or a kept zone | when they changed last | [`TimeZoneRef::previous_change`] |
 //! | an instant of a parsed zone | one that borrows nothing | [`DateTime::fixed_offset`] |
-//! | an instant | one so much time later | [`DateTime::checked_add_signed`], `+` |
+//! | an instant | one that much time later | [`DateTime::checked_add_signed`], `+` |
 //! | an instant | the same clock time some days later | [`DateTime::checked_add_days`] |
 //! | an instant | the same clock time some months later | [`DateTime::checked_add_months`] |
 //! | two instants | the time between them | [`DateTime::signed_duration_since`], `-` |

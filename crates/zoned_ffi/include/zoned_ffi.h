@@ -9,16 +9,16 @@
      zoned_close(&paris);
 
    Or give the bytes of a zone with an array of questions, and keep nothing: `zoned_at`, `zoned_wall`, `zoned_wall_instants`.
-   Such a call reads the zone anew, so ask many questions in one. What reading costs is in docs/SPEED.md.
+   Such a call reads the zone again, so ask many questions in one. What reading costs is in docs/SPEED.md.
 
    The number that a call returns
    ------------------------------
    ZONED_OK (0): every answer is written. Any other number: the call returned an error, and neither an answer nor a handle that
    it was to open is changed, except that a column is written up to its first row without an answer. The first of these that
-   holds (those of a handle, and of a choice, if there is one):
+   holds (those of a handle, and of a policy, if there is one):
 
      ZONED_UNKNOWN_KIND    `kind` is not one of ZONED_FILE, ZONED_TEXT, ZONED_EXTENDED_STRING
-     ZONED_UNKNOWN_CHOICE  `gap` or `fold` is none of its enum
+     ZONED_UNKNOWN_CHOICE  `gap` or `fold` has no number of its enum
      ZONED_NOT_OPEN        the handle has no zone open
      ZONED_OTHER_SIZE      the count of answers is not the one that is stated below
      3 .. 17               the bytes make no zone: the enum of these numbers is below, and docs/PROGRAMS.md says more of each.
@@ -116,7 +116,7 @@
 #include <stddef.h>
 #include <stdint.h>
 
-/* Compilers warn where the number of a call is dropped, or where NULL is passed for a handle or for the place of one answer. */
+/* Compilers warn if the number of a call is dropped, or if NULL is passed for a handle or for the place of one answer. */
 #if defined(__GNUC__) || defined(__clang__)
 #define ZONED_MUST_CHECK __attribute__((warn_unused_result))
 #define ZONED_NONNULL(parameters) __attribute__((nonnull parameters))
@@ -145,11 +145,11 @@ enum {
     ZONED_FILE = 0, /* a TZif file of version 1, 2 or 3 (RFC 8536), as those of /usr/share/zoneinfo; version 4 (RFC 9636) is
                        rejected (14). Debian's files under right/ have leap seconds and no footer: their last type stays */
     ZONED_TEXT = 1, /* a TZ string (POSIX.1 section 8.3), such as EST5EDT,M3.2.0,M11.1.0, with no zero byte after it. An empty
-                       one is UTC. White space around it is passed over. The extensions of RFC 8536 section 3.3.1 are faults:
+                       one is UTC. White space around it is skipped. The extensions of RFC 8536 section 3.3.1 are faults:
                        a sign of a time of day (10) and hours of it above 24 (6). In the footer of a file they are read */
     ZONED_EXTENDED_STRING = 2 /* a TZ string that may have these extensions: hours of a time of day from -167 to 167, such as
-                       <-02>2<-01>,M3.5.0/-1,M10.5.0/0, the footer of America/Nuuk's file. Nothing comes around it: white space
-                       and an empty string are faults */
+                       <-02>2<-01>,M3.5.0/-1,M10.5.0/0, the footer of America/Nuuk's file. White space around it and an
+                       empty string are faults */
 };
 
 /* Why the bytes make no zone. The numbers 1, 2, 4, 9 and 11 of docs/PROGRAMS.md aren't returned here. */
@@ -197,11 +197,11 @@ enum {
 enum {
     ZONED_NEVER = 0,         /* never: the clocks skipped it */
     ZONED_ONCE = 1,          /* once */
-    ZONED_SEVERAL_TIMES = 2, /* several times, as where the clocks were set back */
+    ZONED_SEVERAL_TIMES = 2, /* several times, as after the clocks were set back */
     ZONED_OUT_OF_RANGE = 3   /* not known: it lies outside the years -262143 to 262142 */
 };
 
-/* Reads a zone, and answers nothing: ZONED_OK, or why the bytes are refused. */
+/* Reads a zone, and keeps nothing: ZONED_OK, or why the bytes are rejected. */
 uint32_t zoned_parse(uint32_t kind, const void *zone, size_t zone_len) ZONED_MUST_CHECK;
 
 /* As zoned_parse, and returns 41 to 44 in place of ZONED_TIME_ZONE (12). */
@@ -209,9 +209,9 @@ uint32_t zoned_fault(uint32_t kind, const void *zone, size_t zone_len) ZONED_MUS
 
 /* offsets[i] is the offset in force at instants[i], in seconds east of UTC.
 
-   An instant is a Unix second, any of 64 bits. The offset is ZONED_NO_OFFSET where the zone has none: before the year
-   -2147483646 and after 2147483645, where a rule of two types is asked; and near the ends of 64 bits, where the zone has
-   leap seconds. The other instants are answered all the same.
+   An instant is a Unix second, any of 64 bits. The offset is ZONED_NO_OFFSET if the zone has none there: before the year
+   -2147483646 and after 2147483645, if a rule of two types is asked; and near the ends of 64 bits, if the zone has leap
+   seconds. The other instants are answered all the same.
 
    offsets_len is instants_len. */
 uint32_t zoned_at(uint32_t kind, const void *zone, size_t zone_len,
@@ -222,9 +222,9 @@ uint32_t zoned_at(uint32_t kind, const void *zone, size_t zone_len,
 
      answers[3 * i]      how often the zone's clocks show locals[i]: ZONED_NEVER, ZONED_ONCE, ..
      answers[3 * i + 1]  the offset in force at the first second that shows it, in seconds east of UTC
-     answers[3 * i + 2]  the offset in force at the last such second; the same as the first where there is one
+     answers[3 * i + 2]  the offset in force at the last such second; the same as the first if there is only one
 
-   Both offsets are 0 where the first number is ZONED_NEVER or ZONED_OUT_OF_RANGE.
+   Both offsets are 0 if the first number is ZONED_NEVER or ZONED_OUT_OF_RANGE.
 
    answers_len is 3 * locals_len. */
 uint32_t zoned_wall(uint32_t kind, const void *zone, size_t zone_len,
@@ -238,7 +238,7 @@ typedef struct zoned_wall_clock {
     int32_t last_offset;  /* the offset at the last one */
     int64_t first;        /* the first second that shows it, a Unix second */
     int64_t last;         /* the last one */
-} zoned_wall_clock;       /* all but `shown` are 0 where it is ZONED_NEVER or ZONED_OUT_OF_RANGE */
+} zoned_wall_clock;       /* all but `shown` are 0 if it is ZONED_NEVER or ZONED_OUT_OF_RANGE */
 
 /* answers[i] says when the zone's clocks show locals[i], as in zoned_wall, and at which seconds.
 
@@ -252,12 +252,12 @@ typedef struct zoned_zone {
     void *zone; /* NULL if none is open */
 } zoned_zone;
 
-/* Reads a zone, and opens it: ZONED_OK, or why the bytes are refused, and then `out` is as it was. */
+/* Reads a zone, and opens it: ZONED_OK, or why the bytes are rejected, and then `out` is as it was. */
 uint32_t zoned_open(uint32_t kind, const void *zone, size_t zone_len, struct zoned_zone *out)
     ZONED_MUST_CHECK ZONED_NONNULL((4));
 
-/* Opens the zone of `zone` in `out` too, another struct, without reading it anew: ZONED_OK, ZONED_NOT_OPEN, or 17 where there
-   is no memory, and then `out` is as it was. */
+/* Opens the zone of `zone` in `out` too, another struct, without reading it again: ZONED_OK; or ZONED_NOT_OPEN, or 17 if memory
+   runs out, and then `out` is as it was. */
 uint32_t zoned_share(const struct zoned_zone *zone, struct zoned_zone *out) ZONED_MUST_CHECK ZONED_NONNULL((1, 2));
 
 /* Closes the zone, if one is open. The last handle that is closed frees it. To close twice does no harm, and zoned_close(NULL)
@@ -276,7 +276,7 @@ uint32_t zoned_zone_offset(const struct zoned_zone *zone, int64_t instant, int32
 uint32_t zoned_zone_at(const struct zoned_zone *zone,
                        const int64_t *instants, size_t instants_len,
                        int32_t *offsets, size_t offsets_len) ZONED_MUST_CHECK ZONED_NONNULL((1));
-/* zoned_zone_at by the name of its question. */
+/* zoned_zone_at under the name of its question. */
 ZONED_INLINE ZONED_MUST_CHECK uint32_t zoned_zone_offsets(const struct zoned_zone *zone,
                                                           const int64_t *instants, size_t instants_len,
                                                           int32_t *offsets, size_t offsets_len) {
@@ -301,10 +301,10 @@ uint32_t zoned_zone_local(const struct zoned_zone *zone, int64_t per_second,
 
 /* A local time type: what is in force at an instant. */
 typedef struct zoned_local_type {
-    int32_t offset;       /* seconds east of UTC; ZONED_NO_OFFSET where the zone has none */
+    int32_t offset;       /* seconds east of UTC; ZONED_NO_OFFSET if the zone has none there */
     int32_t is_dst;       /* 1: daylight saving time, 0: not */
-    char abbreviation[8]; /* such as CEST: three to seven letters, digits, + and -, and zero bytes after them; empty where the
-                             type has no name, or the zone no type */
+    char abbreviation[8]; /* such as CEST: three to seven letters, digits, + and -, and zero bytes after them; empty if the type
+                             has no abbreviation, or the zone no type */
 } zoned_local_type;
 
 /* *local_type is the type in force at the instant, and types[i] that at instants[i].
@@ -327,8 +327,8 @@ typedef struct zoned_span {
    November, 06:00 UTC) until 1615705200 (14 March, 07:00 UTC).
 
    ZONED_NO_LOCAL_TIME: the zone has no type at the instant, and nothing is written. The least and the greatest second are no
-   change's but for one case: a change may come at INT64_MAX, and zoned_zone_previous_change finds it. Where the zone begins or
-   ends to have a type is no change: a span of the rule EST5EDT,M3.2.0,M11.1.0 that begins in the year 2147483645 ends at
+   change's but for one case: a change may come at INT64_MAX, and zoned_zone_previous_change finds it. A second at which the
+   zone begins or ends to have a type is no change: a span of the rule EST5EDT,M3.2.0,M11.1.0 that begins in the year 2147483645 ends at
    INT64_MAX, and the call has no answer from 2147483646 on.
 
    For instants near one another keep the span, and ask again only outside it:
@@ -343,7 +343,7 @@ uint32_t zoned_zone_span(const struct zoned_zone *zone, int64_t instant, zoned_s
     ZONED_MUST_CHECK ZONED_NONNULL((1, 3));
 
 /* A change of the clocks: at the second `at` another type is in force than at the second before it, one of another offset,
-   mark or abbreviation. */
+   DST flag or abbreviation. */
 typedef struct zoned_change {
     int64_t at; /* a Unix second */
     zoned_local_type before;
@@ -353,26 +353,26 @@ typedef struct zoned_change {
 /* *change is the first change after that second, or the last one at that second or before it. ZONED_NO_CHANGE: there is none at
    a second of 64 bits, and nothing is written. The changes of a zone are listed by asking again after change->at.
 
-   A transition of the file that changes nothing is no change, and what a rule does after the last transition is. Where the zone
-   begins or ends to have a type is no change either: the last change of the rule EST5EDT,M3.2.0,M11.1.0, which answers up to the
-   year 2147483645, is that of November of that year, 67767976165557600, also before INT64_MAX. The calls pass over any
+   A transition of the file that changes nothing doesn't count, and what a rule does after the last transition does. A second at
+   which the zone begins or ends to have a type is no change either: the last change of the rule EST5EDT,M3.2.0,M11.1.0, which answers up to the
+   year 2147483645, is that of November of that year, 67767976165557600, also before INT64_MAX. The calls skip any
    number of transitions that change nothing at once. */
 uint32_t zoned_zone_next_change(const struct zoned_zone *zone, int64_t after, zoned_change *change)
     ZONED_MUST_CHECK ZONED_NONNULL((1, 3));
 uint32_t zoned_zone_previous_change(const struct zoned_zone *zone, int64_t before_or_at, zoned_change *change)
     ZONED_MUST_CHECK ZONED_NONNULL((1, 3));
 
-/* *count is how many changes there are from the second `from` on and before the second `until`: none where `until` is `from` or
-   comes before it. The first of them, as many as changes_len, are written to `changes`, in the order of time; what stood behind
-   them is as it was. So a list that is cut short is told by *count > changes_len, as snprintf tells it, and changes_len may be
-   0. ZONED_NOT_OPEN: neither is written. See "Lists of changes" above.
+/* *count is how many changes there are from the second `from` on and before the second `until`: 0 if `until` is `from` or comes
+   before it. The first of them, as many as changes_len, are written to `changes`, in the order of time; the elements after them
+   are as they were. So *count > changes_len says that the list is cut short, as with snprintf, and changes_len may be 0.
+   ZONED_NOT_OPEN: neither is written. See "Lists of changes" above.
 
-   A change at INT64_MAX comes before no second: zoned_zone_previous_change tells it. */
+   A change at INT64_MAX comes before no second: zoned_zone_previous_change returns it. */
 uint32_t zoned_zone_changes(const struct zoned_zone *zone, int64_t from, int64_t until,
                             zoned_change *changes, size_t changes_len, size_t *count) ZONED_MUST_CHECK ZONED_NONNULL((1, 6));
 
-/* As zoned_zone_changes, and stops at the change after the first `most`: *count is how many changes there are, and no more than
-   `most`, and none is written beyond these. New York has 2 changes in 2021: with 1 as `most` the count is 1. */
+/* As zoned_zone_changes, and stops counting at `most`: *count is how many changes there are, or `most` if there are more, and
+   none is written beyond these. New York has 2 changes in 2021: with 1 as `most` the count is 1. */
 uint32_t zoned_zone_first_changes(const struct zoned_zone *zone, int64_t from, int64_t until, size_t most,
                                   zoned_change *changes, size_t changes_len, size_t *count) ZONED_MUST_CHECK ZONED_NONNULL((1, 7));
 
@@ -384,7 +384,7 @@ uint32_t zoned_zone_wall_clock(const struct zoned_zone *zone, int64_t local, zon
 uint32_t zoned_zone_wall_instants(const struct zoned_zone *zone,
                                   const int64_t *locals, size_t locals_len,
                                   zoned_wall_clock *clocks, size_t clocks_len) ZONED_MUST_CHECK ZONED_NONNULL((1));
-/* zoned_zone_wall_instants by the name of its question. */
+/* zoned_zone_wall_instants under the name of its question. */
 ZONED_INLINE ZONED_MUST_CHECK uint32_t zoned_zone_wall_clocks(const struct zoned_zone *zone,
                                                               const int64_t *locals, size_t locals_len,
                                                               zoned_wall_clock *clocks, size_t clocks_len) {
@@ -398,7 +398,7 @@ uint32_t zoned_zone_wall(const struct zoned_zone *zone,
                          const int64_t *locals, size_t locals_len,
                          int32_t *answers, size_t answers_len) ZONED_MUST_CHECK ZONED_NONNULL((1));
 
-/* What to take of a local time in a gap, which the clocks skipped: `gap`. */
+/* What to take for a local time in a gap, which the clocks skipped: `gap`. */
 enum {
     ZONED_GAP_REFUSE = 0,       /* nothing */
     ZONED_GAP_SHIFT_FORWARD = 1, /* the instant at which a clock that was not set forward shows it. New York's clocks skipped
@@ -406,7 +406,7 @@ enum {
     ZONED_GAP_END = 2           /* the second at which the gap ends: the instant at which they showed 03:00 */
 };
 
-/* What to take of a local time in a fold, which they show several times: `fold`. */
+/* What to take for a local time in a fold, which they show several times: `fold`. */
 enum {
     ZONED_FOLD_REFUSE = 0,   /* nothing */
     ZONED_FOLD_EARLIEST = 1, /* the first instant */
@@ -427,7 +427,7 @@ typedef struct zoned_resolved {
     int64_t instant; /* a Unix second */
 } zoned_resolved;
 
-/* *resolved is the instant of the local time under the choice, and resolved[i] that of locals[i].
+/* *resolved is the instant of the local time under the policies, and resolved[i] that of locals[i].
 
    resolved_len is locals_len. */
 uint32_t zoned_zone_instant(const struct zoned_zone *zone, uint32_t gap, uint32_t fold, int64_t local, zoned_resolved *resolved)
@@ -436,15 +436,15 @@ uint32_t zoned_zone_resolve(const struct zoned_zone *zone, uint32_t gap, uint32_
                             const int64_t *locals, size_t locals_len,
                             zoned_resolved *resolved, size_t resolved_len) ZONED_MUST_CHECK ZONED_NONNULL((1));
 
-/* instants[i] is the instant of locals[i] under the choice. Both are counted in one unit, of which per_second make a second, as in
-   zoned_zone_local. The choice is made for the second that the local time lies in, and what it has beyond that second is added
-   to the instant, unless the instant is the end of a gap. ZONED_NO_TIME stays.
+/* instants[i] is the instant of locals[i] under the policies. Both are counted in one unit, of which per_second make a second, as
+   in zoned_zone_local. The policies decide for the second that the local time lies in, and what it has beyond that second is
+   added to the instant, unless the instant is the end of a gap. ZONED_NO_TIME stays.
 
    ZONED_IN_GAP, ZONED_IN_FOLD, ZONED_INSTANT_OUT_OF_RANGE: locals[*row] is the first that has no instant, for this reason; it is
    out of range if it lies outside the years -262143 to 262142 or its instant doesn't fit 64 bits. The rows before it are
    written. In all other cases *row is as it was. ZONED_UNKNOWN_CHOICE comes before ZONED_UNKNOWN_UNIT.
 
-   In New York, in milliseconds, by ZONED_GAP_END and ZONED_FOLD_LATEST: 1615689000500 (2021-03-14 02:30:00.5, in a gap) is
+   In New York, in milliseconds, with ZONED_GAP_END and ZONED_FOLD_LATEST: 1615689000500 (2021-03-14 02:30:00.5, in a gap) is
    1615705200000, and 1636248600500 (2021-11-07 01:30:00.5, in a fold) is 1636266600500.
 
    instants_len is locals_len. */
@@ -502,8 +502,8 @@ uint32_t zoned_local_of(const zoned_fields *fields, int64_t *local) ZONED_MUST_C
 /* Returns the version of the library: ZONED_VERSION_NUMBER of the header that it was built with. */
 uint32_t zoned_version(void);
 
-/* Writes what a number of this header means, in English, as far as it fits into `text` before a zero byte, which is written
-   too unless text_len is 0. Returns the length of the whole text. 128 bytes are enough for each. */
+/* Writes what a number of this header means, in English, as much as fits into `text` with a zero byte after it (nothing if
+   text_len is 0). Returns the length of the whole text. 128 bytes are enough for each. */
 size_t zoned_error_text(uint32_t number, char *text, size_t text_len);
 
 #ifdef __cplusplus

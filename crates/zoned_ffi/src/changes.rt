@@ -34,7 +34,7 @@ impl WrittenChange {
     }
 }
 
-/// Writes the first change after that second: 0, or 35 if there is none.
+/// Writes the first change after that second: 0, or 35 if there isn't one.
 pub fn answer_next(zone: &TimeZone, after: i64, change: &mut WrittenChange) -> u32
     ensures answered { result ≡ 0 → IsFirstWritten zone.now (λ u. after <ℤ u) change.new }
     ensures refused { result ≢ 0 → (result ≡ 35) × HasNoChange (TypeAt zone.now) (λ u. after <ℤ u)
@@ -49,7 +49,7 @@ pub fn answer_next(zone: &TimeZone, after: i64, change: &mut WrittenChange) -> u
     }
 }
 
-/// Writes the last change at that second or before it: 0, or 35 if there is none.
+/// Writes the last change at that second or before it: 0, or 35 if there isn't one.
 pub fn answer_previous(zone: &TimeZone, before_or_at: i64, change: &mut WrittenChange) -> u32
     ensures answered { result ≡ 0 → IsLastWritten zone.now (λ u. u ≤ℤ before_or_at) change.new }
     ensures refused { result ≢ 0 → (result ≡ 35)

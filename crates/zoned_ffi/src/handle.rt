@@ -15,7 +15,7 @@ use std::ptr::null_mut;
 use std::sync::Arc;
 use tz_info::TimeZone;
 
-/// A zone that C keeps. Null where none is open.
+/// A zone that C keeps. Null if none is open.
 #[repr(C)]
 pub struct Handle {
     at: *mut u8,

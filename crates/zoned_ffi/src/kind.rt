@@ -16,7 +16,7 @@ use tz_info::TimeZone;
 pub enum Kind {
     /// As a TZif file. Its number is 0.
     File,
-    /// As a TZ text, as `EST5EDT,M3.2.0,M11.1.0`. Its number is 1.
+    /// As a TZ string, as `EST5EDT,M3.2.0,M11.1.0`. Its number is 1.
     Text,
     /// As a TZ string with the extensions of RFC 8536, section 3.3.1. Its number is 2.
     ExtendedText,

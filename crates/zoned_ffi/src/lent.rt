@@ -14,7 +14,7 @@ use std::sync::Arc;
 use tz_info::TimeZone;
 
 /// A [`crate::handle::Handle`] that is lent: nobody closes it or opens another zone in it meanwhile.
-/// Null where no zone is open.
+/// Null if no zone is open.
 #[repr(C)]
 pub struct Lent {
     at: *const u8,

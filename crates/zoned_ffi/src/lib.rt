@@ -130,7 +130,7 @@ pub extern "C" fn zoned_wall(
     locals: &[i64],
     answers: &mut [i32],
 ) -> u32
-    // 0: each three numbers are told of the zone's clocks.
+    // 0: each three numbers are right for the zone's clocks.
     ensures answered { result ≡ 0
         → (z : Zone) × IsZoneOf kind zone.now z × AreTriples z locals.now answers.new }
     // Another number says what is wrong, and nothing is written.

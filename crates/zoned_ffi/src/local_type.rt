@@ -15,7 +15,7 @@ pub struct WrittenType {
     pub offset: i32,
     /// 1 if it is daylight saving time, else 0.
     pub is_dst: i32,
-    /// Its name, of at most seven bytes, and zeros after it; zeros alone where it has none.
+    /// Its name, of at most seven bytes, and zeros after it; only zeros if it has none.
     pub abbreviation: [u8; 8],
 }
 

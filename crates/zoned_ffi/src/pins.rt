@@ -1,4 +1,4 @@
-//! Facts about the definitions alone, each proved with no code between: the numbers that the header
+//! Facts about only the definitions, each proved with no code between: the numbers that the header
 //! gives to C. The functions are empty, and never called.
 
 ghost use Rattle.std.specs.Prelude.{◌≡◌, ◌∷◌, [], ◌⊎◌, ℕ, ℤ, pos, neg_ℤ, true, false, Some, None};

@@ -1,4 +1,4 @@
-//! Why a call is refused.
+//! Why a call returns an error.
 
 ghost use Rattle.std.specs.Prelude.{◌≡◌, ◌≢◌};
 ghost use Rattle.zoned_ffi.specs.Refusals.{detail_number, list_number, refusal_number};
@@ -35,12 +35,12 @@ pub const OUT_OF_RANGE: u32 = 23;
 /// What a call returns where memory runs out.
 pub const OUT_OF_MEMORY: u32 = 17;
 
-/// Why a call is refused.
+/// Why a call returns an error.
 #[derive(Clone, Copy)]
 pub enum Refusal {
-    /// The reader refuses the bytes, by a number from 1 to 17.
+    /// The reader rejects the bytes, with a number from 1 to 17.
     Reader(Error),
-    /// A TZ text is not UTF-8.
+    /// A TZ string is not UTF-8.
     TextNotUtf8,
     /// No kind of bytes has that number.
     UnknownKind,

@@ -17,7 +17,7 @@ use tz_info::{Probes, TimeZone};
 #[repr(C)]
 #[derive(Clone, Copy)]
 pub struct Resolved {
-    /// 0, or why there is none.
+    /// 0, or why there isn't one.
     pub number: u32,
     /// The offset in force at the instant, in seconds east of UTC.
     pub offset: i32,
@@ -26,7 +26,7 @@ pub struct Resolved {
 }
 
 impl Resolved {
-    /// That of the local time: so many seconds after 1970-01-01 00:00:00 on a clock, every day
+    /// That of the local time: seconds after 1970-01-01 00:00:00 on a clock, every day
     /// counted as 86,400.
     pub fn at(zone: &TimeZone, choice: Choice, local: i64) -> Resolved
         ensures { IsResolvedAt zone.now choice local result }

@@ -34,14 +34,14 @@ pub struct WallClock {
     pub first_offset: i32,
     /// The offset in force at the last of them.
     pub last_offset: i32,
-    /// The first of them, in Unix seconds; 0 where there is none.
+    /// The first of them, in Unix seconds; 0 if there isn't one.
     pub first: i64,
     /// The last of them.
     pub last: i64,
 }
 
 impl WallClock {
-    /// When the zone's clocks show the local time: so many seconds after 1970-01-01 00:00:00 on a
+    /// When the zone's clocks show the local time: seconds after 1970-01-01 00:00:00 on a
     /// clock, every day counted as 86,400.
     #[inline(always)]
     pub fn at(zone: &TimeZone, local: i64) -> WallClock

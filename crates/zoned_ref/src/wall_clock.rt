@@ -59,10 +59,10 @@ impl WallClock {
         probes: &mut Probes,
     ) -> Result<WallClock, Error>
         requires { HasRoom probes.old }
-        // What is told, and how many looks it took, is that of the file's zone.
+        // The answer, and how many probes it took, are those of the file's zone.
         ensures found { IfOk result (λ told. (z : Zone) × IsTzFile bytes.now z × IsValid z
             × Tells z (reading local.now) told × RoseByWallClock z probes.old probes.new) }
-        // Of a file that has a valid zone it is told, unless memory runs out.
+        // A file that has a valid zone has an answer, unless memory runs out.
         ensures only { (z : Zone) → IsTzFile bytes.now z → IsValid z
             → MatchResult result (λ told. Tells z (reading local.now) told) (λ e. e ≡ OutOfMemory) }
         // An error is the first fault of the file, or says that memory ran out.
@@ -93,10 +93,10 @@ impl WallClock {
         probes: &mut Probes,
     ) -> Result<WallClock, Error>
         requires { HasRoom probes.old }
-        // What is told, and how many looks it took, is that of the text's zone.
+        // The answer, and how many probes it took, are those of the string's zone.
         ensures found { IfOk result (λ told. (z : Zone) × IsPosixZone text.now z
             × Tells z (reading local.now) told × RoseByWallClock z probes.old probes.new) }
-        // Of a text that has a zone it is told, unless memory runs out.
+        // A string that has a zone has an answer, unless memory runs out.
         ensures only { (z : Zone) → IsPosixZone text.now z
             → MatchResult result
             (λ told. Tells z (reading local.now) told)

@@ -80,7 +80,7 @@ fn nanos_behind(nanos: u32, digits: u16) -> u32
     nanos % nanos_per_digit(digits)
 }
 
-// From so many nanoseconds to the nearest that the digits show.
+// From that many nanoseconds to the nearest number that the digits show.
 fn way_to_digits(nanos: u32, digits: u16) -> TimeDelta
     ensures is { let n = pos nanos in
         nanos_of result ≡ nearest_multiple n (nanos_per_digit digits) -ℤ n }
@@ -174,7 +174,7 @@ fn on_day_0(time: NaiveTime) -> NaiveDateTime
     NaiveDateTime::default().date().and_time(time)
 }
 
-// The instant of the same second, so many nanoseconds earlier.
+// The instant of the same second, that many nanoseconds earlier.
 fn instant_cut<Tz: TimeZone>(here: DateTime<Tz>, behind: u32) -> DateTime<Tz>
     requires { behind ≤ (zoned here).utc.f }
     ensures { let utc = (zoned here).utc in

@@ -24,7 +24,7 @@ use std::marker::PhantomData;
 /// An instant, and how far the clocks of its zone are from UTC then.
 ///
 /// It is a UTC date-time in range, and an offset, which may be any: that it is the offset of the
-/// zone at that instant holds where a zone's call made the value. Two instants of one zone type are
+/// zone at that instant holds if a zone's call made the value. Two instants of one zone type are
 /// equal where their UTC date-times are, whatever their offsets.
 ///
 /// It prints as what a clock with its offset shows, and the offset: `2021-11-07 01:00:00 -05:00`,

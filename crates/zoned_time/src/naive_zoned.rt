@@ -17,12 +17,18 @@ pub trait NaiveZoned: Sized {
     // what is read
     ghost shown: { Self → Reading };
 
-    /// The instant when a clock of UTC shows the local time, which is in range.
+    /// Returns the instant at which a clock of UTC shows the local time. Requires: it is in range.
     fn and_utc(&self) -> DateTime<Utc>
         requires { IsInRange (shown self.now).s }
         ensures { zoned result ≡ in_utc (shown self.now) };
 
-    /// The instant when the clocks of a zone show the local time: [`TimeZone::from_local_datetime`].
+    /// Returns the instants at which the clocks of a zone show the local time, as
+    /// [`TimeZone::from_local_datetime`] does.
+    ///
+    /// ```
+    /// let local = NaiveDate::from_ymd_opt(2021, 7, 1)?.and_hms_opt(12, 0, 0)?;
+    /// let noon = local.and_local_timezone(new_york).single()?; // 2021-07-01 12:00:00 -04:00
+    /// ```
     fn and_local_timezone<Tz: TimeZone>(&self, tz: Tz) -> LocalResult<DateTime<Tz>>
         ensures { IsRelocal (Tz.law tz) (shown self.now) (map_of zoned result) };
 }

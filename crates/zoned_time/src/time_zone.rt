@@ -91,7 +91,7 @@ pub trait TimeZone: Sized + Copy {
     // clocks are never a day or more away from UTC
     ghost within_day: { (zone : Self) (u : ℤ) → IsZoneSecond u → IsWithinDay ((law zone).off u) };
 
-    // the offset itself tells its seconds
+    // the offset's own seconds
     ghost told: { (offset : Self.Offset) → meaning.seconds offset ≡ Self.Offset.seconds offset };
 
     /// The instant of a UTC date-time in range.
@@ -187,7 +187,11 @@ pub trait TimeZone: Sized + Copy {
         }
     }
 
-    /// The instant of [`DateTime::from_timestamp`], if it returns a value.
+    /// Returns the instant of [`DateTime::from_timestamp`] in this zone, or `None`.
+    ///
+    /// ```
+    /// let noon = new_york.timestamp_opt(1_625_155_200, 0).single()?; // 2021-07-01 12:00:00 -04:00
+    /// ```
     final fn timestamp_opt(&self, secs: i64, nsecs: u32) -> LocalResult<DateTime<Self>>
         ensures { let r = of_secs secs nsecs in
             IsAtWhere (law self.now) (IsStamp r) r
@@ -199,7 +203,7 @@ pub trait TimeZone: Sized + Copy {
         }
     }
 
-    /// [`TimeZone::timestamp_opt`], if it returns a value.
+    /// Returns the instant of [`TimeZone::timestamp_opt`]. Requires: there is one.
     final fn timestamp(&self, secs: i64, nsecs: u32) -> DateTime<Self>
         requires { IsStamp (of_secs secs nsecs) }
         ensures { IsAt (law self.now) (of_secs secs nsecs) (shown result.datetime result.offset) }
@@ -209,7 +213,11 @@ pub trait TimeZone: Sized + Copy {
             .with_timezone(self)
     }
 
-    /// The instant of [`DateTime::from_timestamp_millis`], if it returns a value.
+    /// Returns the instant of [`DateTime::from_timestamp_millis`] in this zone, or `None`.
+    ///
+    /// ```
+    /// let noon = new_york.timestamp_millis_opt(1_625_155_200_250).single()?; // 2021-07-01 12:00:00.250 -04:00
+    /// ```
     final fn timestamp_millis_opt(&self, millis: i64) -> LocalResult<DateTime<Self>>
         ensures { let r = of_millis millis in
             IsAtWhere (law self.now) (IsInRange r.s) r
@@ -221,7 +229,7 @@ pub trait TimeZone: Sized + Copy {
         }
     }
 
-    /// [`TimeZone::timestamp_millis_opt`], if it returns a value.
+    /// Returns the instant of [`TimeZone::timestamp_millis_opt`]. Requires: there is one.
     final fn timestamp_millis(&self, millis: i64) -> DateTime<Self>
         requires { IsInRange (of_millis millis).s }
         ensures { IsAt (law self.now) (of_millis millis) (shown result.datetime result.offset) }
@@ -231,7 +239,7 @@ pub trait TimeZone: Sized + Copy {
             .with_timezone(self)
     }
 
-    /// The instant of [`DateTime::from_timestamp_micros`], if it returns a value.
+    /// Returns the instant of [`DateTime::from_timestamp_micros`] in this zone, or `None`.
     final fn timestamp_micros(&self, micros: i64) -> LocalResult<DateTime<Self>>
         ensures { let r = of_micros micros in
             IsAtWhere (law self.now) (IsInRange r.s) r
@@ -243,7 +251,11 @@ pub trait TimeZone: Sized + Copy {
         }
     }
 
-    /// The instant of [`DateTime::from_timestamp_nanos`].
+    /// Returns the instant of [`DateTime::from_timestamp_nanos`] in this zone.
+    ///
+    /// ```
+    /// let noon = new_york.timestamp_nanos(1_625_155_200_000_000_007); // 2021-07-01 12:00:00.000000007 -04:00
+    /// ```
     final fn timestamp_nanos(&self, nanos: i64) -> DateTime<Self>
         ensures { IsAt (law self.now) (of_total nanos) (shown result.datetime result.offset) }
     {

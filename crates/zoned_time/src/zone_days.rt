@@ -232,7 +232,7 @@ fn midnight_after(date: NaiveDate) -> Option<NaiveDateTime>
     Some(noon.overflowing_add_offset(half_a_day))
 }
 
-// The start of the day so many days before that of a date.
+// The start of the day that many days before that of a date.
 fn start_of_earlier_day<Tz: ZoneDays>(zone: &Tz, date: NaiveDate, days: u32) -> Option<DateTime<Tz>>
     ensures { let law = Tz.law zone.now in
         let first = day_of date -ℤ pos days in

@@ -104,7 +104,7 @@ fn create_beside(rt: &HostRuntime, target: &str) -> io::Result<(File, String)> {
     Err(io::Error::from(ErrorKind::AlreadyExists))
 }
 
-// The path of the target, with the number and `.tmp` behind its name.
+// The path of the target, with the number and `.tmp` after its name.
 fn temporary_path(rt: &HostRuntime, target: &str, number: u32) -> io::Result<String> {
     let mut name = String::new(rt.alloc());
     for letter in Path::new(target)

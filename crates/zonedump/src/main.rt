@@ -16,7 +16,7 @@ use std::process::ExitCode;
 use told::{Asked, What, tell_file, tell_text};
 use zonedump_lib::Years;
 
-// The status of a run that told all that was asked, of one that did not, and of wrong arguments.
+// The status of a run that printed everything, of one that did not, and of wrong arguments.
 const TOLD: u8 = 0;
 
 const FAILED: u8 = 1;

@@ -193,7 +193,7 @@ fn tell_zone(
     }
 }
 
-// Gives the zone in a form that is no text of lines.
+// Writes the zone in a form that isn't lines of text.
 fn give(rt: &HostRuntime, name: &str, zone: &TimeZone, asked: Asked<'_>) -> io::Result<bool> {
     match asked.what {
         What::Write(path) => write(rt, name, zone, path),
@@ -208,7 +208,7 @@ fn refuse_name(rt: &HostRuntime, name: &str) -> io::Result<bool> {
     Ok(false)
 }
 
-// Says why a zone is refused.
+// Says why a zone is rejected.
 fn refuse(rt: &HostRuntime, name: &str, kind: &str, fault: &Error) -> io::Result<bool> {
     match fault {
         Error::OutOfMemory => eprintln!(rt; "zonedump: {name}: out of memory")?,

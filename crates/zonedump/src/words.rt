@@ -4,7 +4,7 @@ use std::env::{Env, FillError};
 use std::fmt::Write;
 use std::io;
 
-// The most bytes that Linux gives in one word, with the 0 byte behind it.
+// The most bytes that Linux gives in one word, with the 0 byte after it.
 const LONGEST: usize = 131_072;
 
 /// What ends a word that replaces one that isn't UTF-8. No word of a call has a 0 byte.

@@ -22,7 +22,7 @@ pub enum Form<'a> {
 ///
 /// # Errors
 ///
-/// There is no memory for it.
+/// Running out of memory.
 pub fn told(
     alloc: Global,
     zone: &TimeZone,

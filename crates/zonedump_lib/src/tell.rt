@@ -27,11 +27,11 @@ pub fn tell_file(
     // The file's zone is written in that form.
     ensures told { OnOk result (Tells (IsFileTold form.entry bytes.now years.first years.last)
         (string_bytes out.old) (string_bytes out.new)) }
-    // Nothing is written where there is an error.
+    // Nothing is written if there is an error.
     ensures kept { OnErr result (string_bytes out.new ≡ string_bytes out.old) }
     // An error is the first fault of the file, or says that memory ran out.
     ensures fault { IfErr result (λ e. IsFileRefused bytes.now e) }
-    // Running out of memory is answered only if every piece of the file is there.
+    // Running out of memory is returned only if every piece of the file is there.
     ensures memory { IfErr result
         (λ e. IsOutOfMemory e → (p : FilePieces) × HasPieces bytes.now p) }
 {
@@ -54,14 +54,14 @@ pub fn tell_text(
     form: Form<'_>,
     out: &mut String,
 ) -> Result<(), Error>
-    // The text's zone is written in that form.
+    // The string's zone is written in that form.
     ensures told { OnOk result (Tells (IsTextTold form.entry text.now years.first years.last)
         (string_bytes out.old) (string_bytes out.new)) }
-    // Nothing is written where there is an error.
+    // Nothing is written if there is an error.
     ensures kept { OnErr result (string_bytes out.new ≡ string_bytes out.old) }
-    // An error is the first fault of the text, or says that memory ran out.
+    // An error is the first fault of the string, or says that memory ran out.
     ensures fault { IfErr result (λ e. IsTextRefused text.now e) }
-    // Running out of memory is answered only for a text that has a zone.
+    // Running out of memory is returned only for a string that has a zone.
     ensures memory { IfErr result (λ e. IsOutOfMemory e → (z : Zone) × IsPosixZone text.now z) }
 {
     match TimeZone::from_posix_tz(alloc, text) {

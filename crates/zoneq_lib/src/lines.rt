@@ -1,4 +1,4 @@
-//! Where a line ends.
+//! The ends of lines.
 
 ghost use Rattle.std.specs.Prelude.{◌≡◌, ◌∷◌, ◌++◌, MatchOption};
 ghost use Rattle.zoneq_lib.specs.Lines.{HasNoNewline, without_return};

@@ -18,7 +18,7 @@ pub enum RunError {
 impl RunError {
     ghost use Rattle.zoneq_lib.specs.Faults.{fault_text};
 
-    /// What the program `zoneq` says of it on standard error.
+    /// Returns what the program `zoneq` says of it on standard error.
     pub fn text(&self) -> &'static str
         ensures { result.now ≡ fault_text self.now }
     {

@@ -13,17 +13,22 @@ use std::io::{Read, Write};
 // How many bytes are asked of the reader at a time.
 const BLOCK: usize = 16384;
 
-/// Answers each line that the reader gives, before it reads the next one.
+/// Answers each line that the reader gives.
 ///
-/// Each answer is written at once, and all that was written is flushed before the reader is asked
-/// for more. A line ends with a newline, and one carriage return before it is no part of the line.
-/// What follows the last newline is a line if it is not empty.
+/// Each answer is written at once, and all that was written is flushed before the next read. A line
+/// ends with a newline, and one carriage return before it isn't part of the line. What follows the
+/// last newline is a line if it is not empty.
 ///
 /// Requires: neither end has failed or ended before.
 ///
 /// The contract speaks of the bytes that a reader has left and a writer holds, if their types show
 /// them, as `&[u8]` and `Vec<u8>` do. Standard input and output don't, so of a run over them the
 /// contract says only which end failed, that the input ended, and that what was written was sent.
+///
+/// # Errors
+///
+/// [`RunError::Read`] and [`RunError::Write`] if that end failed; [`RunError::Memory`] if a line
+/// or its answer found no memory; [`RunError::TooLong`] if the count of reads, 2^64 - 1, is used up.
 ///
 /// ```
 /// let mut reader = Watched::new(b"text UTC0\nat 0\n".as_slice());

@@ -1,4 +1,4 @@
-"""What is asked of a zone about a column, block by block, but for the choices of `_localize`."""
+"""Answers about a column, block by block, except for those of `_localize`."""
 
 from __future__ import annotations
 

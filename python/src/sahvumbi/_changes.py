@@ -36,7 +36,7 @@ class Changes(NamedTuple):
     is_dst_after: npt.NDArray[np.bool_]
     """Whether it is from that second on."""
     name_before: npt.NDArray[np.str_]
-    """The abbreviation at the second before, such as EST; empty where the zone names none."""
+    """The abbreviation at the second before, such as EST; empty if the zone has none."""
     name_after: npt.NDArray[np.str_]
     """The abbreviation from that second on."""
 

@@ -1,4 +1,4 @@
-"""What a call takes for local times that clocks skipped, or showed several times."""
+"""What to return for local times that clocks skipped, or showed several times."""
 
 from __future__ import annotations
 
@@ -21,7 +21,7 @@ UNKNOWN = NAT
 
 
 class Given(NamedTuple):
-    """What a column beside the local times says of each row: `fold`, `is_dst` or `offset`."""
+    """A column that decides folds: `fold`, `is_dst` or `offset` of each row."""
 
     name: str
     values: Array

@@ -144,9 +144,9 @@ def moved(
 ) -> Moved:
     """Returns the rows whose local time has another instant in `new` than in `old`.
 
-    They are what an update of the tz database changes of local times that are stored, as those of a
-    calendar. Local times and choices are taken, and errors raised, as by `Zone.localize`, in both
-    zones; NaT in one of them is another instant.
+    These are the stored local times, as those of a calendar, that an update of the tz database
+    moves. Local times, choices and errors are as in `Zone.localize`, for both zones; NaT in one of
+    them is another instant.
 
     >>> import numpy as np
     >>> from sahvumbi import Zone

@@ -20,7 +20,7 @@ COLUMNS = "an array or a list of int64 or datetime64, a Series, an Index and a d
 
 
 def taken(values: Any, may_be_aware: bool) -> Column:
-    """The column that a user hands over. Raises TypeError if it is none."""
+    """The column that a user hands over. Raises TypeError if it isn't one."""
     if isinstance(values, (np.ndarray, np.generic)):
         if isinstance(values, np.ma.MaskedArray):
             raise TypeError(

@@ -40,21 +40,21 @@ class Opened:
     def from_file(cls: type[Self], path: Union[str, os.PathLike[str]]) -> Self:
         """Returns the zone of a TZif file (RFC 8536, versions 1 to 3).
 
-        Of the file no more is read than its headers say and a footer of 64 KB. No pipe is waited
-        for. Raises `ZoneRefusedError` if it is no such file, and OSError if it can't be read.
+        It reads no more than the file's headers say and a footer of 64 KB, and no pipe or device.
+        Raises `ZoneRefusedError` if it is no such file, and OSError if it can't be read.
         """
         name = os.fspath(path)
         return cls._of(FILE, bytes_of_file(path), name, None, f"Zone.from_file({name!r})")
 
     @classmethod
     def from_bytes(cls: type[Self], data: Union[bytes, bytearray, memoryview]) -> Self:
-        """Returns the zone of a TZif file's bytes. Raises `ZoneRefusedError` if they are none.
+        """Returns the zone of a TZif file's bytes. Raises `ZoneRefusedError` if they make no zone.
 
         >>> from sahvumbi import Zone
         >>> Zone.from_bytes(b"TZif")
         Traceback (most recent call last):
         ...
-        sahvumbi.errors.ZoneRefusedError: 4 bytes is refused: unexpected end of input (7)
+        sahvumbi.errors.ZoneRefusedError: 4 bytes: unexpected end of input (7)
         """
         read = memoryview(data).tobytes()
         what = f"{len(read)} bytes"
@@ -64,9 +64,9 @@ class Opened:
     def from_text(cls: type[Self], text: str) -> Self:
         """Returns the zone of a TZ string as in POSIX.1, section 8.3. The empty string is UTC.
 
-        Raises `ZoneRefusedError` if it is none. That is so of the extensions of RFC 8536, section
-        3.3.1, too: a signed time of day (10), and hours of one above 24 (6). In the footer of a
-        file they are read.
+        Raises `ZoneRefusedError` if it isn't one. The extensions of RFC 8536, section 3.3.1, are
+        errors too: a signed time of day (10), and its hours above 24 (6). In the footer of a file
+        they are read.
 
         >>> from sahvumbi import Zone
         >>> Zone.from_text("<+0330>-3:30").offsets([0])

@@ -10,7 +10,7 @@ from ._columns import Column
 from ._forms import NAT, Array
 from .errors import FOLD, WORDS, FoldError
 
-OUT_OF_ORDER = "rows are not in order of time here, so that no order tells folds apart"
+OUT_OF_ORDER = "rows are not in order of time here, so the order can't decide folds"
 TWO_WAYS = f"{WORDS[FOLD]}, and the order of rows doesn't tell which it is"
 
 

@@ -1,4 +1,4 @@
-"""What is asked of a zone about stretches of time: changes, spans, days and differences."""
+"""The calls of a zone about stretches of time: changes, spans, days and differences."""
 
 from __future__ import annotations
 
@@ -36,7 +36,7 @@ class Stretches(Opened):
         """Returns the first instant of the day of each date, or local time.
 
         It is the first at which a clock of the zone shows midnight or a later time: most often that
-        of midnight, and in a gap the end of the gap. A day that clocks skipped begins where the
+        of midnight, and in a gap the end of the gap. A day that clocks skipped begins when the
         next one begins. A column of numbers has seconds, and a date is one local time. Raises
         `OutOfRangeError` outside the years -262143 to 262142, and if an instant doesn't fit the
         column's type.
@@ -64,8 +64,8 @@ class Stretches(Opened):
 
         It is the last of the column's unit before the next day begins: a second, or a nanosecond of
         a Series. A day that clocks skipped has none: NaT, or a `GapError` if the column has no NaT.
-        An interval is simpler with its exclusive end, as `day` has it. Dates are taken, and other
-        errors raised, as by `start_of_day`.
+        An interval is simpler with its exclusive end, as `day` has it. Dates and other errors are
+        as in `start_of_day`.
 
         >>> import pandas
         >>> from sahvumbi import Zone
@@ -85,8 +85,8 @@ class Stretches(Opened):
         """Returns the day that each instant lies in: its date, start and end, as a `Days`.
 
         Each instant lies in one day, from the start of it on and before `until`, the start of the
-        next. After a clock was set back over midnight it shows the date before again, and is in the
-        later day still. Of a Series or an Index the answer is a DataFrame with its labels.
+        next. A clock that was set back over midnight shows the date before again, but stays in the
+        later day. Of a Series or an Index the answer is a DataFrame with its labels.
         Raises `OutOfRangeError` as `start_of_day` does.
 
         >>> from sahvumbi import Zone
@@ -109,7 +109,7 @@ class Stretches(Opened):
         """Returns the first instant of the local day, hour or other step that each instant lies in.
 
         `step` is 'D', the day as `day` has it, or a part of a day in whole hours ('h'), minutes
-        ('15min') or seconds, or such a timedelta. A step begins where clocks show a multiple of it,
+        ('15min') or seconds, or such a timedelta. A step begins when clocks show a multiple of it,
         or another step than just before. Raises `OutOfRangeError` as `start_of_day` does.
 
         >>> import numpy as np
@@ -134,7 +134,7 @@ class Stretches(Opened):
     def ceil(self, instants: Any, step: Step) -> Any:
         """Returns the first instant, from each on, at which a local day, hour or other step begins.
 
-        Steps are those of `floor`, and errors are raised as there.
+        Steps and errors are those of `floor`.
 
         >>> import numpy as np
         >>> from sahvumbi import Zone
@@ -200,7 +200,7 @@ class Stretches(Opened):
     def differences(self, new: Opened, from_: Time, to: Time) -> Differences:
         """Returns the stretches from `from_` on and before `to` in which another zone differs.
 
-        It differs where it has another local time type: another offset, DST flag or abbreviation.
+        It differs while it has another local time type: another offset, DST flag or abbreviation.
         In a stretch each zone has one type, and no stretch can be longer. `self` is the old zone,
         such as that of an older tz database. Ends are as in `changes`, and `NoOffsetError` is
         raised if a zone has no type at one of them.

@@ -41,7 +41,7 @@ class WallClocks(NamedTuple):
     shown: npt.NDArray[np.int8]
     """How often: 0 never, 1 once, 2 several times; 3 out of range, -1 NaT."""
     first: npt.NDArray[Any]
-    """The first instant that shows it, counted as the column is; where none does, NaT or 0."""
+    """The first instant that shows it, counted as the column is; if none does, NaT or 0."""
     last: npt.NDArray[Any]
     """The last one."""
     first_offset: npt.NDArray[Any]
@@ -58,7 +58,7 @@ class LocalTypes(NamedTuple):
     is_dst: npt.NDArray[np.bool_]
     """The DST flag: whether it is daylight saving time. False for NaT."""
     abbreviation: npt.NDArray[np.str_]
-    """The abbreviation, such as EST; empty for NaT, and where the zone has none."""
+    """The abbreviation, such as EST; empty for NaT, and if the zone has none."""
 
 
 class Spans(NamedTuple):

@@ -1,4 +1,4 @@
-"""What is wrong with a zone or with a row of a column: the refusal's number, and its words.
+"""What is wrong with a zone or with a row of a column: the number of the error, and its words.
 
 >>> import sahvumbi
 >>> try:
@@ -19,7 +19,7 @@ GAP = 21
 FOLD = 22
 OUT_OF_RANGE = 23
 
-#: The words of each number that a zone is refused with, and of each that a row is.
+#: The words of each number that an error of a zone or of a row has.
 WORDS = {
     NO_OFFSET: "the zone has no local time type at that instant",
     3: "an offset or abbreviation that no local time type can have",
@@ -67,14 +67,14 @@ class ZoneNotFoundError(ZoneInfoNotFoundError):
 
 
 class ZoneError(ValueError):
-    """An error of this package: `number` is the refusal's number, `words` say what it means."""
+    """An error of a zone or of a row: its `number`, and in `words` what that means."""
 
     number: int
     words: str
 
 
 class ZoneRefusedError(ZoneError):
-    """The bytes are no zone."""
+    """The bytes make no zone."""
 
     def __init__(self, number: int, what: str = "the zone"):
         self.number = TIME_ZONE if 41 <= number <= 44 else number
@@ -83,7 +83,7 @@ class ZoneRefusedError(ZoneError):
         super().__init__(number, self.what)
 
     def __str__(self) -> str:
-        return f"{self.what} is refused: {self.words} ({self.number})"
+        return f"{self.what}: {self.words} ({self.number})"
 
 
 class RowError(ZoneError):

@@ -1,4 +1,4 @@
-"""A zone, and what is asked of it about whole columns."""
+"""A zone, and its calls about whole columns."""
 
 from __future__ import annotations
 
@@ -20,9 +20,9 @@ class Zone(Stretches):
     A column is an array of int64 that counts seconds since 1970-01-01 00:00:00, or one of
     datetime64 of any unit; a list of these; or a Series or an Index of pandas, of the same types or
     of Int64. One second, one datetime64, a Timestamp and a datetime are columns of one row. An
-    answer has the form of the question and its unit (seconds, where the unit is a minute or more).
-    NaT stays NaT. Questions are read where they are, if they are contiguous, aligned and of the
-    machine's byte order, and are never written.
+    answer has the form of the question and its unit (seconds, if the unit is a minute or more).
+    NaT stays NaT. A column is never written, and not copied if it is contiguous, aligned and of the
+    machine's byte order.
 
     If a row has no answer, the call raises an error with the row, its value and why, and no row is
     answered.
@@ -55,7 +55,7 @@ class Zone(Stretches):
 
         Times with a zone of their own are the instants that they are in it, and those without are
         times of UTC. Raises `NoOffsetError` at an instant at which the zone has none: before the
-        year -2147483646 and after 2147483645, where the zone has a rule of two types.
+        year -2147483646 and after 2147483645, if the zone has a rule of two types.
 
         >>> Zone("America/New_York").offsets([1_615_705_199, 1_615_705_200])
         array([-18000, -14400], dtype=int32)
@@ -74,9 +74,9 @@ class Zone(Stretches):
     def to_local(self, instants: Any) -> Any:
         """Returns what the zone's clocks show at each instant: local times, which have no zone.
 
-        They are counted as the instants are. Times with a zone of their own are the
-        instants that they are in it, and those without are times of UTC. Raises `NoOffsetError` as
-        `offsets` does, and `OutOfRangeError` where a local time doesn't fit the column's type.
+        They are counted as the instants are. Times with a zone of their own are the instants that
+        they are in it, and those without are times of UTC. Raises `NoOffsetError` as `offsets`
+        does, and `OutOfRangeError` if a local time doesn't fit the column's type.
 
         >>> from datetime import datetime
         >>> Zone("Asia/Kolkata").to_local(datetime(2021, 7, 1, 12))
@@ -93,8 +93,8 @@ class Zone(Stretches):
     def types(self, instants: Any) -> Any:
         """Returns the offset, the DST flag and the abbreviation at each instant: a `LocalTypes`.
 
-        Of a Series or an Index it is a DataFrame with its labels. Instants are taken, and errors
-        raised, as by `offsets`.
+        Of a Series or an Index it is a DataFrame with its labels. Instants and errors are as in
+        `offsets`.
 
         >>> types = Zone("America/New_York").types([1_615_705_199, 1_615_705_200])
         >>> types.is_dst
@@ -149,25 +149,25 @@ class Zone(Stretches):
         Instants are counted as the local times are; those of pandas' types and of datetime are in
         the zone `tz`, which is UTC unless it is given.
 
-        `gap` says what is taken for a local time that clocks skipped: 'raise' a `GapError`; 'shift'
-        the instant by the offset before the gap, as on a clock that was not set forward; 'after'
-        the first instant after the gap, at which clocks go on; 'before' the last one before it that
-        the column's unit can count; 'nat' NaT.
+        `gap` says what to return for a local time that clocks skipped: 'raise' a `GapError`;
+        'shift' the instant by the offset before the gap, as on a clock that was not set forward;
+        'after' the first instant after the gap, at which clocks go on; 'before' the last one before
+        it that the column's unit can count; 'nat' NaT.
 
-        `fold` says what is taken for one that clocks showed several times: 'raise' a `FoldError`;
+        `fold` says what to return for one that clocks showed several times: 'raise' a `FoldError`;
         'earliest' the first instant that shows it; 'latest' the last one; 'nat' NaT; 'infer' the
         instant that the order of rows decides. For 'infer' rows are in order of time, and each row
-        is a first or a last instant: if there is one choice of them by which no row comes before an
-        earlier one, it is taken, and else `FoldError` is raised. (NaT has no part in the order.)
+        is a first or a last instant: if exactly one choice keeps the rows in order, it is used, and
+        otherwise `FoldError` is raised. (NaT has no part in the order.)
         `by`, a column of keys, makes it the order of the rows of each key.
 
-        A column beside the local times can decide folds row by row: `fold` as an array of 0 for the
+        A second column can decide folds row by row: `fold` as an array of 0 for the
         first and 1 for the last instant; `is_dst`, the DST flag; or `offset`, in seconds or as
-        timedelta64. It is read only where a local time was shown several times, and `FoldError` is
-        raised where it doesn't say which instant is meant.
+        timedelta64. It is read only for local times that were shown several times, and `FoldError`
+        is raised if it doesn't say which instant is meant.
 
-        Raises `OutOfRangeError` where the local time or the instant lies outside the years -262143
-        to 262142, or where the instant doesn't fit the column's type. With `errors='collect'` rows
+        Raises `OutOfRangeError` if the local time or the instant lies outside the years -262143 to
+        262142, or if the instant doesn't fit the column's type. With `errors='collect'` rows
         without an answer become NaT, and the call returns the answers and their `Failures`.
         'nat' and 'collect' take times or Int64, since int64 has no NaT.
 
@@ -204,8 +204,9 @@ class Zone(Stretches):
     def explain(self, local_times: Any) -> Any:
         """Returns how often, and when, the zone's clocks show each local time: a `WallClocks`.
 
-        Of a Series or an Index it is a DataFrame with its labels, and a column for each field of
-        `WallClocks`. Raises `OutOfRangeError` where an instant doesn't fit the column's type.
+        `shown` is 0 for never, 1 for once, 2 for several times, 3 for out of range and -1 for NaT. Of a
+        Series or an Index the answer is a DataFrame with its labels, and a column for each field of
+        `WallClocks`. Raises `OutOfRangeError` if an instant doesn't fit the column's type.
 
         >>> explained = Zone("America/New_York").explain([1_615_689_000, 1_636_248_600])
         >>> explained.shown

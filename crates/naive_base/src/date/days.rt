@@ -17,7 +17,10 @@ use std::iter::FusedIterator;
 impl NaiveDate {
     /// Returns the next day, or `None` after the last day in range.
     ///
-    /// The day after 2024-02-28 is 2024-02-29.
+    /// ```
+    /// let leap_day = NaiveDate::from_ymd_opt(2024, 2, 28)?.succ_opt(); // Some(2024-02-29)
+    /// let none = NaiveDate::MAX.succ_opt(); // None
+    /// ```
     pub fn succ_opt(&self) -> Option<NaiveDate>
         ensures { IsDateOfDay (day_of self.now +ℤ pos 1) result }
     {
@@ -25,6 +28,10 @@ impl NaiveDate {
     }
 
     /// Returns the day before, or `None` before the first day in range.
+    ///
+    /// ```
+    /// let leap_day = NaiveDate::from_ymd_opt(2024, 3, 1)?.pred_opt(); // Some(2024-02-29)
+    /// ```
     pub fn pred_opt(&self) -> Option<NaiveDate>
         ensures { IsDateOfDay (day_of self.now -ℤ pos 1) result }
     {
@@ -40,6 +47,11 @@ impl NaiveDate {
 
     /// Returns the days from another date to this one, each of 24 hours, negative if this one is
     /// earlier.
+    ///
+    /// ```
+    /// let start = NaiveDate::from_ymd_opt(2024, 1, 1)?;
+    /// let year = NaiveDate::from_ymd_opt(2025, 1, 1)?.signed_duration_since(start); // 366 days
+    /// ```
     pub fn signed_duration_since(self, rhs: NaiveDate) -> TimeDelta
         ensures { nanos_of result ≡ (day_of self -ℤ day_of rhs) *ℤ nanos_per_day }
     {
@@ -84,6 +96,12 @@ impl NaiveDate {
 
     /// Returns this date and each date that is some weeks after it, in order, as long as the date a
     /// week later is in range.
+    ///
+    /// ```
+    /// for date in first.iter_weeks().take(3) {
+    ///     days.push(date)?; // 2022-04-17, 2022-04-24, 2022-05-01
+    /// }
+    /// ```
     pub fn iter_weeks(&self) -> NaiveDateWeeksIterator
         ensures { weeks_from result ≡ day_of self.now }
     {

@@ -22,7 +22,10 @@ impl NaiveDate {
     /// last if it has fewer days. `None` if the year is not one from -262143 to 262142, unless it
     /// is the date itself.
     ///
-    /// A month after 2021-01-31 comes 2021-02-28.
+    /// ```
+    /// let date = NaiveDate::from_ymd_opt(2021, 1, 31)?;
+    /// let later = date.checked_add_months(Months::new(1)); // Some(2021-02-28)
+    /// ```
     pub fn checked_add_months(self, months: Months) -> Option<NaiveDate>
         ensures { IsMonthsLater day_of IsDateOn (day_of self) (pos (months_of months)) result }
     {
@@ -31,6 +34,11 @@ impl NaiveDate {
 
     /// Returns the date that many months earlier, or `None`, by the rule of
     /// [`NaiveDate::checked_add_months`].
+    ///
+    /// ```
+    /// let date = NaiveDate::from_ymd_opt(2020, 3, 31)?;
+    /// let earlier = date.checked_sub_months(Months::new(1)); // Some(2020-02-29)
+    /// ```
     pub fn checked_sub_months(self, months: Months) -> Option<NaiveDate>
         ensures { IsMonthsLater day_of IsDateOn (day_of self)
             (neg_ℤ (pos (months_of months))) result }
@@ -54,6 +62,11 @@ impl NaiveDate {
 
     /// Returns the date that many days earlier. `None` if the year is not one from -262143 to
     /// 262142, unless it is the date itself.
+    ///
+    /// ```
+    /// let date = NaiveDate::from_ymd_opt(2020, 3, 1)?;
+    /// let earlier = date.checked_sub_days(Days::new(1)); // Some(2020-02-29)
+    /// ```
     pub fn checked_sub_days(self, days: Days) -> Option<NaiveDate>
         ensures { IsDaysLater day_of IsDateOn (day_of self) (neg_ℤ (pos (days_of days))) result }
     {
@@ -63,7 +76,11 @@ impl NaiveDate {
     /// Returns the date as many days later as the length has whole days, or earlier for a negative
     /// length. `None` if the year is not one from -262143 to 262142, unless it is the date itself.
     ///
-    /// A length of 86,399 seconds has no whole day, so it leaves the date as it is.
+    /// ```
+    /// let date = NaiveDate::from_ymd_opt(2020, 2, 28)?;
+    /// let same = date.checked_add_signed(TimeDelta::hours(23)); // Some(2020-02-28)
+    /// let later = date.checked_add_signed(TimeDelta::hours(47)); // Some(2020-02-29)
+    /// ```
     pub fn checked_add_signed(self, rhs: TimeDelta) -> Option<NaiveDate>
         ensures { IsDaysLater day_of IsDateOn (day_of self)
             (int_div (nanos_of rhs) nanos_per_day) result }
@@ -73,6 +90,11 @@ impl NaiveDate {
 
     /// Returns the date as many days earlier as the length has whole days, or `None`, by the rule of
     /// [`NaiveDate::checked_add_signed`].
+    ///
+    /// ```
+    /// let date = NaiveDate::from_ymd_opt(2020, 3, 1)?;
+    /// let earlier = date.checked_sub_signed(TimeDelta::hours(49)); // Some(2020-02-28)
+    /// ```
     pub fn checked_sub_signed(self, rhs: TimeDelta) -> Option<NaiveDate>
         ensures { IsDaysLater day_of IsDateOn (day_of self)
             (neg_ℤ (int_div (nanos_of rhs) nanos_per_day)) result }
@@ -111,7 +133,7 @@ impl NaiveDate {
         self.in_month(year, month)
     }
 
-    // The year and the month so many months later.
+    // The year and the month that many months later.
     fn month_after(self, by: i64) -> (i32, u32)
         requires { IsWithin 4_294_967_296 by }
         ensures year { result.0 ≡ year_of_number (month_after (day_of self) by) }
@@ -120,7 +142,7 @@ impl NaiveDate {
         year_and_month(self.number_after(by))
     }
 
-    // The number of the month so many months later.
+    // The number of the month that many months later.
     fn number_after(self, by: i64) -> i64
         requires { IsWithin 4_294_967_296 by }
         ensures value { result ≡ month_after (day_of self) by }
@@ -155,7 +177,7 @@ fn number_of_month(year: i32, month: u32) -> i64
     year as i64 * 12 + (month as i64 - 1)
 }
 
-// The year and the month that so many months from January of the year 0 come to.
+// The year and the month that number of months after January of the year 0.
 fn year_and_month(number: i64) -> (i32, u32)
     requires { IsWithin 5_000_000_000 number }
     ensures year { result.0 ≡ year_of_number number }

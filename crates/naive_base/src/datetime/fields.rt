@@ -120,6 +120,11 @@ impl NaiveDateTime {
     /// Returns the local date-time that many months later, at the same time of day: on the same day
     /// of the month, or on the month's last if it has fewer days. `None` if the year is not one
     /// from -262143 to 262142, unless nothing changes.
+    ///
+    /// ```
+    /// let end = NaiveDate::from_ymd_opt(2021, 1, 31)?.and_hms_opt(12, 0, 0)?;
+    /// let later = end.checked_add_months(Months::new(1)); // Some(2021-02-28T12:00:00)
+    /// ```
     pub fn checked_add_months(self, months: Months) -> Option<NaiveDateTime>
         ensures { IsMonthsLater day_shown_by (IsReadingOnDay (reading self)) (day_shown_by self)
             (pos (months_of months)) result }
@@ -133,6 +138,11 @@ impl NaiveDateTime {
 
     /// Returns the local date-time that many months earlier, or `None`, by the rule of
     /// [`NaiveDateTime::checked_add_months`].
+    ///
+    /// ```
+    /// let end = NaiveDate::from_ymd_opt(2020, 3, 31)?.and_hms_opt(12, 0, 0)?;
+    /// let earlier = end.checked_sub_months(Months::new(1)); // Some(2020-02-29T12:00:00)
+    /// ```
     pub fn checked_sub_months(self, months: Months) -> Option<NaiveDateTime>
         ensures { IsMonthsLater day_shown_by (IsReadingOnDay (reading self)) (day_shown_by self)
             (neg_ℤ (pos (months_of months))) result }
@@ -147,7 +157,10 @@ impl NaiveDateTime {
     /// Returns the local date-time that many days later, at the same time of day. `None` if the
     /// year is not one from -262143 to 262142, unless nothing changes.
     ///
-    /// A day after 2021-01-31 12:00:00 comes 2021-02-01 12:00:00.
+    /// ```
+    /// let end = NaiveDate::from_ymd_opt(2021, 1, 31)?.and_hms_opt(12, 0, 0)?;
+    /// let later = end.checked_add_days(Days::new(1)); // Some(2021-02-01T12:00:00)
+    /// ```
     pub fn checked_add_days(self, days: Days) -> Option<NaiveDateTime>
         ensures { IsDaysLater day_shown_by (IsReadingOnDay (reading self)) (day_shown_by self)
             (pos (days_of days)) result }
@@ -157,6 +170,11 @@ impl NaiveDateTime {
 
     /// Returns the local date-time that many days earlier, or `None`, by the rule of
     /// [`NaiveDateTime::checked_add_days`].
+    ///
+    /// ```
+    /// let start = NaiveDate::from_ymd_opt(2021, 2, 1)?.and_hms_opt(12, 0, 0)?;
+    /// let earlier = start.checked_sub_days(Days::new(1)); // Some(2021-01-31T12:00:00)
+    /// ```
     pub fn checked_sub_days(self, days: Days) -> Option<NaiveDateTime>
         ensures { IsDaysLater day_shown_by (IsReadingOnDay (reading self)) (day_shown_by self)
             (neg_ℤ (pos (days_of days))) result }

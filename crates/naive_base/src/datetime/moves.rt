@@ -11,7 +11,7 @@ use offset_core::TimeDelta;
 
 const NANOS_PER_SECOND: i128 = 1_000_000_000;
 
-// So many seconds and nanoseconds.
+// The length of that many seconds and nanoseconds.
 fn sum_of(secs: i64, nanos: i32) -> TimeDelta
     requires secs { IsWithin 20_000_000_000_000 secs }
     ensures { nanos_of result ≡ secs *ℤ pos 1_000_000_000 +ℤ nanos }
@@ -47,7 +47,7 @@ fn parts_of(total: i128) -> (i64, u32)
     )
 }
 
-// The same, of so many seconds and nanoseconds, which may be less than none or more than a second.
+// The same, of a number of seconds and of nanoseconds, which may be negative or more than a second.
 fn carried(secs: i64, nanos: i32) -> (i64, u32)
     requires second { IsWithin 50_000_000_000_000_000 secs }
     requires least { neg_ℤ (pos 1_000_000_000) ≤ℤ nanos }
@@ -73,6 +73,11 @@ impl NaiveDateTime {
     /// If the local date-time lies in a leap second, that one is counted; no other is. From 23:59:59 with
     /// 1,750,500,000 nanoseconds on 2016-12-31, a move by 249,500,000 nanoseconds gives midnight,
     /// and one by -750,500,000 the leap second's start.
+    ///
+    /// ```
+    /// let start = NaiveDate::from_ymd_opt(2021, 12, 31)?.and_hms_opt(23, 0, 0)?;
+    /// let later = start.checked_add_signed(TimeDelta::minutes(90)); // Some(2022-01-01T00:30:00)
+    /// ```
     pub fn checked_add_signed(self, rhs: TimeDelta) -> Option<NaiveDateTime>
         ensures { IsReadingOf (moved (reading self) (nanos_of rhs)) result }
     {
@@ -84,6 +89,11 @@ impl NaiveDateTime {
     /// that isn't in range.
     ///
     /// The same as [`NaiveDateTime::checked_add_signed`] of the opposite length.
+    ///
+    /// ```
+    /// let start = NaiveDate::from_ymd_opt(2022, 1, 1)?.and_hms_opt(0, 30, 0)?;
+    /// let earlier = start.checked_sub_signed(TimeDelta::minutes(90)); // Some(2021-12-31T23:00:00)
+    /// ```
     pub fn checked_sub_signed(self, rhs: TimeDelta) -> Option<NaiveDateTime>
         ensures { IsReadingOf (moved (reading self) (neg_ℤ (nanos_of rhs))) result }
     {
@@ -91,7 +101,7 @@ impl NaiveDateTime {
         NaiveDateTime::at_second(secs, frac)
     }
 
-    // The second and the nanoseconds of the reading so much later.
+    // The second and the nanoseconds of the local date-time that much later.
     #[tactic(auto, using(crate::proofs::Moves::moves))]
     pub(crate) fn moved(self, delta: TimeDelta) -> (i64, u32)
         ensures value { record { s = result.0; f = result.1 }
@@ -160,7 +170,7 @@ impl NaiveDateTime {
         self.frac as i128 + delta.whole_nanoseconds()
     }
 
-    // All of it in nanoseconds, at so many from the start of this second.
+    // All of it in nanoseconds, at that many from the start of this second.
     fn total_at(self, within: i128) -> i128
         requires { IsShort within }
         ensures value { result ≡ (reading self).s *ℤ pos 1_000_000_000 +ℤ within }
@@ -184,6 +194,12 @@ impl NaiveDateTime {
     /// The own leap second of a local date-time counts if its second of the day is less than the
     /// other's, whatever the days: from 00:00:59 with 1,500,000,000 nanoseconds to 00:01:00 it is
     /// half a second.
+    ///
+    /// ```
+    /// let date = NaiveDate::from_ymd_opt(2021, 3, 14)?;
+    /// let start = date.and_hms_opt(8, 30, 0)?;
+    /// let length = date.and_hms_opt(12, 0, 0)?.signed_duration_since(start); // 12,600 seconds
+    /// ```
     pub fn signed_duration_since(self, rhs: NaiveDateTime) -> TimeDelta
         ensures { nanos_of result ≡ difference (reading self) (reading rhs) }
     {

@@ -13,7 +13,7 @@ use offset_core::TimeDelta;
 use std::ops::{Add, AddAssign, Sub, SubAssign};
 
 impl NaiveTime {
-    /// Returns the time so much later, or earlier for a negative length, and the seconds of the
+    /// Returns the time that much later, or earlier for a negative length, and the seconds of the
     /// whole days that this passes over.
     ///
     /// A leap second counts as in [`NaiveDateTime::checked_add_signed`].
@@ -34,8 +34,14 @@ impl NaiveTime {
         time_and_days(secs, frac)
     }
 
-    /// Returns the time so much earlier, or later for a negative length, and the seconds of the
+    /// Returns the time that much earlier, or later for a negative length, and the seconds of the
     /// whole days that this passes over, positive if it is earlier.
+    ///
+    /// ```
+    /// let time = NaiveTime::from_hms_opt(8, 30, 0)?;
+    /// let earlier = time.overflowing_sub_signed(TimeDelta::hours(2)); // (06:30:00, 0)
+    /// let day_before = time.overflowing_sub_signed(TimeDelta::hours(9)); // (23:30:00, 86400)
+    /// ```
     pub fn overflowing_sub_signed(&self, rhs: TimeDelta) -> (NaiveTime, i64)
         ensures time { let day = reading_at (pos 0) (second_of self.now) (fraction_of self.now) in
             time_of result.0 ≡ time_at (moved day (neg_ℤ (nanos_of rhs))) }
@@ -50,6 +56,11 @@ impl NaiveTime {
     /// earlier.
     ///
     /// A leap second counts as in [`NaiveDateTime::signed_duration_since`].
+    ///
+    /// ```
+    /// let start = NaiveTime::from_hms_opt(8, 30, 0)?;
+    /// let length = NaiveTime::from_hms_opt(12, 0, 0)?.signed_duration_since(start); // 12,600 seconds
+    /// ```
     pub fn signed_duration_since(self, rhs: NaiveTime) -> TimeDelta
         ensures { nanos_of result ≡ difference
             (reading_at (pos 0) (second_of self) (fraction_of self))

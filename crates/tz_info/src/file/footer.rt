@@ -12,7 +12,7 @@ use crate::rule::TransitionRule;
 use crate::rule::reader::read_all;
 use tz_base::{Error, Expected};
 
-/// The rule of a footer: none, or that of the TZ text that stands between two newlines.
+/// Returns the rule of a footer, the TZ string between two newlines, or `None` if that is empty.
 #[tactic(auto, unfolding(crate::specs::Steps::FooterReading::footer_at))]
 pub fn read_footer(extended: bool, bytes: &[u8]) -> Result<Option<TransitionRule>, Error>
     ensures { Gives (λ r. r) result (footer_at extended bytes.now) }

@@ -1,4 +1,4 @@
-//! Theorems of TZ texts and of the zones that they give: each function is empty, its contract is
+//! Theorems of TZ strings and of the zones that they give: each function is empty, its contract is
 //! proved; never called.
 
 ghost use Rattle.std.specs.Prelude.{◌≡◌, ◌≤◌, List, ℕ, Bool};

@@ -146,8 +146,8 @@ impl fmt::Debug for AlternateTime {
 }
 
 impl AlternateTime {
-    /// The rule by which daylight saving time starts on one day and ends on another, each so many
-    /// seconds after the day's midnight: the start on the clock of standard time, the end on that
+    /// The rule by which daylight saving time starts on one day and ends on another, each a
+    /// number of seconds after the day's midnight: the start on the clock of standard time, the end on that
     /// of daylight saving time.
     ///
     /// # Errors
@@ -471,7 +471,7 @@ fn since_first(unix_time: i64) -> u64
     (unix_time + SECONDS_BEFORE_1970) as u64
 }
 
-// The day number of the day so many days after the first of those years.
+// The day number of the day that many days after the first of those years.
 fn day_from_first(days: u64) -> i64
     requires { days < 1_568_704_591_149 }
     ensures { result +ℤ pos 784_353_015_102 ≡ pos days }

@@ -21,7 +21,7 @@ use gregorian::{
 use std::marker::Model;
 use tz_base::{Error, Expected};
 
-/// The three forms of a date in a TZ text.
+/// The three forms of a date in a TZ string.
 #[derive(Clone, Copy, Debug, PartialEq, Eq)]
 pub enum DayForm {
     /// `Jn`: the n-th of the 365 dates of a common year; 29 February is never counted.
@@ -179,8 +179,8 @@ impl RuleDay {
         }
     }
 
-    /// The second so many seconds after the midnight with which the rule's day begins in the year,
-    /// both on one clock: 86,400 times the day number plus the day time.
+    /// Returns the second that many seconds after the midnight with which the rule's day begins in the
+    /// year, both on one clock: 86,400 times the day number plus the day time.
     ///
     /// Requires: the day time, in seconds, is from -2^62 to 2^62.
     ///
@@ -200,7 +200,7 @@ impl RuleDay {
         86_400 * self.number_in(year) + day_time
     }
 
-    // The time of the day so many seconds after its midnight, if they are strictly within a week.
+    // The time of the day that many seconds after its midnight, if they are strictly within a week.
     pub(super) fn at(self, time: i32) -> Option<DayTime>
         ensures { MatchOption result (¬ (IsWithinWeek time))
             (λ d. IsWithinWeek d.time × IsRuleDay d.day

@@ -1,4 +1,4 @@
-//! The reader of TZ texts.
+//! The reader of TZ strings.
 
 ghost use Rattle.std.specs.Prelude.{◌≡◌, List, ℕ, IfOk, IfErr};
 ghost use Rattle.std.specs.Result.{IsOkAnd};
@@ -17,7 +17,7 @@ use text::{read_text, rule_of};
 use tz_base::{Cursor, Error};
 
 impl TransitionRule {
-    /// The rule that a TZ text spells, as `EST5EDT,M3.2.0,M11.1.0` (POSIX.1 section 8.3). With
+    /// The rule that a TZ string spells, as `EST5EDT,M3.2.0,M11.1.0` (POSIX.1 section 8.3). With
     /// extensions a time of day may have a sign and hours up to 167, as in the footer of a TZif
     /// file of version 3 (RFC 8536 section 3.3.1).
     ///

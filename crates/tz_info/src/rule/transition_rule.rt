@@ -1,4 +1,4 @@
-//! The rule of a TZ text.
+//! The rule of a TZ string.
 
 ghost use Rattle.std.specs.Prelude.{◌≡◌, MatchResult};
 ghost use Rattle.tz_base.specs.declared.error.Error.TheVariants.{OutOfRange};
@@ -7,7 +7,7 @@ ghost use Rattle.tz_base.specs.declared.error.Expected.TheVariants.{YearThatRule
 use crate::rule::alternate::AlternateTime;
 use tz_base::{Error, LocalTimeType};
 
-/// What a TZ text says: one type for ever, or two that take turns each year.
+/// What a TZ string says: one type forever, or two that take turns each year.
 #[derive(Clone, Copy, Debug, PartialEq, Eq)]
 pub enum TransitionRule {
     /// One type at every instant.
@@ -21,8 +21,8 @@ impl TransitionRule {
 
     /// The type in force at the second of Unix time.
     ///
-    /// Where the start of daylight saving time comes before its end in the second's UTC year,
-    /// daylight saving time lasts from each year's start to its end; where the end comes first, as
+    /// If the start of daylight saving time comes before its end in the second's UTC year,
+    /// daylight saving time lasts from each year's start to its end; if the end comes first, as
     /// south of the equator, standard time lasts from each year's end to its start. Each moment
     /// belongs to what it begins: the rule of `EST5EDT,M3.2.0,M11.1.0` gives `EST` at 1615705199,
     /// the second before 2021-03-14 02:00:00 in New York, and `EDT` at 1615705200.

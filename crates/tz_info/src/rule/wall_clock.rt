@@ -33,7 +33,7 @@ pub(crate) struct Moment {
 }
 
 impl TransitionRule {
-    /// The types in force at the instants at which a clock by this rule shows the reading.
+    /// Returns the types in force at the instants at which a clock by this rule shows the local time.
     ///
     /// `EST5EDT,M3.2.0,M11.1.0` sets clocks forward at 02:00 on 14 March 2021: that day 02:30 is in
     /// a gap, which no clock shows, and the answer is `None`. It sets them back at 02:00 on 7

@@ -12,7 +12,7 @@ use crate::zone::segments::{Lists, index_of_segment};
 use crate::zone::time_zone::TimeZone;
 use std::alloc::{AllocError, Global};
 
-// Longer steps than this are not tried: no list has so many transitions.
+// Longer steps than this are not tried: no list has that many transitions.
 const LONGEST_STEP: usize = 2_147_483_648;
 
 // Where runs of transitions that change nothing start.
@@ -23,7 +23,7 @@ pub(super) struct Idle {
 }
 
 impl Idle {
-    // No runs, which take no memory.
+    // An empty list of runs, which takes no memory.
     pub(super) fn none(alloc: Global) -> Idle
         ensures { length result.starts.items ≡ 0 }
     {
@@ -61,7 +61,7 @@ fn has_idle(lists: Lists) -> bool
     false
 }
 
-// Whether the transition at that place names the type that was in force before it.
+// Whether the transition at that place changes nothing: it names the type in force before it.
 fn is_idle(lists: Lists, place: usize) -> bool
     requires valid { IsValid (zone_in lists) }
     requires place { place < length lists.transitions.now }
@@ -74,7 +74,7 @@ fn is_idle(lists: Lists, place: usize) -> bool
     is_same_type(&lists.types[before], &lists.types[after])
 }
 
-// Notes for each transition where the run up to it starts.
+// Pushes for each transition the start of the run up to it.
 fn mark(starts: &mut [u32], lists: Lists)
     requires valid { IsValid (zone_in lists) }
     requires count { length starts.old ≡ length lists.transitions.now }
@@ -88,7 +88,7 @@ fn mark(starts: &mut [u32], lists: Lists)
     }
 }
 
-// Where the run up to that place starts, if the one before it starts there.
+// The start of the run up to that place, if the run before it starts there.
 fn run_start(lists: Lists, place: usize, start: usize) -> usize
     requires valid { IsValid (zone_in lists) }
     requires place { place < length lists.transitions.now }
@@ -122,7 +122,7 @@ impl TimeZone {
         next
     }
 
-    // The place so many places on, if no transition from the first place up to there changes
+    // The place that many places on, if no transition from the first place up to there changes
     // anything, or else that place.
     fn stepped(&self, first: usize, next: usize, step: usize, count: usize) -> usize
         requires some { 0 < step }
@@ -142,8 +142,7 @@ impl TimeZone {
         }
     }
 
-    // How many transitions there are before that place, without those just before it that change
-    // nothing.
+    // The number of transitions before that place, less those just before it that change nothing.
     pub(super) fn count_before(&self, place: usize) -> usize
         requires { place < length self.now.transitions }
         ensures count { result ≤ place }

@@ -2,8 +2,8 @@
 
 ghost use Rattle.std.specs.Prelude.{◌≡◌};
 
-/// A leap second entry: from this leap time on this correction stands between Unix time and leap
-/// time (RFC 8536 section 3.2, "leap-second records").
+/// A leap second entry: from this leap time on, leap time is this correction ahead of Unix time
+/// (RFC 8536 section 3.2, "leap-second records").
 #[derive(Clone, Copy, Debug, PartialEq, Eq)]
 pub struct LeapSecond {
     /// Seconds from 1970-01-01 00:00:00 UTC, leap seconds counted.

@@ -51,7 +51,7 @@ impl TimeZone {
 
     /// As [`TimeZone::find_local_time_type`], and counts the looks at transitions and the questions
     /// to the rule: at most as many looks as the number of transitions has binary digits, and one
-    /// question where the rule says the type, else none.
+    /// question if the rule says the type, else none.
     ///
     /// The zone keeps the times of its first and its last transition: a comparison with one of them
     /// that does not decide is not counted. Reading a hint is not counted either.

@@ -25,7 +25,7 @@ use tz_base::Error;
 const FAR: i64 = 1 << 62;
 
 // The pieces of the table, two for each transition. None where a transition does not cut the
-// axis behind the one before it, as where the two lie closer together than their offsets differ.
+// axis after the one before it, as if the two lie closer together than their offsets differ.
 //
 // Most zones have no leap seconds, and there the pass is made without them: it is written once and
 // compiled twice.
@@ -104,7 +104,7 @@ fn pieces_by(alloc: Global, lists: Lists, leapless: bool) -> Result<Option<Piece
     }))
 }
 
-// Whether the next cut, at that place, does not come behind the latest, if there is one.
+// Whether the next cut, at that place, does not come after the latest, if there is one.
 #[inline(always)]
 fn is_crossed(place: usize, latest: i64, cut: i64) -> bool
     ensures crossed { IsTrue result → (1 < place) × (cut ≤ℤ latest) }

@@ -1,4 +1,4 @@
-//! Zones of TZ texts.
+//! Zones of TZ strings.
 
 ghost use Rattle.std.specs.Prelude.{◌≡◌, IfOk, IfErr, MatchResult, ◌⊎◌, [], ◌∷◌, true};
 ghost use Rattle.tz_base.specs.Errors.{IsOutOfMemory};
@@ -12,7 +12,7 @@ use std::alloc::Global;
 use tz_base::{Error, LocalTimeType};
 
 impl TimeZone {
-    /// The zone of a TZ text, such as `EST5EDT,M3.2.0,M11.1.0` (POSIX.1 section 8.3): its rule, and
+    /// The zone of a TZ string, such as `EST5EDT,M3.2.0,M11.1.0` (POSIX.1 section 8.3): its rule, and
     /// the one type or the two types of the rule, that of standard time first. An empty text gives
     /// the zone of [`TimeZone::utc`]. Otherwise spaces, tabs, line feeds, form feeds and carriage
     /// returns at both ends do not count, and the text is read without extensions.

@@ -1,4 +1,4 @@
-//! The first second at which so many transitions have come, and what a clock shows then.
+//! The first second at which a number of transitions have come, and what a clock shows then.
 
 ghost use Rattle.std.specs.Prelude.{◌≡◌, ℤ, pos, ◌+ℤ◌, ◌≤ℤ◌, ◌↔◌, ◌<◌, ◌≤◌, length, take};
 ghost use Rattle.std.specs.Int.{saturate_signed, w64};
@@ -50,7 +50,7 @@ pub(super) fn entries_come(leaps: &[LeapSecond], leap_time: i64) -> usize
     leaps.partition_point(|entry| entry.unix_leap_time <= leap_time)
 }
 
-// The first second at which so many transitions have come.
+// The first second at which that many transitions have come.
 pub(super) fn start_of(transitions: &[Transition], leaps: &[LeapSecond], count: usize) -> i64
     requires leaps { AreLeapSeconds leaps.now }
     requires rising { AreRising transitions.now }

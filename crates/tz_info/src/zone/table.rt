@@ -58,7 +58,7 @@ impl Timed for Transition {
     }
 }
 
-// Of the transitions alone: what is kept beside them follows from them.
+// Of only the transitions: what else is kept follows from them.
 impl fmt::Debug for Table {
     fn fmt<W: fmt::Write>(&self, f: &mut fmt::Formatter<W>) -> fmt::Result {
         f.debug_struct("Table")

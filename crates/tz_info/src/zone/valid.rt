@@ -101,7 +101,7 @@ fn name_types(type_count: usize, transitions: &[Transition]) -> bool
         .all(|transition| transition.type_index < type_count)
 }
 
-// Whether a zone of so many types may have the transitions, in one pass over them. None is left
+// Whether a zone of that many types may have the transitions, in one pass over them. None is left
 // out where one before it does not stand, so that the loop has no branch.
 fn are_transitions(type_count: usize, transitions: &[Transition]) -> bool
     ensures { IsTrue result ↔ AreTransitions type_count transitions.now }

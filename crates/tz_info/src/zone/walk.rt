@@ -104,7 +104,7 @@ impl TimeZone {
         }
     }
 
-    // The last of the first so many transitions; before all of them the first type is in force,
+    // The last of the first n transitions; before all of them the first type is in force,
     // from the least time on.
     pub(super) fn latest(&self, passed: usize, probes: &mut Probes) -> Transition
         requires passed { passed ≤ length self.now.transitions }

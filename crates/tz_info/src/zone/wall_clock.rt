@@ -26,7 +26,7 @@ use tz_base::{Error, LocalTimeType};
 use tz_timeline::Probes;
 
 impl TimeZone {
-    /// The types in force at the instants at which a clock of this zone shows the reading.
+    /// Returns the types in force at the instants at which a clock of this zone shows the local time.
     ///
     /// A gap: in New York clocks were set forward from 02:00 to 03:00 on 14 March 2021. No clock
     /// showed 02:00:00 or 02:59:59 that day, and the answer is `None`; 03:00:00 was shown once.
@@ -51,7 +51,7 @@ impl TimeZone {
     /// As [`TimeZone::find_local_time_type_from_local`], and counts the looks at pieces of the
     /// zone's index and the questions to the rule: at most as many looks as twice the number of
     /// transitions, and one, has binary digits, and one question for each second at which a clock
-    /// at an offset of the rule's types shows the reading and the rule says the type: at most two.
+    /// at an offset of the rule's types shows the local time and the rule says the type: at most two.
     /// No transition is looked at.
     ///
     /// The zone keeps the times of its first and its last piece: a comparison with one of them that
@@ -77,7 +77,7 @@ impl TimeZone {
         Ok(self.wall_answer(local.secs_since_epoch(), probes))
     }
 
-    // One search in the pieces tells the table's part of the answer; the rule's seconds come after
+    // One search in the pieces finds the table's part of the answer; the rule's seconds come after
     // it.
     #[inline(always)]
     pub(super) fn wall_answer(

@@ -83,7 +83,11 @@ pub fn one_file()
     ensures once { (z : Zone) (a b : List ℕ) → IsWrittenFile z a → IsWrittenFile z b → a ≡ b }
 {}
 
-/// A zone that can be written is written, unless memory runs out.
+/// A zone that can be written is written.
+///
+/// # Errors
+///
+/// Running out of memory.
 pub fn written_if_writable<T: ToTzData>(alloc: Global, value: &T) -> Result<Vec<u8>, Error>
     requires { IsWritable (T.zone value.now) }
     ensures { MatchResult result
@@ -96,7 +100,11 @@ pub fn written_if_writable<T: ToTzData>(alloc: Global, value: &T) -> Result<Vec<
     }
 }
 
-/// Of the same zone the same bytes are written.
+/// The same bytes are written for the same zone.
+///
+/// # Errors
+///
+/// Running out of memory.
 pub fn written_alike<T: ToTzData>(
     alloc: Global,
     value: &T,
@@ -115,7 +123,7 @@ pub fn written_alike<T: ToTzData>(
     Ok(Some((file, other_file)))
 }
 
-/// The file that is written of a zone spells no other.
+/// The file that is written for a zone spells no other.
 pub fn written_file_read()
     ensures { (y z : Zone) (bytes : List ℕ) → IsWrittenFile y bytes → IsTzFile bytes z → z ≡ y }
 {
@@ -127,7 +135,11 @@ pub fn every_file()
     ensures { (bytes : List ℕ) (z : Zone) → AreBytes bytes → IsTzFile bytes z → IsWritable z }
 {}
 
-/// The zone, written and read again: it is the same, unless it can't be written or memory runs out.
+/// The zone, written and read again: it is the same, or `None` if it can't be written.
+///
+/// # Errors
+///
+/// Running out of memory.
 pub fn written_and_read(alloc: Global, zone: &TimeZone) -> Result<Option<TimeZone>, Error>
     ensures { MatchResult result
         (λ answer. MatchOption answer (IsInNoFile zone.now) (λ z. z ≡ zone.now))

@@ -66,7 +66,7 @@ impl<Tz, O: Offset> Instant<Tz, O> {
     /// Returns the time from another instant to this one, negative if this one is earlier. The two
     /// may be in different zones.
     ///
-    /// An instant's own leap second counts where its second of the day, in UTC, is less than the
+    /// An instant's own leap second counts if its second of the day, in UTC, is less than the
     /// other's.
     pub fn signed_duration_since<Tz2: TimeZone>(&self, rhs: &DateTime<Tz2>) -> TimeDelta
         ensures { nanos_of result ≡ difference (zoned self.now).utc (zoned rhs.now).utc }

@@ -16,9 +16,15 @@ use naive_base::{NaiveDate, NaiveDateTime, NaiveTime};
 use std::marker::PhantomData;
 
 impl<Tz: TimeZone> DateTime<Tz> {
-    /// The instant of a UTC date-time in range, with that offset.
+    /// Returns the instant of a UTC date-time in range, with that offset.
     ///
     /// Requires: the date-time is in range.
+    ///
+    /// ```
+    /// let utc = NaiveDate::from_ymd_opt(2021, 3, 14)?.and_hms_opt(12, 0, 0)?;
+    /// let ahead = FixedOffset::east(3_600);
+    /// let instant = DateTime::<FixedOffset>::from_naive_utc_and_offset(utc, ahead); // 2021-03-14 13:00:00 +01:00
+    /// ```
     pub fn from_naive_utc_and_offset(datetime: NaiveDateTime, offset: Tz::Offset) -> DateTime<Tz>
         requires { IsInRange (reading datetime).s }
         ensures { zoned result ≡ shown datetime offset }
@@ -48,7 +54,14 @@ impl<Tz: TimeZone> DateTime<Tz> {
         DateTime::from_naive_utc_and_offset(datetime, offset)
     }
 
-    /// The instant when a clock with that offset shows the local time. Its UTC date-time is in range.
+    /// Returns the instant at which a clock with that offset shows the local time. Requires: its UTC
+    /// date-time is in range.
+    ///
+    /// ```
+    /// let local = NaiveDate::from_ymd_opt(2021, 3, 14)?.and_hms_opt(13, 0, 0)?;
+    /// let ahead = FixedOffset::east(3_600);
+    /// let instant = DateTime::<FixedOffset>::from_local(local, ahead); // 2021-03-14 13:00:00 +01:00
+    /// ```
     pub fn from_local(datetime: NaiveDateTime, offset: Tz::Offset) -> DateTime<Tz>
         requires { HasInstant Tz.Offset.seconds (reading datetime) offset }
         ensures { zoned result ≡ instant_of Tz.Offset.seconds (reading datetime) offset }
@@ -70,7 +83,7 @@ impl<Tz: TimeZone> DateTime<Tz> {
         Some(DateTime::from_naive_utc_and_offset(utc, offset))
     }
 
-    /// A zone of the same offsets as the one that the offset came from.
+    /// Returns a zone of the same offsets as the one that the offset came from.
     pub fn timezone(&self) -> Tz
         ensures { SameLaw (Tz.law result) (home_of Tz.meaning self.now) }
     {
@@ -79,14 +92,14 @@ impl<Tz: TimeZone> DateTime<Tz> {
 }
 
 impl<Tz, O: Offset> Instant<Tz, O> {
-    /// What a clock of UTC shows.
+    /// Returns what a clock of UTC shows.
     pub fn naive_utc(&self) -> NaiveDateTime
         ensures { reading result ≡ (zoned self.now).utc }
     {
         self.datetime
     }
 
-    /// The offset.
+    /// Returns the offset.
     pub fn offset(&self) -> &O
         ensures { result.now ≡ (zoned self.now).offset }
     {
@@ -101,13 +114,17 @@ impl<Tz, O: Offset> Instant<Tz, O> {
     }
 
     /// Returns the date that a clock with the offset shows, also on a buffer day.
+    ///
+    /// ```
+    /// let day = Utc.timestamp(1_625_155_200, 0).date_naive(); // 2021-07-01
+    /// ```
     pub fn date_naive(&self) -> NaiveDate
         ensures { day_of result ≡ day_at (wall_of self.now) }
     {
         self.local().date()
     }
 
-    /// The time of day that a clock with the offset shows.
+    /// Returns the time of day that a clock with the offset shows.
     pub fn time(&self) -> NaiveTime
         ensures second { second_of result ≡ second_at (wall_of self.now) }
         ensures fraction { fraction_of result ≡ (wall_of self.now).f }

@@ -12,32 +12,45 @@ use crate::{Offset, Utc};
 use naive_base::{NaiveDateTime, Timelike};
 
 impl<Tz, O: Offset> Instant<Tz, O> {
-    /// The whole seconds since 1970-01-01 00:00:00 UTC.
+    /// Returns the whole seconds since 1970-01-01 00:00:00 UTC.
     pub fn timestamp(&self) -> i64
         ensures { result ≡ (zoned self.now).utc.s }
     {
         self.datetime.secs_since_epoch()
     }
 
-    /// The whole milliseconds since 1970-01-01 00:00:00 UTC, and those of a leap second on top of
-    /// its second's.
+    /// Returns the whole milliseconds since 1970-01-01 00:00:00 UTC, and those of a leap second on
+    /// top of its second's.
+    ///
+    /// ```
+    /// let millis = Utc.timestamp(1_625_155_200, 250_000_000).timestamp_millis(); // 1625155200250
+    /// ```
     pub fn timestamp_millis(&self) -> i64
         ensures { result ≡ millis_of (zoned self.now).utc }
     {
         self.timestamp() * 1_000 + self.timestamp_subsec_millis() as i64
     }
 
-    /// The whole microseconds since 1970-01-01 00:00:00 UTC, and those of a leap second on top of
-    /// its second's.
+    /// Returns the whole microseconds since 1970-01-01 00:00:00 UTC, and those of a leap second on
+    /// top of its second's.
+    ///
+    /// ```
+    /// let micros = Utc.timestamp(1_625_155_200, 250_000_000).timestamp_micros(); // 1625155200250000
+    /// ```
     pub fn timestamp_micros(&self) -> i64
         ensures { result ≡ micros_of (zoned self.now).utc }
     {
         self.timestamp() * 1_000_000 + self.timestamp_subsec_micros() as i64
     }
 
-    /// The nanoseconds since 1970-01-01 00:00:00 UTC, and those of a leap second on top of its
-    /// second's. `None` if an `i64` doesn't hold them: before 1677-09-21 00:12:43.145224192 UTC
+    /// Returns the nanoseconds since 1970-01-01 00:00:00 UTC, and those of a leap second on top of
+    /// its second's. `None` if an `i64` doesn't hold them: before 1677-09-21 00:12:43.145224192 UTC
     /// and after 2262-04-11 23:47:16.854775807 UTC.
+    ///
+    /// ```
+    /// let nanos = Utc.timestamp(1_625_155_200, 7).timestamp_nanos_opt(); // Some(1625155200000000007)
+    /// let none = DateTime::<Utc>::MAX_UTC().timestamp_nanos_opt(); // None
+    /// ```
     pub fn timestamp_nanos_opt(&self) -> Option<i64>
         ensures { let nanos = total (zoned self.now).utc in SomeIff result
             (FitsSigned w64 nanos) nanos }
@@ -45,7 +58,11 @@ impl<Tz, O: Offset> Instant<Tz, O> {
         i64::try_from(self.total_nanos()).ok()
     }
 
-    /// [`DateTime::timestamp_nanos_opt`], if it returns a value.
+    /// Returns the nanoseconds of [`DateTime::timestamp_nanos_opt`]. Requires: that returns some.
+    ///
+    /// ```
+    /// let nanos = Utc.timestamp(1_625_155_200, 7).timestamp_nanos(); // 1625155200000000007
+    /// ```
     pub fn timestamp_nanos(&self) -> i64
         requires { FitsSigned w64 (total (zoned self.now).utc) }
         ensures { result ≡ total (zoned self.now).utc }
@@ -59,23 +76,23 @@ impl<Tz, O: Offset> Instant<Tz, O> {
         self.timestamp() as i128 * 1_000_000_000 + self.timestamp_subsec_nanos() as i128
     }
 
-    /// The whole milliseconds since the second began: from 1000 on, those of a leap second after
-    /// it.
+    /// Returns the whole milliseconds since the second began: from 1000 on, those of a leap second
+    /// after it.
     pub fn timestamp_subsec_millis(&self) -> u32
         ensures { result ≡ (zoned self.now).utc.f / 1_000_000 }
     {
         self.timestamp_subsec_nanos() / 1_000_000
     }
 
-    /// The whole microseconds since the second began: from 10^6 on, those of a leap second after
-    /// it.
+    /// Returns the whole microseconds since the second began: from 10^6 on, those of a leap second
+    /// after it.
     pub fn timestamp_subsec_micros(&self) -> u32
         ensures { result ≡ (zoned self.now).utc.f / 1_000 }
     {
         self.timestamp_subsec_nanos() / 1_000
     }
 
-    /// The nanoseconds since the second began: from 10^9 on, those of a leap second after it.
+    /// Returns the nanoseconds since the second began: from 10^9 on, those of a leap second after it.
     pub fn timestamp_subsec_nanos(&self) -> u32
         ensures { result ≡ (zoned self.now).utc.f }
     {
@@ -110,6 +127,10 @@ impl DateTime<Utc> {
     }
 
     /// Returns the instant at that Unix time in milliseconds. `None` if it is out of range.
+    ///
+    /// ```
+    /// let before = DateTime::<Utc>::from_timestamp_millis(-1); // Some(1969-12-31 23:59:59.999 UTC)
+    /// ```
     pub fn from_timestamp_millis(millis: i64) -> Option<DateTime<Utc>>
         ensures { let r = of_millis millis in SomeIff (option_map zoned result) (IsInRange r.s)
             (in_utc r) }

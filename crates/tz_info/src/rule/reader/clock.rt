@@ -1,4 +1,4 @@
-//! The offsets and the times of day of a TZ text: `hh[:mm[:ss]]` with a sign or without.
+//! The offsets and the times of day of a TZ string: `hh[:mm[:ss]]` with a sign or without.
 
 ghost use Rattle.std.specs.Prelude.{◌≡◌, ◌≤◌, ◌<ℤ◌, ◌≤ℤ◌, pos, neg_ℤ, not, Ok, IfOk};
 ghost use Rattle.offset_core.specs.Offset.{IsWithinDay};
@@ -53,7 +53,7 @@ fn read_time_sign(extended: bool, cursor: &mut Cursor<'_>) -> bool
     if extended { read_sign(cursor) } else { false }
 }
 
-// Whether a minus stands there. A plus may stand there too.
+// Whether a minus comes next. A plus may come instead.
 #[tactic(auto, unfolding(crate::specs::TzGrammar::sign))]
 fn read_sign(cursor: &mut Cursor<'_>) -> bool
     ensures { read sign cursor.old ≡ Ok (result, cursor.new) }
@@ -118,7 +118,7 @@ fn read_seconds(cursor: &mut Cursor<'_>) -> Result<u32, Error>
     }
 }
 
-// The signed seconds of so many hours, up to the limit, minutes and seconds, up to 59.
+// The signed seconds of a number of hours, up to the limit, minutes and seconds, up to 59.
 fn seconds_of(limit: u32, negative: bool, h: u32, m: u32, s: u32) -> Result<i32, Error>
     requires { limit ≤ 167 }
     ensures value { Gives (λ z. z) result

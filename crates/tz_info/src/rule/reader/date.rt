@@ -1,4 +1,4 @@
-//! The days of a TZ text: a date, and a time of that day.
+//! The days of a TZ string: a date, and a time of that day.
 
 ghost use Rattle.std.specs.Prelude.{◌≡◌, IfOk};
 ghost use Rattle.tz_base.specs.Fronts.{Gives, int_at};

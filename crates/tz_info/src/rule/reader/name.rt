@@ -1,4 +1,4 @@
-//! The names of a TZ text: letters, or any bytes between `<` and `>`.
+//! The names of a TZ string: letters, or any bytes between `<` and `>`.
 
 ghost use Rattle.std.specs.Prelude.{◌≡◌, ◌==◌};
 ghost use Rattle.tz_base.specs.Fronts.{Gives, run_of, after_run};

@@ -1,4 +1,4 @@
-//! The whole of a TZ text.
+//! The whole of a TZ string.
 
 ghost use Rattle.std.specs.Prelude.{◌≡◌, IfOk, int_le, pos, ◌+ℤ◌};
 ghost use Rattle.offset_core.specs.Offset.{IsWithinDay};
