@@ -430,7 +430,7 @@ static void try_locals(struct tried *of) {
     for (size_t i = 0; i < written; i++)
         EXPECT(triples[3 * i] == expected[i].shown && triples[3 * i + 1] == expected[i].first_offset && triples[3 * i + 2] == expected[i].last_offset);
 
-    number = zoned_zone_resolve(&of->zone, gap, fold, locals, count, resolved, room);
+    number = zoned_zone_resolved_instants(&of->zone, gap, fold, locals, count, resolved, room);
     EXPECT(number == (is_choice ? due(of, count, room) : ZONED_UNKNOWN_CHOICE));
     written = number ? 0 : count;
     EXPECT(is_untouched(resolved + written, (MOST - written) * sizeof *resolved));
@@ -441,7 +441,7 @@ static void try_locals(struct tried *of) {
     number = zoned_zone_wall_clock(&of->zone, locals[0], &clock);
     EXPECT(number == due(of, 0, 0));
     if (!number) EXPECT(is_same_clock(&clock, &expected[0]));
-    number = zoned_zone_instant(&of->zone, gap, fold, locals[0], &one);
+    number = zoned_zone_resolved_instant(&of->zone, gap, fold, locals[0], &one);
     EXPECT(number == (is_choice ? due(of, 0, 0) : ZONED_UNKNOWN_CHOICE));
     if (!number) expect_resolved(of, &expected[0], gap, fold, locals[0], &one);
 }
