@@ -1,5 +1,5 @@
 use Rattle.zoned_ffi.proofs.Words.{AreWithin, IsTrue}
-use Rattle.zoned_ffi.proofs.column.are_in.Given as goal
+use Rattle.zoned_ffi.proofs.column.block.are_in.Given as goal
 
 -- the stretch has the rows so far
 abbrev pub invariant-loop-row : goal.invariant-loop-row

@@ -1,6 +1,6 @@
 use Rattle.zoned_ffi.proofs.Words.{FitsSigned, and_parts, get_or, pos, rules, to_z-of_z, w64}
 use Rattle.zoned_ffi.proofs.Columns.{within_more}
-use Rattle.zoned_ffi.proofs.column.are_in.Goals as goal
+use Rattle.zoned_ffi.proofs.column.block.are_in.Goals as goal
 
 pub loop-row-preserved : goal.loop-row-preserved
 loop-row-preserved c = λ both.
