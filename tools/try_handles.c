@@ -304,7 +304,8 @@ static void try_first(struct tried *of) {
     int32_t offset = 0;
     int64_t at = 0;
     int is_known = local >= -8334601228800 && local <= 8210266876799;
-    if (is_known) at = first_by_changes(of, local, local - 100000, local + 100000, &offset);
+    /* An offset is less than 2^31 seconds. */
+    if (is_known) at = first_by_changes(of, local, local - (INT64_C(1) << 31), local + (INT64_C(1) << 31), &offset);
     if (at < -8334601228800 || at > 8210266876799) is_known = 0;
     EXPECT(reached.number == (is_known ? ZONED_OK : ZONED_INSTANT_OUT_OF_RANGE));
     EXPECT(reached.instant == (is_known ? at : 0) && reached.offset == (is_known ? offset : 0));
