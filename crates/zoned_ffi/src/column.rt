@@ -57,7 +57,7 @@ const PLACES: usize = 512;
 const PARTS: usize = 2_048;
 
 // The rows of a column that pays for a table.
-const LONG: usize = 4_096;
+const LONG: usize = 2_048;
 
 // How eagerly stretches are searched for, in a short column and in a long one.
 const SHORT_PACE: usize = 1;

@@ -16,10 +16,10 @@ use tz_info::TimeZone;
 
 /// What is written of the time, or the number that says why nothing is.
 #[inline(never)]
-pub fn looked_up(question: Question, time: i64) -> Result<i64, u32>
-    ensures { MatchResult result (IsAnsweredBy question.entry time) (IsNotAnsweredBy question.entry time) }
+pub fn looked_up(question: &Question, time: i64) -> Result<i64, u32>
+    ensures { MatchResult result (IsAnsweredBy question.now time) (IsNotAnsweredBy question.now time) }
 {
-    let Question { zone, unit, way } = question;
+    let Question { zone, unit, way } = *question;
     match way {
         Way::ToLocal => match local_of(zone, unit, time) {
             Some(local) => Ok(local),

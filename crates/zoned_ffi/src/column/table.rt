@@ -88,24 +88,24 @@ pub fn answer(
 {
     match kept_for(question, parts, places, time).answer_to(question, time) {
         Some(found) => Ok(found),
-        None => answer_by_zone(question, parts, places, search, row, time),
+        None => answer_by_zone(&question, parts, places, search, row, time),
     }
 }
 
 // The same for a time that the table doesn't have.
 #[inline(never)]
 fn answer_by_zone(
-    question: Question,
+    question: &Question,
     parts: &mut [u8],
     places: &mut [Kept],
     search: &mut Search,
     row: usize,
     time: i64,
 ) -> Result<i64, u32>
-    requires { AreKept question places.old }
-    ensures kept { AreKept question.entry places.new }
-    ensures answer { MatchResult result (IsWritten question.entry time)
-        (λ n. IsNotWritten question.entry time n) }
+    requires { AreKept question.now places.old }
+    ensures kept { AreKept question.now places.new }
+    ensures answer { MatchResult result (IsWritten question.now time)
+        (λ n. IsNotWritten question.now time n) }
 {
     if time == NO_TIME {
         return Ok(NO_TIME);
@@ -162,35 +162,35 @@ fn index_of(part: i64) -> usize {
 // Puts the stretch of the time into the table: twice if that is one pair, else with the next one or, if
 // it begins in the part of the time, the one before.
 fn fill(
-    question: Question,
+    question: &Question,
     parts: &mut [u8],
     places: &mut [Kept],
     search: &mut Search,
     row: usize,
     time: i64,
 )
-    requires { AreKept question places.old }
-    ensures { AreKept question.entry places.new }
+    requires { AreKept question.now places.old }
+    ensures { AreKept question.now places.new }
 {
     if !search.is_due(row) {
         return;
     }
-    let least = least_offset(question);
-    let greatest = greatest_offset(question);
-    let kept = kept_at(question, second_before(question.unit, time, greatest));
+    let least = least_offset(*question);
+    let greatest = greatest_offset(*question);
+    let kept = kept_at(*question, second_before(question.unit, time, greatest));
     if !kept.has(time) {
         return;
     }
     let part = question.unit.part_of(time);
     if parts.is_empty() {
-        put(question, parts, places, search, part, kept, kept);
+        put(*question, parts, places, search, part, kept, kept);
     } else if question.unit.part_of(kept.low) == part {
         let second = second_before(question.unit, kept.low, greatest).wrapping_sub(1);
-        let early = kept_at(question, second);
-        put(question, parts, places, search, part, early, kept);
+        let early = kept_at(*question, second);
+        put(*question, parts, places, search, part, early, kept);
     } else {
-        let late = kept_at(question, second_before(question.unit, kept.high, least));
-        put(question, parts, places, search, part, kept, late);
+        let late = kept_at(*question, second_before(question.unit, kept.high, least));
+        put(*question, parts, places, search, part, kept, late);
     }
 }
 

@@ -10,4 +10,4 @@ pub returns-clause-answer : goal.returns-clause-answer
 returns-clause-answer c =
     let x : FitsSigned w64 c.args.time = c.ranges.time in
     let some : c.args.time ≢ no_time = λ none. c.if-time-eq-NO_TIME.false (ap (λ (t : ℤ). of_z w64 t) none) in
-    either c.args.question c.args.time c.looked_up.result some (simp to_z-of_z at c.looked_up.ensures)
+    either c.args.question.now c.args.time c.looked_up.result some (simp to_z-of_z at c.looked_up.ensures)
