@@ -106,7 +106,7 @@ fn write_with(
     ensures { MatchOption result (AreWritten question.entry times.now answers.new)
         (λ s. IsStop question.entry times.now answers.new s) }
 {
-    let mut search = Search::none(pace);
+    let mut search = Search::none(pace, times.len());
     let blocks = times.len() / BLOCK;
     for block in 0..blocks {
         let from = block * BLOCK;

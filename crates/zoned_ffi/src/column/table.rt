@@ -9,8 +9,8 @@ use crate::column::row::looked_up;
 use crate::column::{NO_TIME, Question, Way};
 use crate::unit::Unit;
 
-// The parts on each side of a time for which a pair that has all of a part is noted.
-const REACH: i64 = 1_024;
+// The most parts on each side of a time for which a pair that has all of a part is noted.
+const REACH: usize = 1_024;
 
 // The blocks in a row that may be left out.
 const MOST_LEFT: u8 = 16;
@@ -22,6 +22,8 @@ pub struct Search {
     next: u8,
     count: usize,
     pace: usize,
+    // The parts on each side of a time that are noted: few for few rows.
+    reach: i64,
     // The last tries of a block that failed, and the blocks that are left out before the next try.
     misses: u8,
     left: u8,
@@ -31,17 +33,18 @@ impl Search {
     /// None yet. Where searches don't help, as in a short column in no order, or after the last
     /// transition of a zone whose rule goes on, their number grows with the root of the rows times
     /// that pace.
-    pub fn none(pace: usize) -> Search {
+    pub fn none(pace: usize, rows: usize) -> Search {
         Search {
             next: 0,
             count: 0,
             pace,
+            reach: (rows / 16).min(REACH) as i64,
             misses: 0,
             left: 0,
         }
     }
 
-    /// Whether to try the next block as a whole. After some misses as many blocks are left out.
+    /// Whether to try the next block as a whole. After each miss in a row one more block is left out.
     pub fn tries_block(&mut self) -> bool {
         if self.left == 0 {
             return true;
@@ -57,8 +60,8 @@ impl Search {
 
     /// A block that was tried doesn't.
     pub fn missed_block(&mut self) {
-        self.misses = self.misses.wrapping_add(1).min(MOST_LEFT);
         self.left = self.misses;
+        self.misses = self.misses.wrapping_add(1).min(MOST_LEFT);
     }
 
     // Whether to search for another stretch at the row.
@@ -245,11 +248,11 @@ fn put(
     let low = question
         .unit
         .part_of(early.low.min(late.low))
-        .max(part.wrapping_sub(REACH));
+        .max(part.wrapping_sub(search.reach));
     let high = question
         .unit
         .part_of(early.high.max(late.high))
-        .min(part.wrapping_add(REACH));
+        .min(part.wrapping_add(search.reach));
     note_between(parts, low, high, pair);
 }
 
