@@ -196,7 +196,7 @@ int main(void) {
     IS(zoned_zone_resolve(&zone, ZONED_GAP_REFUSE, ZONED_FOLD_REFUSE, LOCALS, 4, taken, 4), ZONED_OK);
     for (int i = 0; i < 4; i++) IS(taken[i].number, numbers[i]);
     IS(taken[2].instant, 1636304400);
-    IS(zoned_zone_resolve(&zone, ZONED_GAP_SHIFT_FORWARD, ZONED_FOLD_EARLIEST, LOCALS, 4, taken, 4), ZONED_OK);
+    IS(zoned_zone_resolved_instants(&zone, ZONED_GAP_SHIFT_FORWARD, ZONED_FOLD_EARLIEST, LOCALS, 4, taken, 4), ZONED_OK);
     IS(taken[0].instant, 1615707000);
     IS(taken[0].offset, -14400);
     IS(taken[1].instant, 1636263000);
@@ -206,7 +206,7 @@ int main(void) {
     IS(taken[0].offset, -18000);
     IS(zoned_zone_instant(&zone, 3, ZONED_FOLD_LATEST, LOCALS[1], taken), ZONED_UNKNOWN_CHOICE);
     IS(zoned_zone_instant(&zone, ZONED_GAP_REFUSE, 3, LOCALS[1], taken), ZONED_UNKNOWN_CHOICE);
-    IS(zoned_zone_instant(&zone, ZONED_GAP_END, ZONED_FOLD_REFUSE, LOCALS[0], taken), ZONED_OK);
+    IS(zoned_zone_resolved_instant(&zone, ZONED_GAP_END, ZONED_FOLD_REFUSE, LOCALS[0], taken), ZONED_OK);
     IS(taken[0].instant, 1615705200);
     IS(taken[0].offset, -14400);
     /* The gap, by both its sides; no gap; out of range. */

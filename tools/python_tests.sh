@@ -7,8 +7,8 @@
 # Debian's packages below, for Debian's own python3. What of them is missing is installed by
 # apt-get, as root. Nothing else is fetched. It tries, in two minutes or less,
 #
-# - the lines of python/README.md that build the library and install the package, in an environment
-#   of its own;
+# - the lines of python/README.md that install the library and the package, in an environment of its
+#   own;
 # - the tests of python/tests, by pytest and hypothesis, with the same examples in each run;
 # - the examples in docstrings, and with them the blocks of Python in docs/PYTHON.md
 #   and python/README.md;
@@ -16,7 +16,7 @@
 # - examples/at_scale.py on 100,000 rows, with one of its workers ended midway.
 set -euo pipefail
 cd "$(dirname "$0")/.."
-PACKAGES=(gcc libc6-dev tzdata python3 python3-venv python3-pip python3-setuptools python3-wheel
+PACKAGES=(gcc binutils libc6-dev tzdata python3 python3-venv python3-pip python3-setuptools python3-wheel
   python3-numpy python3-pandas python3-pytest python3-hypothesis python3-dask python3-distributed mypy)
 ARCHIVE=crates/zoned_ffi/out/libzoned_ffi.a
 
@@ -63,7 +63,7 @@ line() {
   found=$(grep -m 1 "^$1" python/README.md) || fail "python/README.md has no line: $1"
   sed "s|\.venv|$room/venv|" <<<"$found"
 }
-for start in 'gcc -shared -o python/' '/usr/bin/python3 -m venv' '\.venv/bin/pip install'; do
+for start in 'DESTDIR=' 'cp python' '/usr/bin/python3 -m venv' '\.venv/bin/pip install'; do
   found=$(line "$start")
   quietly bash -c "$found"
 done

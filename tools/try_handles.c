@@ -304,7 +304,8 @@ static void try_first(struct tried *of) {
     int32_t offset = 0;
     int64_t at = 0;
     int is_known = local >= -8334601228800 && local <= 8210266876799;
-    if (is_known) at = first_by_changes(of, local, local - 100000, local + 100000, &offset);
+    /* An offset is less than 2^31 seconds. */
+    if (is_known) at = first_by_changes(of, local, local - (INT64_C(1) << 31), local + (INT64_C(1) << 31), &offset);
     if (at < -8334601228800 || at > 8210266876799) is_known = 0;
     EXPECT(reached.number == (is_known ? ZONED_OK : ZONED_INSTANT_OUT_OF_RANGE));
     EXPECT(reached.instant == (is_known ? at : 0) && reached.offset == (is_known ? offset : 0));
@@ -430,7 +431,7 @@ static void try_locals(struct tried *of) {
     for (size_t i = 0; i < written; i++)
         EXPECT(triples[3 * i] == expected[i].shown && triples[3 * i + 1] == expected[i].first_offset && triples[3 * i + 2] == expected[i].last_offset);
 
-    number = zoned_zone_resolve(&of->zone, gap, fold, locals, count, resolved, room);
+    number = zoned_zone_resolved_instants(&of->zone, gap, fold, locals, count, resolved, room);
     EXPECT(number == (is_choice ? due(of, count, room) : ZONED_UNKNOWN_CHOICE));
     written = number ? 0 : count;
     EXPECT(is_untouched(resolved + written, (MOST - written) * sizeof *resolved));
@@ -441,7 +442,7 @@ static void try_locals(struct tried *of) {
     number = zoned_zone_wall_clock(&of->zone, locals[0], &clock);
     EXPECT(number == due(of, 0, 0));
     if (!number) EXPECT(is_same_clock(&clock, &expected[0]));
-    number = zoned_zone_instant(&of->zone, gap, fold, locals[0], &one);
+    number = zoned_zone_resolved_instant(&of->zone, gap, fold, locals[0], &one);
     EXPECT(number == (is_choice ? due(of, 0, 0) : ZONED_UNKNOWN_CHOICE));
     if (!number) expect_resolved(of, &expected[0], gap, fold, locals[0], &one);
 }

@@ -8,7 +8,8 @@ CMake are used if they are installed. It tries that
 
 - libzoned.a and libzoned.so define the calls of the header and nothing else, and need six functions of the C library;
 - libzoned.so has the SONAME of the header's version;
-- examples/zones.c and zones.cc are built over each library, with pkg-config and with CMake, and all print the same lines;
+- examples/zones.c and zones.cc are built over each library, with pkg-config and with CMake, zones.py loads the shared one, and all
+  print the same lines;
 - a program that has a function rattle_alloc of its own keeps it to itself;
 - the man page names each call of the header;
 - the library for 64-bit ARM gives the same lines under qemu, if `tools/build_archive.py --target aarch64-unknown-linux-gnu` has
@@ -87,7 +88,7 @@ def complaints_of_names(lib):
 
 
 def programs(root, room):
-    """Builds the examples in each way. Returns the programs."""
+    """Builds the examples in each way. Returns what starts them."""
     include, lib = root / f"{PREFIX[1:]}/include", root / f"{PREFIX[1:]}/lib"
     shared = ["-L", lib, "-lzoned", f"-Wl,-rpath,{lib}"]
     run("gcc", *WARNINGS, "-I", include, "-o", room / "shared", EXAMPLES / "zones.c", *shared)
@@ -104,17 +105,17 @@ def programs(root, room):
         run("cmake", f"-Dzoned_DIR={lib}/cmake/zoned", "-S", room, "-B", room / "cmake")
         run("cmake", "--build", room / "cmake")
         made += ["cmake/by_cmake", "cmake/by_cmake_static"]
-    return [room / name for name in made]
+    return [*([room / name] for name in made), [sys.executable, EXAMPLES / "zones.py", lib / "libzoned.so"]]
 
 
 def complaints_of_programs(root, room):
     made = programs(root, room)
-    wanted = run(made[0], *ASKED)
+    wanted = run(*made[0], *ASKED)
     if "instant 1615705200: -14400 EDT dst" not in wanted.splitlines():
-        yield f"{made[0].name} prints {wanted}"
-    for program in made[1:]:
-        if run(program, *ASKED) != wanted:
-            yield f"{program.name} prints other lines than {made[0].name}"
+        yield f"{made[0][-1]} prints {wanted}"
+    for words in made[1:]:
+        if run(*words, *ASKED) != wanted:
+            yield f"{words[-1]} prints other lines than {made[0][-1]}"
     lib = root / f"{PREFIX[1:]}/lib"
     (room / "own_heap.c").write_text(OWN_HEAP)
     shared = ["-L", lib, "-lzoned", f"-Wl,-rpath,{lib}"]

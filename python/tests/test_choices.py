@@ -280,16 +280,32 @@ def test_infer_passes_over_nat():
         np.testing.assert_array_equal(answers, expected)
 
 
-def test_infer_takes_little_memory():
+@pytest.mark.parametrize(
+    ("ask", "size"),
+    [
+        (lambda rows: NEW_YORK.localize(rows, fold="infer"), 8),
+        (lambda rows: NEW_YORK.localize(rows, "after", fold=np.zeros(rows.size, bool)), 8),
+        (lambda rows: NEW_YORK.localize(rows, offset=np.full(rows.size, -14_400)), 8 + 8),
+        (NEW_YORK.explain, 1 + 4 * 8),
+        (NEW_YORK.to_local, 8),
+        (NEW_YORK.offsets, 8),
+        (NEW_YORK.types, 8 + 1 + 4 * 7),
+        (NEW_YORK.start_of_day, 8),
+        (NEW_YORK.day, 3 * 8),
+        (lambda rows: NEW_YORK.floor(rows, "h"), 8),
+    ],
+)
+def test_a_call_takes_little_memory(ask, size):
+    """At most 16 bytes for each row, above the question and the answer."""
     tracemalloc = pytest.importorskip("tracemalloc")
     rows = 1_000_000
     instants = np.arange(1_600_000_000, 1_600_000_000 + 60 * rows, 60).astype("M8[s]")
     local = NEW_YORK.to_local(instants)
     with_nat = local.copy()
     with_nat[::1_000] = "NaT"
-    for clocks in (local, with_nat):
+    for times in (local, with_nat):
         tracemalloc.start()
-        NEW_YORK.localize(clocks, fold="infer")
+        ask(times)
         peak = tracemalloc.get_traced_memory()[1]
         tracemalloc.stop()
-        assert peak < (8 + 16) * rows
+        assert peak < (size + 16) * rows

@@ -144,7 +144,7 @@ public:
     template <class Duration> auto to_sys(local_time<Duration> local, policy choice = {}) const {
         auto whole = std::chrono::floor<seconds>(local);
         zoned_resolved resolved;
-        check(zoned_zone_instant(&zone, uint32_t(choice.gap), uint32_t(choice.fold), count(whole), &resolved));
+        check(zoned_zone_resolved_instant(&zone, uint32_t(choice.gap), uint32_t(choice.fold), count(whole), &resolved));
         check(resolved.number);
         return sys_time<std::common_type_t<Duration, seconds>>(sys(resolved.instant) + (local - whole));
     }

@@ -435,6 +435,16 @@ uint32_t zoned_zone_instant(const struct zoned_zone *zone, uint32_t gap, uint32_
 uint32_t zoned_zone_resolve(const struct zoned_zone *zone, uint32_t gap, uint32_t fold,
                             const int64_t *locals, size_t locals_len,
                             zoned_resolved *resolved, size_t resolved_len) ZONED_MUST_CHECK ZONED_NONNULL((1));
+/* zoned_zone_instant and zoned_zone_resolve by one name, for one local time and for an array of them. */
+ZONED_INLINE ZONED_MUST_CHECK uint32_t zoned_zone_resolved_instant(const struct zoned_zone *zone, uint32_t gap, uint32_t fold,
+                                                                   int64_t local, zoned_resolved *resolved) {
+    return zoned_zone_instant(zone, gap, fold, local, resolved);
+}
+ZONED_INLINE ZONED_MUST_CHECK uint32_t zoned_zone_resolved_instants(const struct zoned_zone *zone, uint32_t gap, uint32_t fold,
+                                                                    const int64_t *locals, size_t locals_len,
+                                                                    zoned_resolved *resolved, size_t resolved_len) {
+    return zoned_zone_resolve(zone, gap, fold, locals, locals_len, resolved, resolved_len);
+}
 
 /* instants[i] is the instant of locals[i] under the policies. Both are counted in one unit, of which per_second make a second, as
    in zoned_zone_local. The policies decide for the second that the local time lies in, and what it has beyond that second is

@@ -1,6 +1,6 @@
 -- Answers to a column's times: by a lookup, and by what is kept of a stretch.
 use Rattle.zoned_ffi.proofs.Words.{List, cases_lt, get_or, ◌+◌}
-use Rattle.zoned_ffi.proofs.Words.{All-contains, AreWithin, Choice, FitsSigned, IsCounted, IsGreatest, IsInRange, IsInstantOf, IsInstantTaken, IsKept, IsLeast}
+use Rattle.zoned_ffi.proofs.Words.{All-contains, AreWithin, Choice, FitsSigned, IsCounted, IsGreatest, IsInRange, IsInstantOf, IsInstantTaken, IsKeptOf, IsLeast}
 use Rattle.zoned_ffi.proofs.Words.{IsLocal, IsNoInstant, IsNoneTaken, IsOffsetStretch, IsRowNumber, IsShownOnce, IsTakenAs, IsWithout, Kept}
 use Rattle.zoned_ffi.proofs.Words.{LieWithin, LocalType, MatchOption, None, OffsetStretch, Option, Shows, Some, Taken, TypeAt, Unit, Zone, ℕ, ℤ, ap, arith}
 use Rattle.zoned_ffi.proofs.Words.{first_second, floor_div, floors, inl, inr, ints, neg_ℤ, offsets, per_second, pos, refl, second_of, subst, sym}
@@ -61,29 +61,23 @@ within_more times from row k before this i since below = elim (cases_lt i row) [
       subst (λ n. (k.low ≤ℤ get_or times n (pos 0)) × (get_or times n (pos 0) <ℤ k.high)) same this
 ]
 
--- instants of a stretch
-pub instants_kept : (z : Zone) (unit : Unit) (s : OffsetStretch) (k : Kept) → IsOffsetStretch z s
-    → LieWithin (s.from *ℤ pos (per_second unit)) (s.until *ℤ pos (per_second unit)) (s.offset *ℤ pos (per_second unit)) k → IsKept z unit ToLocal k
-instants_kept z unit s k stretch within = λ x low high.
+-- instants of a stretch, by the counts of its bounds
+pub instants_kept : (z : Zone) (unit : Unit) (s : OffsetStretch) (from until add : ℤ) (k : Kept) → IsOffsetStretch z s
+    → from ≡ s.from *ℤ pos (per_second unit) → until ≡ s.until *ℤ pos (per_second unit) → add ≡ s.offset *ℤ pos (per_second unit)
+    → LieWithin from until add k → IsKeptOf z unit ToLocal k
+instants_kept z unit s from until add k stretch a b d within = λ x low high.
     let at = within.each x low high in
-    let found = stretch (floor_div x (per_second unit)) (floor_low unit x s.from at.0) (floor_high unit x s.until at.1) in
+    let since = subst (λ (v : ℤ). v ≤ℤ x) a at.0 in
+    let before = subst (λ (v : ℤ). x <ℤ v) b at.1 in
+    let found = stretch (floor_div x (per_second unit)) (floor_low unit x s.from since) (floor_high unit x s.until before) in
     let counted = subst (λ (n : ℤ). IsCounted (x +ℤ n)) (sym within.same) at.3 in
     let answered : IsLocal z unit x (x +ℤ k.add) = record {
       type = found.0;
       in_force = found.1;
-      sum = ap (λ (n : ℤ). x +ℤ n) (within.same ∙ ap (λ (o : ℤ). o *ℤ pos (per_second unit)) found.2);
+      sum = ap (λ (n : ℤ). x +ℤ n) (within.same ∙ (d ∙ ap (λ (o : ℤ). o *ℤ pos (per_second unit)) found.2));
       counted = counted;
     } in
     (counted, at.2, answered)
-
--- the same, by the counts of its bounds
-pub instants_counted : (z : Zone) (unit : Unit) (s : OffsetStretch) (from until add : ℤ) (k : Kept) → IsOffsetStretch z s
-    → from ≡ s.from *ℤ pos (per_second unit) → until ≡ s.until *ℤ pos (per_second unit) → add ≡ s.offset *ℤ pos (per_second unit)
-    → LieWithin from until add k → IsKept z unit ToLocal k
-instants_counted z unit s from until add k stretch a b d within =
-    instants_kept z unit s k stretch
-    (subst (λ (v : ℤ). LieWithin v (s.until *ℤ pos (per_second unit)) (s.offset *ℤ pos (per_second unit)) k) a
-    (subst (λ (v : ℤ). LieWithin from v (s.offset *ℤ pos (per_second unit)) k) b (subst (λ (v : ℤ). LieWithin from until v k) d within)))
 
 -- the second that a time lies in, by two parts of a bound
 floor_low_sum : (unit : Unit) (x a b : ℤ) → ((a *ℤ pos (per_second unit)) +ℤ (b *ℤ pos (per_second unit))) ≤ℤ x → (a +ℤ b) ≤ℤ floor_div x (per_second unit)
@@ -127,47 +121,31 @@ once_shown z s low high local stretch f g is_low is_high since before =
     omega (arith, ints, shows, same, is) in
     (own.0, record { second = local -ℤ s.offset; shown = shown; only = only }, own_is)
 
--- such local times
-pub local_times_kept : (z : Zone) (unit : Unit) (choice : Choice) (s : OffsetStretch) (low high from until : ℤ) (k : Kept) → IsOffsetStretch z s
-    → FitsSigned w64 s.from → FitsSigned w64 s.until
-    → IsLeast (offsets z.types z.rule) low → IsGreatest (offsets z.types z.rule) high
-    → ((s.from *ℤ pos (per_second unit)) +ℤ (high *ℤ pos (per_second unit))) ≤ℤ from → (first_second *ℤ pos (per_second unit)) ≤ℤ from
-    → until ≤ℤ ((s.until *ℤ pos (per_second unit)) +ℤ (low *ℤ pos (per_second unit))) → until ≤ℤ (pos 8_210_266_876_800 *ℤ pos (per_second unit))
-    → LieWithin from until (neg_ℤ (s.offset *ℤ pos (per_second unit))) k → IsKept z unit (ToInstants choice) k
-local_times_kept z unit choice s low high from until k stretch f g is_low is_high a b d e within = λ x since before.
+-- such local times, by the counts of the bounds
+pub local_times_kept : (z : Zone) (unit : Unit) (choice : Choice) (s : OffsetStretch) (low high p q r t f e from until add : ℤ) (k : Kept) → IsOffsetStretch z s
+    → FitsSigned w64 s.from → FitsSigned w64 s.until → IsLeast (offsets z.types z.rule) low → IsGreatest (offsets z.types z.rule) high
+    → p ≡ s.from *ℤ pos (per_second unit) → q ≡ high *ℤ pos (per_second unit) → r ≡ s.until *ℤ pos (per_second unit) → t ≡ low *ℤ pos (per_second unit)
+    → f ≡ first_second *ℤ pos (per_second unit) → e ≡ pos 8_210_266_876_800 *ℤ pos (per_second unit) → add ≡ neg_ℤ (s.offset *ℤ pos (per_second unit))
+    → (p +ℤ q) ≤ℤ from → f ≤ℤ from → until ≤ℤ (r +ℤ t) → until ≤ℤ e → LieWithin from until add k → IsKeptOf z unit (ToInstants choice) k
+local_times_kept z unit choice s low high p q r t f e from until add k stretch fits_from fits_until is_low is_high ep eq er et ef ee ea a b c d within = λ x since before.
     let at = within.each x since before in
     let x_from = at.0 in
     let x_until = at.1 in
     let local = floor_div x (per_second unit) in
-    let above = floor_low_sum unit x s.from high (omega (arith, ints, a, x_from)) in
-    let below = floor_high_sum unit x s.until low (omega (arith, ints, d, x_until)) in
-    let found = once_shown z s low high local stretch f g is_low is_high above below in
-    let first = floor_low unit x first_second (omega (arith, ints, b, x_from)) in
-    let end = floor_high unit x (pos 8_210_266_876_800) (omega (arith, ints, e, x_until)) in
+    let above = floor_low_sum unit x s.from high (omega (arith, ints, ep, eq, a, x_from)) in
+    let below = floor_high_sum unit x s.until low (omega (arith, ints, er, et, c, x_until)) in
+    let found = once_shown z s low high local stretch fits_from fits_until is_low is_high above below in
+    let first = floor_low unit x first_second (omega (arith, ints, ef, b, x_from)) in
+    let end = floor_high unit x (pos 8_210_266_876_800) (omega (arith, ints, ee, d, x_until)) in
     let counted = subst (λ (n : ℤ). IsCounted (x +ℤ n)) (sym within.same) at.3 in
     let less = less_is_minus x (s.offset *ℤ pos (per_second unit)) in
-    let instant = ap (λ (n : ℤ). x +ℤ n) within.same ∙ (less ∙ ap (λ (o : ℤ). x -ℤ (o *ℤ pos (per_second unit))) found.2) in
+    let instant = ap (λ (n : ℤ). x +ℤ n) (within.same ∙ ea) ∙ (less ∙ ap (λ (o : ℤ). x -ℤ (o *ℤ pos (per_second unit))) found.2) in
     let answered : IsInstantOf z unit choice x (x +ℤ k.add) = record {
       in_range = (first, omega (arith, ints, end));
       taken = IsInstantTaken.by_offset found.0 (taken_once z local choice found.0 found.1) instant;
       counted = counted;
     } in
     (counted, at.2, answered)
-
--- the same, by the counts of its bounds
-pub local_times_counted : (z : Zone) (unit : Unit) (choice : Choice) (s : OffsetStretch) (low high p q r t f e from until add : ℤ) (k : Kept)
-    → IsOffsetStretch z s
-    → FitsSigned w64 s.from → FitsSigned w64 s.until → IsLeast (offsets z.types z.rule) low → IsGreatest (offsets z.types z.rule) high
-    → p ≡ s.from *ℤ pos (per_second unit) → q ≡ high *ℤ pos (per_second unit) → r ≡ s.until *ℤ pos (per_second unit) → t ≡ low *ℤ pos (per_second unit)
-    → f ≡ first_second *ℤ pos (per_second unit) → e ≡ pos 8_210_266_876_800 *ℤ pos (per_second unit) → add ≡ neg_ℤ (s.offset *ℤ pos (per_second unit))
-    → (p +ℤ q) ≤ℤ from → f ≤ℤ from → until ≤ℤ (r +ℤ t) → until ≤ℤ e → LieWithin from until add k → IsKept z unit (ToInstants choice) k
-local_times_counted z unit choice s low high p q r t f e from until add k stretch fits_from fits_until is_low is_high ep eq er et ef ee ea a b c d within =
-    local_times_kept z unit choice s low high from until k stretch fits_from fits_until is_low is_high
-    (subst (λ (v : ℤ). (v +ℤ (high *ℤ pos (per_second unit))) ≤ℤ from) ep (subst (λ (v : ℤ). (p +ℤ v) ≤ℤ from) eq a))
-    (subst (λ (v : ℤ). v ≤ℤ from) ef b)
-    (subst (λ (v : ℤ). until ≤ℤ (v +ℤ (low *ℤ pos (per_second unit)))) er (subst (λ (v : ℤ). until ≤ℤ (r +ℤ v)) et c))
-    (subst (λ (v : ℤ). until ≤ℤ v) ee d)
-    (subst (λ (v : ℤ). LieWithin from until v k) ea within)
 
 -- the instant by what is taken
 taken_gives : (z : Zone) (unit : Unit) (choice : Choice) (local : ℤ) (taken : Taken) → IsTakenAs z (second_of unit local) choice taken → IsInstantTaken z unit choice local (taken_instant unit local taken)

@@ -1,5 +1,5 @@
 -- The words that this crate's proofs cite, passed on from std, from the crates below and from specs/.
-pub use Rattle.std.proofs.Common.{Err, Fits, IsFalse, None, Ok, Option, Result, Some, lit<, slice_set, take_all}
+pub use Rattle.std.proofs.Common.{Err, Fits, IsFalse, None, Ok, Option, Result, Some, lit<, slice_set, take_all, ◌-◌}
 pub use Rattle.core.specs.declared.alloc.Allocator.{Ghosts}
 pub use Rattle.std.proofs.GlobalToken.{dealloc_token-Testable}
 pub use Rattle.std.proofs.Math.IntN.{+ℤ-neg_ℤ_cancel}
@@ -89,7 +89,7 @@ pub use Rattle.zoned_ffi.specs.Kinds.{IsZoneOf, Spells}
 pub use Rattle.zoned_ffi.specs.Owned.{boxed, held, lent, loan, shared_row}
 pub use Rattle.zoned_ffi.specs.Refusals.{IsExtendedFault, IsFault, IsFileError, IsReaderNumber, IsRefusal, IsRefusalInDetail, IsTextFault, refusal_number}
 pub use Rattle.zoned_ffi.specs.Resolved.{AreResolved, IsGapEnd, IsNoneTaken, IsReachedAt, IsResolvedAt, IsTaken, TakesOf, policy_of}
-pub use Rattle.zoned_ffi.specs.Steps.KeptTimes.{AreKept, AreWithin, IsKept, LieWithin}
+pub use Rattle.zoned_ffi.specs.Steps.KeptTimes.{AreKept, AreWithin, AreWritten, IsAnsweredBy, IsKept, IsKeptOf, IsNotAnsweredBy, IsNotWritten, IsWritten, LieWithin}
 pub use Rattle.zoned_ffi.specs.Steps.ResolvedInstants.{IsStamp, IsTakenAs, taken_instant}
 pub use Rattle.zoned_ffi.specs.Steps.Told.{told_of}
 pub use Rattle.zoned_ffi.specs.Texts.{IsSaidOf, IsTextOf}
@@ -99,6 +99,7 @@ pub use Rattle.zoned_ffi.specs.WrittenChanges.{AreFirstWritten, AreWrittenChange
 pub use Rattle.zoned_ffi.specs.WrittenTypes.{AreWrittenTypesAt, IsWrittenTypeAt}
 pub use Rattle.zoned_ffi.specs.declared.changes.WrittenChange.{WrittenChange}
 pub use Rattle.zoned_ffi.specs.declared.choice.Choice.{Choice}
+pub use Rattle.zoned_ffi.specs.declared.column.Question.{Question}
 pub use Rattle.zoned_ffi.specs.declared.column.Way.{Way}
 pub use Rattle.zoned_ffi.specs.declared.column.kept.Kept.{Kept}
 pub use Rattle.zoned_ffi.specs.declared.kind.Kind.{Kind}

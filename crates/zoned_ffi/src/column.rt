@@ -1,10 +1,11 @@
 //! Columns of instants as local times, and of local times as instants, in one pass.
 
-ghost use Rattle.std.specs.Prelude.{◌≡◌, ◌≢◌, ◌≤◌, ◌<◌, length, take, IsTrue, MatchOption};
+ghost use Rattle.std.specs.Prelude.{◌≡◌, ◌≢◌, length, MatchOption};
 ghost use Rattle.zoned_ffi.specs.Columns.{AreAnswered, IsFirstWithout, IsRowNumber};
-ghost use Rattle.zoned_ffi.specs.Steps.KeptTimes.{AreKept, AreWithin, IsKept};
+ghost use Rattle.zoned_ffi.specs.Steps.KeptTimes.{AreKept, AreWritten, IsStop};
 ghost use Rattle.zoned_ffi.specs.declared.column.Way.TheVariants.{ToInstants, ToLocal};
 
+mod block;
 mod kept;
 mod row;
 mod table;
@@ -12,8 +13,9 @@ mod table;
 use crate::choice::Choice;
 use crate::refusal::{NO_LOCAL_TIME, OTHER_SIZE};
 use crate::unit::Unit;
+use block::write_block;
 use kept::Kept;
-use table::{Search, answer, kept_for};
+use table::Search;
 use tz_info::TimeZone;
 
 /// No time: what a column has where a time is missing.
@@ -26,6 +28,17 @@ pub enum Way {
     ToLocal,
     /// Local times become instants, under a choice for gaps and folds.
     ToInstants(Choice),
+}
+
+/// What is asked about the times of a column.
+#[derive(Clone, Copy)]
+pub struct Question<'a> {
+    /// The zone.
+    pub zone: &'a TimeZone,
+    /// What they and their answers are counted in.
+    pub unit: Unit,
+    /// Which way the column goes.
+    pub way: Way,
 }
 
 /// The first row that has no answer, and the number that says why.
@@ -44,7 +57,7 @@ const PLACES: usize = 512;
 const PARTS: usize = 2_048;
 
 // The rows of a column that pays for a table.
-const LONG: usize = 4_096;
+const LONG: usize = 2_048;
 
 // How eagerly stretches are searched for, in a short column and in a long one.
 const SHORT_PACE: usize = 1;
@@ -56,64 +69,32 @@ const BLOCK: usize = 32;
 
 /// Writes the answer to each time, up to the first that has none. Returns the row of that time, if
 /// there is one, and the number that says why.
-fn write_column(
-    zone: &TimeZone,
-    unit: Unit,
-    way: Way,
-    times: &[i64],
-    answers: &mut [i64],
-) -> Option<Stop>
+fn write_column(question: Question, times: &[i64], answers: &mut [i64]) -> Option<Stop>
     requires { length times.now ≡ length answers.old }
-    ensures { MatchOption result (AreAnswered zone.now unit way times.now answers.new)
-        (λ s. IsFirstWithout zone.now unit way times.now answers.new s.row s.number) }
+    ensures { MatchOption result (AreWritten question.entry times.now answers.new)
+        (λ s. IsStop question.entry times.now answers.new s) }
 {
     if times.len() < LONG {
-        let mut places = [Kept::none(zone, unit, way); 2];
-        return write_with(
-            zone,
-            unit,
-            way,
-            times,
-            answers,
-            &mut [],
-            &mut places,
-            SHORT_PACE,
-        );
+        let mut places = [Kept::none(question); 2];
+        return write_with(question, times, answers, &mut [], &mut places, SHORT_PACE);
     }
-    write_with_table(zone, unit, way, times, answers)
+    write_with_table(question, times, answers)
 }
 
 #[inline(never)]
-fn write_with_table(
-    zone: &TimeZone,
-    unit: Unit,
-    way: Way,
-    times: &[i64],
-    answers: &mut [i64],
-) -> Option<Stop>
+fn write_with_table(question: Question, times: &[i64], answers: &mut [i64]) -> Option<Stop>
     requires { length times.now ≡ length answers.old }
-    ensures { MatchOption result (AreAnswered zone.now unit way times.now answers.new)
-        (λ s. IsFirstWithout zone.now unit way times.now answers.new s.row s.number) }
+    ensures { MatchOption result (AreWritten question.entry times.now answers.new)
+        (λ s. IsStop question.entry times.now answers.new s) }
 {
-    let mut places = [Kept::none(zone, unit, way); PLACES];
+    let mut places = [Kept::none(question); PLACES];
     let mut parts = [0; PARTS];
-    write_with(
-        zone,
-        unit,
-        way,
-        times,
-        answers,
-        &mut parts,
-        &mut places,
-        LONG_PACE,
-    )
+    write_with(question, times, answers, &mut parts, &mut places, LONG_PACE)
 }
 
 #[inline(never)]
 fn write_with(
-    zone: &TimeZone,
-    unit: Unit,
-    way: Way,
+    question: Question,
     times: &[i64],
     answers: &mut [i64],
     parts: &mut [u8],
@@ -121,19 +102,17 @@ fn write_with(
     pace: usize,
 ) -> Option<Stop>
     requires size { length times.now ≡ length answers.old }
-    requires kept { AreKept zone.now unit way places.old }
-    ensures { MatchOption result (AreAnswered zone.now unit way times.now answers.new)
-        (λ s. IsFirstWithout zone.now unit way times.now answers.new s.row s.number) }
+    requires kept { AreKept question places.old }
+    ensures { MatchOption result (AreWritten question.entry times.now answers.new)
+        (λ s. IsStop question.entry times.now answers.new s) }
 {
-    let mut search = Search::none(pace);
+    let mut search = Search::none(pace, times.len());
     let blocks = times.len() / BLOCK;
     for block in 0..blocks {
         let from = block * BLOCK;
         let to = from + BLOCK;
         if let Some(stop) = write_block(
-            zone,
-            unit,
-            way,
+            question,
             times,
             answers,
             parts,
@@ -151,9 +130,7 @@ fn write_with(
         return None;
     }
     write_block(
-        zone,
-        unit,
-        way,
+        question,
         times,
         answers,
         parts,
@@ -162,88 +139,6 @@ fn write_with(
         from,
         to,
     )
-}
-
-// Writes the answers of the rows from `from` on and before `to`, up to the first without.
-#[inline(always)]
-fn write_block(
-    zone: &TimeZone,
-    unit: Unit,
-    way: Way,
-    times: &[i64],
-    answers: &mut [i64],
-    parts: &mut [u8],
-    places: &mut [Kept],
-    search: &mut Search,
-    from: usize,
-    to: usize,
-) -> Option<Stop>
-    requires size { length answers.old ≡ length times.now }
-    requires rows { (from < to) × (to ≤ length times.now) }
-    requires kept { AreKept zone.now unit way places.old }
-    requires before { AreAnswered zone.now unit way (take from times.now) (take from answers.old) }
-    ensures size { length answers.new ≡ length times.now }
-    ensures kept { AreKept zone.now unit way places.new }
-    ensures answered { MatchOption result
-        (AreAnswered zone.now unit way (take to times.now) (take to answers.new))
-        (λ s. IsFirstWithout zone.now unit way times.now answers.new s.row s.number) }
-{
-    let kept = kept_for(zone, unit, way, parts, places, times[from]);
-    if are_in(kept, times, from, to) {
-        write_sums(zone, unit, way, kept, times, answers, from, to);
-        return None;
-    }
-    for row in from..to {
-        match answer(zone, unit, way, parts, places, search, row, times[row]) {
-            Ok(found) => answers[row] = found,
-            Err(number) => return Some(Stop { row, number }),
-        }
-    }
-    None
-}
-
-// Whether the stretch has the times of all these rows.
-#[inline(always)]
-fn are_in(kept: Kept, times: &[i64], from: usize, to: usize) -> bool
-    requires { (from < to) × (to ≤ length times.now) }
-    ensures { IsTrue result → AreWithin times.now from to kept }
-{
-    if !kept.has(times[to - 1]) {
-        return false;
-    }
-    let mut all = true;
-    for row in from..to {
-        all = all & kept.has(times[row]);
-    }
-    all
-}
-
-// Writes the answers of these rows, which lie in the stretch.
-#[inline(always)]
-fn write_sums(
-    zone: &TimeZone,
-    unit: Unit,
-    way: Way,
-    kept: Kept,
-    times: &[i64],
-    answers: &mut [i64],
-    from: usize,
-    to: usize,
-)
-    requires size { length answers.old ≡ length times.now }
-    requires rows { (from < to) × (to ≤ length times.now) }
-    requires kept { IsKept zone.now unit way kept }
-    requires within { AreWithin times.now from to kept }
-    requires before { AreAnswered zone.now unit way (take from times.now) (take from answers.old) }
-    ensures size { length answers.new ≡ length times.now }
-    ensures answered { AreAnswered zone.now unit way (take to times.now) (take to answers.new) }
-{
-    let _ = zone;
-    let _ = unit;
-    let _ = way;
-    for row in from..to {
-        answers[row] = times[row] + kept.add;
-    }
 }
 
 /// Writes the local time of each instant if there is room for as many: 0, or why not. If an instant
@@ -266,7 +161,12 @@ pub fn answer_locals(
     if instants.len() != locals.len() {
         return OTHER_SIZE;
     }
-    match write_column(zone, unit, Way::ToLocal, instants, locals) {
+    let question = Question {
+        zone,
+        unit,
+        way: Way::ToLocal,
+    };
+    match write_column(question, instants, locals) {
         Some(stop) => {
             *row = stop.row;
             NO_LOCAL_TIME
@@ -297,7 +197,12 @@ pub fn answer_times(
     if locals.len() != instants.len() {
         return OTHER_SIZE;
     }
-    match write_column(zone, unit, Way::ToInstants(choice), locals, instants) {
+    let question = Question {
+        zone,
+        unit,
+        way: Way::ToInstants(choice),
+    };
+    match write_column(question, locals, instants) {
         Some(stop) => {
             let Stop { row: first, number } = stop;
             *row = first;

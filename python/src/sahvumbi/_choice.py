@@ -21,7 +21,8 @@ UNKNOWN = NAT
 
 
 class Given(NamedTuple):
-    """A column that decides folds: `fold`, `is_dst` or `offset` of each row."""
+    """A column that decides folds: `fold` or `is_dst` of each row, 0 or 1, or -1 if nothing is given; or
+    `offset`, or `UNKNOWN`."""
 
     name: str
     values: Array
@@ -144,9 +145,11 @@ def _given(column: Column, fold: Any, is_dst: Any, offset: Any) -> Optional[Give
         return Given(name, _seconds(values))
     if values.dtype.kind not in "biu":
         raise TypeError(f"{name}= has 0 and 1 or booleans, and not {values.dtype}")
-    numbers = values.astype(np.int64)
-    if not ((numbers == 0) | (numbers == 1) | (numbers == UNKNOWN)).all():
+    is_given = (values == 0) | (values == 1)
+    if not (is_given | (values == UNKNOWN)).all():
         raise ValueError(f"{name}= has 0 and 1, or False and True")
+    numbers = np.full(values.shape, -1, np.int8)
+    np.copyto(numbers, values, where=is_given, casting="unsafe")
     return Given(name, numbers)
 
 
@@ -161,7 +164,7 @@ def _seconds(values: Array) -> Array:
         return seconds.view(np.int64)
     if values.dtype.kind not in "iu":
         raise TypeError(f"offset= has seconds or timedelta64, and not {values.dtype}")
-    return values.astype(np.int64)
+    return values.astype(np.int64, copy=False)
 
 
 def row_by_row(name: str, values: Any, column: Column) -> Array:

@@ -1,18 +1,44 @@
--- What a column keeps of stretches of times.
+-- What a column keeps of stretches of times, and what is asked about its times.
 use Rattle.std.specs.Prelude.{ℕ, ℤ, ◌≡◌, ◌≢◌, ◌+ℤ◌, ◌≤ℤ◌, ◌<ℤ◌, ◌≤◌, ◌<◌, pos, List, All, slice_index_or}
 use Rattle.tz_info.specs.Zones.{Zone}
-use Rattle.zoned_ffi.specs.Columns.{IsAnswered}
+use Rattle.zoned_ffi.specs.Columns.{AreAnswered, IsAnswered, IsAnsweredOrNone, IsFirstWithout, IsNotAnswered}
 use Rattle.zoned_ffi.specs.Units.{IsCounted, no_time}
-use Rattle.zoned_ffi.specs.declared.column.kept.Kept.{Kept}
+use Rattle.zoned_ffi.specs.declared.column.Question.{Question}
+use Rattle.zoned_ffi.specs.declared.column.Stop.{Stop}
 use Rattle.zoned_ffi.specs.declared.column.Way.{Way}
+use Rattle.zoned_ffi.specs.declared.column.kept.Kept.{Kept}
 use Rattle.zoned_ffi.specs.declared.unit.Unit.{Unit}
 
--- what is from `low` on, and before `high`, is a time, and its answer is `add` more
-abbrev pub IsKept : Zone → Unit → Way → Kept → Type 0
-IsKept z unit way k = (x : ℤ) → k.low ≤ℤ x → x <ℤ k.high → IsCounted (x +ℤ k.add) × (x ≢ no_time) × IsAnswered z unit way x (x +ℤ k.add)
+-- the answer to a time by a question, and why there is none
+abbrev pub IsAnsweredBy : Question → ℤ → ℤ → Type 0
+IsAnsweredBy q x y = IsAnswered q.zone.now q.unit q.way x y
 
-abbrev pub AreKept : Zone → Unit → Way → List Kept → Type 0
-AreKept z unit way table = All (IsKept z unit way) table
+abbrev pub IsNotAnsweredBy : Question → ℤ → ℕ → Type 0
+IsNotAnsweredBy q x n = IsNotAnswered q.zone.now q.unit q.way x n
+
+-- what is written of a time, and why nothing is
+abbrev pub IsWritten : Question → ℤ → ℤ → Type 0
+IsWritten q x y = IsAnsweredOrNone q.zone.now q.unit q.way x y
+
+abbrev pub IsNotWritten : Question → ℤ → ℕ → Type 0
+IsNotWritten q x n = (x ≢ no_time) × IsNotAnsweredBy q x n
+
+-- what is written of each time, and the first of which nothing is
+abbrev pub AreWritten : Question → List ℤ → List ℤ → Type 0
+AreWritten q times answers = AreAnswered q.zone.now q.unit q.way times answers
+
+abbrev pub IsStop : Question → List ℤ → List ℤ → Stop → Type 0
+IsStop q times answers s = IsFirstWithout q.zone.now q.unit q.way times answers s.row s.number
+
+-- what is from `low` on, and before `high`, is a time, and its answer is `add` more
+abbrev pub IsKeptOf : Zone → Unit → Way → Kept → Type 0
+IsKeptOf z unit way k = (x : ℤ) → k.low ≤ℤ x → x <ℤ k.high → IsCounted (x +ℤ k.add) × (x ≢ no_time) × IsAnswered z unit way x (x +ℤ k.add)
+
+abbrev pub IsKept : Question → Kept → Type 0
+IsKept q k = IsKeptOf q.zone.now q.unit q.way k
+
+abbrev pub AreKept : Question → List Kept → Type 0
+AreKept q table = All (IsKept q) table
 
 -- the rows from `from` on and before `to` are such times
 abbrev pub AreWithin : List ℤ → ℕ → ℕ → Kept → Type 0

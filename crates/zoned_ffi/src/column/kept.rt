@@ -1,13 +1,13 @@
 //! What a column keeps of the stretches that its times lie in.
 
 ghost use Rattle.std.specs.Prelude.{◌≡◌, ◌⊎◌, ◌↔◌, ◌≤ℤ◌, ◌<ℤ◌, IsTrue, neg_ℤ, pos, MatchOption, ⊤};
-ghost use Rattle.zoned_ffi.specs.Columns.{IsAnsweredOrNone};
-ghost use Rattle.zoned_ffi.specs.Steps.KeptTimes.{IsKept, LieWithin};
+ghost use Rattle.zoned_ffi.specs.Steps.KeptTimes.{IsKept, IsKeptOf, IsWritten, LieWithin};
+ghost use Rattle.zoned_ffi.specs.Units.{IsOffsetStretch};
 ghost use Rattle.zoned_ffi.specs.declared.column.Way.TheVariants.{ToInstants, ToLocal};
 
 use crate::choice::Choice;
-use crate::column::Way;
 use crate::column::row::less;
+use crate::column::{Question, Way};
 use crate::fields::{END, FIRST};
 use crate::unit::{GREATEST, LEAST, Unit};
 use tz_info::{OffsetStretch, TimeZone};
@@ -26,12 +26,10 @@ pub struct Kept {
 
 impl Kept {
     /// No times.
-    pub fn none(zone: &TimeZone, unit: Unit, way: Way) -> Kept
-        ensures { IsKept zone.now unit way result }
+    pub fn none(question: Question) -> Kept
+        ensures { IsKept question.entry result }
     {
-        let _ = zone;
-        let _ = unit;
-        let _ = way;
+        let _ = question;
         Kept {
             low: i64::MAX,
             high: i64::MIN,
@@ -49,13 +47,11 @@ impl Kept {
 
     /// The answer to the time if it is one of them.
     #[inline(always)]
-    pub fn answer_to(self, zone: &TimeZone, unit: Unit, way: Way, time: i64) -> Option<i64>
-        requires { IsKept zone.now unit way self }
-        ensures { MatchOption result ⊤ (IsAnsweredOrNone zone.now unit way time) }
+    pub fn answer_to(self, question: Question, time: i64) -> Option<i64>
+        requires { IsKept question self }
+        ensures { MatchOption result ⊤ (IsWritten question.entry time) }
     {
-        let _ = zone;
-        let _ = unit;
-        let _ = way;
+        let _ = question;
         if self.has(time) {
             Some(time + self.add)
         } else {
@@ -89,60 +85,58 @@ impl Kept {
 }
 
 /// What is kept of the stretch that the second lies in.
-pub fn kept_at(zone: &TimeZone, unit: Unit, way: Way, second: i64) -> Kept
-    ensures { IsKept zone.now unit way result }
+pub fn kept_at(question: Question, second: i64) -> Kept
+    ensures { IsKept question.entry result }
 {
+    let Question { zone, unit, way } = question;
+    let Some(stretch) = zone.offset_stretch_at(second) else {
+        return Kept::none(question);
+    };
     match way {
-        Way::ToLocal => instants_at(zone, unit, second),
-        Way::ToInstants(choice) => local_times_at(zone, unit, choice, second),
+        Way::ToLocal => instants_in(zone, unit, stretch),
+        Way::ToInstants(choice) => local_times_in(zone, unit, choice, stretch),
     }
 }
 
 // The instants of the stretch.
-fn instants_at(zone: &TimeZone, unit: Unit, second: i64) -> Kept
-    ensures { IsKept zone.now unit ToLocal result }
+fn instants_in(zone: &TimeZone, unit: Unit, stretch: OffsetStretch) -> Kept
+    requires { IsOffsetStretch zone.now stretch }
+    ensures { IsKeptOf zone.now unit ToLocal result }
 {
-    match zone.offset_stretch_at(second) {
-        Some(
-            OffsetStretch {
-                from,
-                until,
-                offset,
-            },
-        ) => Kept::between(
-            unit.counts_at(from),
-            unit.counts_at(until),
-            unit.counts_of(offset),
-        ),
-        None => Kept::none(zone, unit, Way::ToLocal),
-    }
+    let _ = zone;
+    let OffsetStretch {
+        from,
+        until,
+        offset,
+    } = stretch;
+    Kept::between(
+        unit.counts_at(from),
+        unit.counts_at(until),
+        unit.counts_of(offset),
+    )
 }
 
 // The local times that are so far inside the stretch that, whatever the offset, no second outside it
 // shows them.
-fn local_times_at(zone: &TimeZone, unit: Unit, choice: Choice, second: i64) -> Kept
-    ensures { IsKept zone.now unit (ToInstants choice) result }
+fn local_times_in(zone: &TimeZone, unit: Unit, choice: Choice, stretch: OffsetStretch) -> Kept
+    requires { IsOffsetStretch zone.now stretch }
+    ensures { IsKeptOf zone.now unit (ToInstants choice) result }
 {
-    let least = zone.least_offset();
-    let greatest = zone.greatest_offset();
-    match zone.offset_stretch_at(second) {
-        Some(
-            OffsetStretch {
-                from,
-                until,
-                offset,
-            },
-        ) => {
-            let first = unit.counts_at(from) + unit.counts_of(greatest) as i128;
-            let end = unit.counts_at(until) + unit.counts_of(least) as i128;
-            Kept::between(
-                greater(first, unit.counts_at(FIRST)),
-                lesser(end, unit.counts_at(END)),
-                less(unit.counts_of(offset)),
-            )
-        }
-        None => Kept::none(zone, unit, Way::ToInstants(choice)),
-    }
+    let _ = choice;
+    let OffsetStretch {
+        from,
+        until,
+        offset,
+    } = stretch;
+    let least = unit.counts_of(zone.least_offset()) as i128;
+    let greatest = unit.counts_of(zone.greatest_offset()) as i128;
+    let first = unit.counts_at(from) + greatest;
+    let end = unit.counts_at(until) + least;
+    Kept::between(
+        greater(first, unit.counts_at(FIRST)),
+        lesser(end, unit.counts_at(END)),
+        less(unit.counts_of(offset)),
+    )
 }
 
 fn greater(a: i128, b: i128) -> i128

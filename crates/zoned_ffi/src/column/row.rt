@@ -1,12 +1,13 @@
 //! The answer to one time of a column, by a lookup.
 
 ghost use Rattle.std.specs.Prelude.{◌≡◌, ◌+ℤ◌, ◌≤ℤ◌, neg_ℤ, pos, MatchOption, MatchResult};
-ghost use Rattle.zoned_ffi.specs.Columns.{IsAnswered, IsInstantOf, IsNoInstant, IsNotAnswered};
+ghost use Rattle.zoned_ffi.specs.Columns.{IsInstantOf, IsNoInstant};
+ghost use Rattle.zoned_ffi.specs.Steps.KeptTimes.{IsAnsweredBy, IsNotAnsweredBy};
 ghost use Rattle.zoned_ffi.specs.Steps.ResolvedInstants.{taken_instant};
 ghost use Rattle.zoned_ffi.specs.Units.{IsCounted, IsLocal, IsWithout};
 
 use crate::choice::Choice;
-use crate::column::{NO_TIME, Way};
+use crate::column::{NO_TIME, Question, Way};
 use crate::refusal::{NO_LOCAL_TIME, OUT_OF_RANGE};
 use crate::resolved::{Taken, take};
 use crate::unit::{GREATEST, LEAST, Unit};
@@ -15,10 +16,10 @@ use tz_info::TimeZone;
 
 /// What is written of the time, or the number that says why nothing is.
 #[inline(never)]
-pub fn looked_up(zone: &TimeZone, unit: Unit, way: Way, time: i64) -> Result<i64, u32>
-    ensures { MatchResult result (IsAnswered zone.now unit way time)
-        (IsNotAnswered zone.now unit way time) }
+pub fn looked_up(question: &Question, time: i64) -> Result<i64, u32>
+    ensures { MatchResult result (IsAnsweredBy question.now time) (IsNotAnsweredBy question.now time) }
 {
+    let Question { zone, unit, way } = *question;
     match way {
         Way::ToLocal => match local_of(zone, unit, time) {
             Some(local) => Ok(local),

@@ -2,38 +2,66 @@
 //! has its times.
 
 ghost use Rattle.std.specs.Prelude.{◌≡◌, ◌≢◌, ◌<◌, length, IfSome, MatchResult};
-ghost use Rattle.zoned_ffi.specs.Columns.{IsAnsweredOrNone, IsNotAnswered};
-ghost use Rattle.zoned_ffi.specs.Steps.KeptTimes.{AreKept, IsKept};
-ghost use Rattle.zoned_ffi.specs.Units.{no_time};
+ghost use Rattle.zoned_ffi.specs.Steps.KeptTimes.{AreKept, IsKept, IsNotWritten, IsWritten};
 
 use crate::column::kept::{Kept, kept_at};
 use crate::column::row::looked_up;
-use crate::column::{NO_TIME, Way};
+use crate::column::{NO_TIME, Question, Way};
 use crate::unit::Unit;
-use tz_info::TimeZone;
 
-// The parts on each side of a time for which a pair that has all of a part is noted.
-const REACH: i64 = 1_024;
+// The most parts on each side of a time for which a pair that has all of a part is noted.
+const REACH: usize = 1_024;
 
-/// How many searches have been made.
+// The blocks in a row that may be left out.
+const MOST_LEFT: u8 = 16;
+
+/// What has been searched, and which blocks lie in one stretch.
 #[derive(Clone, Copy)]
 pub struct Search {
-    // The pair that the next one replaces.
+    // The pair that the next search replaces.
     next: u8,
     count: usize,
     pace: usize,
+    // The parts on each side of a time that are noted: few for few rows.
+    reach: i64,
+    // The last tries of a block that failed, and the blocks that are left out before the next try.
+    misses: u8,
+    left: u8,
 }
 
 impl Search {
     /// None yet. Where searches don't help, as in a short column in no order, or after the last
     /// transition of a zone whose rule goes on, their number grows with the root of the rows times
     /// that pace.
-    pub fn none(pace: usize) -> Search {
+    pub fn none(pace: usize, rows: usize) -> Search {
         Search {
             next: 0,
             count: 0,
             pace,
+            reach: (rows / 16).min(REACH) as i64,
+            misses: 0,
+            left: 0,
         }
+    }
+
+    /// Whether to try the next block as a whole. After each miss in a row one more block is left out.
+    pub fn tries_block(&mut self) -> bool {
+        if self.left == 0 {
+            return true;
+        }
+        self.left = self.left.wrapping_sub(1);
+        false
+    }
+
+    /// A block that was tried lies in one stretch.
+    pub fn found_block(&mut self) {
+        self.misses = 0;
+    }
+
+    /// A block that was tried doesn't.
+    pub fn missed_block(&mut self) {
+        self.left = self.misses;
+        self.misses = self.misses.wrapping_add(1).min(MOST_LEFT);
     }
 
     // Whether to search for another stretch at the row.
@@ -49,66 +77,55 @@ impl Search {
 /// What is written of the time in that row, or the number that says why nothing is.
 #[inline(always)]
 pub fn answer(
-    zone: &TimeZone,
-    unit: Unit,
-    way: Way,
+    question: Question,
     parts: &mut [u8],
     places: &mut [Kept],
     search: &mut Search,
     row: usize,
     time: i64,
 ) -> Result<i64, u32>
-    requires { AreKept zone.now unit way places.old }
-    ensures kept { AreKept zone.now unit way places.new }
-    ensures answer { MatchResult result (IsAnsweredOrNone zone.now unit way time)
-        (λ n. (time ≢ no_time) × IsNotAnswered zone.now unit way time n) }
+    requires { AreKept question places.old }
+    ensures kept { AreKept question.entry places.new }
+    ensures answer { MatchResult result (IsWritten question.entry time)
+        (λ n. IsNotWritten question.entry time n) }
 {
-    match kept_for(zone, unit, way, parts, places, time).answer_to(zone, unit, way, time) {
+    match kept_for(question, parts, places, time).answer_to(question, time) {
         Some(found) => Ok(found),
-        None => answer_by_zone(zone, unit, way, parts, places, search, row, time),
+        None => answer_by_zone(&question, parts, places, search, row, time),
     }
 }
 
 // The same for a time that the table doesn't have.
 #[inline(never)]
 fn answer_by_zone(
-    zone: &TimeZone,
-    unit: Unit,
-    way: Way,
+    question: &Question,
     parts: &mut [u8],
     places: &mut [Kept],
     search: &mut Search,
     row: usize,
     time: i64,
 ) -> Result<i64, u32>
-    requires { AreKept zone.now unit way places.old }
-    ensures kept { AreKept zone.now unit way places.new }
-    ensures answer { MatchResult result (IsAnsweredOrNone zone.now unit way time)
-        (λ n. (time ≢ no_time) × IsNotAnswered zone.now unit way time n) }
+    requires { AreKept question.now places.old }
+    ensures kept { AreKept question.now places.new }
+    ensures answer { MatchResult result (IsWritten question.now time)
+        (λ n. IsNotWritten question.now time n) }
 {
     if time == NO_TIME {
         return Ok(NO_TIME);
     }
-    fill(zone, unit, way, parts, places, search, row, time);
-    looked_up(zone, unit, way, time)
+    fill(question, parts, places, search, row, time);
+    looked_up(question, time)
 }
 
 /// The stretch that the table has for the time, if it has one.
 #[inline(always)]
-pub fn kept_for(
-    zone: &TimeZone,
-    unit: Unit,
-    way: Way,
-    parts: &[u8],
-    places: &[Kept],
-    time: i64,
-) -> Kept
-    requires { AreKept zone.now unit way places.now }
-    ensures { IsKept zone.now unit way result }
+pub fn kept_for(question: Question, parts: &[u8], places: &[Kept], time: i64) -> Kept
+    requires { AreKept question places.now }
+    ensures { IsKept question.entry result }
 {
-    match place_of(unit, parts, places, time) {
+    match place_of(question.unit, parts, places, time) {
         Some(place) => places[place],
-        None => Kept::none(zone, unit, way),
+        None => Kept::none(question),
     }
 }
 
@@ -148,37 +165,35 @@ fn index_of(part: i64) -> usize {
 // Puts the stretch of the time into the table: twice if that is one pair, else with the next one or, if
 // it begins in the part of the time, the one before.
 fn fill(
-    zone: &TimeZone,
-    unit: Unit,
-    way: Way,
+    question: &Question,
     parts: &mut [u8],
     places: &mut [Kept],
     search: &mut Search,
     row: usize,
     time: i64,
 )
-    requires { AreKept zone.now unit way places.old }
-    ensures { AreKept zone.now unit way places.new }
+    requires { AreKept question.now places.old }
+    ensures { AreKept question.now places.new }
 {
     if !search.is_due(row) {
         return;
     }
-    let least = least_offset(zone, way);
-    let greatest = greatest_offset(zone, way);
-    let kept = kept_at(zone, unit, way, second_before(unit, time, greatest));
+    let least = least_offset(*question);
+    let greatest = greatest_offset(*question);
+    let kept = kept_at(*question, second_before(question.unit, time, greatest));
     if !kept.has(time) {
         return;
     }
-    let part = unit.part_of(time);
+    let part = question.unit.part_of(time);
     if parts.is_empty() {
-        put(zone, unit, way, parts, places, search, part, kept, kept);
-    } else if unit.part_of(kept.low) == part {
-        let second = second_before(unit, kept.low, greatest).wrapping_sub(1);
-        let early = kept_at(zone, unit, way, second);
-        put(zone, unit, way, parts, places, search, part, early, kept);
+        put(*question, parts, places, search, part, kept, kept);
+    } else if question.unit.part_of(kept.low) == part {
+        let second = second_before(question.unit, kept.low, greatest).wrapping_sub(1);
+        let early = kept_at(*question, second);
+        put(*question, parts, places, search, part, early, kept);
     } else {
-        let late = kept_at(zone, unit, way, second_before(unit, kept.high, least));
-        put(zone, unit, way, parts, places, search, part, kept, late);
+        let late = kept_at(*question, second_before(question.unit, kept.high, least));
+        put(*question, parts, places, search, part, kept, late);
     }
 }
 
@@ -187,25 +202,23 @@ fn second_before(unit: Unit, time: i64, offset: i32) -> i64 {
     unit.second_of(time).wrapping_sub(i64::from(offset))
 }
 
-fn least_offset(zone: &TimeZone, way: Way) -> i32 {
-    match way {
+fn least_offset(question: Question) -> i32 {
+    match question.way {
         Way::ToLocal => 0,
-        Way::ToInstants(_) => zone.least_offset(),
+        Way::ToInstants(_) => question.zone.least_offset(),
     }
 }
 
-fn greatest_offset(zone: &TimeZone, way: Way) -> i32 {
-    match way {
+fn greatest_offset(question: Question) -> i32 {
+    match question.way {
         Way::ToLocal => 0,
-        Way::ToInstants(_) => zone.greatest_offset(),
+        Way::ToInstants(_) => question.zone.greatest_offset(),
     }
 }
 
 // Puts the pair into the table, and notes it for the part, and for those near it that it has all of.
 fn put(
-    zone: &TimeZone,
-    unit: Unit,
-    way: Way,
+    question: Question,
     parts: &mut [u8],
     places: &mut [Kept],
     search: &mut Search,
@@ -213,13 +226,12 @@ fn put(
     early: Kept,
     late: Kept,
 )
-    requires kept { AreKept zone.now unit way places.old }
-    requires early { IsKept zone.now unit way early }
-    requires late { IsKept zone.now unit way late }
-    ensures { AreKept zone.now unit way places.new }
+    requires kept { AreKept question places.old }
+    requires early { IsKept question early }
+    requires late { IsKept question late }
+    ensures { AreKept question.entry places.new }
 {
-    let _ = zone;
-    let _ = way;
+    let _ = question;
     let pair = if search.next as usize * 2 + 1 < places.len() {
         search.next
     } else {
@@ -233,12 +245,14 @@ fn put(
     places[first + 1] = late;
     search.next = pair.wrapping_add(1);
     note(parts, part, pair);
-    let low = unit
+    let low = question
+        .unit
         .part_of(early.low.min(late.low))
-        .max(part.wrapping_sub(REACH));
-    let high = unit
+        .max(part.wrapping_sub(search.reach));
+    let high = question
+        .unit
         .part_of(early.high.max(late.high))
-        .min(part.wrapping_add(REACH));
+        .min(part.wrapping_add(search.reach));
     note_between(parts, low, high, pair);
 }
 

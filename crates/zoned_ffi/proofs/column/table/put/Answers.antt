@@ -4,5 +4,5 @@ use Rattle.zoned_ffi.proofs.column.table.put.Goals as goal
 pub returns : goal.returns
 returns c =
     let first = c.if-search-places.pair * 2 in
-    All-set (IsKept c.args.zone.now c.args.unit c.args.way) _ (first + 1) c.args.late c.requires.late
-    (All-set (IsKept c.args.zone.now c.args.unit c.args.way) c.args.places.now first c.args.early c.requires.early c.requires.kept)
+    All-set (IsKept c.args.question) _ (first + 1) c.args.late c.requires.late
+    (All-set (IsKept c.args.question) c.args.places.now first c.args.early c.requires.early c.requires.kept)

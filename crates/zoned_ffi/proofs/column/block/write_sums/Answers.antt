@@ -1,6 +1,6 @@
-use Rattle.zoned_ffi.proofs.Words.{FitsSigned, IsAnsweredOrNone, arith, get_or, inr, length-set, pos, rules, to_z-of_z, w64, ◌+ℤ◌, ◌∙◌}
+use Rattle.zoned_ffi.proofs.Words.{FitsSigned, arith, get_or, inr, length-set, pos, rules, to_z-of_z, w64, IsWritten, ◌+ℤ◌, ◌∙◌}
 use Rattle.zoned_ffi.proofs.Slices.{zip_more}
-use Rattle.zoned_ffi.proofs.column.write_sums.Goals as goal
+use Rattle.zoned_ffi.proofs.column.block.write_sums.Goals as goal
 
 pub loop-row-preserved : goal.loop-row-preserved
 loop-row-preserved c =
@@ -12,6 +12,6 @@ loop-row-preserved c =
     let fits = told.0.0 in
     simp to_z-of_z (
       length-set at.answers at.row (get_or c.args.times.now at.row (pos 0) +ℤ c.args.kept.add) ∙ at.invariant.0,
-      zip_more (IsAnsweredOrNone c.args.zone.now c.args.unit c.args.way) c.args.times.now at.answers at.row (pos 0)
+      zip_more (IsWritten c.args.question) c.args.times.now at.answers at.row (pos 0)
           (get_or c.args.times.now at.row (pos 0) +ℤ c.args.kept.add) at.invariant.0 (omega arith) at.invariant.1 (inr (told.1, told.2)),
     )

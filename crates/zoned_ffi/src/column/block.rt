@@ -1,0 +1,126 @@
+//! Rows that follow one another, answered together.
+
+ghost use Rattle.std.specs.Prelude.{◌≡◌, ◌≤◌, ◌<◌, length, take, IsTrue, MatchOption};
+ghost use Rattle.zoned_ffi.specs.Steps.KeptTimes.{AreKept, AreWithin, AreWritten, IsKept, IsStop};
+
+use crate::column::kept::Kept;
+use crate::column::table::{Search, answer, kept_for};
+use crate::column::{Question, Stop};
+
+/// Writes the answers of the rows from `from` on and before `to`, up to the first without.
+#[inline(always)]
+pub fn write_block(
+    question: Question,
+    times: &[i64],
+    answers: &mut [i64],
+    parts: &mut [u8],
+    places: &mut [Kept],
+    search: &mut Search,
+    from: usize,
+    to: usize,
+) -> Option<Stop>
+    requires size { length answers.old ≡ length times.now }
+    requires rows { (from < to) × (to ≤ length times.now) }
+    requires kept { AreKept question places.old }
+    requires before { AreWritten question (take from times.now) (take from answers.old) }
+    ensures size { length answers.new ≡ length times.now }
+    ensures kept { AreKept question.entry places.new }
+    ensures answered { MatchOption result
+        (AreWritten question.entry (take to times.now) (take to answers.new))
+        (λ s. IsStop question.entry times.now answers.new s) }
+{
+    if search.tries_block() {
+        let kept = kept_for(question, parts, places, times[from]);
+        if are_in(kept, times, from, to) {
+            search.found_block();
+            write_sums(question, kept, times, answers, from, to);
+            return None;
+        }
+        search.missed_block();
+    }
+    let left = write_pairs(question, times, answers, parts, places, from, to);
+    for row in left..to {
+        match answer(question, parts, places, search, row, times[row]) {
+            Ok(found) => answers[row] = found,
+            Err(number) => return Some(Stop { row, number }),
+        }
+    }
+    None
+}
+
+// Whether the stretch has the times of all these rows: they are counted, which needs no jump.
+#[inline(always)]
+fn are_in(kept: Kept, times: &[i64], from: usize, to: usize) -> bool
+    requires { (from < to) × (to ≤ length times.now) }
+    ensures { IsTrue result → AreWithin times.now from to kept }
+{
+    if !kept.has(times[to - 1]) {
+        return false;
+    }
+    let mut found = 0;
+    for row in from..to {
+        if kept.has(times[row]) {
+            found += 1;
+        }
+    }
+    found == to - from
+}
+
+// Writes the answers of these rows, which lie in the stretch.
+#[inline(always)]
+fn write_sums(
+    question: Question,
+    kept: Kept,
+    times: &[i64],
+    answers: &mut [i64],
+    from: usize,
+    to: usize,
+)
+    requires size { length answers.old ≡ length times.now }
+    requires rows { (from < to) × (to ≤ length times.now) }
+    requires kept { IsKept question kept }
+    requires within { AreWithin times.now from to kept }
+    requires before { AreWritten question (take from times.now) (take from answers.old) }
+    ensures size { length answers.new ≡ length times.now }
+    ensures answered { AreWritten question.entry (take to times.now) (take to answers.new) }
+{
+    let _ = question;
+    for row in from..to {
+        answers[row] = times[row] + kept.add;
+    }
+}
+
+// Writes the answers of these rows by the table, two at once, as long as it has both. Returns the first
+// row that is not written.
+#[inline(always)]
+fn write_pairs(
+    question: Question,
+    times: &[i64],
+    answers: &mut [i64],
+    parts: &[u8],
+    places: &[Kept],
+    from: usize,
+    to: usize,
+) -> usize
+    requires size { length answers.old ≡ length times.now }
+    requires rows { (from < to) × (to ≤ length times.now) }
+    requires kept { AreKept question places.now }
+    requires before { AreWritten question (take from times.now) (take from answers.old) }
+    ensures size { length answers.new ≡ length times.now }
+    ensures row { result ≤ to }
+    ensures answered { AreWritten question.entry (take result times.now) (take result answers.new) }
+{
+    let mut row = from;
+    while row + 1 < to {
+        let one = kept_for(question, parts, places, times[row]);
+        let other = kept_for(question, parts, places, times[row + 1]);
+        let both = one.has(times[row]) & other.has(times[row + 1]);
+        if !both {
+            return row;
+        }
+        answers[row] = times[row] + one.add;
+        answers[row + 1] = times[row + 1] + other.add;
+        row += 2;
+    }
+    row
+}
