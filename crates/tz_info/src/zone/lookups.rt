@@ -1,7 +1,7 @@
 //! Lookups at one instant after another, which keep the span of the last ones.
 
-ghost use Rattle.std.specs.Prelude.{◌≡◌, ◌≤ℤ◌, ◌<ℤ◌, ◌↔◌, ⊤, IsTrue, MatchOption, MatchResult};
-ghost use Rattle.tz_info.specs.Steps.Held.{IsHeld};
+ghost use Rattle.std.specs.Prelude.{◌≡◌, ◌≤ℤ◌, ◌<ℤ◌, ◌↔◌, IfSome, IsTrue, MatchResult};
+ghost use Rattle.tz_info.specs.Steps.Held.{IsEndOrTyped, IsHeld};
 ghost use Rattle.tz_info.specs.Zones.{TypeAt, IsTypeError};
 
 use crate::zone::time_zone::TimeZone;
@@ -15,6 +15,11 @@ const TWICE_NEAR: u64 = 1_209_600;
 
 // A near instant outside the kept span asks for its span after this many others in a row.
 const NEAR_MISSES: u32 = 2;
+
+// Half of the seconds of 64 bits, so that their leap times can be counted too.
+const EARLIEST: i64 = -4_611_686_018_427_387_904;
+
+const LATEST: i64 = 4_611_686_018_427_387_904;
 
 /// A zone's lookups at one instant after another, from [`TimeZone::lookups`].
 ///
@@ -32,10 +37,10 @@ pub struct Lookups<'a> {
 
 // Seconds from `first` on and before `end`, in which that type is in force.
 #[derive(Clone, Copy)]
-struct Held {
-    first: i64,
-    end: i64,
-    local_time_type: LocalTimeType,
+pub(super) struct Held {
+    pub(super) first: i64,
+    pub(super) end: i64,
+    pub(super) local_time_type: LocalTimeType,
 }
 
 impl<'a> Model for Lookups<'a> {
@@ -72,10 +77,11 @@ impl TimeZone {
         }
     }
 
-    // The span of the second, if clocks change at both of its ends.
+    // The span of the second. One without an end is held as far as `EARLIEST` or `LATEST`, if the
+    // zone has a type then.
     #[inline(never)]
-    fn held_at(&self, unix_time: i64) -> Option<Held>
-        ensures { MatchOption result ⊤ (IsHeld self.now) }
+    pub(super) fn held_at(&self, unix_time: i64) -> Option<Held>
+        ensures { IfSome result (IsHeld self.now) }
     {
         let _ = &self.table;
         let Ok(span) = self.span_at(unix_time) else {
@@ -86,17 +92,26 @@ impl TimeZone {
             from,
             until,
         } = span;
-        let Some(first) = from else {
-            return None;
-        };
-        let Some(end) = until else {
-            return None;
-        };
+        let first = self.end_or_typed(from, EARLIEST)?;
+        let end = self.end_or_typed(until, LATEST)?;
         Some(Held {
             first,
             end,
             local_time_type,
         })
+    }
+
+    // The span's end, or without one that second if it has a type.
+    fn end_or_typed(&self, end: Option<i64>, second: i64) -> Option<i64>
+        ensures { IfSome result (IsEndOrTyped self.now end) }
+    {
+        if end.is_some() {
+            return end;
+        }
+        match self.find_local_time_type(second) {
+            Ok(_) => Some(second),
+            Err(_) => None,
+        }
     }
 }
 
@@ -157,7 +172,7 @@ impl<'a> Lookups<'a> {
         }
     }
 
-    // Keeps the span of the second, if clocks change at both of its ends.
+    // Keeps the span of the second.
     #[inline(always)]
     fn keep_span_at(&mut self, unix_time: i64)
         ensures { self.new ≡ self.old }
