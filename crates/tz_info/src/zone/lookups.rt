@@ -16,6 +16,9 @@ const TWICE_NEAR: u64 = 1_209_600;
 // A near instant outside the kept span asks for its span after this many others in a row.
 const NEAR_MISSES: u32 = 2;
 
+// One in 256 far instants outside the kept span asks for its span: the first time after 16 others.
+const FIRST_FAR_MISSES: u8 = 240;
+
 // Half of the seconds of 64 bits, so that their leap times can be counted too.
 const EARLIEST: i64 = -4_611_686_018_427_387_904;
 
@@ -23,8 +26,9 @@ const LATEST: i64 = 4_611_686_018_427_387_904;
 
 /// A zone's lookups at one instant after another, from [`TimeZone::lookups`].
 ///
-/// They keep the span that the last instants lie in. If instants come in order, or near one
-/// another, most lookups only compare the instant with both ends of that span.
+/// They keep a span that some of the last instants lie in. If instants come in order, near one
+/// another, or in a zone whose clocks seldom change, most lookups only compare the instant with both
+/// ends of that span.
 #[derive(Drop)]
 pub struct Lookups<'a> {
     zone: &'a TimeZone,
@@ -32,6 +36,8 @@ pub struct Lookups<'a> {
     last: i64,
     // How many such instants in a row came near the one before, up to `NEAR_MISSES`.
     near_misses: u32,
+    // How many did not, and `FIRST_FAR_MISSES` more.
+    far_misses: u8,
     held: Held,
 }
 
@@ -69,6 +75,7 @@ impl TimeZone {
             zone: self,
             last: 0,
             near_misses: 0,
+            far_misses: FIRST_FAR_MISSES,
             held: Held {
                 first: i64::MAX,
                 end: 0,
@@ -145,7 +152,7 @@ impl<'a> Lookups<'a> {
         type_at(self.zone, unix_time)
     }
 
-    // Keeps the span of the second after some near misses in a row, and no span after a far one.
+    // Keeps the span of the second after some near misses in a row, or after many far ones.
     #[inline(always)]
     fn keep_if_near(&mut self, unix_time: i64)
         ensures { self.new ≡ self.old }
@@ -155,8 +162,19 @@ impl<'a> Lookups<'a> {
         if is_near {
             self.count_near_miss(unix_time);
         } else {
-            self.near_misses = 0;
-            self.held.first = i64::MAX;
+            self.count_far_miss(unix_time);
+        }
+    }
+
+    // Counts a far miss, or keeps the span of the second if there were enough of them.
+    #[inline(always)]
+    fn count_far_miss(&mut self, unix_time: i64)
+        ensures { self.new ≡ self.old }
+    {
+        self.near_misses = 0;
+        self.far_misses = self.far_misses.wrapping_add(1);
+        if self.far_misses == 0 {
+            self.keep_span_at(unix_time);
         }
     }
 
