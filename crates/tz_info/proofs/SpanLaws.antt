@@ -1,6 +1,6 @@
 -- Spans: at each second between two that have a type there is one, and from the last change to the next one it is the same.
 use Rattle.tz_info.proofs.Words.{Agrees, Alternate as AlternateRule, AreLeapSeconds, Change, HasNoChange, IfSome, IsAlternateRefused, IsChange, IsFirst}
-use Rattle.tz_info.proofs.Words.{IsFromLast, IsInSpan, IsLast, IsLastChange, IsLeapTime, IsRefusedBy, IsRuleOrNone, IsRuleTime, IsSince, IsSpan, IsSpanAt}
+use Rattle.tz_info.proofs.Words.{IsEndOrTyped, IsFromLast, IsInSpan, IsLast, IsLastChange, IsLeapTime, IsRefusedBy, IsRuleOrNone, IsRuleTime, IsSince, IsSpan, IsSpanAt}
 use Rattle.tz_info.proofs.Words.{IsTypeRefused, IsUnixTime, IsUntil, IsValid, LeapSecond, List, LocalType, None, Option, SFits, Some, Span, Transition}
 use Rattle.tz_info.proofs.Words.{TransitionRule, TypeAt, Zone, ap, arith, by_leap_time, by_lt_z, by_rule, cases_lt, correction_before, floor_div, inl, inr}
 use Rattle.tz_info.proofs.Words.{ints, last_transition, length, lies_in, neg_ℤ, option_map, passed_count, pos, refl, segment_of, slice_get, subst, suc, sym}
@@ -229,13 +229,29 @@ span_once f a b u h k i j typed =
 pub no_change_within : (f : InForce) (s : Span) (d : Change) → IsSpan f s → IsInSpan s (d.at -ℤ pos 1) → IsInSpan s d.at → IsChange f d → ⊥
 no_change_within f s d h i j is = is.differ (h.each (d.at -ℤ pos 1) d.before i is.before ∙ sym (h.each d.at d.after j is.after))
 
--- a span at both of whose ends clocks change has its type at each second
-pub span_held : (z : Zone) (s : Span) (first end : ℤ) → IsValid z → IsRuleOrNone z.rule → IsSpan (TypeAt z) s → s.from ≡ Some first → s.until ≡ Some end → (u : ℤ) → first ≤ℤ u → u <ℤ end → TypeAt z u s.local_time_type
-span_held z s first end valid limits h e g u low high =
-    let b = rw e at h.begins in
-    let c = rw g at h.ends in
-    let fa = b.1.fits in let fb = c.1.fits in
-    let t = typed_between z first (end -ℤ pos 1) u s.local_time_type s.local_time_type valid limits low (omega (arith, ints)) b.1.after c.1.before in
-    let fu : SFits w64 u = omega (arith, ints) in
-    let inside : IsInSpan s u = record { fits = fu; since = rw e low; until = rw g high } in
+-- ---- a span has its type at each second from one that has a type, or from its beginning, to another, or to its end
+typed_from : (z : Zone) (s : Span) (first : ℤ) → IsSpan (TypeAt z) s → IsEndOrTyped z s.from first → Typed (TypeAt z) first
+typed_from z s first h (inl is) = let begin = rw is at h.begins in (s.local_time_type, begin.1.after)
+typed_from z s first h (inr far) = far.1
+
+typed_up_to : (z : Zone) (s : Span) (end : ℤ) → IsSpan (TypeAt z) s → IsEndOrTyped z s.until end → (last : ℤ) × ((end -ℤ pos 1) ≤ℤ last) × Typed (TypeAt z) last
+typed_up_to z s end h (inl is) = let over = rw is at h.ends in (end -ℤ pos 1, omega (arith, ints), (s.local_time_type, over.1.before))
+typed_up_to z s end h (inr far) = (end, omega (arith, ints), far.1)
+
+since_end : (z : Zone) (from : Option ℤ) (first u : ℤ) → IsEndOrTyped z from first → first ≤ℤ u → IsSince from u
+since_end z from first u (inl is) low = rw is low
+since_end z from first u (inr far) low = rw far.0 tt
+
+until_end : (z : Zone) (until : Option ℤ) (end u : ℤ) → IsEndOrTyped z until end → u <ℤ end → IsUntil until u
+until_end z until end u (inl is) high = rw is high
+until_end z until end u (inr far) high = rw far.0 tt
+
+pub span_held : (z : Zone) (s : Span) (first end u : ℤ) → IsValid z → IsRuleOrNone z.rule → IsSpan (TypeAt z) s → SFits w64 u
+    → IsEndOrTyped z s.from first → IsEndOrTyped z s.until end → first ≤ℤ u → u <ℤ end → TypeAt z u s.local_time_type
+span_held z s first end u valid limits h fits from until low high =
+    let begin = typed_from z s first h from in
+    let last = typed_up_to z s end h until in
+    let more = last.1 in
+    let t = typed_between z first last.0 u begin.0 last.2.0 valid limits low (omega (arith, ints)) begin.1 last.2.1 in
+    let inside : IsInSpan s u = record { fits = fits; since = since_end z s.from first u from low; until = until_end z s.until end u until high } in
     subst (TypeAt z u) (h.each u t.0 inside t.1) t.1

@@ -103,6 +103,7 @@ pub use Rattle.tz_info.specs.Steps.Below.{all_below}
 pub use Rattle.tz_info.specs.Steps.ChangeLists.{all_fit, alternate_type, change_between, change_here, changes_in, is_dst_by_three, is_rule_year, is_second}
 pub use Rattle.tz_info.specs.Steps.ChangeLists.{rule_type, rule_type_or, type_at_leap_time}
 unfoldable pub use Rattle.tz_info.specs.Steps.ChangeLists.{changes_of, seconds_between, type_or_none}
+pub use Rattle.tz_info.specs.Steps.Held.{IsEndOrTyped}
 pub use Rattle.tz_info.specs.Steps.Idle.{AreAlike, AreStarts, AreStartsUpTo, IsCarried, IsRun}
 pub use Rattle.tz_info.specs.Steps.Changes.{AreAhead, AreComeAt, AreComeOrAll, AreIn, ComesAt, HasNoneAt, IsAhead, IsAtEnd, IsBegin, IsByRule}
 pub use Rattle.tz_info.specs.Steps.Changes.{IsEarlierOf, IsIdle}

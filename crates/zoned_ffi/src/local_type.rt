@@ -5,7 +5,7 @@ ghost use Rattle.zoned_ffi.specs.WrittenTypes.{AreWrittenTypesAt, IsWrittenTypeA
 
 use crate::instants::NO_OFFSET;
 use crate::refusal::OTHER_SIZE;
-use tz_info::{LocalTimeType, TimeZone, TimeZoneName};
+use tz_info::{LocalTimeType, Lookups, TimeZone, TimeZoneName};
 
 /// A local time type.
 #[repr(C)]
@@ -26,6 +26,18 @@ impl WrittenType {
     {
         match zone.find_local_time_type(instant) {
             Ok(found) => WrittenType::of(found),
+            Err(_) => WrittenType::none(),
+        }
+    }
+
+    // The same, with the last span kept.
+    #[inline(always)]
+    fn next(lookups: &mut Lookups<'_>, instant: i64) -> WrittenType
+        ensures written { IsWrittenTypeAt lookups.old instant result }
+        ensures zone { lookups.new ≡ lookups.old }
+    {
+        match lookups.find_local_time_type(instant) {
+            Ok(found) => WrittenType::of(&found),
             Err(_) => WrittenType::none(),
         }
     }
@@ -95,7 +107,8 @@ fn write_types(zone: &TimeZone, instants: &[i64], types: &mut [WrittenType])
     requires { length instants.now ≡ length types.old }
     ensures { AreWrittenTypesAt zone.now instants.now types.new }
 {
+    let mut lookups = zone.lookups();
     for (i, instant) in instants.iter().enumerate() {
-        types[i] = WrittenType::at(zone, *instant);
+        types[i] = WrittenType::next(&mut lookups, *instant);
     }
 }

@@ -1,7 +1,7 @@
 //! Lookups at one instant after another, which keep the span of the last ones.
 
-ghost use Rattle.std.specs.Prelude.{◌≡◌, ◌≤ℤ◌, ◌<ℤ◌, ◌↔◌, ⊤, IsTrue, MatchOption, MatchResult};
-ghost use Rattle.tz_info.specs.Steps.Held.{IsHeld};
+ghost use Rattle.std.specs.Prelude.{◌≡◌, ◌≤ℤ◌, ◌<ℤ◌, ◌↔◌, IfSome, IsTrue, MatchResult};
+ghost use Rattle.tz_info.specs.Steps.Held.{IsEndOrTyped, IsHeld};
 ghost use Rattle.tz_info.specs.Zones.{TypeAt, IsTypeError};
 
 use crate::zone::time_zone::TimeZone;
@@ -16,10 +16,19 @@ const TWICE_NEAR: u64 = 1_209_600;
 // A near instant outside the kept span asks for its span after this many others in a row.
 const NEAR_MISSES: u32 = 2;
 
+// One in 256 far instants outside the kept span asks for its span: the first time after 16 others.
+const FIRST_FAR_MISSES: u8 = 240;
+
+// Half of the seconds of 64 bits, so that their leap times can be counted too.
+const EARLIEST: i64 = -4_611_686_018_427_387_904;
+
+const LATEST: i64 = 4_611_686_018_427_387_904;
+
 /// A zone's lookups at one instant after another, from [`TimeZone::lookups`].
 ///
-/// They keep the span that the last instants lie in. If instants come in order, or near one
-/// another, most lookups only compare the instant with both ends of that span.
+/// They keep a span that some of the last instants lie in. If instants come in order, near one
+/// another, or in a zone whose clocks seldom change, most lookups only compare the instant with both
+/// ends of that span.
 #[derive(Drop)]
 pub struct Lookups<'a> {
     zone: &'a TimeZone,
@@ -27,15 +36,17 @@ pub struct Lookups<'a> {
     last: i64,
     // How many such instants in a row came near the one before, up to `NEAR_MISSES`.
     near_misses: u32,
+    // How many did not, and `FIRST_FAR_MISSES` more.
+    far_misses: u8,
     held: Held,
 }
 
 // Seconds from `first` on and before `end`, in which that type is in force.
 #[derive(Clone, Copy)]
-struct Held {
-    first: i64,
-    end: i64,
-    local_time_type: LocalTimeType,
+pub(super) struct Held {
+    pub(super) first: i64,
+    pub(super) end: i64,
+    pub(super) local_time_type: LocalTimeType,
 }
 
 impl<'a> Model for Lookups<'a> {
@@ -64,6 +75,7 @@ impl TimeZone {
             zone: self,
             last: 0,
             near_misses: 0,
+            far_misses: FIRST_FAR_MISSES,
             held: Held {
                 first: i64::MAX,
                 end: 0,
@@ -72,10 +84,11 @@ impl TimeZone {
         }
     }
 
-    // The span of the second, if clocks change at both of its ends.
+    // The span of the second. One without an end is held as far as `EARLIEST` or `LATEST`, if the
+    // zone has a type then.
     #[inline(never)]
-    fn held_at(&self, unix_time: i64) -> Option<Held>
-        ensures { MatchOption result ⊤ (IsHeld self.now) }
+    pub(super) fn held_at(&self, unix_time: i64) -> Option<Held>
+        ensures { IfSome result (IsHeld self.now) }
     {
         let _ = &self.table;
         let Ok(span) = self.span_at(unix_time) else {
@@ -86,17 +99,26 @@ impl TimeZone {
             from,
             until,
         } = span;
-        let Some(first) = from else {
-            return None;
-        };
-        let Some(end) = until else {
-            return None;
-        };
+        let first = self.end_or_typed(from, EARLIEST)?;
+        let end = self.end_or_typed(until, LATEST)?;
         Some(Held {
             first,
             end,
             local_time_type,
         })
+    }
+
+    // The span's end, or without one that second if it has a type.
+    fn end_or_typed(&self, end: Option<i64>, second: i64) -> Option<i64>
+        ensures { IfSome result (IsEndOrTyped self.now end) }
+    {
+        if end.is_some() {
+            return end;
+        }
+        match self.find_local_time_type(second) {
+            Ok(_) => Some(second),
+            Err(_) => None,
+        }
     }
 }
 
@@ -130,7 +152,7 @@ impl<'a> Lookups<'a> {
         type_at(self.zone, unix_time)
     }
 
-    // Keeps the span of the second after some near misses in a row, and no span after a far one.
+    // Keeps the span of the second after some near misses in a row, or after many far ones.
     #[inline(always)]
     fn keep_if_near(&mut self, unix_time: i64)
         ensures { self.new ≡ self.old }
@@ -140,8 +162,19 @@ impl<'a> Lookups<'a> {
         if is_near {
             self.count_near_miss(unix_time);
         } else {
-            self.near_misses = 0;
-            self.held.first = i64::MAX;
+            self.count_far_miss(unix_time);
+        }
+    }
+
+    // Counts a far miss, or keeps the span of the second if there were enough of them.
+    #[inline(always)]
+    fn count_far_miss(&mut self, unix_time: i64)
+        ensures { self.new ≡ self.old }
+    {
+        self.near_misses = 0;
+        self.far_misses = self.far_misses.wrapping_add(1);
+        if self.far_misses == 0 {
+            self.keep_span_at(unix_time);
         }
     }
 
@@ -157,7 +190,7 @@ impl<'a> Lookups<'a> {
         }
     }
 
-    // Keeps the span of the second, if clocks change at both of its ends.
+    // Keeps the span of the second.
     #[inline(always)]
     fn keep_span_at(&mut self, unix_time: i64)
         ensures { self.new ≡ self.old }
