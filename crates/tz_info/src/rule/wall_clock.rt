@@ -1,6 +1,6 @@
 //! The wall clock of a rule.
 
-ghost use Rattle.std.specs.Prelude.{◌≡◌, ◌≢◌, ◌-ℤ◌, IsTrue, MatchOption, not, ⊤};
+ghost use Rattle.std.specs.Prelude.{◌≡◌, ◌≢◌, ◌-ℤ◌, MatchOption, Some, not, ⊤};
 ghost use Rattle.std.specs.Result.{IsOkAnd};
 ghost use Rattle.naive_base.specs.NaiveDateTime.{reading};
 ghost use Rattle.naive_base.specs.Range.{IsWide};
@@ -12,7 +12,7 @@ ghost use Rattle.tz_info.specs.RuleTypes.{RuleAt};
 ghost use Rattle.tz_info.specs.Rules.{IsAlternateRule};
 ghost use Rattle.tz_info.specs.Steps.Gaps.{IsNeverFrom, IsRuleGap, change_at};
 ghost use Rattle.tz_info.specs.Steps.RuleSeconds.{TypeFrom, IsAskedSince, IsAskedFrom, IsAmidFrom, AreUtOffsets};
-ghost use Rattle.tz_info.specs.Steps.Seasons.{IsSeason};
+ghost use Rattle.tz_info.specs.Steps.Seasons.{IsSeason, IsSeasonFor, IsSeasonOf};
 ghost use Rattle.tz_info.specs.Steps.Walk.{IsAskedLast};
 ghost use Rattle.tz_info.specs.WallClocks.{Shows};
 ghost use Rattle.tz_info.specs.declared.rule.transition_rule.TransitionRule.TheVariants.{Fixed, Alternate};
@@ -56,7 +56,21 @@ impl TransitionRule {
         requires { IsWide local }
         ensures { IsWallAnswer (Shows (RuleAt self.now) local) result }
     {
-        self.answer_from(i64::MIN, local, &mut Probes::new())
+        let season = self.season_for(i64::MIN, local);
+        self.answer_from(season, i64::MIN, local, &mut Probes::new())
+    }
+
+    // The moments of the local time's year, if these decide at both seconds that could show it, and
+    // neither comes before that one.
+    #[inline(always)]
+    pub(crate) fn season_for(&self, from: i64, local: i64) -> Option<Season>
+        requires { IsWide local }
+        ensures { MatchOption result ⊤ (IsSeasonOf (Some self.now) local) }
+    {
+        match self {
+            TransitionRule::Fixed(_) => None,
+            TransitionRule::Alternate(turns) => turns.season_for(from, local),
+        }
     }
 
     // The types in force at the seconds from that one on at which a clock by this rule shows the
@@ -64,10 +78,12 @@ impl TransitionRule {
     #[inline(always)]
     pub(crate) fn answer_from(
         &self,
+        season: Option<Season>,
         from: i64,
         local: i64,
         probes: &mut Probes,
     ) -> MappedLocalTime<LocalTimeType>
+        requires season { MatchOption season ⊤ (IsSeasonOf (Some self.now) local) }
         requires local { IsWide local }
         requires room { HasRoomFor 2 probes.old.rule_questions }
         ensures found { IsWallAnswer (Shows (TypeFrom self.now from) local) result }
@@ -78,7 +94,7 @@ impl TransitionRule {
     {
         match self {
             TransitionRule::Fixed(only) => answer_of_one(only, from, local, probes),
-            TransitionRule::Alternate(turns) => turns.answer_from(from, local, probes),
+            TransitionRule::Alternate(turns) => turns.answer_from(season, from, local, probes),
         }
     }
 }
@@ -107,14 +123,36 @@ fn answer_of_one(
 }
 
 impl AlternateTime {
+    // The moments of the local time's year, if these decide at both seconds that could show it, and
+    // neither comes before that one.
+    #[inline(always)]
+    fn season_for(&self, from: i64, local: i64) -> Option<Season>
+        requires { IsWide local }
+        ensures { MatchOption result ⊤ (IsSeasonFor self.now local) }
+    {
+        let by_std = second_showing(local, self.std().offset());
+        let by_dst = second_showing(local, self.dst().offset());
+        if by_std < from || by_dst < from {
+            return None;
+        }
+        let season = self.season(local);
+        if season.decides(by_std) & season.decides(by_dst) {
+            Some(season)
+        } else {
+            None
+        }
+    }
+
     // Asks for the two seconds that could show the local time.
     #[inline(always)]
     fn answer_from(
         &self,
+        season: Option<Season>,
         from: i64,
         local: i64,
         probes: &mut Probes,
     ) -> MappedLocalTime<LocalTimeType>
+        requires season { MatchOption season ⊤ (IsSeasonFor self.now local) }
         requires local { IsWide local }
         requires room { HasRoomFor 2 probes.old.rule_questions }
         ensures found { IsWallAnswer (Shows (TypeFrom (Alternate self.now) from) local) result }
@@ -133,9 +171,10 @@ impl AlternateTime {
         if standard == daylight {
             return self.ask(from, local, standard, MappedLocalTime::None, probes);
         }
-        let season = self.season(local);
-        if are_amid(season, from, by_std, by_dst) {
-            return self.answer_amid(season, from, local, probes);
+        if let Some(season) = season {
+            if from <= by_std && from <= by_dst {
+                return self.answer_amid(season, from, local, probes);
+            }
         }
         // The greater offset has the earlier second.
         if standard < daylight {
@@ -187,16 +226,19 @@ impl AlternateTime {
     // At the earlier of these two the type of the lesser offset is in force, and at the later one
     // the other type, since neither shows the local time. So one moment lies between them.
     #[inline(always)]
-    pub(crate) fn gap_from(&self, from: i64, local: i64) -> Option<Moment>
+    pub(crate) fn gap_from(&self, season: Option<Season>, from: i64, local: i64) -> Option<Moment>
+        requires season { MatchOption season ⊤ (IsSeasonFor self.now local) }
         requires local { IsWide local }
         requires never { IsNeverFrom self.now from local }
         ensures { MatchOption result ⊤
             (λ m. IsRuleGap self.now from local (change_at self.now m)) }
     {
+        let Some(season) = season else {
+            return None;
+        };
         let by_std = second_showing(local, self.std().offset());
         let by_dst = second_showing(local, self.dst().offset());
-        let season = self.season(local);
-        if !are_amid(season, from, by_std, by_dst) {
+        if by_std < from || by_dst < from {
             return None;
         }
         if by_dst < by_std {
@@ -255,20 +297,4 @@ impl AlternateTime {
         }
         answer
     }
-}
-
-// Whether the season's moments decide at both seconds, and neither comes before that one.
-#[inline(always)]
-fn are_amid(season: Season, from: i64, by_std: i64, by_dst: i64) -> bool
-    ensures { IsTrue result → IsAmidFrom season from by_std × IsAmidFrom season from by_dst }
-{
-    is_amid(season, from, by_std) & is_amid(season, from, by_dst)
-}
-
-// Whether the season's moments decide at the second, and it doesn't come before that one.
-#[inline(always)]
-fn is_amid(season: Season, from: i64, second: i64) -> bool
-    ensures { IsTrue result → IsAmidFrom season from second }
-{
-    (from <= second) & season.decides(second)
 }

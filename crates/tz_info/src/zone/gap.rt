@@ -1,6 +1,6 @@
 //! Gaps: what is in force around a local time that no clock shows.
 
-ghost use Rattle.std.specs.Prelude.{MatchOption};
+ghost use Rattle.std.specs.Prelude.{MatchOption, ⊤};
 ghost use Rattle.naive_base.specs.NaiveDateTime.{reading};
 ghost use Rattle.naive_base.specs.Range.{IsWide};
 ghost use Rattle.offset_core.specs.WallAnswer.{IsNeverShown};
@@ -11,10 +11,12 @@ ghost use Rattle.tz_info.specs.Looks.{RoseAround};
 ghost use Rattle.tz_info.specs.Questions.{IsAskedFor};
 ghost use Rattle.tz_info.specs.Segments.{table_count};
 ghost use Rattle.tz_info.specs.Steps.Gaps.{HasReach};
+ghost use Rattle.tz_info.specs.Steps.Seasons.{IsSeasonOf};
 ghost use Rattle.tz_info.specs.WallClocks.{Shows};
 ghost use Rattle.tz_info.specs.WallPieces.{AreLessAmong, Jumps, IsShownAmong};
 ghost use Rattle.tz_info.specs.Zones.{TypeAt};
 
+use crate::rule::Season;
 use crate::zone::shown::{Jump, Shown};
 use crate::zone::starts::first_second;
 use crate::zone::time_zone::TimeZone;
@@ -56,9 +58,10 @@ impl TimeZone {
             probes.old.rule_questions probes.new.rule_questions }
     {
         let second = local.secs_since_epoch();
-        let (shown, answer) = self.wall_answer_of(second, probes);
+        let season = self.season_for(second);
+        let (shown, answer) = self.wall_answer_of(season, second, probes);
         match answer {
-            MappedLocalTime::None => Around::Gap(self.gap_at(second, shown, probes)),
+            MappedLocalTime::None => Around::Gap(self.gap_at(second, shown, season, probes)),
             MappedLocalTime::Single(only) => Around::Single(only),
             MappedLocalTime::Ambiguous(first, last) => Around::Ambiguous(first, last),
         }
@@ -84,8 +87,15 @@ impl TimeZone {
 
     // The gap in the table, or from the last transition on.
     #[inline(always)]
-    fn gap_at(&self, local: i64, shown: Shown, probes: &mut Probes) -> Change
+    fn gap_at(
+        &self,
+        local: i64,
+        shown: Shown,
+        season: Option<Season>,
+        probes: &mut Probes,
+    ) -> Change
         requires local { IsWide local }
+        requires season { MatchOption season ⊤ (IsSeasonOf self.now.rule local) }
         requires never { IsNeverShown (Shows (TypeAt self.now) local) }
         requires shown { IsShownAmong self.now 0 (table_count self.now) local shown }
         requires room { HasRoomFor 1 probes.old.reads }
@@ -94,7 +104,7 @@ impl TimeZone {
     {
         let _ = (self.extremes.least, self.extremes.greatest);
         match shown {
-            Shown::Less(_) => self.gap_behind_table(local),
+            Shown::Less(_) => self.gap_behind_table(local, season),
             Shown::Skipped(jump) => self.gap_of_jump(local, jump, probes),
             Shown::Once(_) => unreachable!(),
             Shown::Several(_, _) => unreachable!(),
@@ -122,8 +132,9 @@ impl TimeZone {
     // The gap from the last transition on, before which clocks show less: mostly by the moments of
     // the local time's year.
     #[inline(always)]
-    fn gap_behind_table(&self, local: i64) -> Change
+    fn gap_behind_table(&self, local: i64, season: Option<Season>) -> Change
         requires local { IsWide local }
+        requires season { MatchOption season ⊤ (IsSeasonOf self.now.rule local) }
         requires never { IsNeverShown (Shows (TypeAt self.now) local) }
         requires reach { HasReach self.now local }
         requires less { AreLessAmong self.now 0 (table_count self.now) local }
@@ -133,7 +144,7 @@ impl TimeZone {
         let Some(turns) = self.turns() else {
             return self.gap_by_search(local);
         };
-        match turns.gap_from(self.index.rule_from(), local) {
+        match turns.gap_from(season, self.index.rule_from(), local) {
             Some(moment) => turns.change_of(moment),
             None => self.gap_by_search(local),
         }

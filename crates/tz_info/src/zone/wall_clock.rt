@@ -1,6 +1,6 @@
 //! The wall clock of a zone.
 
-ghost use Rattle.std.specs.Prelude.{◌≡◌, ◌<◌, ◌+◌, ◌*◌, length, Some};
+ghost use Rattle.std.specs.Prelude.{◌≡◌, ◌<◌, ◌+◌, ◌*◌, length, MatchOption, Some, ⊤};
 ghost use Rattle.std.specs.Result.{IsOkAnd};
 ghost use Rattle.naive_base.specs.NaiveDateTime.{reading};
 ghost use Rattle.naive_base.specs.Range.{IsWide};
@@ -13,11 +13,12 @@ ghost use Rattle.tz_info.specs.Segments.{table_count};
 ghost use Rattle.tz_info.specs.WallClocks.{Shows};
 ghost use Rattle.tz_info.specs.WallPieces.{IsShownAmong, ShownAmong, wall_of};
 ghost use Rattle.tz_info.specs.Steps.Pieces.{AreBelow, AreListed};
+ghost use Rattle.tz_info.specs.Steps.Seasons.{IsSeasonOf};
 ghost use Rattle.tz_info.specs.Steps.Walk.{IsShownIn};
 ghost use Rattle.tz_info.specs.Zones.{IsValid, TypeAt};
 
 use crate::answers::joined;
-use crate::rule::TransitionRule;
+use crate::rule::{Season, TransitionRule};
 use crate::zone::shown::Shown;
 use crate::zone::time_zone::TimeZone;
 use naive_base::NaiveDateTime;
@@ -92,16 +93,31 @@ impl TimeZone {
         ensures counted { IsAskedFor self.now local
             probes.old.rule_questions probes.new.rule_questions }
     {
-        self.wall_answer_of(local, probes).1
+        self.wall_answer_of(self.season_for(local), local, probes).1
+    }
+
+    // The moments of the local time's year, if there is a rule and they decide at both seconds at
+    // which it could show the local time.
+    #[inline(always)]
+    pub(super) fn season_for(&self, local: i64) -> Option<Season>
+        requires { IsWide local }
+        ensures { MatchOption result ⊤ (IsSeasonOf self.now.rule local) }
+    {
+        match &self.last_rule {
+            None => None,
+            Some(rule) => rule.season_for(self.index.rule_from(), local),
+        }
     }
 
     // What the table shows of the local time, and the answer of all seconds.
     #[inline(always)]
     pub(super) fn wall_answer_of(
         &self,
+        season: Option<Season>,
         local: i64,
         probes: &mut Probes,
     ) -> (Shown, MappedLocalTime<LocalTimeType>)
+        requires season { MatchOption season ⊤ (IsSeasonOf self.now.rule local) }
         requires local { IsWide local }
         requires room { HasRoom probes.old }
         ensures shown { IsShownAmong self.now 0 (table_count self.now) local result.0 }
@@ -113,7 +129,7 @@ impl TimeZone {
         let (shown, table) = self.table_answer(local, probes);
         match &self.last_rule {
             None => (shown, table),
-            Some(rule) => (shown, self.try_rule(rule, local, table, probes)),
+            Some(rule) => (shown, self.try_rule(rule, season, local, table, probes)),
         }
     }
 
@@ -144,10 +160,12 @@ impl TimeZone {
     pub(super) fn try_rule(
         &self,
         rule: &TransitionRule,
+        season: Option<Season>,
         local: i64,
         answer: MappedLocalTime<LocalTimeType>,
         probes: &mut Probes,
     ) -> MappedLocalTime<LocalTimeType>
+        requires season { MatchOption season ⊤ (IsSeasonOf self.now.rule local) }
         requires local { IsWide local }
         requires room { HasRoomFor 2 probes.old.rule_questions }
         requires rule { self.now.rule ≡ Some rule.now }
@@ -159,7 +177,7 @@ impl TimeZone {
         ensures counted { IsAskedFor self.now local
             probes.old.rule_questions probes.new.rule_questions }
     {
-        let by_rule = rule.answer_from(self.index.rule_from(), local, probes);
+        let by_rule = rule.answer_from(season, self.index.rule_from(), local, probes);
         joined(answer, by_rule)
     }
 }

@@ -25,3 +25,6 @@ returns-clause-counted c =
     let (fl, ff, start) = begun (goal.at.returns-clause-counted c).After-rule_from in
     asked_by_zone c.args.self.now c.args.rule.now c.rule_from.result c.args.local _ _ (rw (← c.self.view_is) c.self.invariant.valid) c.requires.rule start c.requires.local c.answer_from-by_rule.ensures.offsets
     (simp to_z-of_z at c.answer_from-by_rule.ensures.counted)
+
+pub answer_from-by_rule-requires-clause-season : goal.answer_from-by_rule-requires-clause-season
+answer_from-by_rule-requires-clause-season c = let fl = c.ranges.local in simp to_z-of_z (rw c.requires.rule at c.requires.season)
