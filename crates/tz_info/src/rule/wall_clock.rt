@@ -4,6 +4,7 @@ ghost use Rattle.std.specs.Prelude.{◌≡◌, ◌≢◌, ◌-ℤ◌, MatchOptio
 ghost use Rattle.std.specs.Result.{IsOkAnd};
 ghost use Rattle.naive_base.specs.NaiveDateTime.{reading};
 ghost use Rattle.naive_base.specs.Range.{IsWide};
+ghost use Rattle.offset_core.specs.LocalResult.{map_of};
 ghost use Rattle.offset_core.specs.WallAnswer.{IsWallAnswer};
 ghost use Rattle.tz_base.specs.LocalTypes.{IsUtOffset};
 ghost use Rattle.tz_timeline.specs.Counts.{RoseWithin, HasRoomFor};
@@ -17,12 +18,13 @@ ghost use Rattle.tz_info.specs.Steps.Walk.{IsAskedLast};
 ghost use Rattle.tz_info.specs.WallClocks.{Shows};
 ghost use Rattle.tz_info.specs.declared.rule.transition_rule.TransitionRule.TheVariants.{Fixed, Alternate};
 
-use crate::answers::{answer_of_two, joined, second_showing};
+use crate::answers::{answer_of_two, copied, joined, second_showing};
+use crate::change::HeldChange;
 use crate::rule::alternate::{AlternateTime, Season};
 use crate::rule::transition_rule::TransitionRule;
 use naive_base::NaiveDateTime;
 use offset_core::MappedLocalTime;
-use tz_base::{Change, Error, LocalTimeType};
+use tz_base::{Error, LocalTimeType};
 use tz_timeline::Probes;
 
 // A second at which daylight saving time starts, or ends.
@@ -49,12 +51,13 @@ impl TransitionRule {
     ) -> Result<MappedLocalTime<LocalTimeType>, Error>
         ensures { IsOkAnd result (IsWallAnswer (Shows (RuleAt self.now) (reading local).s)) }
     {
-        Ok(self.wall_answer(local.secs_since_epoch()))
+        Ok(copied(self.wall_answer(local.secs_since_epoch())))
     }
 
-    fn wall_answer(&self, local: i64) -> MappedLocalTime<LocalTimeType>
+    fn wall_answer(&self, local: i64) -> MappedLocalTime<&LocalTimeType>
         requires { IsWide local }
-        ensures { IsWallAnswer (Shows (RuleAt self.now) local) result }
+        ensures { IsWallAnswer (Shows (RuleAt self.now) local)
+            (map_of (λ r. r.now) result) }
     {
         let season = self.season_for(i64::MIN, local);
         self.answer_from(season, i64::MIN, local, &mut Probes::new())
@@ -82,11 +85,12 @@ impl TransitionRule {
         from: i64,
         local: i64,
         probes: &mut Probes,
-    ) -> MappedLocalTime<LocalTimeType>
+    ) -> MappedLocalTime<&LocalTimeType>
         requires season { MatchOption season ⊤ (IsSeasonOf (Some self.now) local) }
         requires local { IsWide local }
         requires room { HasRoomFor 2 probes.old.rule_questions }
-        ensures found { IsWallAnswer (Shows (TypeFrom self.now from) local) result }
+        ensures found { IsWallAnswer (Shows (TypeFrom self.now from) local)
+            (map_of (λ r. r.now) result) }
         ensures cost { RoseWithin probes.old probes.new 0 2 }
         ensures counted { IsAskedFrom self.now from local
             probes.old.rule_questions probes.new.rule_questions }
@@ -101,15 +105,16 @@ impl TransitionRule {
 
 // Asks a rule of one type for the one second that could show the local time.
 #[inline(always)]
-fn answer_of_one(
-    only: &LocalTimeType,
+fn answer_of_one<'a>(
+    only: &'a LocalTimeType,
     from: i64,
     local: i64,
     probes: &mut Probes,
-) -> MappedLocalTime<LocalTimeType>
+) -> MappedLocalTime<&'a LocalTimeType>
     requires local { IsWide local }
     requires room { HasRoomFor 2 probes.old.rule_questions }
-    ensures found { IsWallAnswer (Shows (TypeFrom (Fixed only.now) from) local) result }
+    ensures found { IsWallAnswer (Shows (TypeFrom (Fixed only.now) from) local)
+        (map_of (λ r. r.now) result) }
     ensures cost { RoseWithin probes.old probes.new 0 2 }
     ensures counted { IsAskedFrom (Fixed only.now) from local
         probes.old.rule_questions probes.new.rule_questions }
@@ -119,7 +124,7 @@ fn answer_of_one(
         return MappedLocalTime::None;
     }
     probes.count_question();
-    MappedLocalTime::Single(*only)
+    MappedLocalTime::Single(only)
 }
 
 impl AlternateTime {
@@ -151,11 +156,12 @@ impl AlternateTime {
         from: i64,
         local: i64,
         probes: &mut Probes,
-    ) -> MappedLocalTime<LocalTimeType>
+    ) -> MappedLocalTime<&LocalTimeType>
         requires season { MatchOption season ⊤ (IsSeasonFor self.now local) }
         requires local { IsWide local }
         requires room { HasRoomFor 2 probes.old.rule_questions }
-        ensures found { IsWallAnswer (Shows (TypeFrom (Alternate self.now) from) local) result }
+        ensures found { IsWallAnswer (Shows (TypeFrom (Alternate self.now) from) local)
+            (map_of (λ r. r.now) result) }
         ensures cost { RoseWithin probes.old probes.new 0 2 }
         ensures counted { IsAskedFrom (Alternate self.now) from local
             probes.old.rule_questions probes.new.rule_questions }
@@ -194,14 +200,15 @@ impl AlternateTime {
         from: i64,
         local: i64,
         probes: &mut Probes,
-    ) -> MappedLocalTime<LocalTimeType>
+    ) -> MappedLocalTime<&LocalTimeType>
         requires local { IsWide local }
         requires room { HasRoomFor 2 probes.old.rule_questions }
         requires season { IsSeason self.now season }
         requires other { self.now.std.offset ≢ self.now.dst.offset }
         requires standard { IsAmidFrom season from (local -ℤ self.now.std.offset) }
         requires daylight { IsAmidFrom season from (local -ℤ self.now.dst.offset) }
-        ensures found { IsWallAnswer (Shows (TypeFrom (Alternate self.now) from) local) result }
+        ensures found { IsWallAnswer (Shows (TypeFrom (Alternate self.now) from) local)
+            (map_of (λ r. r.now) result) }
         ensures cost { RoseWithin probes.old probes.new 0 2 }
         ensures counted { IsAskedFrom (Alternate self.now) from local
             probes.old.rule_questions probes.new.rule_questions }
@@ -255,33 +262,33 @@ impl AlternateTime {
 
     // The change at that moment.
     #[inline(always)]
-    pub(crate) fn change_of(&self, moment: Moment) -> Change
+    pub(crate) fn change_of(&self, moment: Moment) -> HeldChange<'_>
         ensures at { result.at ≡ moment.at }
-        ensures before { result.before ≡ type_when self.now (not moment.to_dst) }
-        ensures after { result.after ≡ type_when self.now moment.to_dst }
+        ensures before { result.before.now ≡ type_when self.now (not moment.to_dst) }
+        ensures after { result.after.now ≡ type_when self.now moment.to_dst }
     {
-        Change {
+        HeldChange {
             at: moment.at,
-            before: *self.type_when(!moment.to_dst),
-            after: *self.type_when(moment.to_dst),
+            before: self.type_when(!moment.to_dst),
+            after: self.type_when(moment.to_dst),
         }
     }
 
     // Asks for the one second that could show the local time at the offset, unless it comes before
     // that one.
     #[inline(always)]
-    fn ask(
-        &self,
+    fn ask<'a>(
+        &'a self,
         from: i64,
         local: i64,
         offset: i32,
-        answer: MappedLocalTime<LocalTimeType>,
+        answer: MappedLocalTime<&'a LocalTimeType>,
         probes: &mut Probes,
-    ) -> MappedLocalTime<LocalTimeType>
+    ) -> MappedLocalTime<&'a LocalTimeType>
         requires local { IsWide local }
         requires room { HasRoomFor 1 probes.old.rule_questions }
-        ensures asked { IsAskedLast (TypeFrom (Alternate self.now) from) local offset answer
-            result }
+        ensures asked { IsAskedLast (TypeFrom (Alternate self.now) from) local offset
+            (map_of (λ r. r.now) answer.entry) (map_of (λ r. r.now) result) }
         ensures cost { RoseWithin probes.old probes.new 0 1 }
         ensures counted { IsAskedSince from (local -ℤ offset)
             probes.old.rule_questions probes.new.rule_questions }
@@ -293,7 +300,7 @@ impl AlternateTime {
         probes.count_question();
         let found = self.type_at(second);
         if found.offset() == offset {
-            return joined(answer, MappedLocalTime::Single(*found));
+            return joined(answer, MappedLocalTime::Single(found));
         }
         answer
     }

@@ -38,7 +38,8 @@ returns-then-standard-daylight c =
     let a = c.args.self.now in
     let same : a.std.offset ≡ a.dst.offset = omega (arith, ints) in
     record {
-      found = asked_one (TypeFrom (Alternate a) c.args.from) c.args.local a.std.offset c.ask.result (one_second a c.args.from c.args.local same) (rw vs at (simp to_z-of_z at c.ask.ensures.asked));
+      found = asked_one (TypeFrom (Alternate a) c.args.from) c.args.local a.std.offset _ (one_second a c.args.from c.args.local same)
+          (rw vs at (simp to_z-of_z at c.ask.ensures.asked));
       cost = search rules;
       counted = asked_once a c.args.from c.args.local _ _ same (rw vs at (simp to_z-of_z at c.ask.ensures.counted));
       rule = search rules;
@@ -68,8 +69,8 @@ returns-then-standard-daylight-2 c =
     let (fl, ff, fs, fd, gs, gd, vs, vd, ss, sd) = offsets (goal.at.returns-then-standard-daylight-2 c).After-second_showing-by_dst in
     let a = c.args.self.now in
     record {
-      found = asked_both (TypeFrom (Alternate a) c.args.from) c.args.local a.dst.offset a.std.offset c.ask-one.result c.ask-then-standard-daylight-2.result (omega (arith, ints)) (dst_or_std a c.args.from c.args.local)
-          (rw vd at (simp to_z-of_z at c.ask-one.ensures.asked)) (rw vs at (simp to_z-of_z at c.ask-then-standard-daylight-2.ensures.asked));
+      found = asked_both (TypeFrom (Alternate a) c.args.from) c.args.local a.dst.offset a.std.offset _ _ (omega (arith, ints))
+          (dst_or_std a c.args.from c.args.local) (rw vd at (simp to_z-of_z at c.ask-one.ensures.asked)) (rw vs at (simp to_z-of_z at c.ask-then-standard-daylight-2.ensures.asked));
       cost = search rules;
       counted = asked_dst_std a c.args.from c.args.local _ _ _ (λ e. omega (arith, ints)) (rw vd at (simp to_z-of_z at c.ask-one.ensures.counted)) (rw vs at (simp to_z-of_z at c.ask-then-standard-daylight-2.ensures.counted));
       rule = search rules;
@@ -81,8 +82,8 @@ returns c =
     let a = c.args.self.now in
     let other : a.std.offset ≢ a.dst.offset = λ e. omega (arith, ints) in
     record {
-      found = asked_both (TypeFrom (Alternate a) c.args.from) c.args.local a.std.offset a.dst.offset c.ask-one-2.result c.ask-2.result (omega (arith, ints)) (std_or_dst a c.args.from c.args.local)
-          (rw vs at (simp to_z-of_z at c.ask-one-2.ensures.asked)) (rw vd at (simp to_z-of_z at c.ask-2.ensures.asked));
+      found = asked_both (TypeFrom (Alternate a) c.args.from) c.args.local a.std.offset a.dst.offset _ _ (omega (arith, ints))
+          (std_or_dst a c.args.from c.args.local) (rw vs at (simp to_z-of_z at c.ask-one-2.ensures.asked)) (rw vd at (simp to_z-of_z at c.ask-2.ensures.asked));
       cost = search rules;
       counted = asked_std_dst a c.args.from c.args.local _ _ _ other (rw vs at (simp to_z-of_z at c.ask-one-2.ensures.counted)) (rw vd at (simp to_z-of_z at c.ask-2.ensures.counted));
       rule = search rules;

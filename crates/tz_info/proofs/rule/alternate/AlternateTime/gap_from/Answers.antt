@@ -47,9 +47,9 @@ returns-then-by_dst-by_std c =
     let s = c.in-Some.season in
     let of_year : IsSeasonFor c.args.self.now c.args.local s = rw c.in-Some.is at c.requires.season in
     let fm : SFits w64 s.turns.start = search rules in
-    simp to_z-of_z (gap_at_start c.args.self.now s c.args.from c.args.local c.second_showing-by_dst.result c.second_showing-by_std.result of_year.season k.near_dst k.near_std
-    (record { decided = rw k.is_dst of_year.daylight; since = omega (arith, ints) }) (record { decided = rw k.is_std of_year.standard; since = omega (arith, ints) })
-    (omega (arith, ints)) k.shown_dst k.shown_std c.requires.never)
+    simp to_z-of_z (gap_at_start c.args.self.now s c.args.from c.args.local c.second_showing-by_dst.result c.second_showing-by_std.result of_year.season
+    k.near_dst k.near_std (record { decided = rw k.is_dst of_year.daylight; since = omega (arith, ints) })
+    (record { decided = rw k.is_std of_year.standard; since = omega (arith, ints) }) (omega (arith, ints)) k.shown_dst k.shown_std c.requires.never)
 
 pub returns : goal.returns
 returns c =
@@ -58,6 +58,6 @@ returns c =
     let s = c.in-Some.season in
     let of_year : IsSeasonFor c.args.self.now c.args.local s = rw c.in-Some.is at c.requires.season in
     let fm : SFits w64 s.turns.end = search rules in
-    simp to_z-of_z (gap_at_end c.args.self.now s c.args.from c.args.local c.second_showing-by_std.result c.second_showing-by_dst.result of_year.season k.near_std k.near_dst
-    (record { decided = rw k.is_std of_year.standard; since = omega (arith, ints) }) (record { decided = rw k.is_dst of_year.daylight; since = omega (arith, ints) })
-    (omega (arith, ints)) k.shown_std k.shown_dst c.requires.never)
+    simp to_z-of_z (gap_at_end c.args.self.now s c.args.from c.args.local c.second_showing-by_std.result c.second_showing-by_dst.result of_year.season
+    k.near_std k.near_dst (record { decided = rw k.is_std of_year.standard; since = omega (arith, ints) })
+    (record { decided = rw k.is_dst of_year.daylight; since = omega (arith, ints) }) (omega (arith, ints)) k.shown_std k.shown_dst c.requires.never)
