@@ -1,6 +1,6 @@
 -- The answer of two seconds at which a season's moments decide.
 use Rattle.offset_core.specs.declared.local_result.LocalResult.TheVariants.{Ambiguous, None, Single}
-use Rattle.tz_info.proofs.Words.{Alternate as AlternateRule, AlternateAt, Bool, FitsSigned, IsAmidFrom, IsAskedLast, IsDecidedIn, IsTrue, IsWallAnswer}
+use Rattle.tz_info.proofs.Words.{Alternate as AlternateRule, AlternateAt, Bool, FitsSigned, IsAskedLast, IsDecidedIn, IsTrue, IsWallAnswer}
 use Rattle.tz_info.proofs.Words.{LocalResult, LocalType, RuleAt, Season, Shows, TransitionRule, TypeFrom, and_both, and_parts, arith, cond, false, int_le}
 use Rattle.tz_info.proofs.Words.{int_lt, ints, joined, le_is, le_true, lt_is, lt_true, not, refl, shown_if, true, type_when, w64, ℤ, ◌&&◌, ◌-ℤ◌, ◌<ℤ◌, ◌↔◌, ◌≡◌}
 use Rattle.tz_info.proofs.Words.{◌≤ℤ◌, ◌⊎◌}
@@ -44,9 +44,3 @@ decided_by s u = (
   λ t. let both = and_parts (int_le s.from u) (int_lt u s.until) t in (le_is s.from u both.0, lt_is u s.until both.1),
   λ h. and_both (int_le s.from u) (int_lt u s.until) (le_true s.from u h.0) (lt_true u s.until h.1),
 )
-
--- the test of one second
-pub amid_by : (s : Season) (u from : ℤ) (decides : Bool) → (decides ≡ true → IsDecidedIn s u) → (int_le from u && decides) ≡ true → IsAmidFrom s from u
-amid_by s u from decides decided t =
-    let both = and_parts (int_le from u) decides t in
-    record { decided = decided both.1; since = le_is from u both.0 }

@@ -41,6 +41,7 @@ pub use Rattle.naive_base.proofs.Words.{of_z, one_year, starts_rise, subst, to_z
 pub use Rattle.naive_base.proofs.Words.{◌*ℤ◌, ◌++◌}
 unfoldable pub use Rattle.naive_base.proofs.Words.{day_number, days_of_months, year_of, year_start}
 pub use Rattle.naive_base.specs.Year.{IsDay}
+pub use Rattle.offset_core.specs.LocalResult.{map_of}
 pub use Rattle.tz_base.proofs.ForCallers.{Decided, IsExact, and_both, and_left, and_right, apart, bind, bind_err, by_error, choice, done, drop_front, either}
 pub use Rattle.tz_base.proofs.ForCallers.{exact_cut, false_unless, fault_low, fault_once, guard, lawful, like, made, ok_same, refused, runs_are, said}
 pub use Rattle.tz_base.proofs.ForCallers.{same_byte, type_exact, value_once}
@@ -131,7 +132,7 @@ pub use Rattle.tz_info.specs.Steps.RuleDays.{closed_day_is, julian_is, julian_pl
 unfoldable pub use Rattle.tz_info.specs.Steps.RuleDays.{closed_day}
 pub use Rattle.tz_info.specs.Steps.RuleSeconds.{AreUtOffsets, IsAmidFrom, IsAskedFrom, IsAskedSince, IsSecondFrom, TypeFrom}
 pub use Rattle.tz_info.specs.Steps.Runs.{AreNoneBefore, AreNoneFrom, IsBeyondJumps, IsEnd, IsRunSince, IsRunUntil, IsWindowOf, IsWithinRun}
-pub use Rattle.tz_info.specs.Steps.Seasons.{IsAmid, IsDecidedIn, IsLimit, IsSeason}
+pub use Rattle.tz_info.specs.Steps.Seasons.{IsAmid, IsDecidedIn, IsLimit, IsSeason, IsSeasonFor, IsSeasonOf}
 pub use Rattle.tz_info.specs.Steps.Segments.{begin_of, index_of}
 pub use Rattle.tz_info.specs.Steps.Shown.{together}
 pub use Rattle.tz_info.specs.Steps.Starts.{HaveCome, IsCut, IsLeapless, IsReachedFrom}

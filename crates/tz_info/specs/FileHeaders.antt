@@ -1,6 +1,6 @@
 -- The headers of a TZif file (RFC 8536 section 3.1). Each line is a field, in the order in which it stands there.
 use Rattle.std.specs.Prelude.{ℕ, ◌≡◌, ◌≢◌, ◌≤◌, ◌==◌, ◌⊎◌, not, ◌&&◌, ◌||◌, Bool, true, false, List, [], ◌∷◌, length, take}
-use Rattle.std.specs.Bool.{Decides, nat_eq}
+use Rattle.std.specs.Bool.{nat_eq}
 use Rattle.std.proofs.Common.{arith, refl, inl, inr}
 use Rattle.std.proofs.lemmas.Bool.Decides.{Decides-eqb, nat_tests}
 use Rattle.std.proofs.lemmas.Slice.Eq.{slice_eq-Decides}

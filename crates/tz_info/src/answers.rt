@@ -2,18 +2,21 @@
 
 ghost use Rattle.std.specs.Prelude.{◌≡◌, ◌-ℤ◌};
 ghost use Rattle.naive_base.specs.Range.{IsWide};
+ghost use Rattle.offset_core.specs.LocalResult.{map_of};
 ghost use Rattle.tz_info.specs.Leaps.{IsNear};
 ghost use Rattle.tz_info.specs.Steps.Answers.{joined, shown_if};
 
 use offset_core::MappedLocalTime;
+use tz_base::LocalTimeType;
 
 // Of two answers, the first of which is that of earlier seconds, the answer of all the seconds.
 #[inline(always)]
-pub(crate) fn joined<T: Copy>(
-    first: MappedLocalTime<T>,
-    last: MappedLocalTime<T>,
-) -> MappedLocalTime<T>
-    ensures { result ≡ joined first last }
+pub(crate) fn joined<'a>(
+    first: MappedLocalTime<&'a LocalTimeType>,
+    last: MappedLocalTime<&'a LocalTimeType>,
+) -> MappedLocalTime<&'a LocalTimeType>
+    ensures { map_of (λ r. r.now) result
+        ≡ joined (map_of (λ r. r.now) first.entry) (map_of (λ r. r.now) last.entry) }
 {
     let (least, greatest) = match (first, last) {
         (MappedLocalTime::None, answer) | (answer, MappedLocalTime::None) => return answer,
@@ -34,21 +37,34 @@ pub(crate) fn joined<T: Copy>(
 // The answer of two seconds, the first of which is the earlier, where each shows the local time or
 // doesn't.
 #[inline(always)]
-pub(crate) fn answer_of_two<T: Copy>(
-    first: &T,
+pub(crate) fn answer_of_two<'a>(
+    first: &'a LocalTimeType,
     is_first: bool,
-    last: &T,
+    last: &'a LocalTimeType,
     is_last: bool,
-) -> MappedLocalTime<T>
-    ensures { result ≡ joined (shown_if is_first first.now) (shown_if is_last last.now) }
+) -> MappedLocalTime<&'a LocalTimeType>
+    ensures { map_of (λ r. r.now) result
+        ≡ joined (shown_if is_first first.now) (shown_if is_last last.now) }
 {
     if is_first != is_last {
-        return MappedLocalTime::Single(if is_first { *first } else { *last });
+        return MappedLocalTime::Single(if is_first { first } else { last });
     }
     if is_first {
-        MappedLocalTime::Ambiguous(*first, *last)
+        MappedLocalTime::Ambiguous(first, last)
     } else {
         MappedLocalTime::None
+    }
+}
+
+// The types themselves.
+#[inline(always)]
+pub(crate) fn copied(answer: MappedLocalTime<&LocalTimeType>) -> MappedLocalTime<LocalTimeType>
+    ensures { result ≡ map_of (λ r. r.now) answer.entry }
+{
+    match answer {
+        MappedLocalTime::None => MappedLocalTime::None,
+        MappedLocalTime::Single(only) => MappedLocalTime::Single(*only),
+        MappedLocalTime::Ambiguous(first, last) => MappedLocalTime::Ambiguous(*first, *last),
     }
 }
 

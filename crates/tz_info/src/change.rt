@@ -1,9 +1,32 @@
 //! Changes of the clocks, made of two types, and chosen by their seconds.
 
 ghost use Rattle.std.specs.Prelude.{◌≡◌, ◌≢◌, ◌≤ℤ◌, ◌<ℤ◌, IsTrue, ◌↔◌, IfSome, MatchOption, Some};
+ghost use Rattle.tz_info.specs.Steps.HeldChanges.{change_held};
 ghost use Rattle.tz_info.specs.Steps.Changes.{nearer_one};
 
 use tz_base::{Change, LocalTimeType};
+
+// A clock change with references to the types that the zone holds.
+#[derive(Clone, Copy)]
+pub(crate) struct HeldChange<'a> {
+    pub(crate) at: i64,
+    pub(crate) before: &'a LocalTimeType,
+    pub(crate) after: &'a LocalTimeType,
+}
+
+impl HeldChange<'_> {
+    // The change with the types themselves.
+    #[inline(always)]
+    pub(crate) fn copied(self) -> Change
+        ensures { result ≡ change_held self.entry }
+    {
+        Change {
+            at: self.at,
+            before: *self.before,
+            after: *self.after,
+        }
+    }
+}
 
 // The change at that second, if the types differ.
 pub(crate) fn change_between(at: i64, before: LocalTimeType, after: LocalTimeType) -> Option<Change>

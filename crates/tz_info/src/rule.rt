@@ -11,6 +11,7 @@ mod transition_rule;
 mod wall_clock;
 
 pub use alternate::AlternateTime;
+pub(crate) use alternate::Season;
 pub(crate) use beside::Beside;
 pub(crate) use changes::later_of;
 pub use day::{DayForm, RuleDay};

@@ -1,9 +1,10 @@
 //! The wall clock of a rule.
 
-ghost use Rattle.std.specs.Prelude.{◌≡◌, ◌≢◌, ◌-ℤ◌, IsTrue, MatchOption, not, ⊤};
+ghost use Rattle.std.specs.Prelude.{◌≡◌, ◌≢◌, ◌-ℤ◌, MatchOption, Some, not, ⊤};
 ghost use Rattle.std.specs.Result.{IsOkAnd};
 ghost use Rattle.naive_base.specs.NaiveDateTime.{reading};
 ghost use Rattle.naive_base.specs.Range.{IsWide};
+ghost use Rattle.offset_core.specs.LocalResult.{map_of};
 ghost use Rattle.offset_core.specs.WallAnswer.{IsWallAnswer};
 ghost use Rattle.tz_base.specs.LocalTypes.{IsUtOffset};
 ghost use Rattle.tz_timeline.specs.Counts.{RoseWithin, HasRoomFor};
@@ -12,17 +13,18 @@ ghost use Rattle.tz_info.specs.RuleTypes.{RuleAt};
 ghost use Rattle.tz_info.specs.Rules.{IsAlternateRule};
 ghost use Rattle.tz_info.specs.Steps.Gaps.{IsNeverFrom, IsRuleGap, change_at};
 ghost use Rattle.tz_info.specs.Steps.RuleSeconds.{TypeFrom, IsAskedSince, IsAskedFrom, IsAmidFrom, AreUtOffsets};
-ghost use Rattle.tz_info.specs.Steps.Seasons.{IsSeason};
+ghost use Rattle.tz_info.specs.Steps.Seasons.{IsSeason, IsSeasonFor, IsSeasonOf};
 ghost use Rattle.tz_info.specs.Steps.Walk.{IsAskedLast};
 ghost use Rattle.tz_info.specs.WallClocks.{Shows};
 ghost use Rattle.tz_info.specs.declared.rule.transition_rule.TransitionRule.TheVariants.{Fixed, Alternate};
 
-use crate::answers::{answer_of_two, joined, second_showing};
+use crate::answers::{answer_of_two, copied, joined, second_showing};
+use crate::change::HeldChange;
 use crate::rule::alternate::{AlternateTime, Season};
 use crate::rule::transition_rule::TransitionRule;
 use naive_base::NaiveDateTime;
 use offset_core::MappedLocalTime;
-use tz_base::{Change, Error, LocalTimeType};
+use tz_base::{Error, LocalTimeType};
 use tz_timeline::Probes;
 
 // A second at which daylight saving time starts, or ends.
@@ -49,14 +51,29 @@ impl TransitionRule {
     ) -> Result<MappedLocalTime<LocalTimeType>, Error>
         ensures { IsOkAnd result (IsWallAnswer (Shows (RuleAt self.now) (reading local).s)) }
     {
-        Ok(self.wall_answer(local.secs_since_epoch()))
+        Ok(copied(self.wall_answer(local.secs_since_epoch())))
     }
 
-    fn wall_answer(&self, local: i64) -> MappedLocalTime<LocalTimeType>
+    fn wall_answer(&self, local: i64) -> MappedLocalTime<&LocalTimeType>
         requires { IsWide local }
-        ensures { IsWallAnswer (Shows (RuleAt self.now) local) result }
+        ensures { IsWallAnswer (Shows (RuleAt self.now) local)
+            (map_of (λ r. r.now) result) }
     {
-        self.answer_from(i64::MIN, local, &mut Probes::new())
+        let season = self.season_for(i64::MIN, local);
+        self.answer_from(season, i64::MIN, local, &mut Probes::new())
+    }
+
+    // The moments of the local time's year, if these decide at both seconds that could show it, and
+    // neither comes before that one.
+    #[inline(always)]
+    pub(crate) fn season_for(&self, from: i64, local: i64) -> Option<Season>
+        requires { IsWide local }
+        ensures { MatchOption result ⊤ (IsSeasonOf (Some self.now) local) }
+    {
+        match self {
+            TransitionRule::Fixed(_) => None,
+            TransitionRule::Alternate(turns) => turns.season_for(from, local),
+        }
     }
 
     // The types in force at the seconds from that one on at which a clock by this rule shows the
@@ -64,13 +81,16 @@ impl TransitionRule {
     #[inline(always)]
     pub(crate) fn answer_from(
         &self,
+        season: Option<Season>,
         from: i64,
         local: i64,
         probes: &mut Probes,
-    ) -> MappedLocalTime<LocalTimeType>
+    ) -> MappedLocalTime<&LocalTimeType>
+        requires season { MatchOption season ⊤ (IsSeasonOf (Some self.now) local) }
         requires local { IsWide local }
         requires room { HasRoomFor 2 probes.old.rule_questions }
-        ensures found { IsWallAnswer (Shows (TypeFrom self.now from) local) result }
+        ensures found { IsWallAnswer (Shows (TypeFrom self.now from) local)
+            (map_of (λ r. r.now) result) }
         ensures cost { RoseWithin probes.old probes.new 0 2 }
         ensures counted { IsAskedFrom self.now from local
             probes.old.rule_questions probes.new.rule_questions }
@@ -78,22 +98,23 @@ impl TransitionRule {
     {
         match self {
             TransitionRule::Fixed(only) => answer_of_one(only, from, local, probes),
-            TransitionRule::Alternate(turns) => turns.answer_from(from, local, probes),
+            TransitionRule::Alternate(turns) => turns.answer_from(season, from, local, probes),
         }
     }
 }
 
 // Asks a rule of one type for the one second that could show the local time.
 #[inline(always)]
-fn answer_of_one(
-    only: &LocalTimeType,
+fn answer_of_one<'a>(
+    only: &'a LocalTimeType,
     from: i64,
     local: i64,
     probes: &mut Probes,
-) -> MappedLocalTime<LocalTimeType>
+) -> MappedLocalTime<&'a LocalTimeType>
     requires local { IsWide local }
     requires room { HasRoomFor 2 probes.old.rule_questions }
-    ensures found { IsWallAnswer (Shows (TypeFrom (Fixed only.now) from) local) result }
+    ensures found { IsWallAnswer (Shows (TypeFrom (Fixed only.now) from) local)
+        (map_of (λ r. r.now) result) }
     ensures cost { RoseWithin probes.old probes.new 0 2 }
     ensures counted { IsAskedFrom (Fixed only.now) from local
         probes.old.rule_questions probes.new.rule_questions }
@@ -103,21 +124,44 @@ fn answer_of_one(
         return MappedLocalTime::None;
     }
     probes.count_question();
-    MappedLocalTime::Single(*only)
+    MappedLocalTime::Single(only)
 }
 
 impl AlternateTime {
+    // The moments of the local time's year, if these decide at both seconds that could show it, and
+    // neither comes before that one.
+    #[inline(always)]
+    fn season_for(&self, from: i64, local: i64) -> Option<Season>
+        requires { IsWide local }
+        ensures { MatchOption result ⊤ (IsSeasonFor self.now local) }
+    {
+        let by_std = second_showing(local, self.std().offset());
+        let by_dst = second_showing(local, self.dst().offset());
+        if by_std < from || by_dst < from {
+            return None;
+        }
+        let season = self.season(local);
+        if season.decides(by_std) & season.decides(by_dst) {
+            Some(season)
+        } else {
+            None
+        }
+    }
+
     // Asks for the two seconds that could show the local time.
     #[inline(always)]
     fn answer_from(
         &self,
+        season: Option<Season>,
         from: i64,
         local: i64,
         probes: &mut Probes,
-    ) -> MappedLocalTime<LocalTimeType>
+    ) -> MappedLocalTime<&LocalTimeType>
+        requires season { MatchOption season ⊤ (IsSeasonFor self.now local) }
         requires local { IsWide local }
         requires room { HasRoomFor 2 probes.old.rule_questions }
-        ensures found { IsWallAnswer (Shows (TypeFrom (Alternate self.now) from) local) result }
+        ensures found { IsWallAnswer (Shows (TypeFrom (Alternate self.now) from) local)
+            (map_of (λ r. r.now) result) }
         ensures cost { RoseWithin probes.old probes.new 0 2 }
         ensures counted { IsAskedFrom (Alternate self.now) from local
             probes.old.rule_questions probes.new.rule_questions }
@@ -133,9 +177,10 @@ impl AlternateTime {
         if standard == daylight {
             return self.ask(from, local, standard, MappedLocalTime::None, probes);
         }
-        let season = self.season(local);
-        if are_amid(season, from, by_std, by_dst) {
-            return self.answer_amid(season, from, local, probes);
+        if let Some(season) = season {
+            if from <= by_std && from <= by_dst {
+                return self.answer_amid(season, from, local, probes);
+            }
         }
         // The greater offset has the earlier second.
         if standard < daylight {
@@ -155,14 +200,15 @@ impl AlternateTime {
         from: i64,
         local: i64,
         probes: &mut Probes,
-    ) -> MappedLocalTime<LocalTimeType>
+    ) -> MappedLocalTime<&LocalTimeType>
         requires local { IsWide local }
         requires room { HasRoomFor 2 probes.old.rule_questions }
         requires season { IsSeason self.now season }
         requires other { self.now.std.offset ≢ self.now.dst.offset }
         requires standard { IsAmidFrom season from (local -ℤ self.now.std.offset) }
         requires daylight { IsAmidFrom season from (local -ℤ self.now.dst.offset) }
-        ensures found { IsWallAnswer (Shows (TypeFrom (Alternate self.now) from) local) result }
+        ensures found { IsWallAnswer (Shows (TypeFrom (Alternate self.now) from) local)
+            (map_of (λ r. r.now) result) }
         ensures cost { RoseWithin probes.old probes.new 0 2 }
         ensures counted { IsAskedFrom (Alternate self.now) from local
             probes.old.rule_questions probes.new.rule_questions }
@@ -187,16 +233,19 @@ impl AlternateTime {
     // At the earlier of these two the type of the lesser offset is in force, and at the later one
     // the other type, since neither shows the local time. So one moment lies between them.
     #[inline(always)]
-    pub(crate) fn gap_from(&self, from: i64, local: i64) -> Option<Moment>
+    pub(crate) fn gap_from(&self, season: Option<Season>, from: i64, local: i64) -> Option<Moment>
+        requires season { MatchOption season ⊤ (IsSeasonFor self.now local) }
         requires local { IsWide local }
         requires never { IsNeverFrom self.now from local }
         ensures { MatchOption result ⊤
             (λ m. IsRuleGap self.now from local (change_at self.now m)) }
     {
+        let Some(season) = season else {
+            return None;
+        };
         let by_std = second_showing(local, self.std().offset());
         let by_dst = second_showing(local, self.dst().offset());
-        let season = self.season(local);
-        if !are_amid(season, from, by_std, by_dst) {
+        if by_std < from || by_dst < from {
             return None;
         }
         if by_dst < by_std {
@@ -213,33 +262,33 @@ impl AlternateTime {
 
     // The change at that moment.
     #[inline(always)]
-    pub(crate) fn change_of(&self, moment: Moment) -> Change
+    pub(crate) fn change_of(&self, moment: Moment) -> HeldChange<'_>
         ensures at { result.at ≡ moment.at }
-        ensures before { result.before ≡ type_when self.now (not moment.to_dst) }
-        ensures after { result.after ≡ type_when self.now moment.to_dst }
+        ensures before { result.before.now ≡ type_when self.now (not moment.to_dst) }
+        ensures after { result.after.now ≡ type_when self.now moment.to_dst }
     {
-        Change {
+        HeldChange {
             at: moment.at,
-            before: *self.type_when(!moment.to_dst),
-            after: *self.type_when(moment.to_dst),
+            before: self.type_when(!moment.to_dst),
+            after: self.type_when(moment.to_dst),
         }
     }
 
     // Asks for the one second that could show the local time at the offset, unless it comes before
     // that one.
     #[inline(always)]
-    fn ask(
-        &self,
+    fn ask<'a>(
+        &'a self,
         from: i64,
         local: i64,
         offset: i32,
-        answer: MappedLocalTime<LocalTimeType>,
+        answer: MappedLocalTime<&'a LocalTimeType>,
         probes: &mut Probes,
-    ) -> MappedLocalTime<LocalTimeType>
+    ) -> MappedLocalTime<&'a LocalTimeType>
         requires local { IsWide local }
         requires room { HasRoomFor 1 probes.old.rule_questions }
-        ensures asked { IsAskedLast (TypeFrom (Alternate self.now) from) local offset answer
-            result }
+        ensures asked { IsAskedLast (TypeFrom (Alternate self.now) from) local offset
+            (map_of (λ r. r.now) answer.entry) (map_of (λ r. r.now) result) }
         ensures cost { RoseWithin probes.old probes.new 0 1 }
         ensures counted { IsAskedSince from (local -ℤ offset)
             probes.old.rule_questions probes.new.rule_questions }
@@ -251,24 +300,8 @@ impl AlternateTime {
         probes.count_question();
         let found = self.type_at(second);
         if found.offset() == offset {
-            return joined(answer, MappedLocalTime::Single(*found));
+            return joined(answer, MappedLocalTime::Single(found));
         }
         answer
     }
-}
-
-// Whether the season's moments decide at both seconds, and neither comes before that one.
-#[inline(always)]
-fn are_amid(season: Season, from: i64, by_std: i64, by_dst: i64) -> bool
-    ensures { IsTrue result → IsAmidFrom season from by_std × IsAmidFrom season from by_dst }
-{
-    is_amid(season, from, by_std) & is_amid(season, from, by_dst)
-}
-
-// Whether the season's moments decide at the second, and it doesn't come before that one.
-#[inline(always)]
-fn is_amid(season: Season, from: i64, second: i64) -> bool
-    ensures { IsTrue result → IsAmidFrom season from second }
-{
-    (from <= second) & season.decides(second)
 }

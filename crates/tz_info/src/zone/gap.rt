@@ -1,20 +1,24 @@
 //! Gaps: what is in force around a local time that no clock shows.
 
-ghost use Rattle.std.specs.Prelude.{MatchOption};
+ghost use Rattle.std.specs.Prelude.{MatchOption, ⊤};
 ghost use Rattle.naive_base.specs.NaiveDateTime.{reading};
 ghost use Rattle.naive_base.specs.Range.{IsWide};
 ghost use Rattle.offset_core.specs.WallAnswer.{IsNeverShown};
 ghost use Rattle.tz_timeline.specs.Counts.{HasRoom, RoseWithin, HasRoomFor};
-ghost use Rattle.tz_info.specs.Around.{IsAround};
+ghost use Rattle.tz_info.specs.Around.{IsAround, IsAroundOrBefore, map_both};
+ghost use Rattle.tz_info.specs.Steps.HeldChanges.{change_held};
 ghost use Rattle.tz_info.specs.Gaps.{IsBeforeGap, HasGap, IsShown};
 ghost use Rattle.tz_info.specs.Looks.{RoseAround};
 ghost use Rattle.tz_info.specs.Questions.{IsAskedFor};
 ghost use Rattle.tz_info.specs.Segments.{table_count};
 ghost use Rattle.tz_info.specs.Steps.Gaps.{HasReach};
+ghost use Rattle.tz_info.specs.Steps.Seasons.{IsSeasonOf};
 ghost use Rattle.tz_info.specs.WallClocks.{Shows};
 ghost use Rattle.tz_info.specs.WallPieces.{AreLessAmong, Jumps, IsShownAmong};
 ghost use Rattle.tz_info.specs.Zones.{TypeAt};
 
+use crate::change::HeldChange;
+use crate::rule::Season;
 use crate::zone::shown::{Jump, Shown};
 use crate::zone::starts::first_second;
 use crate::zone::time_zone::TimeZone;
@@ -55,10 +59,45 @@ impl TimeZone {
         ensures questions { IsAskedFor self.now (reading local).s
             probes.old.rule_questions probes.new.rule_questions }
     {
-        let second = local.secs_since_epoch();
-        let (shown, answer) = self.wall_answer_of(second, probes);
+        match self.around(local.secs_since_epoch(), probes) {
+            Around::Single(only) => Around::Single(*only),
+            Around::Ambiguous(first, last) => Around::Ambiguous(*first, *last),
+            Around::Gap(gap) => Around::Gap(gap.copied()),
+        }
+    }
+
+    /// As [`TimeZone::find_local_time_type_around`], with references to the zone's types; of a gap it
+    /// returns the type before it.
+    pub fn local_time_types_around(
+        &self,
+        local: NaiveDateTime,
+    ) -> Around<&LocalTimeType, &LocalTimeType>
+        ensures { IsAroundOrBefore (TypeAt self.now) (reading local).s
+            (map_both (λ r. r.now) (λ r. r.now) result) }
+    {
+        match self.around(local.secs_since_epoch(), &mut Probes::new()) {
+            Around::Single(only) => Around::Single(only),
+            Around::Ambiguous(first, last) => Around::Ambiguous(first, last),
+            Around::Gap(gap) => Around::Gap(gap.before),
+        }
+    }
+
+    // What shows the local time, or the gap that it lies in.
+    #[inline(always)]
+    fn around(&self, local: i64, probes: &mut Probes) -> Around<&LocalTimeType, HeldChange<'_>>
+        requires local { IsWide local }
+        requires room { HasRoom probes.old }
+        ensures found { IsAround (TypeAt self.now) local
+            (map_both (λ r. r.now) change_held result) }
+        ensures cost { RoseAround self.now (map_both (λ r. r.now) change_held result)
+            probes.old probes.new }
+        ensures questions { IsAskedFor self.now local
+            probes.old.rule_questions probes.new.rule_questions }
+    {
+        let season = self.season_for(local);
+        let (shown, answer) = self.wall_answer_of(season, local, probes);
         match answer {
-            MappedLocalTime::None => Around::Gap(self.gap_at(second, shown, probes)),
+            MappedLocalTime::None => Around::Gap(self.gap_at(local, shown, season, probes)),
             MappedLocalTime::Single(only) => Around::Single(only),
             MappedLocalTime::Ambiguous(first, last) => Around::Ambiguous(first, last),
         }
@@ -84,17 +123,25 @@ impl TimeZone {
 
     // The gap in the table, or from the last transition on.
     #[inline(always)]
-    fn gap_at(&self, local: i64, shown: Shown, probes: &mut Probes) -> Change
+    fn gap_at(
+        &self,
+        local: i64,
+        shown: Shown,
+        season: Option<Season>,
+        probes: &mut Probes,
+    ) -> HeldChange<'_>
         requires local { IsWide local }
+        requires season { MatchOption season ⊤ (IsSeasonOf self.now.rule local) }
         requires never { IsNeverShown (Shows (TypeAt self.now) local) }
         requires shown { IsShownAmong self.now 0 (table_count self.now) local shown }
         requires room { HasRoomFor 1 probes.old.reads }
-        ensures gap { HasGap (TypeAt self.now) local result.before result.after result.at }
+        ensures gap { HasGap (TypeAt self.now) local
+            result.before.now result.after.now result.at }
         ensures cost { RoseWithin probes.old probes.new 1 0 }
     {
         let _ = (self.extremes.least, self.extremes.greatest);
         match shown {
-            Shown::Less(_) => self.gap_behind_table(local),
+            Shown::Less(_) => self.gap_behind_table(local, season),
             Shown::Skipped(jump) => self.gap_of_jump(local, jump, probes),
             Shown::Once(_) => unreachable!(),
             Shown::Several(_, _) => unreachable!(),
@@ -102,19 +149,20 @@ impl TimeZone {
     }
 
     // The gap where the segment at the jump's place begins.
-    fn gap_of_jump(&self, local: i64, jump: Jump, probes: &mut Probes) -> Change
+    fn gap_of_jump(&self, local: i64, jump: Jump, probes: &mut Probes) -> HeldChange<'_>
         requires local { IsWide local }
         requires never { IsNeverShown (Shows (TypeAt self.now) local) }
         requires reach { HasReach self.now local }
         requires jump { Jumps self.now 0 (table_count self.now) local jump }
         requires room { HasRoomFor 1 probes.old.reads }
-        ensures gap { HasGap (TypeAt self.now) local result.before result.after result.at }
+        ensures gap { HasGap (TypeAt self.now) local
+            result.before.now result.after.now result.at }
         ensures cost { RoseWithin probes.old probes.new 1 0 }
     {
         let transition = self.transition(jump.place - 1, probes);
-        Change {
-            before: *self.listed(jump.before),
-            after: *self.listed(transition.type_index),
+        HeldChange {
+            before: self.listed(jump.before),
+            after: self.listed(transition.type_index),
             at: first_second(&self.leap_seconds, transition.unix_leap_time),
         }
     }
@@ -122,35 +170,38 @@ impl TimeZone {
     // The gap from the last transition on, before which clocks show less: mostly by the moments of
     // the local time's year.
     #[inline(always)]
-    fn gap_behind_table(&self, local: i64) -> Change
+    fn gap_behind_table(&self, local: i64, season: Option<Season>) -> HeldChange<'_>
         requires local { IsWide local }
+        requires season { MatchOption season ⊤ (IsSeasonOf self.now.rule local) }
         requires never { IsNeverShown (Shows (TypeAt self.now) local) }
         requires reach { HasReach self.now local }
         requires less { AreLessAmong self.now 0 (table_count self.now) local }
-        ensures { HasGap (TypeAt self.now) local result.before result.after result.at }
+        ensures { HasGap (TypeAt self.now) local
+            result.before.now result.after.now result.at }
     {
         let _ = &self.table;
         let Some(turns) = self.turns() else {
             return self.gap_by_search(local);
         };
-        match turns.gap_from(self.index.rule_from(), local) {
+        match turns.gap_from(season, self.index.rule_from(), local) {
             Some(moment) => turns.change_of(moment),
             None => self.gap_by_search(local),
         }
     }
 
     // The gap by the first second at which clocks show the local time or a later one.
-    fn gap_by_search(&self, local: i64) -> Change
+    fn gap_by_search(&self, local: i64) -> HeldChange<'_>
         requires local { IsWide local }
         requires never { IsNeverShown (Shows (TypeAt self.now) local) }
         requires reach { HasReach self.now local }
-        ensures { HasGap (TypeAt self.now) local result.before result.after result.at }
+        ensures { HasGap (TypeAt self.now) local
+            result.before.now result.after.now result.at }
     {
         let _ = &self.table;
         let first = self.first_at_or_after(local);
-        Change {
-            before: *self.type_at(first.at - 1),
-            after: first.local_time_type,
+        HeldChange {
+            before: self.type_at(first.at - 1),
+            after: self.type_at(first.at),
             at: first.at,
         }
     }

@@ -5,6 +5,7 @@ ghost use Rattle.std.specs.Prelude.{◌≡◌, ◌+◌, ◌<◌, ◌≤◌, ◌�
 ghost use Rattle.std.specs.Result.{IsOkAnd};
 ghost use Rattle.naive_base.specs.NaiveDateTime.{reading};
 ghost use Rattle.naive_base.specs.Range.{IsWide};
+ghost use Rattle.offset_core.specs.LocalResult.{map_of};
 ghost use Rattle.offset_core.specs.WallAnswer.{IsWallAnswer};
 ghost use Rattle.tz_timeline.specs.Counts.{HasRoom, RoseWithin, HasRoomFor};
 ghost use Rattle.tz_info.specs.Looks.{RoseByWalk};
@@ -15,7 +16,7 @@ ghost use Rattle.tz_info.specs.WallClocks.{Shows};
 ghost use Rattle.tz_info.specs.Windows.{IsWindow};
 ghost use Rattle.tz_info.specs.Zones.{IsValid, TypeAt};
 
-use crate::answers::{joined, second_showing};
+use crate::answers::{copied, joined, second_showing};
 use crate::zone::time_zone::TimeZone;
 use crate::zone::transition::Transition;
 use naive_base::NaiveDateTime;
@@ -61,15 +62,16 @@ impl TimeZone {
         ensures questions { IsAskedFor self.now (reading local).s
             probes.old.rule_questions probes.new.rule_questions }
     {
-        Ok(self.walked_answer(local.secs_since_epoch(), probes))
+        Ok(copied(self.walked_answer(local.secs_since_epoch(), probes)))
     }
 
     // One search for the transitions near the local time, and a walk through those, segment by
     // segment, in the order of the seconds.
-    fn walked_answer(&self, local: i64, probes: &mut Probes) -> MappedLocalTime<LocalTimeType>
+    fn walked_answer(&self, local: i64, probes: &mut Probes) -> MappedLocalTime<&LocalTimeType>
         requires local { IsWide local }
         requires room { HasRoom probes.old }
-        ensures found { IsWallAnswer (Shows (TypeAt self.now) local) result }
+        ensures found { IsWallAnswer (Shows (TypeAt self.now) local)
+            (map_of (λ r. r.now) result) }
         ensures cost { RoseByWalk self.now local probes.old probes.new }
         ensures counted { IsAskedFor self.now local
             probes.old.rule_questions probes.new.rule_questions }
@@ -122,17 +124,18 @@ impl TimeZone {
     }
 
     // Tries the type in force from the transition on until the leap time.
-    fn try_until(
-        &self,
+    fn try_until<'a>(
+        &'a self,
         local: i64,
         current: Transition,
         until: i64,
-        answer: MappedLocalTime<LocalTimeType>,
-    ) -> MappedLocalTime<LocalTimeType>
+        answer: MappedLocalTime<&'a LocalTimeType>,
+    ) -> MappedLocalTime<&'a LocalTimeType>
         requires local { IsWide local }
         requires listed { current.type_index < length self.now.types }
         ensures { IsTried self.now local current.type_index
-            (λ x. (current.unix_leap_time ≤ℤ x) × (x <ℤ until)) answer result }
+            (λ x. (current.unix_leap_time ≤ℤ x) × (x <ℤ until))
+            (map_of (λ r. r.now) answer.entry) (map_of (λ r. r.now) result) }
     {
         let candidate = self.candidate(local, current.type_index);
         if candidate.leap_time < current.unix_leap_time {
@@ -141,26 +144,27 @@ impl TimeZone {
         if until <= candidate.leap_time {
             return answer;
         }
-        joined(answer, MappedLocalTime::Single(*candidate.local_type))
+        joined(answer, MappedLocalTime::Single(candidate.local_type))
     }
 
     // Tries the type in force from the transition on.
-    fn try_from(
-        &self,
+    fn try_from<'a>(
+        &'a self,
         local: i64,
         current: Transition,
-        answer: MappedLocalTime<LocalTimeType>,
-    ) -> MappedLocalTime<LocalTimeType>
+        answer: MappedLocalTime<&'a LocalTimeType>,
+    ) -> MappedLocalTime<&'a LocalTimeType>
         requires local { IsWide local }
         requires listed { current.type_index < length self.now.types }
         ensures { IsTried self.now local current.type_index
-            (λ x. current.unix_leap_time ≤ℤ x) answer result }
+            (λ x. current.unix_leap_time ≤ℤ x)
+            (map_of (λ r. r.now) answer.entry) (map_of (λ r. r.now) result) }
     {
         let candidate = self.candidate(local, current.type_index);
         if candidate.leap_time < current.unix_leap_time {
             return answer;
         }
-        joined(answer, MappedLocalTime::Single(*candidate.local_type))
+        joined(answer, MappedLocalTime::Single(candidate.local_type))
     }
 
     // The type of that index, and the leap time of the one second that could show the local time
@@ -180,13 +184,13 @@ impl TimeZone {
 
     // Tries what is in force from the last transition on: the rule, or without one that
     // transition's type.
-    fn try_last(
-        &self,
+    fn try_last<'a>(
+        &'a self,
         local: i64,
         current: Transition,
-        answer: MappedLocalTime<LocalTimeType>,
+        answer: MappedLocalTime<&'a LocalTimeType>,
         probes: &mut Probes,
-    ) -> MappedLocalTime<LocalTimeType>
+    ) -> MappedLocalTime<&'a LocalTimeType>
         requires local { IsWide local }
         requires room { HasRoomFor 2 probes.old.rule_questions }
         requires begin { current.unix_leap_time
@@ -195,16 +199,17 @@ impl TimeZone {
             ≡ index_of self.now.transitions (length self.now.transitions) }
         requires listed { current.type_index < length self.now.types }
         requires seen { IsWallAnswer
-            (IsShownIn self.now local (length self.now.transitions)) answer }
+            (IsShownIn self.now local (length self.now.transitions))
+            (map_of (λ r. r.now) answer) }
         ensures found { IsWallAnswer (IsShownIn self.now local
-            (length self.now.transitions + 1)) result }
+            (length self.now.transitions + 1)) (map_of (λ r. r.now) result) }
         ensures cost { RoseWithin probes.old probes.new 0 2 }
         ensures counted { IsAskedFor self.now local
             probes.old.rule_questions probes.new.rule_questions }
     {
         match &self.last_rule {
             None => self.try_from(local, current, answer),
-            Some(rule) => self.try_rule(rule, local, answer, probes),
+            Some(rule) => self.try_rule(rule, self.season_for(local), local, answer, probes),
         }
     }
 }

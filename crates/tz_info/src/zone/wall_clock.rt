@@ -1,9 +1,10 @@
 //! The wall clock of a zone.
 
-ghost use Rattle.std.specs.Prelude.{◌≡◌, ◌<◌, ◌+◌, ◌*◌, length, Some};
+ghost use Rattle.std.specs.Prelude.{◌≡◌, ◌<◌, ◌+◌, ◌*◌, length, MatchOption, Some, ⊤};
 ghost use Rattle.std.specs.Result.{IsOkAnd};
 ghost use Rattle.naive_base.specs.NaiveDateTime.{reading};
 ghost use Rattle.naive_base.specs.Range.{IsWide};
+ghost use Rattle.offset_core.specs.LocalResult.{map_of};
 ghost use Rattle.offset_core.specs.WallAnswer.{IsWallAnswer};
 ghost use Rattle.tz_timeline.specs.Counts.{HasRoom, RoseByPieces, RoseWithin, HasRoomFor};
 ghost use Rattle.tz_timeline.specs.Digits.{digits};
@@ -13,11 +14,12 @@ ghost use Rattle.tz_info.specs.Segments.{table_count};
 ghost use Rattle.tz_info.specs.WallClocks.{Shows};
 ghost use Rattle.tz_info.specs.WallPieces.{IsShownAmong, ShownAmong, wall_of};
 ghost use Rattle.tz_info.specs.Steps.Pieces.{AreBelow, AreListed};
+ghost use Rattle.tz_info.specs.Steps.Seasons.{IsSeasonOf};
 ghost use Rattle.tz_info.specs.Steps.Walk.{IsShownIn};
 ghost use Rattle.tz_info.specs.Zones.{IsValid, TypeAt};
 
-use crate::answers::joined;
-use crate::rule::TransitionRule;
+use crate::answers::{copied, joined};
+use crate::rule::{Season, TransitionRule};
 use crate::zone::shown::Shown;
 use crate::zone::time_zone::TimeZone;
 use naive_base::NaiveDateTime;
@@ -48,6 +50,15 @@ impl TimeZone {
         self.find_local_time_type_from_local_counted(local, &mut probes)
     }
 
+    /// As [`TimeZone::find_local_time_type_from_local`], with references to the zone's types.
+    #[inline(always)]
+    pub fn local_time_types_at(&self, local: NaiveDateTime) -> MappedLocalTime<&LocalTimeType>
+        ensures { IsWallAnswer (Shows (TypeAt self.now) (reading local).s)
+            (map_of (λ r. r.now) result) }
+    {
+        self.wall_answer(local.secs_since_epoch(), &mut Probes::new())
+    }
+
     /// As [`TimeZone::find_local_time_type_from_local`], and counts the looks at pieces of the
     /// zone's index and the questions to the rule: at most as many looks as twice the number of
     /// transitions, and one, has binary digits, and one question for each second at which a clock
@@ -74,7 +85,7 @@ impl TimeZone {
         ensures questions { IsAskedFor self.now (reading local).s
             probes.old.rule_questions probes.new.rule_questions }
     {
-        Ok(self.wall_answer(local.secs_since_epoch(), probes))
+        Ok(copied(self.wall_answer(local.secs_since_epoch(), probes)))
     }
 
     // One search in the pieces finds the table's part of the answer; the rule's seconds come after
@@ -84,28 +95,45 @@ impl TimeZone {
         &self,
         local: i64,
         probes: &mut Probes,
-    ) -> MappedLocalTime<LocalTimeType>
+    ) -> MappedLocalTime<&LocalTimeType>
         requires local { IsWide local }
         requires room { HasRoom probes.old }
-        ensures found { IsWallAnswer (Shows (TypeAt self.now) local) result }
+        ensures found { IsWallAnswer (Shows (TypeAt self.now) local)
+            (map_of (λ r. r.now) result) }
         ensures cost { RoseByWallClock self.now probes.old probes.new }
         ensures counted { IsAskedFor self.now local
             probes.old.rule_questions probes.new.rule_questions }
     {
-        self.wall_answer_of(local, probes).1
+        self.wall_answer_of(self.season_for(local), local, probes).1
+    }
+
+    // The moments of the local time's year, if there is a rule and they decide at both seconds at
+    // which it could show the local time.
+    #[inline(always)]
+    pub(super) fn season_for(&self, local: i64) -> Option<Season>
+        requires { IsWide local }
+        ensures { MatchOption result ⊤ (IsSeasonOf self.now.rule local) }
+    {
+        match &self.last_rule {
+            None => None,
+            Some(rule) => rule.season_for(self.index.rule_from(), local),
+        }
     }
 
     // What the table shows of the local time, and the answer of all seconds.
     #[inline(always)]
     pub(super) fn wall_answer_of(
         &self,
+        season: Option<Season>,
         local: i64,
         probes: &mut Probes,
-    ) -> (Shown, MappedLocalTime<LocalTimeType>)
+    ) -> (Shown, MappedLocalTime<&LocalTimeType>)
+        requires season { MatchOption season ⊤ (IsSeasonOf self.now.rule local) }
         requires local { IsWide local }
         requires room { HasRoom probes.old }
         ensures shown { IsShownAmong self.now 0 (table_count self.now) local result.0 }
-        ensures found { IsWallAnswer (Shows (TypeAt self.now) local) result.1 }
+        ensures found { IsWallAnswer (Shows (TypeAt self.now) local)
+            (map_of (λ r. r.now) result.1) }
         ensures cost { RoseByWallClock self.now probes.old probes.new }
         ensures counted { IsAskedFor self.now local
             probes.old.rule_questions probes.new.rule_questions }
@@ -113,7 +141,7 @@ impl TimeZone {
         let (shown, table) = self.table_answer(local, probes);
         match &self.last_rule {
             None => (shown, table),
-            Some(rule) => (shown, self.try_rule(rule, local, table, probes)),
+            Some(rule) => (shown, self.try_rule(rule, season, local, table, probes)),
         }
     }
 
@@ -123,11 +151,12 @@ impl TimeZone {
         &self,
         local: i64,
         probes: &mut Probes,
-    ) -> (Shown, MappedLocalTime<LocalTimeType>)
+    ) -> (Shown, MappedLocalTime<&LocalTimeType>)
         requires local { IsWide local }
         requires room { HasRoom probes.old }
         ensures shown { IsShownAmong self.now 0 (table_count self.now) local result.0 }
-        ensures found { IsWallAnswer (ShownAmong self.now 0 (table_count self.now) local) result.1 }
+        ensures found { IsWallAnswer (ShownAmong self.now 0 (table_count self.now) local)
+            (map_of (λ r. r.now) result.1) }
         ensures cost { RoseByPieces probes.old probes.new
             (digits (2 * length self.now.transitions + 1)) 0 }
         ensures looked { 0 < length self.now.transitions
@@ -141,38 +170,41 @@ impl TimeZone {
     // The answer with the seconds at which the rule's types show the local time, from the last
     // transition on.
     #[inline(always)]
-    pub(super) fn try_rule(
-        &self,
-        rule: &TransitionRule,
+    pub(super) fn try_rule<'a>(
+        &'a self,
+        rule: &'a TransitionRule,
+        season: Option<Season>,
         local: i64,
-        answer: MappedLocalTime<LocalTimeType>,
+        answer: MappedLocalTime<&'a LocalTimeType>,
         probes: &mut Probes,
-    ) -> MappedLocalTime<LocalTimeType>
+    ) -> MappedLocalTime<&'a LocalTimeType>
+        requires season { MatchOption season ⊤ (IsSeasonOf self.now.rule local) }
         requires local { IsWide local }
         requires room { HasRoomFor 2 probes.old.rule_questions }
         requires rule { self.now.rule ≡ Some rule.now }
         requires seen { IsWallAnswer
-            (IsShownIn self.now local (length self.now.transitions)) answer }
+            (IsShownIn self.now local (length self.now.transitions))
+            (map_of (λ r. r.now) answer) }
         ensures found { IsWallAnswer (IsShownIn self.now local
-            (length self.now.transitions + 1)) result }
+            (length self.now.transitions + 1)) (map_of (λ r. r.now) result) }
         ensures cost { RoseWithin probes.old probes.new 0 2 }
         ensures counted { IsAskedFor self.now local
             probes.old.rule_questions probes.new.rule_questions }
     {
-        let by_rule = rule.answer_from(self.index.rule_from(), local, probes);
+        let by_rule = rule.answer_from(season, self.index.rule_from(), local, probes);
         joined(answer, by_rule)
     }
 }
 
 // The types of the indexes.
 #[inline(always)]
-fn types_of(types: &[LocalTimeType], shown: Shown) -> MappedLocalTime<LocalTimeType>
+fn types_of(types: &[LocalTimeType], shown: Shown) -> MappedLocalTime<&LocalTimeType>
     requires { AreBelow (length types.now) (wall_of shown) }
-    ensures { AreListed types.now (wall_of shown) result }
+    ensures { AreListed types.now (wall_of shown) (map_of (λ r. r.now) result) }
 {
     match shown {
         Shown::Less(_) | Shown::Skipped(_) => MappedLocalTime::None,
-        Shown::Once(only) => MappedLocalTime::Single(types[only]),
-        Shown::Several(first, last) => { MappedLocalTime::Ambiguous(types[first], types[last]) }
+        Shown::Once(only) => MappedLocalTime::Single(&types[only]),
+        Shown::Several(first, last) => MappedLocalTime::Ambiguous(&types[first], &types[last]),
     }
 }

@@ -38,35 +38,39 @@ returns-then-standard-daylight c =
     let a = c.args.self.now in
     let same : a.std.offset ≡ a.dst.offset = omega (arith, ints) in
     record {
-      found = asked_one (TypeFrom (Alternate a) c.args.from) c.args.local a.std.offset c.ask.result (one_second a c.args.from c.args.local same) (rw vs at (simp to_z-of_z at c.ask.ensures.asked));
+      found = asked_one (TypeFrom (Alternate a) c.args.from) c.args.local a.std.offset _ (one_second a c.args.from c.args.local same)
+          (rw vs at (simp to_z-of_z at c.ask.ensures.asked));
       cost = search rules;
       counted = asked_once a c.args.from c.args.local _ _ same (rw vs at (simp to_z-of_z at c.ask.ensures.counted));
       rule = search rules;
     }
 
+pub answer_amid-requires-clause-season : goal.answer_amid-requires-clause-season
+answer_amid-requires-clause-season c = (rw c.in-Some.is at c.requires.season).season
+
 pub answer_amid-requires-clause-standard : goal.answer_amid-requires-clause-standard
 answer_amid-requires-clause-standard c =
     let (fl, ff, fs, fd, gs, gd, vs, vd, ss, sd) = offsets (goal.at.answer_amid-requires-clause-standard c).After-second_showing-by_dst in
-    simp to_z-of_z (rw ss at (simp to_z-of_z at (c.are_amid.ensures c.if-are_amid.true)).0)
+    simp to_z-of_z (record { decided = (rw c.in-Some.is at c.requires.season).standard; since = omega (arith, ints) })
 
 pub answer_amid-requires-clause-daylight : goal.answer_amid-requires-clause-daylight
 answer_amid-requires-clause-daylight c =
     let (fl, ff, fs, fd, gs, gd, vs, vd, ss, sd) = offsets (goal.at.answer_amid-requires-clause-daylight c).After-second_showing-by_dst in
-    simp to_z-of_z (rw sd at (simp to_z-of_z at (c.are_amid.ensures c.if-are_amid.true)).1)
+    simp to_z-of_z (record { decided = (rw c.in-Some.is at c.requires.season).daylight; since = omega (arith, ints) })
 
-pub returns-then-are_amid-clause-found : goal.returns-then-are_amid-clause-found
-returns-then-are_amid-clause-found c = let fl = c.ranges.local in let ff = c.ranges.from in simp to_z-of_z at c.answer_amid.ensures.found
+pub returns-then-from-by_dst-clause-found : goal.returns-then-from-by_dst-clause-found
+returns-then-from-by_dst-clause-found c = let fl = c.ranges.local in let ff = c.ranges.from in simp to_z-of_z at c.answer_amid.ensures.found
 
-pub returns-then-are_amid-clause-counted : goal.returns-then-are_amid-clause-counted
-returns-then-are_amid-clause-counted c = let fl = c.ranges.local in let ff = c.ranges.from in simp to_z-of_z at c.answer_amid.ensures.counted
+pub returns-then-from-by_dst-clause-counted : goal.returns-then-from-by_dst-clause-counted
+returns-then-from-by_dst-clause-counted c = let fl = c.ranges.local in let ff = c.ranges.from in simp to_z-of_z at c.answer_amid.ensures.counted
 
 pub returns-then-standard-daylight-2 : goal.returns-then-standard-daylight-2
 returns-then-standard-daylight-2 c =
     let (fl, ff, fs, fd, gs, gd, vs, vd, ss, sd) = offsets (goal.at.returns-then-standard-daylight-2 c).After-second_showing-by_dst in
     let a = c.args.self.now in
     record {
-      found = asked_both (TypeFrom (Alternate a) c.args.from) c.args.local a.dst.offset a.std.offset c.ask-one.result c.ask-then-standard-daylight-2.result (omega (arith, ints)) (dst_or_std a c.args.from c.args.local)
-          (rw vd at (simp to_z-of_z at c.ask-one.ensures.asked)) (rw vs at (simp to_z-of_z at c.ask-then-standard-daylight-2.ensures.asked));
+      found = asked_both (TypeFrom (Alternate a) c.args.from) c.args.local a.dst.offset a.std.offset _ _ (omega (arith, ints))
+          (dst_or_std a c.args.from c.args.local) (rw vd at (simp to_z-of_z at c.ask-one.ensures.asked)) (rw vs at (simp to_z-of_z at c.ask-then-standard-daylight-2.ensures.asked));
       cost = search rules;
       counted = asked_dst_std a c.args.from c.args.local _ _ _ (λ e. omega (arith, ints)) (rw vd at (simp to_z-of_z at c.ask-one.ensures.counted)) (rw vs at (simp to_z-of_z at c.ask-then-standard-daylight-2.ensures.counted));
       rule = search rules;
@@ -78,18 +82,12 @@ returns c =
     let a = c.args.self.now in
     let other : a.std.offset ≢ a.dst.offset = λ e. omega (arith, ints) in
     record {
-      found = asked_both (TypeFrom (Alternate a) c.args.from) c.args.local a.std.offset a.dst.offset c.ask-one-2.result c.ask-2.result (omega (arith, ints)) (std_or_dst a c.args.from c.args.local)
-          (rw vs at (simp to_z-of_z at c.ask-one-2.ensures.asked)) (rw vd at (simp to_z-of_z at c.ask-2.ensures.asked));
+      found = asked_both (TypeFrom (Alternate a) c.args.from) c.args.local a.std.offset a.dst.offset _ _ (omega (arith, ints))
+          (std_or_dst a c.args.from c.args.local) (rw vs at (simp to_z-of_z at c.ask-one-2.ensures.asked)) (rw vd at (simp to_z-of_z at c.ask-2.ensures.asked));
       cost = search rules;
       counted = asked_std_dst a c.args.from c.args.local _ _ _ other (rw vs at (simp to_z-of_z at c.ask-one-2.ensures.counted)) (rw vd at (simp to_z-of_z at c.ask-2.ensures.counted));
       rule = search rules;
     }
-
-pub season-season-requires : goal.season-season-requires
-season-season-requires c =
-    let low = c.requires.local.0 in let high = c.requires.local.1 in
-    let fl = c.ranges.local in
-    (omega (arith, ints), omega (arith, ints))
 
 pub ask-requires-then-standard-daylight-2-clause-room : goal.ask-requires-then-standard-daylight-2-clause-room
 ask-requires-then-standard-daylight-2-clause-room c = omega (arith, c.requires.room, c.ask-one.ensures.cost.questions_most)

@@ -11,7 +11,8 @@ returns-then-offset-clause-asked c =
     let is = simp to_z-of_z at c.second_showing-second.ensures.value in
     let fs : SFits w64 c.second_showing-second.result = omega (arith, ints) in
     let ft : SFits w32 c.offset.result = let b = c.offset.ensures.bound in let v = c.offset.ensures.value in omega (arith, ints) in
-    rw c.joined.ensures (asked_found (Alternate c.args.self.now) c.args.from c.args.local c.args.offset c.type_at-found.result.now c.args.answer fits (omega (arith, ints)) (rw is at (simp to_z-of_z at c.type_at-found.ensures)) (let v = c.offset.ensures.value in omega (arith, ints)))
+    rw c.joined.ensures (asked_found (Alternate c.args.self.now) c.args.from c.args.local c.args.offset c.type_at-found.result.now _ fits (omega (arith, ints))
+    (rw is at (simp to_z-of_z at c.type_at-found.ensures)) (let v = c.offset.ensures.value in omega (arith, ints)))
 
 pub returns-clause-asked : goal.returns-clause-asked
 returns-clause-asked c =
@@ -21,4 +22,5 @@ returns-clause-asked c =
     let is = simp to_z-of_z at c.second_showing-second.ensures.value in
     let fs : SFits w64 c.second_showing-second.result = omega (arith, ints) in
     let ft : SFits w32 c.offset.result = let b = c.offset.ensures.bound in let v = c.offset.ensures.value in omega (arith, ints) in
-    asked_other (Alternate c.args.self.now) c.args.from c.args.local c.args.offset c.type_at-found.result.now c.args.answer (rw is at (simp to_z-of_z at c.type_at-found.ensures)) (λ e. let v = c.offset.ensures.value in omega (arith, ints))
+    asked_other (Alternate c.args.self.now) c.args.from c.args.local c.args.offset c.type_at-found.result.now _
+    (rw is at (simp to_z-of_z at c.type_at-found.ensures)) (λ e. let v = c.offset.ensures.value in omega (arith, ints))

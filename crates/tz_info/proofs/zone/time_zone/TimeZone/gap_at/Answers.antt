@@ -37,3 +37,6 @@ gap_behind_table-requires-clause-never c = let fl = c.ranges.local in simp to_z-
 
 pub gap_behind_table-requires-clause-less : goal.gap_behind_table-requires-clause-less
 gap_behind_table-requires-clause-less c = let fl = c.ranges.local in let shown = rw c.in-Less.is at c.requires.shown in simp to_z-of_z shown.side.0
+
+pub gap_behind_table-requires-clause-season : goal.gap_behind_table-requires-clause-season
+gap_behind_table-requires-clause-season c = let fl = c.ranges.local in simp to_z-of_z c.requires.season

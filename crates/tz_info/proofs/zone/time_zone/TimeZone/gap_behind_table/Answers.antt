@@ -20,3 +20,6 @@ returns-in-Some-gap_from c =
 
 pub gap_by_search-requires-in-None-clause-never : goal.gap_by_search-requires-in-None-clause-never
 gap_by_search-requires-in-None-clause-never c = let fl = c.ranges.local in simp to_z-of_z c.requires.never
+
+pub gap_from-requires-clause-season : goal.gap_from-requires-clause-season
+gap_from-requires-clause-season c = let fl = c.ranges.local in simp to_z-of_z (rw c.in-Some.ensures at c.requires.season)

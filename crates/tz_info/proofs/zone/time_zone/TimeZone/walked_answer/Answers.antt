@@ -1,5 +1,5 @@
-use Rattle.tz_info.proofs.Words.{Counts, IsShownIn, IsWallAnswer, IsWindow, SFits, Transition, ap, arith, digits-le, ints, length, rules, sym, to_z-of_z, w64}
-use Rattle.tz_info.proofs.Words.{◌+◌, ◌∙◌, ◌≡◌}
+use Rattle.tz_info.proofs.Words.{Counts, IsShownIn, IsWallAnswer, IsWindow, SFits, Transition, ap, arith, digits-le, ints, length, map_of}
+use Rattle.tz_info.proofs.Words.{rules, sym, to_z-of_z, w64, ◌+◌, ◌∙◌, ◌≡◌}
 use Rattle.tz_info.proofs.QuestionLaws.{asked_for_window}
 use Rattle.tz_info.proofs.SegmentLaws.{begin_next, between_passed, index_next}
 use Rattle.tz_info.proofs.TableSearch.{Between}
@@ -21,14 +21,16 @@ split c =
     between_passed c.args.self.now.transitions c.window-window.result.low c.passed_count-first.result c.window-window.ensures.valid.transitions.rising c.passed_count-first.ensures.within (simp to_z-of_z at c.passed_count-first.ensures.passed)
 
 -- one segment more was tried
-tried : (c : goal.After-try_until-answer) → IsWallAnswer (IsShownIn c.args.self.now c.args.local (c.loop-place.place + 1)) c.try_until-answer.result
+tried : (c : goal.After-try_until-answer)
+    → IsWallAnswer (IsShownIn c.args.self.now c.args.local (c.loop-place.place + 1)) (map_of (λ r. r.now) c.try_until-answer.result)
 tried c =
     let fl = c.ranges.local in
     let fn : SFits w64 c.transition-next.result.unix_leap_time = search rules in
     let i = c.loop-place.invariant in
     let time = ap (λ (t : Transition). t.unix_leap_time) c.transition-next.ensures.item in
     let answered = rw i.index at (simp to_z-of_z at c.try_until-answer.ensures) in
-    tried_before c.args.self.now c.args.local c.loop-place.place c.loop-place.current.unix_leap_time c.transition-next.result.unix_leap_time c.transition-next.result c.loop-place.answer c.try_until-answer.result c.window-window.ensures.valid (omega arith) i.begin time answered (simp to_z-of_z at i.found)
+    tried_before c.args.self.now c.args.local c.loop-place.place c.loop-place.current.unix_leap_time c.transition-next.result.unix_leap_time c.transition-next.result _ _
+    c.window-window.ensures.valid (omega arith) i.begin time answered (simp to_z-of_z at i.found)
 
 pub passed_count-first-requires : goal.passed_count-first-requires
 passed_count-first-requires c = let r = c.requires.room.reads in omega arith
@@ -66,7 +68,8 @@ returns-then-window-next-clause-found c =
     let fh : SFits w64 c.window-window.result.high = search rules in
     let fn : SFits w64 c.transition-next.result.unix_leap_time = search rules in
     let time = ap (λ (t : Transition). t.unix_leap_time) c.transition-next.ensures.item in
-    none_behind c.args.self.now c.args.local c.window-window.result.low c.window-window.result.high c.loop-place.place c.transition-next.result c.try_until-answer.result c.window-window.ensures.valid (seen at.After-window-window) (omega arith) (omega (arith, ints)) (tried at.After-try_until-answer)
+    none_behind c.args.self.now c.args.local c.window-window.result.low c.window-window.result.high c.loop-place.place c.transition-next.result _
+    c.window-window.ensures.valid (seen at.After-window-window) (omega arith) (omega (arith, ints)) (tried at.After-try_until-answer)
 
 pub returns-then-window-next-clause-cost : goal.returns-then-window-next-clause-cost
 returns-then-window-next-clause-cost c =
@@ -98,7 +101,7 @@ try_last-requires-clause-seen c =
 pub returns-clause-found : goal.returns-clause-found
 returns-clause-found c =
     let fl = c.ranges.local in
-    all_segments c.args.self.now c.args.local c.try_last.result c.window-window.ensures.valid.transitions.rising (simp to_z-of_z at c.try_last.ensures.found)
+    all_segments c.args.self.now c.args.local _ c.window-window.ensures.valid.transitions.rising (simp to_z-of_z at c.try_last.ensures.found)
 
 pub returns-clause-cost : goal.returns-clause-cost
 returns-clause-cost c =

@@ -14,7 +14,7 @@ try_rule-requires-clause-seen c = table_first c.args.self.now c.in-Some.rule _ _
 pub returns-in-Some-clause-found : goal.returns-in-Some-clause-found
 returns-in-Some-clause-found c =
     let fl = c.ranges.local in
-    all_segments c.args.self.now c.args.local c.try_rule.result c.table_answer-shown.ensures.valid.transitions.rising (simp to_z-of_z at c.try_rule.ensures.found)
+    all_segments c.args.self.now c.args.local _ c.table_answer-shown.ensures.valid.transitions.rising (simp to_z-of_z at c.try_rule.ensures.found)
 
 pub returns-in-Some-clause-counted : goal.returns-in-Some-clause-counted
 returns-in-Some-clause-counted c =

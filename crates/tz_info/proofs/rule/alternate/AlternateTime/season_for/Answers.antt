@@ -1,0 +1,22 @@
+use Rattle.tz_info.proofs.Words.{LocalType, SFits, and_parts, ap, rules, to_z-of_z, w32, w64, ◌∙◌}
+use Rattle.tz_info.proofs.rule.alternate.AlternateTime.season_for.Goals as goal
+
+pub returns-then-decides : goal.returns-then-decides
+returns-then-decides c =
+    let fl = c.ranges.local in
+    let fs : SFits w64 c.second_showing-by_std.result = search rules in
+    let fd : SFits w64 c.second_showing-by_dst.result = search rules in
+    let gs : SFits w32 c.offset.result = search rules in
+    let gd : SFits w32 c.offset-2.result = search rules in
+    let vs = simp to_z-of_z at c.second_showing-by_std.ensures.value in
+    let vd = simp to_z-of_z at c.second_showing-by_dst.ensures.value in
+    let es = c.offset.ensures.value ∙ ap (λ (t : LocalType). t.offset) c.std.ensures.value in
+    let ed = c.offset-2.ensures.value ∙ ap (λ (t : LocalType). t.offset) c.dst.ensures.value in
+    let f0 : SFits w64 c.season-season.result.from = search rules in
+    let f1 : SFits w64 c.season-season.result.until = search rules in
+    let both = and_parts c.decides.result c.decides-2.result c.if-decides.true in
+    record {
+      season = c.season-season.ensures;
+      standard = rw (rw es at vs) at ((simp to_z-of_z at c.decides.ensures).0 both.0);
+      daylight = rw (rw ed at vd) at ((simp to_z-of_z at c.decides-2.ensures).0 both.1);
+    }
