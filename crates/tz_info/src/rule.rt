@@ -11,7 +11,5 @@ mod transition_rule;
 mod wall_clock;
 
 pub use alternate::AlternateTime;
-pub(crate) use beside::Beside;
-pub(crate) use changes::later_of;
 pub use day::{DayForm, RuleDay};
 pub use transition_rule::TransitionRule;
