@@ -7,7 +7,7 @@ from sources import TOP, files, shown, text_of
 
 # Lines with more columns than that, and how many of them are allowed: the counts of the day, which `--write` lowers.
 LONG_LINES = {
-    ("src", ".rt", 120): 75,
+    ("src", ".rt", 120): 74,
     ("specs", ".antt", 160): 42,
     ("proofs", ".antt", 160): 1377,
 }
