@@ -2,8 +2,9 @@
 use Rattle.tz_base.specs.contracts.local_time_type.LocalTimeTypePartialEq.TheImpl.{eq-value as type_eq}
 use Rattle.tz_info.proofs.Words.{Bool, Change, HasNoChange, IfSome, IsAhead, IsChange, IsFirst, IsIdle, IsInStretch, IsLast, IsNearest, IsOneOf}
 use Rattle.tz_info.proofs.Words.{IsStretchAhead, List, LocalType, MatchOption, None, Option, Precedes, SFits, Some, arith, by_lt_z, cases_lt, false, get_or}
-use Rattle.tz_info.proofs.Words.{inl, inr, ints, lt_false, lt_true, nearer_one, negsuc, pos, refl, subst, suc, sym, true, type_exact, w64, zero, ℕ, ℤ, ⊎_elim}
-use Rattle.tz_info.proofs.Words.{◌+ℤ◌, ◌+◌, ◌-ℤ◌, ◌<ℤ◌, ◌∙◌, ◌≡◌, ◌≢◌, ◌≤ℤ◌, ◌⊎◌}
+use Rattle.tz_info.proofs.Words.{inl, inr, ints, lt_false, lt_true, near_end, nearer_one, neg_ℤ, negsuc, pos, refl, subst, suc, sym, true, type_exact, w64}
+use Rattle.tz_info.proofs.Words.{zero, ℕ, ℤ, ⊎_elim}
+use Rattle.tz_info.proofs.Words.{◌+ℤ◌, ◌+◌, ◌-ℤ◌, ◌<ℤ◌, ◌∙◌, ◌↔◌, ◌≡◌, ◌≢◌, ◌≤ℤ◌, ◌⊎◌}
 
 abbrev pub InForce : Type 1
 InForce = ℤ → LocalType → Type 0
@@ -65,15 +66,55 @@ nearest_more w f seconds n after last found other told h =
     (λ d is k. (is, one_still seconds n after last d.at k))
     (nearest_either w f (IsOneOf seconds n after last) _ found other h (asked w f after last (get_or seconds n (pos 0)) other told))
 
--- the nearest change of the stretch ahead of a second is the nearest one ahead of it
-pub nearest_ahead : (w : Bool) (f : InForce) (s after last : ℤ) (found : Option Change) → IsStretchAhead w s after last
-    → IsNearest w f (IsInStretch after last) found → IsNearest w f (IsAhead w s) found
-nearest_ahead true f s after last found e = nearest_moved true f f (IsInStretch after last) (IsAhead true s) found
-    (λ d is k. let m = is.fits in let a = e.0 in let b = e.1 in (is, (omega (arith, ints), omega (arith, ints))))
-    (λ d is k. let a = e.0 in let l = k.0 in (is, omega (arith, ints)))
-nearest_ahead false f s after last found e = nearest_moved false f f (IsInStretch after last) (IsAhead false s) found
-    (λ d is k. let m = is.fits_before in let a = e.0 in let b = e.1 in (is, (omega (arith, ints), omega (arith, ints))))
-    (λ d is k. let b = e.1 in let l = k.1 in (is, omega (arith, ints)))
+-- the stretch ahead of a second
+in_ahead : (w : Bool) (begin s after last u : ℤ) → SFits w64 u → IsStretchAhead w begin s after last → IsInStretch after last u ↔ ((begin <ℤ u) × IsAhead w s u)
+in_ahead true begin s after last u fits e =
+    let l = e.0 (u -ℤ pos 1) in let m = e.1 in (
+      λ k. let a = k.0 in let both = l.0 (omega (arith, ints)) in let b = both.0 in let c = both.1 in (omega (arith, ints), omega (arith, ints)),
+      λ k. let b = k.0 in let c = k.1 in let a = l.1 (omega (arith, ints), omega (arith, ints)) in (omega (arith, ints), omega (arith, ints)),
+    )
+in_ahead false begin s after last u fits e = let l = e.0 in let m = e.1 in (
+  (λ k. let a = k.0 in let b = k.1 in (omega (arith, ints), omega (arith, ints))),
+  (λ k. let a = k.0 in let b = k.1 in (omega (arith, ints), omega (arith, ints))),
+)
+
+-- its nearest change is the nearest one ahead of the second, of those after `begin`
+pub nearest_ahead : (w : Bool) (f : InForce) (begin s after last : ℤ) (found : Option Change) → IsStretchAhead w begin s after last
+    → IsNearest w f (IsInStretch after last) found → IsNearest w f (λ u. (begin <ℤ u) × IsAhead w s u) found
+nearest_ahead w f begin s after last found e = nearest_moved w f f (IsInStretch after last) (λ u. (begin <ℤ u) × IsAhead w s u) found
+    (λ d is k. (is, (in_ahead w begin s after last d.at is.fits e).1 k))
+    (λ d is k. (is, (in_ahead w begin s after last d.at is.fits e).0 k))
+
+pub nearest_of_all : (w : Bool) (f : InForce) (s : ℤ) (found : Option Change)
+    → IsNearest w f (λ u. (neg_ℤ (pos 9_223_372_036_854_775_808) <ℤ u) × IsAhead w s u) found → IsNearest w f (IsAhead w s) found
+nearest_of_all w f s found = nearest_moved w f f (λ u. (neg_ℤ (pos 9_223_372_036_854_775_808) <ℤ u) × IsAhead w s u) (IsAhead w s) found
+    (λ d is k. let m = is.fits_before in (is, (omega (arith, ints), k)))
+    (λ d is k. (is, k.1))
+
+-- the nearest change ahead of where a stretch begins is its nearest one, if it lies in it
+pub nearest_within : (w : Bool) (f : InForce) (after last : ℤ) (found r : Option Change) → IsNearest w f (IsAhead w (near_end w after last)) found
+    → MatchOption r (IfSome found (λ c. IsInStretch after last c.at → ⊥)) (λ c. IsInStretch after last c.at × (found ≡ Some c))
+    → IsNearest w f (IsInStretch after last) r
+nearest_within true f after last None None h out = λ d is k. h d is k.0
+nearest_within false f after last None None h out = λ d is k. h d is k.1
+nearest_within true f after last (Some c) None h out = λ d is k. let a = h.inside in let n = h.nearest d is k.0 in let b = k.1 in out (a, omega (arith, ints))
+nearest_within false f after last (Some c) None h out = λ d is k. let a = h.inside in let n = h.nearest d is k.1 in let b = k.0 in out (omega (arith, ints), a)
+nearest_within true f after last found (Some c) h within = let k = rw within.1 at h in record {
+  is = k.is;
+  inside = within.0;
+  nearest = λ d is i. k.nearest d
+      is i.0;
+}
+nearest_within false f after last found (Some c) h within = let k = rw within.1 at h in record {
+  is = k.is;
+  inside = within.0;
+  nearest = λ d is i. k.nearest
+      d is i.1;
+}
+
+-- where the stretch is empty, it has none
+pub none_in_empty : (f : InForce) (after last : ℤ) → last ≤ℤ after → HasNoChange f (IsInStretch after last)
+none_in_empty f after last h d is k = let a = k.0 in let b = k.1 in omega (arith, ints)
 
 -- the nearest one forwards is the first one, and the nearest one backwards the last
 pub first_nearest : (f : InForce) (p : ℤ → Type 0) (found : Option Change) → IsNearest true f p found → IsFirst f p found
@@ -122,14 +163,6 @@ last_moved f g p q None to from h = λ d is k. let m = to d is k in h d m.0 m.1
 last_moved f g p q (Some c) to from h =
     let m = from c h.is h.inside in
     record { is = m.0; inside = m.1; last = λ d is k. let n = to d is k in h.last d n.0 n.1 }
-
--- the last change up to a second, if it comes after `begin`
-pub last_after : (f : InForce) (begin last : ℤ) (found r : Option Change) → IsLast f (λ u. u ≤ℤ last) found
-    → MatchOption r (IfSome found (λ c. c.at ≤ℤ begin)) (λ c. (begin <ℤ c.at) × (found ≡ Some c)) → IsLast f (λ u. (begin <ℤ u) × (u ≤ℤ last)) r
-last_after f begin last None None h early = λ d is inside. h d is inside.1
-last_after f begin last (Some c) None h early = λ d is inside. let l = h.last d is inside.1 in let m = inside.0 in omega (arith, ints)
-last_after f begin last found (Some c) h late =
-    let k = rw late.1 at h in record { is = k.is; inside = (late.0, k.inside); last = λ d is inside. k.last d is inside.1 }
 
 -- ---- where no change comes the type stays
 -- some type is in force at the second

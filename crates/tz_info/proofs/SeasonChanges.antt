@@ -1,11 +1,18 @@
 -- Changes of a rule where the moments of one season decide: only these come with one.
 use Rattle.tz_info.proofs.Words.{Alternate, AlternateAt, Bool, Change, HasNoChange, IsAhead, IsAmid, IsChange, IsDecidedIn, IsIdleTo, IsLimit, IsNearest}
-use Rattle.tz_info.proofs.Words.{IsNearestChange, IsNearestMoment, IsRuleTime, IsSeason, IsUpTo, Option, Precedes, Season, ap, arith, by_lt_z, false, far_side}
+use Rattle.tz_info.proofs.Words.{IsNearestChange, IsNearestMoment, IsRuleTime, IsSeason, IsUpTo, MatchOption, None, Option, Some, Precedes, Season, ap}
+use Rattle.tz_info.proofs.Words.{arith, by_lt_z, false, far_side}
 use Rattle.tz_info.proofs.Words.{inl, inr, int_le, int_lt, ints, is_dst_by_one, near_side, nearer_moment, neg_ℤ, pos, refl, sym, true, type_when, ℤ, ⊎_elim}
 use Rattle.tz_info.proofs.Words.{◌+ℤ◌, ◌-ℤ◌, ◌<ℤ◌, ◌∙◌, ◌≡◌, ◌≤ℤ◌, ◌⊎◌}
+use Rattle.std.specs.Prelude.{⊤}
 use Rattle.tz_info.proofs.ChangeSearch.{InForce, nearest_moved}
 use Rattle.tz_info.proofs.NextMoments.{nearest_moment}
 use Rattle.tz_info.proofs.RuleChanges.{rule_second, rule_type_once}
+
+pub season_kept : (a : Alternate) (season : Season) (second : ℤ) (found : Option Season) → IsSeason a season → IsRuleTime second
+    → MatchOption found ⊤ (λ s. (s ≡ season) × IsDecidedIn s second) → MatchOption found ⊤ (λ s. IsSeason a s × IsRuleTime second × IsDecidedIn s second)
+season_kept a season second None is time h = h
+season_kept a season second (Some s) is time h = (rw h.0 is, time, h.1)
 
 -- ---- seconds at which neither moment comes
 -- a moment that does not come at u comes before it and before the second before it, or after both

@@ -1,12 +1,18 @@
 -- Spans by the changes on both sides of a second, from the place between transitions where it lies.
-use Rattle.tz_info.proofs.Words.{AreComeAt, AreComeOrAll, Change, HasNoChange, HasType, IsByRule}
-use Rattle.tz_info.proofs.Words.{IsFirst, IsInTable, IsLast, IsRuleOrNone, IsSpanAt, IsValid, LocalType, Option, SFits}
-use Rattle.tz_info.proofs.Words.{TypeAt, Zone, arith, index_of, inl, inr, ints, length, pos, subst}
-use Rattle.tz_info.proofs.Words.{sym, w64, ℕ, ℤ}
-use Rattle.tz_info.proofs.Words.{◌-ℤ◌, ◌<ℤ◌, ◌<◌, ◌≡◌, ◌≤ℤ◌, ◌≤◌}
+use Rattle.tz_info.proofs.Words.{Alternate, AlternateAt, AreComeAt, AreComeOrAll, Change, HasNoChange, HasNoTurnsAt, HasType, IfSome, IsAhead, IsBegin}
+use Rattle.tz_info.proofs.Words.{IsByRule}
+use Rattle.tz_info.proofs.Words.{IsFirst, IsInStretch, IsInTable, IsLast, IsNearest, IsRuleOrNone, IsRuleTime, IsSecondOfNearest, IsSpanAt, IsValid}
+use Rattle.tz_info.proofs.Words.{LocalType, MatchOption, None, Option, SFits, Some}
+use Rattle.tz_info.proofs.Words.{TypeAt, Zone, ap, arith, false, index_of, inl, inr, ints, length, pos, refl, segment_of, subst}
+use Rattle.tz_info.proofs.Words.{sym, true, w64, ℕ, ℤ}
+use Rattle.tz_info.proofs.Words.{◌-ℤ◌, ◌<ℤ◌, ◌<◌, ◌∙◌, ◌≡◌, ◌≤ℤ◌, ◌≤◌}
+use Rattle.tz_info.specs.declared.rule.transition_rule.TransitionRule.TheVariants.{Alternate as AlternateRule}
+use Rattle.tz_info.proofs.ChangeSearch.{InForce, first_nearest, last_nearest, nearest_moved, nearest_within}
+use Rattle.tz_info.proofs.RuleChanges.{rule_second}
 use Rattle.tz_info.proofs.SegmentLaws.{segment_at, segment_most, segments_rise, type_in_before}
 use Rattle.tz_info.proofs.SpanLaws.{seconds_of, span_between}
-use Rattle.tz_info.proofs.ZoneChanges.{refused_after, rule_first, table_is_last}
+use Rattle.tz_info.proofs.ZoneChanges.{at_end, begun, from_rule, refused_after, refused_on, rule_first, rule_found, rule_is_last, rule_leap_time}
+use Rattle.tz_info.proofs.ZoneChanges.{table_is_last, to_rule}
 
 -- ---- before the last transition
 type_then : (z : Zone) (u : ℤ) (k : ℕ) (t : LocalType) → IsValid z → k < length z.transitions → AreComeAt z u k
@@ -39,11 +45,81 @@ table_over z u valid (inl come) d is inside =
     let r = segments_rise z u (d.at -ℤ pos 1) valid.transitions.rising valid.leaps (omega (arith, ints)) in
     omega arith
 
-pub span_at_end : (z : Zone) (u : ℤ) (t : LocalType) (last next : Option Change) → IsValid z → IsRuleOrNone z.rule → SFits w64 u → TypeAt z u t
-    → AreComeOrAll z u (length z.transitions) → IsLast (TypeAt z) (λ v. v ≤ℤ u) last → IsFirst (TypeAt z) (IsByRule z (λ v. u <ℤ v)) next
-    → IsSpanAt (TypeAt z) u (record { local_time_type = t; from = seconds_of last; until = seconds_of next })
-span_at_end z u t last next valid limits fits h come before after =
-    span_between z u t last next valid limits fits h before (rule_first z (λ v. u <ℤ v) next valid (table_over z u valid come) after)
+pub span_at_end : (z : Zone) (u : ℤ) (t : LocalType) (from until : Option ℤ) → IsValid z → IsRuleOrNone z.rule → SFits w64 u → TypeAt z u t
+    → AreComeOrAll z u (length z.transitions) → IsSecondOfNearest false (TypeAt z) (λ v. v ≤ℤ u) from
+    → IsSecondOfNearest true (TypeAt z) (IsByRule z (λ v. u <ℤ v)) until
+    → IsSpanAt (TypeAt z) u (record { local_time_type = t; from = from; until = until })
+span_at_end z u t from until valid limits fits h come (last, before, begins) (next, after, ends) =
+    rw (begins, ends) (span_between z u t last next valid limits fits h (last_nearest (TypeAt z) (λ v. v ≤ℤ u) last before)
+    (rule_first z (λ v. u <ℤ v) next valid (table_over z u valid come) (first_nearest (TypeAt z) (IsByRule z (λ v. u <ℤ v)) next after)))
+
+-- the last change up to u is the rule's, or else the table's
+nearest_last : (f : InForce) (within : ℤ → Type 0) (found : Option Change) → IsLast f within found → IsNearest false f within found
+nearest_last f within None h = h
+nearest_last f within (Some c) h = record { is = h.is; inside = h.inside; nearest = h.last }
+
+pub start_by_rule : (z : Zone) (u second : ℤ) → IsValid z → IsSecondOfNearest false (TypeAt z) (IsByRule z (λ v. v ≤ℤ u)) (Some second)
+    → IsSecondOfNearest false (TypeAt z) (λ v. v ≤ℤ u) (Some second)
+start_by_rule z u second valid (None, is, e) = cc
+start_by_rule z u second valid (Some c, is, e) = (
+  Some c,
+  nearest_last (TypeAt z) (λ v. v ≤ℤ u) (Some c) (rule_is_last z (λ v. v ≤ℤ u) c valid (last_nearest (TypeAt z) (IsByRule z (λ v. v ≤ℤ u))
+      (Some c) is)),
+  e,
+)
+
+pub start_by_table : (z : Zone) (u : ℤ) (found : Option Change) → IsValid z → IsSecondOfNearest false (TypeAt z) (IsByRule z (λ v. v ≤ℤ u)) None
+    → IsLast (TypeAt z) (IsInTable z (λ v. v ≤ℤ u)) found → IsNearest false (TypeAt z) (λ v. v ≤ℤ u) found
+start_by_table z u found valid (None, none, e) h = nearest_last (TypeAt z) (λ v. v ≤ℤ u) found (table_is_last z (λ v. v ≤ℤ u) found valid none h)
+start_by_table z u found valid (Some c, is, e) h = cc
+
+-- ---- by a rule of two types
+all_come : (z : Zone) (u : ℤ) → IsValid z → IsRuleTime u → AreComeOrAll z u (length z.transitions) → segment_of z u ≡ length z.transitions
+all_come z u valid within (inl come) = sym come.is
+all_come z u valid within (inr r) = let x = rule_leap_time z.leaps u valid.leaps within in absurd (refused_on z.leaps u u x.0 valid.leaps (omega
+    (arith, ints)) r.0 x.1)
+
+-- at a second at which it doesn't answer no type is in force
+pub no_turns : (z : Zone) (a : Alternate) (u : ℤ) → IsValid z → z.rule ≡ Some (AlternateRule a) → AreComeOrAll z u (length z.transitions) → (IsRuleTime u → ⊥)
+    → HasNoTurnsAt z u
+no_turns z a u valid rule come out t h b e = out (rule_second a u t (to_rule z a u t valid rule (at_end z u t valid come h).0 h))
+
+-- its last change up to u, if that comes after `begin`
+kept : (f : InForce) (u begin : ℤ) (previous by_rule : Option ℤ) (found : Option Change) → IsNearest false f (IsAhead false u) found
+    → previous ≡ seconds_of found
+    → MatchOption by_rule (IfSome previous (λ s. s ≤ℤ begin)) (λ s. (begin <ℤ s) × (previous ≡ Some s))
+    → (r : Option Change) × MatchOption r (IfSome found (λ c. IsInStretch begin u c.at
+    → ⊥)) (λ c. IsInStretch begin u c.at × (found ≡ Some c)) × (by_rule ≡ seconds_of r)
+kept f u begin previous None None is e h = (None, tt, refl)
+kept f u begin previous None (Some c) is e h = let early = rw e at h in (None, (λ k. let late = k.0 in omega (arith, ints)), refl)
+kept f u begin previous (Some s) None is e h = let same = h.1 in cc
+kept f u begin previous (Some s) (Some c) is e h =
+    let same : Some c.at ≡ Some s = sym e ∙ h.1 in
+    let k : c.at ≡ s = cc in (Some c, ((rw k h.0, is.inside), refl), ap Some (sym k))
+
+pub last_by_rule : (z : Zone) (a : Alternate) (u begin : ℤ) (previous by_rule : Option ℤ) → IsValid z → z.rule ≡ Some (AlternateRule a) → IsBegin z begin
+    → IsSecondOfNearest false (AlternateAt a) (IsAhead false u) previous
+    → MatchOption by_rule (IfSome previous (λ s. s ≤ℤ begin)) (λ s. (begin <ℤ s) × (previous ≡ Some s))
+    → IsSecondOfNearest false (TypeAt z) (IsByRule z (λ v. v ≤ℤ u)) by_rule
+last_by_rule z a u begin previous by_rule valid rule h (found, is, e) after =
+    let (r, within, same) = kept (AlternateAt a) u begin previous by_rule found is e after in
+    (r, rule_found z a false u begin r valid rule h (nearest_within false (AlternateAt a) begin u found r is within), same)
+
+pub span_of_rule : (z : Zone) (a : Alternate) (u begin : ℤ) (t : LocalType) (from until : Option ℤ) → IsValid z → IsRuleOrNone z.rule → SFits w64 u
+    → z.rule ≡ Some (AlternateRule a)
+    → IsBegin z begin → AreComeOrAll z u (length z.transitions) → AlternateAt a u t → IsSecondOfNearest false (TypeAt z) (λ v. v ≤ℤ u) from
+    → IsSecondOfNearest true (AlternateAt a) (IsAhead true u) until → IsSpanAt (TypeAt z) u (record { local_time_type = t; from = from; until = until })
+span_of_rule z a u begin t from until valid limits fits rule h come at before (next, after, ends) =
+    let all = all_come z u valid (rule_second a u t at) come in
+    let k = from_rule z a u t valid rule all at in
+    let b = begun z begin u t valid h fits k all in
+    span_at_end z u t from until valid limits fits k come before (
+      next,
+      rule_found z a true u begin next valid rule h (nearest_moved true (AlternateAt a) (AlternateAt a) (IsAhead true u) (λ v.
+          (begin <ℤ v) × IsAhead true u v) next
+          (λ d is l. (is, l.1)) (λ d is l. (is, (omega (arith, ints), l))) after),
+      ends,
+    )
 
 pub come_all : (z : Zone) (u : ℤ) (n : ℕ) → IsValid z → AreComeOrAll z u n → length z.transitions ≤ n → AreComeOrAll z u (length z.transitions)
 come_all z u n valid come h = subst (AreComeOrAll z u) (all come) come where

@@ -1,15 +1,16 @@
 -- Where a zone's types change: at its transitions, and behind them where the rule's types do.
 use Rattle.tz_info.proofs.Words.{Alternate as AlternateRule, AlternateAt, AreAhead, AreAlike, AreComeAt, AreComeOrAll, AreLeapSeconds, Change}
-use Rattle.tz_info.proofs.Words.{ComesAt, HasNoChange}
-use Rattle.tz_info.proofs.Words.{HasNoneAt, HaveCome, IsAtEnd, IsBegin, IsByRule, IsChange, IsFirst, IsFirstChange, IsInTable, IsLast, IsLastChange, IsLaterOf}
-use Rattle.tz_info.proofs.Words.{IsLeapTime, IsLeapTimeRefused, IsRuleTime, IsValid, LeapSecond, List, LocalType, MatchOption, None, Option, RuleOrType, SFits}
+use Rattle.tz_info.proofs.Words.{Bool, ComesAt, HasNoChange}
+use Rattle.tz_info.proofs.Words.{HasNoneAt, HaveCome, IsAhead, IsAtEnd, IsBegin, IsByRule, IsChange, IsFirst, IsFirstChange, IsInTable, IsLast, IsLastChange}
+use Rattle.tz_info.proofs.Words.{IsLeapTime, IsLeapTimeRefused, IsNearest, IsRuleTime, IsValid, LeapSecond, List, LocalType, MatchOption, None, Option}
+use Rattle.tz_info.proofs.Words.{RuleOrType, SFits}
 use Rattle.tz_info.proofs.Words.{Some, Transition, TransitionRule, TypeAt, Zone, ap, arith, by_lt_z, cases_lt, cond, count_by, get_or, index_of, inl}
 use Rattle.tz_info.proofs.Words.{inr, int_le, ints}
 use Rattle.tz_info.proofs.Words.{length, length-take, nat_tests, passed, passed_count, pos, refl, segment_of, slice_get, suc, sum_by-cons, sym, take}
 use Rattle.tz_info.proofs.Words.{thresholds, w64}
 use Rattle.tz_info.proofs.Words.{zero, ℕ, ℤ, [], ◌+◌, ◌-ℤ◌, ◌-◌, ◌<ℤ◌, ◌<◌, ◌↔◌, ◌∙◌, ◌∷◌, ◌≡◌, ◌≤ℤ◌, ◌≤◌, ◌⊎◌}
 use Rattle.tz_info.specs.declared.rule.transition_rule.TransitionRule.TheVariants.{Alternate, Fixed}
-use Rattle.tz_info.proofs.ChangeSearch.{first_moved, last_moved}
+use Rattle.tz_info.proofs.ChangeSearch.{first_moved, last_moved, nearest_moved}
 use Rattle.tz_info.proofs.GapLaws.{HasOneType, IsSteady, one_type}
 use Rattle.tz_info.proofs.LeapEntries.{follow, threshold_at}
 use Rattle.tz_info.proofs.LeapOrder.{bounded}
@@ -40,7 +41,7 @@ refused_on es u v y valid h r l =
     r.leaves (omega (arith, ints))
 
 -- so has each second of the years that a rule answers in
-rule_leap_time : (es : List LeapSecond) (u : ℤ) → AreLeapSeconds es → IsRuleTime u → (x : ℤ) × IsLeapTime es u x
+pub rule_leap_time : (es : List LeapSecond) (u : ℤ) → AreLeapSeconds es → IsRuleTime u → (x : ℤ) × IsLeapTime es u x
 rule_leap_time es u valid within = elim (leap_time_decided es u) [
   | inl x ↦ x
   | inr r ↦
@@ -192,15 +193,13 @@ from_rule z a u t valid rule e k = elim (cases_lt 0 (length z.transitions)) [
   | inr none ↦ by_rule_alone z a u t rule (omega arith) k
 ]
 
-begun : (z : Zone) (begin u : ℤ) (t : LocalType) → IsValid z → IsBegin z begin → SFits w64 u → TypeAt z u t → segment_of z u ≡ length z.transitions → begin ≤ℤ u
+-- `begin` comes no later than a second with a type at which all have come
+pub begun : (z : Zone) (begin u : ℤ) (t : LocalType) → IsValid z → IsBegin z begin → SFits w64 u → TypeAt z u t → segment_of z u ≡ length z.transitions
+    → begin ≤ℤ u
 begun z begin u t valid h fits k e = elim (cases_lt 0 (length z.transitions)) [
   | inl some ↦ (h.comes (length z.transitions - 1) (omega arith) u k.leap_time (time_of z u t some k)).0 (omega arith)
   | inr none ↦ let b = h.alone (omega arith) in omega (arith, ints)
 ]
-
--- `begin` comes no later than a second with a type at which all have come
-pub begun_by : (z : Zone) (begin u : ℤ) → IsValid z → IsBegin z begin → SFits w64 u → IsAtEnd z u → IsLaterOf u begin u
-begun_by z begin u valid h fits at = let b = begun z begin u at.1 valid h fits at.2 at.0 in λ v. ((λ l. (l, omega (arith, ints))), (λ l. l.0))
 
 pub at_end : (z : Zone) (u : ℤ) (t : LocalType) → IsValid z → AreComeOrAll z u (length z.transitions) → TypeAt z u t → IsAtEnd z u
 at_end z u t valid (inl come) k = (sym come.is, t, k)
@@ -249,23 +248,10 @@ by_rule z a begin d valid rule h = (
       ),
 )
 
-pub rule_found : (z : Zone) (a : AlternateRule) (after begin from : ℤ) (found : Option Change) → IsValid z → z.rule ≡ Some (Alternate a) → IsBegin z begin → IsLaterOf after begin from
-    → IsFirst (AlternateAt a) (λ u. from <ℤ u) found → IsFirst (TypeAt z) (IsByRule z (λ u. after <ℤ u)) found
-rule_found z a after begin from found valid rule h later =
-    first_moved (AlternateAt a) (TypeAt z) (λ u. from <ℤ u) (IsByRule z (λ u. after <ℤ u)) found
-    (λ d is inside.
-    let l = inside.inside in let k = (by_rule z a begin d valid rule h).0 (is, inside.by_rule) in let b = k.1 in
-    let m = (later (d.at -ℤ pos 1)).1 (omega (arith, ints), omega (arith, ints)) in
-    (k.0, omega (arith, ints)))
-    (λ d is k.
-    let both = (later (d.at -ℤ pos 1)).0 (omega (arith, ints)) in
-    let l = both.0 in let m = both.1 in let k = (by_rule z a begin d valid rule h).1 (is, omega (arith, ints)) in
-    (k.0, record { inside = omega (arith, ints); by_rule = k.1 }))
-
-pub rule_until : (z : Zone) (a : AlternateRule) (last begin : ℤ) (found : Option Change) → IsValid z → z.rule ≡ Some (Alternate a) → IsBegin z begin
-    → IsLast (AlternateAt a) (λ u. (begin <ℤ u) × (u ≤ℤ last)) found → IsLast (TypeAt z) (IsByRule z (λ u. u ≤ℤ last)) found
-rule_until z a last begin found valid rule h =
-    last_moved (AlternateAt a) (TypeAt z) (λ u. (begin <ℤ u) × (u ≤ℤ last)) (IsByRule z (λ u. u ≤ℤ last)) found
+pub rule_found : (z : Zone) (a : AlternateRule) (w : Bool) (s begin : ℤ) (found : Option Change) → IsValid z → z.rule ≡ Some (Alternate a) → IsBegin z begin
+    → IsNearest w (AlternateAt a) (λ u. (begin <ℤ u) × IsAhead w s u) found → IsNearest w (TypeAt z) (IsByRule z (IsAhead w s)) found
+rule_found z a w s begin found valid rule h =
+    nearest_moved w (AlternateAt a) (TypeAt z) (λ u. (begin <ℤ u) × IsAhead w s u) (IsByRule z (IsAhead w s)) found
     (λ d is inside. let k = (by_rule z a begin d valid rule h).0 (is, inside.by_rule) in (k.0, (k.1, inside.inside)))
     (λ d is inside. let k = (by_rule z a begin d valid rule h).1 (is, inside.0) in (k.0, record { inside = inside.1; by_rule = k.1 }))
 

@@ -2,7 +2,6 @@
 
 ghost use Rattle.std.specs.Prelude.{◌≡◌, ◌≢◌, ◌≤ℤ◌, ◌<ℤ◌, IsTrue, ◌↔◌, IfSome, MatchOption, Some};
 ghost use Rattle.tz_info.specs.Steps.HeldChanges.{change_held};
-ghost use Rattle.tz_info.specs.Steps.Changes.{nearer_one};
 
 use tz_base::{Change, LocalTimeType};
 
@@ -37,39 +36,6 @@ pub(crate) fn change_between(at: i64, before: LocalTimeType, after: LocalTimeTyp
         return None;
     }
     Some(Change { at, before, after })
-}
-
-// The one that comes first, or the one that comes last.
-pub(crate) fn nearer(found: Option<Change>, other: Option<Change>, forward: bool) -> Option<Change>
-    ensures { result ≡ nearer_one forward found other }
-{
-    let Some(one) = found else {
-        return other;
-    };
-    let Some(second) = other else {
-        return Some(one);
-    };
-    let is_nearer = if forward {
-        second.at < one.at
-    } else {
-        one.at < second.at
-    };
-    if is_nearer { Some(second) } else { Some(one) }
-}
-
-// The change that was found, if it comes after that second.
-pub(crate) fn if_after(found: Option<Change>, second: i128) -> Option<Change>
-    ensures { MatchOption result (IfSome found (λ c. c.at ≤ℤ second))
-        (λ c. (second <ℤ c.at) × (found ≡ Some c)) }
-{
-    let Some(change) = found else {
-        return None;
-    };
-    if second < change.at as i128 {
-        Some(change)
-    } else {
-        None
-    }
 }
 
 // The change, if it comes at that second or later.

@@ -12,7 +12,5 @@ mod wall_clock;
 
 pub use alternate::AlternateTime;
 pub(crate) use alternate::Season;
-pub(crate) use beside::Beside;
-pub(crate) use changes::later_of;
 pub use day::{DayForm, RuleDay};
 pub use transition_rule::TransitionRule;

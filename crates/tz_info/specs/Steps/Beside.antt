@@ -1,10 +1,40 @@
--- The changes on both sides of a second.
-use Rattle.std.specs.Prelude.{ℤ, true, false}
+-- What a rule says of a second: the type in force, and the seconds on both sides at which clocks change.
+use Rattle.std.specs.Prelude.{◌≡◌, ◌≢◌, Bool, true, false, ℤ, MatchOption, Option, Some, option_map}
 use Rattle.tz_base.specs.LocalTypes.{LocalType}
+use Rattle.tz_info.specs.Changes.{HasNoChange, IsChange}
+use Rattle.tz_info.specs.Moments.{AlternateAt, type_when}
+use Rattle.tz_info.specs.Rules.{Alternate}
 use Rattle.tz_info.specs.Steps.Changes.{IsAhead, IsNearest}
+use Rattle.tz_info.specs.Steps.Gaps.{change_at}
+use Rattle.tz_info.specs.Zones.{Zone, TypeAt}
+use Rattle.tz_base.specs.declared.change.Change.{Change}
 use Rattle.tz_info.specs.declared.rule.beside.Beside.{Beside}
+use Rattle.tz_info.specs.declared.rule.transition_rule.TransitionRule.TheVariants.{Alternate as AlternateRule}
+use Rattle.tz_info.specs.declared.rule.wall_clock.Moment.{Moment}
 
--- these are the last change at the second or before it, and the first one after it
-pub record IsBeside (in_force : ℤ → LocalType → Type 0) (u : ℤ) (b : Beside) : Type 0 where
-  pub previous : IsNearest false in_force (IsAhead false u) b.previous
-  pub next : IsNearest true in_force (IsAhead true u) b.next
+-- the change at the moment that was found, if one was
+abbrev pub change_found : Alternate → Option Moment → Option Change
+change_found a found = option_map (change_at a) found
+
+-- of the changes at seconds that `within` takes the first one in that direction, or nothing if there is none
+abbrev pub IsNearestMomentOf : Bool → Alternate → (ℤ → Type 0) → Option Moment → Type 0
+IsNearestMomentOf forward a within found = IsNearest forward (AlternateAt a) within (change_found a found)
+
+-- the change at the second, or nothing if there is none
+abbrev pub IsMomentAt : Alternate → ℤ → Option Moment → Type 0
+IsMomentAt a second found = MatchOption (change_found a found) (HasNoChange (AlternateAt a) (λ u. u ≡ second)) (λ c. IsChange (AlternateAt a) c ×
+    (c.at ≡ second))
+
+-- the second of that change
+abbrev pub IsSecondOfNearest : Bool → (ℤ → LocalType → Type 0) → (ℤ → Type 0) → Option ℤ → Type 0
+IsSecondOfNearest forward in_force within second = (found : Option Change) × IsNearest forward in_force within found × (second ≡ option_map (λ c. c.at) found)
+
+-- the type at the second u, and the seconds of the last change at u or before it, and of the first one after it
+pub record IsBeside (a : Alternate) (u : ℤ) (b : Beside) : Type 0 where
+  pub in_force : AlternateAt a u (type_when a b.is_dst)
+  pub previous : IsSecondOfNearest false (AlternateAt a) (IsAhead false u) b.previous
+  pub next : IsSecondOfNearest true (AlternateAt a) (IsAhead true u) b.next
+
+-- where a type is in force at the second u, the zone has no rule of two types
+abbrev pub HasNoTurnsAt : Zone → ℤ → Type 0
+HasNoTurnsAt z u = (t : LocalType) → TypeAt z u t → (a : Alternate) → z.rule ≢ Some (AlternateRule a)

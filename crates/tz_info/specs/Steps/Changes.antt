@@ -95,10 +95,10 @@ abbrev pub far_side : Bool → ℤ → ℤ
 far_side true moment = moment
 far_side false moment = moment -ℤ pos 1
 
--- the stretch of all seconds ahead of s
-abbrev pub IsStretchAhead : Bool → ℤ → ℤ → ℤ → Type 0
-IsStretchAhead true s after last = (after ≡ s) × (last ≡ pos 9_223_372_036_854_775_807)
-IsStretchAhead false s after last = (after ≡ neg_ℤ (pos 9_223_372_036_854_775_808)) × (last ≡ s)
+-- the stretch of all seconds after `begin` that are ahead of s
+abbrev pub IsStretchAhead : Bool → ℤ → ℤ → ℤ → ℤ → Type 0
+IsStretchAhead true begin s after last = IsLaterOf begin s after × (last ≡ pos 9_223_372_036_854_775_807)
+IsStretchAhead false begin s after last = (after ≡ begin) × (last ≡ s)
 
 -- where the stretch begins in that direction
 abbrev pub near_end : Bool → ℤ → ℤ → ℤ

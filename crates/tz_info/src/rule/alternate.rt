@@ -1,6 +1,6 @@
 //! Two types that take turns each year.
 
-ghost use Rattle.std.specs.Prelude.{◌≡◌, ◌<◌, ℤ, pos, neg_ℤ, ◌+ℤ◌, ◌≤ℤ◌, ◌<ℤ◌, int_le, MatchResult, IsTrue, ◌↔◌, ◌||◌, not, if◌then◌else◌};
+ghost use Rattle.std.specs.Prelude.{◌≡◌, ◌<◌, ℤ, pos, neg_ℤ, ◌+ℤ◌, ◌≤ℤ◌, ◌<ℤ◌, int_le, MatchOption, MatchResult, ⊤, IsTrue, ◌↔◌, ◌||◌, not, if◌then◌else◌};
 ghost use Rattle.naive_base.specs.DateOf.{year_of, day_of_year};
 ghost use Rattle.naive_base.specs.Year.{floor_div, year_start, LiesIn, IsDay};
 ghost use Rattle.offset_core.specs.Offset.{IsWithinDay};
@@ -261,7 +261,7 @@ impl AlternateTime {
     // Whether it is daylight saving time at the second, by the season's moments where these
     // decide.
     #[inline(always)]
-    fn is_dst_in(&self, season: Season, unix_time: i64) -> bool
+    pub(super) fn is_dst_in(&self, season: Season, unix_time: i64) -> bool
         requires season { IsSeason self.now season }
         requires time { IsRuleTime unix_time }
         ensures { AlternateAt self.now unix_time (type_when self.now result) }
@@ -384,6 +384,18 @@ impl Season {
         ensures { IsTrue result ↔ IsDecidedIn self unix_time }
     {
         (self.from <= unix_time) & (unix_time < self.until)
+    }
+
+    // The season, if its moments alone decide at the second.
+    #[inline(always)]
+    pub(super) fn if_decides(self, unix_time: i64) -> Option<Season>
+        ensures { MatchOption result ⊤ (λ s. (s ≡ self) × IsDecidedIn s unix_time) }
+    {
+        if self.decides(unix_time) {
+            Some(self)
+        } else {
+            None
+        }
     }
 }
 

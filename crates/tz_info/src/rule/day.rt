@@ -1,23 +1,17 @@
 //! The days on which a rule changes the clock.
 
-ghost use Rattle.std.specs.Prelude.{◌≡◌, [], ◌∷◌, ℕ, ◌≤◌, ◌<◌, MatchResult, MatchOption, ℤ, pos, neg_ℤ, ◌+ℤ◌, ◌*ℤ◌, ◌≤ℤ◌};
-ghost use Rattle.std.specs.Int.{IsInRange};
-ghost use Rattle.naive_base.specs.Year.{is_leap, year_start};
-ghost use Rattle.naive_base.specs.Month.{days_in_month};
+ghost use Rattle.std.specs.Prelude.{◌≡◌, ◌≤◌, ◌<◌, MatchResult, MatchOption, ℤ, pos, neg_ℤ, ◌+ℤ◌, ◌*ℤ◌, ◌≤ℤ◌};
+ghost use Rattle.naive_base.specs.Year.{year_start};
 ghost use Rattle.naive_base.specs.Date.{day_number};
-ghost use Rattle.naive_base.specs.Weekday.{weekday_of};
 ghost use Rattle.tz_base.specs.declared.error.Error.TheVariants.{TransitionRule};
 ghost use Rattle.tz_base.specs.declared.error.Expected.TheVariants.{DayFromJ1ToJ365, DayFrom0To365};
 ghost use Rattle.tz_info.specs.RuleDays.{IsWrittenDate, expected_of_day};
 ghost use Rattle.tz_info.specs.Rules.{IsWithinWeek};
-ghost use Rattle.tz_info.specs.Steps.KindPlaces.{place_from, places_by_kind};
-ghost use Rattle.tz_info.specs.Steps.RuleDays.{julian_place, weekday_place};
+ghost use Rattle.tz_info.specs.Steps.RuleDays.{julian_place};
 ghost use Rattle.tz_info.specs.declared.rule.day.DayForm.TheVariants.{MonthWeekday};
 
-use gregorian::{
-    day_number, days_before_month, days_in_month, days_in_year, is_leap_year, month_and_day,
-    weekday_of, year_start,
-};
+use crate::rule::day_places::{date_in_year, julian_place, place_in_month};
+use gregorian::{day_number, year_start};
 use std::marker::Model;
 use tz_base::{Error, Expected};
 
@@ -36,7 +30,7 @@ pub enum DayForm {
 /// A day of every year on which a rule changes the clock, as `J60`, `59` or `M3.2.0` in a TZ text.
 #[derive(Clone, Copy, Debug, PartialEq, Eq)]
 pub struct RuleDay {
-    form: DayForm,
+    pub(super) form: DayForm,
 }
 
 // A day of every year, and a time of that day in seconds after its midnight.
@@ -233,134 +227,4 @@ impl RuleDay {
             }
         }
     }
-}
-
-impl RuleDay {
-    ghost use Rattle.tz_info.specs.RuleDays.{IsRuleDay};
-
-    // How many days of a year come before the rule's day, in years of each kind: the common years
-    // that begin with Sunday to Saturday, and then the leap years. All are found at once, from the
-    // month's front in a common year and in a leap year.
-    pub(super) fn places_by_kind(&self) -> [u32; 14]
-        ensures value { result ≡ places_by_kind self.now }
-        ensures rule { IsRuleDay self.now }
-    {
-        match self.form {
-            DayForm::Julian1(n) => {
-                same_places(julian_place(2017, n as u32), julian_place(2012, n as u32))
-            }
-            DayForm::Julian0(n) => same_places(n as u32, n as u32),
-            DayForm::MonthWeekday(month, week, weekday) => {
-                weekday_places(month as u32, week as u32, weekday as u32)
-            }
-        }
-    }
-}
-
-// The same place in all common years, and the same in all leap years.
-fn same_places(common: u32, leap: u32) -> [u32; 14]
-    ensures { result ≡ (common ∷ common ∷ common ∷ common ∷ common ∷ common ∷ common
-        ∷ leap ∷ leap ∷ leap ∷ leap ∷ leap ∷ leap ∷ leap ∷ []) }
-{
-    [
-        common, common, common, common, common, common, common, leap, leap, leap, leap, leap, leap,
-        leap,
-    ]
-}
-
-// The places of the weekday in that week of the month.
-fn weekday_places(month: u32, week: u32, weekday: u32) -> [u32; 14]
-    requires month_in { IsInRange 1 12 month }
-    requires week_in { IsInRange 1 5 week }
-    requires weekday_in { weekday ≤ 6 }
-    ensures { result ≡ places_by_kind (MonthWeekday month week weekday) }
-{
-    let common = days_before_month(2017, month);
-    let common_days = days_in_month(2017, month);
-    let leap = days_before_month(2012, month);
-    let leap_days = days_in_month(2012, month);
-    [
-        place_from(common, common_days, 0, week, weekday),
-        place_from(common, common_days, 1, week, weekday),
-        place_from(common, common_days, 2, week, weekday),
-        place_from(common, common_days, 3, week, weekday),
-        place_from(common, common_days, 4, week, weekday),
-        place_from(common, common_days, 5, week, weekday),
-        place_from(common, common_days, 6, week, weekday),
-        place_from(leap, leap_days, 0, week, weekday),
-        place_from(leap, leap_days, 1, week, weekday),
-        place_from(leap, leap_days, 2, week, weekday),
-        place_from(leap, leap_days, 3, week, weekday),
-        place_from(leap, leap_days, 4, week, weekday),
-        place_from(leap, leap_days, 5, week, weekday),
-        place_from(leap, leap_days, 6, week, weekday),
-    ]
-}
-
-// The place of the weekday in that week of a month of so many days, which begins so many days
-// after its year, where the year begins with the first weekday.
-#[inline(always)]
-fn place_from(before: u32, days: u32, first: u32, week: u32, weekday: u32) -> u32
-    requires before { before < 366 }
-    requires days_in { IsInRange 28 31 days }
-    requires first_in { first < 7 }
-    requires week_in { IsInRange 1 5 week }
-    requires weekday_in { weekday ≤ 6 }
-    ensures { result ≡ place_from before days first week weekday }
-{
-    before + weekday_place(days, (first + before) % 7, week, weekday)
-}
-
-// The month and the day of the month that come so many days after the year's 1 January, up to the
-// next 1 January.
-fn date_in_year(year: i32, place: u32) -> (usize, i64)
-    requires { place ≤ 365 }
-    ensures { IsWrittenDate (year_start year +ℤ pos place) year result.0 result.1 }
-{
-    if place >= days_in_year(year) {
-        return (12, 32);
-    }
-    let (month, day) = month_and_day(year, place);
-    (month as usize, day as i64)
-}
-
-// How many days of the year come before the n-th of the 365 dates of a common year.
-fn julian_place(year: i32, n: u32) -> u32
-    requires { IsInRange 1 365 n }
-    ensures value { result ≡ julian_place (is_leap year) n }
-    ensures bound { result ≤ 365 }
-{
-    if n >= 60 && is_leap_year(year) {
-        n
-    } else {
-        n - 1
-    }
-}
-
-// How many days of the month come before the weekday of that week.
-fn place_in_month(year: i32, month: u32, week: u32, weekday: u32) -> u32
-    requires month_in { IsInRange 1 12 month }
-    requires week_in { IsInRange 1 5 week }
-    requires weekday_in { weekday ≤ 6 }
-    ensures value { result ≡ weekday_place (days_in_month (is_leap year) month)
-        (weekday_of (day_number year month 1)) week weekday }
-    ensures within { result < days_in_month (is_leap year) month }
-    ensures bound { result < 31 }
-{
-    let first = weekday_of(day_number(year, month, 1));
-    weekday_place(days_in_month(year, month), first, week, weekday)
-}
-
-// How many days come before the weekday of that week, in a month of so many days that begins with
-// the first weekday.
-fn weekday_place(days: u32, first: u32, week: u32, weekday: u32) -> u32
-    requires days_in { IsInRange 28 31 days }
-    requires first_in { first < 7 }
-    requires week_in { IsInRange 1 5 week }
-    requires weekday_in { weekday ≤ 6 }
-    ensures value { result ≡ weekday_place days first week weekday }
-    ensures bound { result < days }
-{
-    let place = (weekday + 7 - first) % 7 + 7 * (week - 1);
-    if place < days { place } else { place - 7 }
 }

@@ -10,12 +10,12 @@ ghost use Rattle.tz_info.specs.Changes.{IsChange, HasNoChange, IsFirst, IsLast};
 ghost use Rattle.tz_info.specs.Leaps.{AreLeapSeconds, IsLeapTime, IsLeapTimeRefused};
 ghost use Rattle.tz_info.specs.Rules.{Alternate as AlternateRule};
 ghost use Rattle.tz_info.specs.Steps.Changes.{AreComeAt, AreComeOrAll, ComesAt, HasNoneAt};
-ghost use Rattle.tz_info.specs.Steps.Changes.{IsAtEnd, IsBegin, IsByRule, IsInTable};
+ghost use Rattle.tz_info.specs.Steps.Changes.{IsAhead, IsBegin, IsByRule, IsInTable, IsNearest};
 ghost use Rattle.tz_info.specs.Zones.{HasType, TypeAt};
 ghost use Rattle.tz_info.specs.declared.rule.transition_rule.TransitionRule.TheVariants.{Alternate};
 
-use crate::change::{change_between, if_after};
-use crate::rule::{AlternateTime, Beside, TransitionRule, later_of};
+use crate::change::change_between;
+use crate::rule::{AlternateTime, TransitionRule};
 use crate::zone::leap_second::LeapSecond;
 use crate::zone::leap_time::leap_time;
 use crate::zone::starts::{correction_behind, entries_come};
@@ -53,7 +53,7 @@ impl TimeZone {
         let _ = &self.table;
         match self.next_in_table(after, come) {
             Some(change) => Some(change),
-            None => self.next_by_rule(after),
+            None => self.change_by_rule(after, true),
         }
     }
 
@@ -75,9 +75,11 @@ impl TimeZone {
         None
     }
 
-    // The first change after that second that comes after all transitions.
-    fn next_by_rule(&self, after: i64) -> Option<Change>
-        ensures { IsFirst (TypeAt self.now) (IsByRule self.now (λ u. after <ℤ u)) result }
+    // The nearest change ahead of the second in that direction, of those that come after all
+    // transitions.
+    fn change_by_rule(&self, second: i64, forward: bool) -> Option<Change>
+        ensures { IsNearest forward (TypeAt self.now) (IsByRule self.now (IsAhead forward second))
+            result }
     {
         let _ = &self.table;
         let Some(turns) = self.turns() else {
@@ -87,8 +89,7 @@ impl TimeZone {
         if begin > i64::MAX as i128 {
             return None;
         }
-        let from = later_of(after, begin as i64);
-        turns.nearest_change(from, true)
+        turns.nearest_change(begin as i64, second, forward)
     }
 
     /// The last change of the clocks at that second or before it, or `None` if none comes at such a
@@ -103,7 +104,7 @@ impl TimeZone {
         ensures { IsLast (TypeAt self.now) (λ u. u ≤ℤ before_or_at) result }
     {
         let _ = &self.table;
-        match self.previous_by_rule(before_or_at) {
+        match self.change_by_rule(before_or_at, false) {
             Some(change) => Some(change),
             None => {
                 let come = self.come_at(before_or_at);
@@ -149,46 +150,6 @@ impl TimeZone {
         match leap_time(&self.leap_seconds, second) {
             Ok(leap_time) => Some(self.passed_count(leap_time, &mut Probes::new())),
             Err(_) => None,
-        }
-    }
-
-    // The last change up to that second that comes after all transitions.
-    fn previous_by_rule(&self, last: i64) -> Option<Change>
-        ensures { IsLast (TypeAt self.now) (IsByRule self.now (λ u. u ≤ℤ last)) result }
-    {
-        let _ = &self.table;
-        let Some(turns) = self.turns() else {
-            return None;
-        };
-        let begin = self.rule_begin();
-        if begin >= last as i128 {
-            return None;
-        }
-        if_after(turns.nearest_change(last, false), begin)
-    }
-
-    // The changes on both sides of a second from the last transition on, of those that come after
-    // all transitions.
-    #[inline(always)]
-    pub(super) fn beside_by_rule(&self, second: i64) -> Beside
-        requires { IsAtEnd self.now second }
-        ensures previous { IsLast (TypeAt self.now) (IsByRule self.now (λ u. u ≤ℤ second))
-            result.previous }
-        ensures next { IsFirst (TypeAt self.now) (IsByRule self.now (λ u. second <ℤ u))
-            result.next }
-    {
-        let _ = &self.table;
-        let Some(turns) = self.turns() else {
-            return Beside {
-                previous: None,
-                next: None,
-            };
-        };
-        let begin = self.rule_begin();
-        let beside = turns.changes_beside(second);
-        Beside {
-            previous: if_after(beside.previous, begin),
-            next: beside.next,
         }
     }
 

@@ -3,9 +3,11 @@
 //! One search finds the second's place between transitions, or between moments of the rule. The
 //! changes on both sides are looked for from there on.
 
-ghost use Rattle.std.specs.Prelude.{◌≡◌, ◌<◌, length, option_map, MatchResult};
+ghost use Rattle.std.specs.Prelude.{◌≡◌, ◌<◌, ◌≤ℤ◌, ◌<ℤ◌, false, length, option_map, IfSome, MatchOption};
+ghost use Rattle.std.specs.Prelude.{MatchResult, Some};
 ghost use Rattle.tz_info.specs.Spans.{IsSpanAt};
-ghost use Rattle.tz_info.specs.Steps.Changes.{AreComeOrAll};
+ghost use Rattle.tz_info.specs.Steps.Beside.{HasNoTurnsAt, IsSecondOfNearest};
+ghost use Rattle.tz_info.specs.Steps.Changes.{AreComeOrAll, IsByRule};
 ghost use Rattle.tz_info.specs.Zones.{TypeAt, IsTypeError};
 
 use crate::zone::time_zone::TimeZone;
@@ -37,8 +39,11 @@ impl TimeZone {
         if come < self.transition_count() {
             return Ok(self.span_in_table(unix_time, come));
         }
+        if let Some(span) = self.span_by_turns(unix_time) {
+            return Ok(span);
+        }
         match self.find_local_time_type(unix_time) {
-            Ok(local) => Ok(self.span_at_end(unix_time, *local)),
+            Ok(local) => Ok(self.last_span(unix_time, *local)),
             Err(error) => Err(error),
         }
     }
@@ -59,29 +64,58 @@ impl TimeZone {
         }
     }
 
-    // The span of a second from the last transition on, at which that type is in force.
-    fn span_at_end(&self, unix_time: i64, local_time_type: LocalTimeType) -> Span
+    // The span of a second from the last transition on, if there is a rule of two types, and it
+    // answers then.
+    #[inline(always)]
+    fn span_by_turns(&self, unix_time: i64) -> Option<Span>
+        requires { AreComeOrAll self.now unix_time (length self.now.transitions) }
+        ensures { MatchOption result (HasNoTurnsAt self.now unix_time)
+            (IsSpanAt (TypeAt self.now) unix_time) }
+    {
+        let _ = &self.table;
+        let Some(turns) = self.turns() else {
+            return None;
+        };
+        let Some(beside) = turns.beside(unix_time) else {
+            return None;
+        };
+        let by_rule = if_after(beside.previous, self.rule_begin());
+        Some(Span {
+            local_time_type: *turns.type_when(beside.is_dst),
+            from: self.span_start(unix_time, by_rule),
+            until: beside.next,
+        })
+    }
+
+    // The span of a second from the last transition on, at which that type is in force, if no rule
+    // of two types says so.
+    fn last_span(&self, unix_time: i64, local_time_type: LocalTimeType) -> Span
         requires in_force { TypeAt self.now unix_time local_time_type }
         requires come { AreComeOrAll self.now unix_time (length self.now.transitions) }
+        requires no_turns { HasNoTurnsAt self.now unix_time }
         ensures { IsSpanAt (TypeAt self.now) unix_time result }
     {
         let _ = &self.table;
-        let beside = self.beside_by_rule(unix_time);
-        let until = second_of(beside.next);
-        match beside.previous {
-            Some(_) => Span {
-                local_time_type,
-                from: second_of(beside.previous),
-                until,
-            },
-            None => {
-                let count = self.transition_count();
-                Span {
-                    local_time_type,
-                    from: second_of(self.previous_in_table(unix_time, count)),
-                    until,
-                }
-            }
+        Span {
+            local_time_type,
+            from: self.span_start(unix_time, None),
+            until: None,
+        }
+    }
+
+    // The second of the last change up to a second from the last transition on: that of the last one
+    // by the rule, or else the table's.
+    #[inline(always)]
+    fn span_start(&self, unix_time: i64, by_rule: Option<i64>) -> Option<i64>
+        requires come { AreComeOrAll self.now unix_time (length self.now.transitions) }
+        requires by_rule { IsSecondOfNearest false (TypeAt self.now)
+            (IsByRule self.now (λ u. u ≤ℤ unix_time)) by_rule }
+        ensures { IsSecondOfNearest false (TypeAt self.now) (λ u. u ≤ℤ unix_time) result }
+    {
+        let _ = &self.table;
+        match by_rule {
+            Some(second) => Some(second),
+            None => second_of(self.previous_in_table(unix_time, self.transition_count())),
         }
     }
 }
@@ -93,5 +127,20 @@ fn second_of(change: Option<Change>) -> Option<i64>
     match change {
         Some(change) => Some(change.at),
         None => None,
+    }
+}
+
+// The second that was found, if it comes after that one.
+fn if_after(found: Option<i64>, second: i128) -> Option<i64>
+    ensures { MatchOption result (IfSome found (λ s. s ≤ℤ second))
+        (λ s. (second <ℤ s) × (found ≡ Some s)) }
+{
+    let Some(later) = found else {
+        return None;
+    };
+    if second < later as i128 {
+        Some(later)
+    } else {
+        None
     }
 }

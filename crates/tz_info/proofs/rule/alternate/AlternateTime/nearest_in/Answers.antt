@@ -1,4 +1,4 @@
-use Rattle.tz_info.proofs.Words.{SFits, arith, ints, pos, rules, to_z-of_z, w32, w64, ◌+ℤ◌}
+use Rattle.tz_info.proofs.Words.{SFits, arith, change_found, ints, pos, rules, to_z-of_z, w32, w64, ◌+ℤ◌}
 use Rattle.tz_info.proofs.RuleChanges.{nearest_of_year}
 use Rattle.tz_info.proofs.rule.alternate.AlternateTime.nearest_in.Goals as goal
 
@@ -15,5 +15,6 @@ returns c =
     let f3 : SFits w64 c.earlier_of-last.result = search rules in
     let begins = simp to_z-of_z at c.first_second.ensures in
     let ends = simp to_z-of_z at c.first_second-2.ensures in
-    nearest_of_year c.args.forward c.args.self.now c.args.year c.args.stretch.after c.args.stretch.last c.later_of-after.result c.earlier_of-last.result c.nearest_of.result c.moments_near-moments.ensures.rule
+    nearest_of_year c.args.forward c.args.self.now c.args.year c.args.stretch.after c.args.stretch.last c.later_of-after.result c.earlier_of-last.result
+    (change_found c.args.self.now c.nearest_of.result) c.moments_near-moments.ensures.rule
     (rw begins at (simp to_z-of_z at c.later_of-after.ensures)) (rw ends at (simp to_z-of_z at c.earlier_of-last.ensures)) (rw (simp to_z-of_z at c.moments_near-moments.ensures.moments) at (simp to_z-of_z at c.nearest_of.ensures))

@@ -1,0 +1,26 @@
+use Rattle.tz_info.proofs.Words.{AlternateAt, SFits, arith, change_found, ints, pos, to_z-of_z, w64, ◌-ℤ◌}
+use Rattle.tz_info.proofs.ChangeSearch.{change_made}
+use Rattle.tz_info.proofs.RuleChanges.{rule_second, rule_type_once}
+use Rattle.tz_info.proofs.rule.alternate.AlternateTime.moment_at.Goals as goal
+use Rattle.tz_info.proofs.rule.alternate.AlternateTime.moment_at.Goals.{then-second-le-FIRST_RULE_TIME-via-then-second-le-FIRST_RULE_TIME}
+use Rattle.tz_info.proofs.rule.alternate.AlternateTime.moment_at.Goals.{then-second-le-FIRST_RULE_TIME-via-else-second-le-FIRST_RULE_TIME+then-second-gt-LAST_RULE_TIME}
+
+pub returns-then-second-le-FIRST_RULE_TIME : goal.returns-then-second-le-FIRST_RULE_TIME
+returns-then-second-le-FIRST_RULE_TIME c = λ d is at.
+    let fs = c.ranges.second in
+    let low = (rule_second c.args.self.now (d.at -ℤ pos 1) d.before is.before).0 in
+    let high = (rule_second c.args.self.now d.at d.after is.after).1 in
+    elim c.then-second-le-FIRST_RULE_TIME.branch [
+      | then-second-le-FIRST_RULE_TIME-via-then-second-le-FIRST_RULE_TIME w ↦ let t = simp to_z-of_z at w.if-second-le-FIRST_RULE_TIME.true in omega
+          (arith, ints)
+      | then-second-le-FIRST_RULE_TIME-via-else-second-le-FIRST_RULE_TIME+then-second-gt-LAST_RULE_TIME w ↦ let t = simp to_z-of_z at
+          w.if-second-gt-LAST_RULE_TIME.true in omega (arith, ints)
+    ]
+
+pub returns : goal.returns
+returns c =
+    let a = c.args.self.now in
+    let fs = c.ranges.second in
+    let fb : SFits w64 (c.args.second -ℤ pos 1) = omega (arith, ints) in
+    change_made (AlternateAt a) c.args.second _ _ (change_found a c.moment_between.result) (rule_type_once a) fs fb
+    (simp to_z-of_z at c.is_dst_at-before.ensures) (simp to_z-of_z at c.is_dst_at-after.ensures) (simp to_z-of_z at c.moment_between.ensures)
