@@ -19,14 +19,14 @@ HEADER = TOP / "crates/zoned_ffi/include/zoned_ffi.h"
 # A habit, what to write in its place, its pattern, and the counts allowed in documents and in doc comments.
 HABITS = [
     ("told, tells", "returned, reported, shows, says", r"\b(?:told|tells?)\b", 0, 0),
-    ("stands", "is, means, is listed", r"\b(?:stands?|stood)\b", 0, 5),
+    ("stands", "is, means, is listed", r"\b(?:stands?|stood)\b", 0, 0),
     ("anew, once more", "again", r"\b(?:anew|once more)\b", 0, 0),
     ("want of", "lack of, out of", r"\bwant of\b", 0, 0),
     ("be they", "whether", r"\bbe (?:they|it)\b", 0, 0),
     ("so many, such a one", "n, one", r"\b(?:so many|such a one|no more do)\b", 0, 2),
     ("is none", "does not count, is not one", r"\b(?:is|are) none\b", 1, 4),
-    ("alone after a noun", "only", r"\balone\b", 0, 3),
-    ("beside", "with, compared with, as well as", r"\bbeside\b", 0, 1),
+    ("alone after a noun", "only", r"\balone\b", 0, 2),
+    ("beside", "with, compared with, as well as", r"\bbeside\b", 0, 0),
     ("behind", "after", r"\bbehind\b(?! UTC)", 1, 2),
     ("refused", "rejected, returns an error", r"\brefus\w+", 2, 10),
     ("reading for a local time", "local time, local date-time", r"\breadings?\b", 5, 4),

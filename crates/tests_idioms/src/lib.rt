@@ -1,11 +1,10 @@
 //! What is written every day over instants, compiled, proved and tested: comparisons, sorting, maps,
 //! print, iteration, lookups. No function has a contract, a lemma or a proof file.
 //!
-//! The same functions stand in `tests_idioms_utc`, in `tests_idioms_borrowed` (over a `TimeZoneRef`) and in
-//! `tests_idioms_kept` (over a `KeptZone`). None is generic over the zone. The last two name of the
-//! libraries of zoned time `zoned` alone, and `tests_idioms_utc` the libraries that know no file, so that
-//! it is proved before those that do. Here is what they share, with the crates whose errors it
-//! joins, and each one's tests.
+//! The same functions are in `tests_idioms_utc`, `tests_idioms_borrowed` (over a `TimeZoneRef`) and
+//! `tests_idioms_kept` (over a `KeptZone`). None is generic over the zone. The last two use only `zoned`,
+//! and `tests_idioms_utc` the libraries that know no file, so that it is proved before those that do.
+//! Here is what they share, with the crates whose errors it joins, and each one's tests.
 //!
 //! # What isn't covered
 //!
@@ -18,7 +17,7 @@
 //! | UTC | a pattern that takes an array of zones apart: `let [a, b] = zones;` | a pair | 3 |
 //!
 //! A copy in place is also that in `(instant, instant)` and in `let now = self.next;`, and
-//! `instant.clone()?` stands for it too. The checker's words:
+//! `instant.clone()?` replaces it too. The checker's words:
 //!
 //! 1. a struct with an `impl Model` is copied where it holds a reference, or a type argument names
 //!    two lifetimes that the function keeps apart

@@ -1,5 +1,5 @@
 //! Instants in borrowed zones and at fixed offsets: what a client writes over them, proved with no
-//! contract and no lemma. The tests beside it (`tried`) ask by values that come from outside: of
+//! contract and no lemma. The crate's tests compare values from outside:
 //! instants moved by lengths, months and days, with fields changed, rounded, chosen in gaps and
 //! folds, at both ends of the range, and with an offset that isn't the one that their zone gives
 //! there.

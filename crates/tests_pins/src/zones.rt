@@ -20,7 +20,7 @@ pub fn rule_answers()
     ensures { TypeAt (honolulu (Some (rules.Fixed lmt))) (pos 1_615_705_200) lmt }
 {}
 
-/// Transitions stand at leap times. One at 78796801, the second after the first leap second, is the
+/// Transitions are at leap times. One at 78796801, the second after the first leap second, is the
 /// midnight of 1972-07-01.
 pub fn leap_times()
     ensures before { TypeAt (two_types (pos 78_796_801) None) (pos 78_796_799) lmt }

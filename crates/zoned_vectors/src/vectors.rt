@@ -32,7 +32,7 @@ pub const JERUSALEM: &str = "545a696633000000000000000000000000000000\
     000000007fe817800000001c200000495354000101\
     0a4953542d324944542c4d332e342e342f32362c4d31302e352e300a";
 
-/// UTC with the leap seconds from 1972 to 2016, version 1: all but the leap seconds, which stand
+/// UTC with the leap seconds from 1972 to 2016, version 1: all but the leap seconds, which come
 /// before the last two bytes.
 pub const UTC_LEAP_HEAD: &str = "545a696600000000000000000000000000000000\
     00000001000000010000001b000000000000000100000004\
