@@ -390,7 +390,7 @@ def numbers_of_errors():
     """The number of each variant of `Error`, with its name and the words of its comment."""
     error = text_of(ERROR).partition("\npub enum Error {\n")[2].partition("\n}\n")[0]
     variants = re.findall(r"((?: *///[^\n]*\n)+) *#\[error[^\n]*\n *(\w+)", error)
-    numbers = dict(re.findall(r"(?m)^number_of \(?errors\.(\w+).* = (\d+)$", text_of(NUMBERS)))
+    numbers = dict(re.findall(r"(?m)^\w+ \(?errors\.(\w+).* = (\d+)$", text_of(NUMBERS)))
     return {int(numbers[name]): (name, first_sentence(comment)) for comment, name in variants}
 
 

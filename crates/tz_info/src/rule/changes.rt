@@ -29,7 +29,7 @@ impl AlternateTime {
         }
         let near = ahead.near_end(forward);
         match ahead.moment_within(self.nearest_moment(self.season_at(near), near, forward)) {
-            Some(moment) => Some(self.change_of(moment)),
+            Some(moment) => Some(self.change_of(moment).copied()),
             None => None,
         }
     }
