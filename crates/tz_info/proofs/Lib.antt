@@ -62,6 +62,7 @@ pub mod TzFileLaws
 pub mod ZoneFileLaws
 pub mod FileZoneLaws
 pub mod WallTimes
+pub mod UnixTimes
 pub mod Equalities
 pub mod SecondTypes
 pub mod ChangeLists

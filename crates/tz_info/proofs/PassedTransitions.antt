@@ -1,64 +1,81 @@
 -- The transitions at or before a leap time, and the type in force there.
 use Rattle.tz_base.specs.declared.error.Error.TheVariants.{FindLocalTimeType}
 use Rattle.tz_base.specs.declared.error.Expected.TheVariants.{YearThatRuleAnswersIn}
-use Rattle.tz_info.proofs.Words.{Err, Error, HasType, IsFromLast, IsLastOf, IsLeapTime, IsRefusedBy, IsTypeError, List, LocalType, MatchResult, None, Ok}
-use Rattle.tz_info.proofs.Words.{Result, RuleOrType, Some, Transition, TypeAt, TypeAtLeapTime, Zone, ap, arith, by_rule, cases_lt, get_or, index_at, inl, inr}
-use Rattle.tz_info.proofs.Words.{length, length-take, passed, refl, suc, take, ℕ, ℤ, [], ◌-◌, ◌<◌, ◌∙◌, ◌∷◌, ◌≡◌, ◌≤◌}
+use Rattle.tz_info.proofs.Words.{Err, Error, HasType, HaveComeAt, IsFromLast, IsLastOf, IsLeapTime, IsRefusedBy, IsTypeError, IsValid, List, LocalType}
+use Rattle.tz_info.proofs.Words.{MatchOption, MatchResult, None, Ok, Option, Result, RuleOrType, Some, Transition, TypeAt, TypeAtLeapTime, Zone, ap, arith}
+use Rattle.tz_info.proofs.Words.{by_rule, cases_lt, get_or, index_at, inl, inr, leap_time_at, length, length-take, passed, refl, suc, sym, take, ℕ, ℤ}
+use Rattle.tz_info.proofs.Words.{[], ◌-◌, ◌<◌, ◌∙◌, ◌∷◌, ◌≡◌, ◌≤◌}
 use Rattle.tz_info.proofs.Prefixes.{last_taken}
 
--- n transitions come at or before the leap time x: the first ones
-pub record ArePassed (transitions : List Transition) (x : ℤ) (n : ℕ) : Type 0 where
-  pub within : n ≤ length transitions
-  pub first : passed transitions x ≡ take n transitions
-
-passed_length : (ts : List Transition) (x : ℤ) (n : ℕ) → ArePassed ts x n → length (passed ts x) ≡ n
-passed_length ts x n p = let w = p.within in rw p.first (simp length-take (omega arith))
-
-latest_index : (z : Zone) (x : ℤ) (n : ℕ) (d : Transition) → ArePassed z.transitions x n → 0 < n → index_at z x ≡ (get_or z.transitions (n - 1) d).type_index
-latest_index z x n d p h =
-    let w = p.within in
-    let e : n ≡ suc (n - 1) = omega arith in
-    let f : passed z.transitions x ≡ take (suc (n - 1)) z.transitions = p.first ∙ ap (λ k. take k z.transitions) e in
-    rw f (last_taken (λ (t : Transition). t.type_index) 0 z.transitions (n - 1) d (omega arith))
+-- it names the type of the last of n transitions, or there is none
+abbrev pub NamesLast : List Transition → ℕ → Option Transition → Type 0
+NamesLast ts n latest = MatchOption latest (n ≡ 0) (λ t. (0 < n) × (t.type_index ≡ (get_or ts (n - 1) t).type_index))
 
 -- the last of them is told where there is one, and only there
-pub none_passed : (ts : List Transition) (n : ℕ) → IsLastOf ts n None → n ≡ 0
-none_passed ts n l = elim (cases_lt 0 n) [
+pub last_named : (ts : List Transition) (n : ℕ) (latest : Option Transition) → IsLastOf ts n latest → NamesLast ts n latest
+last_named ts n None l = elim (cases_lt 0 n) [
   | inl h ↦ let s = (l.some h).1 in absurd cc
   | inr h ↦ omega arith
 ]
-
-pub last_passed : (ts : List Transition) (n : ℕ) (t : Transition) → IsLastOf ts n (Some t) → (0 < n) × (t ≡ get_or ts (n - 1) t)
-last_passed ts n t l = elim (cases_lt 0 n) [
-  | inl h ↦ let s = l.some h in let e : t ≡ s.0 = some_is t s.0 s.1 in (h, rw (← e) at s.2)
+last_named ts n (Some t) l = elim (cases_lt 0 n) [
+  | inl h ↦ let s = l.some h in let e : t ≡ s.0 = some_is t s.0 s.1 in (h, ap (λ (k : Transition). k.type_index) (rw (← e) at s.2))
   | inr h ↦ let s = l.none (omega arith) in absurd cc
 ] where
   some_is : (a b : Transition) → Some a ≡ Some b → a ≡ b
   some_is a b e = cc
 
+-- the first n transitions come at or before the leap time x
+index_named : (z : Zone) (x : ℤ) (n : ℕ) (latest : Option Transition)
+    → IsValid z → n ≤ length z.transitions → passed z.transitions x ≡ take n z.transitions → NamesLast z.transitions n latest
+    → MatchOption latest ((n ≡ 0) × (index_at z x ≡ 0)) (λ t. (index_at z x ≡ t.type_index) × (t.type_index < length z.types))
+index_named z x n None valid within first none =
+    let f : passed z.transitions x ≡ take 0 z.transitions = first ∙ ap (λ k. take k z.transitions) none in
+    (none, rw f refl)
+index_named z x n (Some t) valid within first is =
+    let some = is.0 in
+    let more : n ≡ suc (n - 1) = omega arith in
+    let f : passed z.transitions x ≡ take (suc (n - 1)) z.transitions = first ∙ ap (λ k. take k z.transitions) more in
+    let index : index_at z x ≡ (get_or z.transitions (n - 1) t).type_index =
+    rw f (last_taken (λ (k : Transition). k.type_index) 0 z.transitions (n - 1) t (omega arith)) in
+    let below = valid.transitions.indexes (n - 1) t (omega arith) in
+    (index ∙ sym is.1, rw (← is.1) at below)
+
+pub first_come_at : (z : Zone) (u x : ℤ) (n : ℕ) (latest : Option Transition)
+    → IsValid z → IsLeapTime z.leaps u x → n ≤ length z.transitions → passed z.transitions x ≡ take n z.transitions
+    → NamesLast z.transitions n latest → HaveComeAt z u n latest
+first_come_at z u x n latest valid l within first last =
+    let e : x ≡ leap_time_at z u = l.sum in
+    let come : n ≡ length (passed z.transitions x) = rw first (simp length-take (omega arith)) in
+    let named = index_named z x n latest valid within first last in
+    record { of_second = rw e at l; within = within; come = rw e at come; named = rw e at named }
+
 -- none has come
-pub at_first : (z : Zone) (u x : ℤ) (n : ℕ) (t : LocalType) → ArePassed z.transitions x n → n ≡ 0 → 0 < length z.transitions → HasType z 0 t → TypeAtLeapTime z u x t
-at_first z u x n t p e some k = let f : passed z.transitions x ≡ take 0 z.transitions = p.first ∙ ap (λ m. take m z.transitions) e in record {
-  before_last = λ _. rw f k;
-  from_last = λ l. let n = passed_length z.transitions x n p in absurd (omega arith);
+pub at_first : (z : Zone) (u : ℤ) (n : ℕ) (t : LocalType)
+    → HaveComeAt z u n None → 0 < length z.transitions → HasType z 0 t → TypeAtLeapTime z u (leap_time_at z u) t
+at_first z u n t c some k = record {
+  before_last = λ _. rw c.named.1 k;
+  from_last = λ l. let e = c.come in let none = c.named.0 in absurd (omega arith);
 }
 
 -- some have come, and some not
-pub at_middle : (z : Zone) (u x : ℤ) (n : ℕ) (d : Transition) (t : LocalType) → ArePassed z.transitions x n → 0 < n → n < length z.transitions → HasType z (get_or z.transitions (n - 1) d).type_index t → TypeAtLeapTime z u x t
-at_middle z u x n d t p some h k = record {
-  before_last = λ _. rw (latest_index z x n d p some) k;
-  from_last = λ l. let n = passed_length z.transitions x n p in absurd (omega arith);
+pub at_middle : (z : Zone) (u : ℤ) (n : ℕ) (d : Transition) (t : LocalType)
+    → HaveComeAt z u n (Some d) → n < length z.transitions → HasType z d.type_index t → TypeAtLeapTime z u (leap_time_at z u) t
+at_middle z u n d t c h k = record {
+  before_last = λ _. rw c.named.0 k;
+  from_last = λ l. let e = c.come in absurd (omega arith);
 }
 
 -- all have come, and the rule is asked, or there is none
-pub at_last : {T : Type 0} (view : T → LocalType) (z : Zone) (u x : ℤ) (n : ℕ) (d : Transition) (r : Result T Error) → ArePassed z.transitions x n → 0 < n → n ≡ length z.transitions
-    → MatchResult r (λ t. RuleOrType z u (get_or z.transitions (n - 1) d).type_index (view t)) (λ e. (e ≡ FindLocalTimeType YearThatRuleAnswersIn) × IsRefusedBy z.rule u)
-    → MatchResult r (λ t. TypeAtLeapTime z u x (view t)) (λ e. (e ≡ FindLocalTimeType YearThatRuleAnswersIn) × IsFromLast z x × IsRefusedBy z.rule u)
-at_last view z u x n d (Ok t) p some h k = record {
-  before_last = λ l. let n = passed_length z.transitions x n p in absurd (omega arith);
-  from_last = λ _. rw (latest_index z x n d p some) k;
+pub at_last : {T : Type 0} (view : T → LocalType) (z : Zone) (u : ℤ) (n : ℕ) (d : Transition) (r : Result T Error)
+    → HaveComeAt z u n (Some d) → length z.transitions ≤ n
+    → MatchResult r (λ t. RuleOrType z u d.type_index (view t)) (λ e. (e ≡ FindLocalTimeType YearThatRuleAnswersIn) × IsRefusedBy z.rule u)
+    → MatchResult r (λ t. TypeAtLeapTime z u (leap_time_at z u) (view t))
+    (λ e. (e ≡ FindLocalTimeType YearThatRuleAnswersIn) × IsFromLast z (leap_time_at z u) × IsRefusedBy z.rule u)
+at_last view z u n d (Ok t) c h k = record {
+  before_last = λ l. let e = c.come in absurd (omega arith);
+  from_last = λ _. rw c.named.0 k;
 }
-at_last view z u x n d (Err e) p some h k = (k.0, passed_length z.transitions x n p ∙ h, k.1)
+at_last view z u n d (Err e) c h k = let w = c.within in let come = c.come in (k.0, omega arith, k.1)
 
 pub no_items : {X : Type 0} (xs : List X) → length xs ≡ 0 → xs ≡ []
 no_items [] h = refl

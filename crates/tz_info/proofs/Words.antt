@@ -5,7 +5,7 @@ pub use Rattle.std.proofs.Math.ListN.{get_or-eq_default}
 pub use Rattle.std.proofs.Math.Seq.{take-append_seam}
 pub use Rattle.std.proofs.lemmas.Bool.{and_parts, false≢true, not-false, or_cases, or_left, or_right, true≢false}
 pub use Rattle.std.proofs.lemmas.Bool.Decides.{Decides-and, Decides-eqb, Decides-int_eq, Decides-ltb, Decides-or}
-pub use Rattle.std.proofs.lemmas.List.{append-nil, drop-drop, get_or-map, get_or_default, length-drop, length_push, nil_from_length, take-append-drop}
+pub use Rattle.std.proofs.lemmas.List.{append-nil, drop-drop, get_or-map, get_or_append_left, get_or_default, get_or_push, length-drop, length_push, nil_from_length, take-append-drop}
 pub use Rattle.std.proofs.lemmas.List.{take_more}
 pub use Rattle.std.proofs.lemmas.List.Elements.{All-append, All-contains, All-push, Contains-append_left, Contains-append_right, Contains-get_or, Contains-push}
 pub use Rattle.std.proofs.lemmas.List.Elements.{Contains-push_cases}
@@ -136,7 +136,7 @@ pub use Rattle.tz_info.specs.Steps.Runs.{AreNoneBefore, AreNoneFrom, IsBeyondJum
 pub use Rattle.tz_info.specs.Steps.Seasons.{IsAmid, IsDecidedIn, IsLimit, IsSeason, IsSeasonFor, IsSeasonOf}
 pub use Rattle.tz_info.specs.Steps.Segments.{begin_of, index_of}
 pub use Rattle.tz_info.specs.Steps.Shown.{together}
-pub use Rattle.tz_info.specs.Steps.Starts.{HaveCome, IsCut, IsLeapless, IsReachedFrom}
+pub use Rattle.tz_info.specs.Steps.Starts.{AreByUnixTime, HaveCome, HaveComeAt, IsCut, IsLeapless, IsReachedFrom, leap_time_at}
 pub use Rattle.tz_info.specs.Steps.Turns.{is_between, is_dst_by_one, is_in_three}
 pub use Rattle.tz_info.specs.Steps.Validity.{Stands}
 pub use Rattle.tz_info.specs.Steps.Walk.{IsAskedLast, IsShownIn, IsTried, TypeIn}

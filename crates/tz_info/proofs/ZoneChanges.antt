@@ -6,7 +6,7 @@ use Rattle.tz_info.proofs.Words.{IsLeapTime, IsLeapTimeRefused, IsNearest, IsRul
 use Rattle.tz_info.proofs.Words.{RuleOrType, SFits}
 use Rattle.tz_info.proofs.Words.{Some, Transition, TransitionRule, TypeAt, Zone, ap, arith, by_lt_z, cases_lt, cond, count_by, get_or, index_of, inl}
 use Rattle.tz_info.proofs.Words.{inr, int_le, ints}
-use Rattle.tz_info.proofs.Words.{length, length-take, nat_tests, passed, passed_count, pos, refl, segment_of, slice_get, suc, sum_by-cons, sym, take}
+use Rattle.tz_info.proofs.Words.{length, nat_tests, passed, passed_count, pos, refl, segment_of, slice_get, suc, sum_by-cons, sym}
 use Rattle.tz_info.proofs.Words.{thresholds, w64}
 use Rattle.tz_info.proofs.Words.{zero, ℕ, ℤ, [], ◌+◌, ◌-ℤ◌, ◌-◌, ◌<ℤ◌, ◌<◌, ◌↔◌, ◌∙◌, ◌∷◌, ◌≡◌, ◌≤ℤ◌, ◌≤◌, ◌⊎◌}
 use Rattle.tz_info.specs.declared.rule.transition_rule.TransitionRule.TheVariants.{Alternate, Fixed}
@@ -383,12 +383,6 @@ pub with_start : (z : Zone) (place : ℕ) (start : ℤ) (r : Option Change) → 
     → MatchOption r (HasNoneAt z place) (λ c. IsChange (TypeAt z) c × ComesAt z place c.at)
 with_start z place start None valid some comes h = none_there z place start valid some comes h
 with_start z place start (Some c) valid some comes h = (h.0, rw h.1 comes)
-
--- as many transitions as have come are those of the segments before
-pub counted_segment : (z : Zone) (u x : ℤ) (n : ℕ) → IsLeapTime z.leaps u x → n ≤ length z.transitions → passed z.transitions x ≡ take n z.transitions → AreComeAt z u n
-counted_segment z u x n l within e =
-    let m : length (take n z.transitions) ≡ n = simp length-take (omega arith) in
-    record { leap_time = x; of_second = l; is = sym m ∙ sym (ap length e) ∙ come_at_time z u x l }
 
 pub begin_last : (z : Zone) (place : ℕ) (start : ℤ) → place + 1 ≡ length z.transitions → ComesAt z place start → IsBegin z start
 begin_last z place start e comes = record {

@@ -13,6 +13,7 @@ mod lookup;
 pub(crate) mod lookups;
 pub(crate) mod offset_stretch;
 mod one_pass;
+mod parts;
 mod pieces;
 mod posix;
 mod runs;

@@ -7,9 +7,9 @@
 ghost use Rattle.std.specs.Prelude.{◌≡◌, ◌≢◌, ◌<◌, length, ℤ, pos, neg_ℤ, ◌<ℤ◌, ◌-ℤ◌, ◌≤ℤ◌, ◌↔◌, FitsSigned, MatchOption, Some};
 ghost use Rattle.std.specs.Int.{w64};
 ghost use Rattle.tz_info.specs.Changes.{IsChange, HasNoChange, IsFirst, IsLast};
-ghost use Rattle.tz_info.specs.Leaps.{AreLeapSeconds, IsLeapTime, IsLeapTimeRefused};
+ghost use Rattle.tz_info.specs.Leaps.{AreLeapSeconds, IsLeapTime};
 ghost use Rattle.tz_info.specs.Rules.{Alternate as AlternateRule};
-ghost use Rattle.tz_info.specs.Steps.Changes.{AreComeAt, AreComeOrAll, ComesAt, HasNoneAt};
+ghost use Rattle.tz_info.specs.Steps.Changes.{AreComeOrAll, ComesAt, HasNoneAt};
 ghost use Rattle.tz_info.specs.Steps.Changes.{IsAhead, IsBegin, IsByRule, IsInTable, IsNearest};
 ghost use Rattle.tz_info.specs.Zones.{HasType, TypeAt};
 ghost use Rattle.tz_info.specs.declared.rule.transition_rule.TransitionRule.TheVariants.{Alternate};
@@ -17,7 +17,6 @@ ghost use Rattle.tz_info.specs.declared.rule.transition_rule.TransitionRule.TheV
 use crate::change::change_between;
 use crate::rule::{AlternateTime, TransitionRule};
 use crate::zone::leap_second::LeapSecond;
-use crate::zone::leap_time::leap_time;
 use crate::zone::starts::{correction_behind, entries_come};
 use crate::zone::time_zone::TimeZone;
 use tz_base::{Change, LocalTimeType};
@@ -135,21 +134,11 @@ impl TimeZone {
     pub(super) fn come_at(&self, second: i64) -> usize
         ensures { AreComeOrAll self.now second result }
     {
-        match self.come_by(second) {
-            Some(count) => count,
-            None => self.transition_count(),
-        }
-    }
-
-    // How many transitions have come at the second, if it has a leap time.
-    #[inline(always)]
-    pub(super) fn come_by(&self, second: i64) -> Option<usize>
-        ensures { MatchOption result (IsLeapTimeRefused self.now.leaps second)
-            (AreComeAt self.now second) }
-    {
-        match leap_time(&self.leap_seconds, second) {
-            Ok(leap_time) => Some(self.passed_count(leap_time, &mut Probes::new())),
-            Err(_) => None,
+        let count = self.transition_count();
+        let mut probes = Probes::new();
+        match self.passed_at(second, &mut probes) {
+            Some(passed) => passed.count,
+            None => count,
         }
     }
 

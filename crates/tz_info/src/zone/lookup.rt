@@ -1,14 +1,15 @@
 //! The type in force at an instant, and the reads that several lookups share.
 
-ghost use Rattle.std.specs.Prelude.{◌≡◌, ◌+◌, ◌<◌, ◌≤◌, ◌^◌, length, take, slice_index_or, IfOk, MatchResult, Some, None};
+ghost use Rattle.std.specs.Prelude.{◌≡◌, ◌+◌, ◌<◌, ◌≤◌, ◌^◌, length, option_map, take, slice_index_or, IfOk, IfSome, MatchOption, MatchResult, Some, None};
 ghost use Rattle.tz_base.specs.declared.error.Error.TheVariants.{FindLocalTimeType};
 ghost use Rattle.tz_base.specs.declared.error.Expected.TheVariants.{YearThatRuleAnswersIn};
 ghost use Rattle.tz_timeline.specs.Counts.{HasRoom, RoseWithin, HasRoomFor};
 ghost use Rattle.tz_timeline.specs.Digits.{digits};
-ghost use Rattle.tz_info.specs.Leaps.{IsLeapTime, IsNear};
+ghost use Rattle.tz_info.specs.Leaps.{IsLeapTime, IsLeapTimeRefused, IsNear};
 ghost use Rattle.tz_info.specs.Looks.{RoseByInstant};
 ghost use Rattle.tz_info.specs.Questions.{IsAskedAt};
 ghost use Rattle.tz_info.specs.Steps.Asked.{IsAskedAtLeapTime};
+ghost use Rattle.tz_info.specs.Steps.Starts.{HaveComeAt, leap_time_at};
 ghost use Rattle.tz_info.specs.Transitions.{passed};
 ghost use Rattle.tz_info.specs.Zones.{RuleOrType, IsRefusedBy, IsFromLast, TypeAtLeapTime, TypeAt, IsTypeError};
 ghost use Rattle.tz_info.specs.declared.rule.transition_rule.TransitionRule.{TransitionRule};
@@ -17,7 +18,10 @@ use crate::zone::leap_time::leap_time;
 use crate::zone::time_zone::TimeZone;
 use crate::zone::transition::Transition;
 use tz_base::{Error, Expected, LocalTimeType};
-use tz_timeline::Probes;
+use tz_timeline::{Passed, Probes};
+
+// No leap time of a second up to this one leaves 64 bits, nor of one down to its negative.
+const NEAR: i64 = 10_000_000_000_000;
 
 impl TimeZone {
     /// The type in force at the second of Unix time.
@@ -85,41 +89,84 @@ impl TimeZone {
         ensures questions { IsAskedAt self.now unix_time
             probes.old.rule_questions probes.new.rule_questions }
     {
-        let count = self.table.len();
-        if count == 0 {
+        if self.table.len() == 0 {
             return self.rule_or_type(unix_time, 0, probes);
         }
-        match leap_time(&self.leap_seconds, unix_time) {
-            Ok(leap_time) => self.at_leap_time(unix_time, leap_time, probes),
-            Err(_) => Err(Error::FindLocalTimeType(Expected::LeapTimeOf64Bits)),
+        match self.passed_at(unix_time, probes) {
+            Some(passed) => self.type_after(unix_time, passed, probes),
+            None => Err(Error::FindLocalTimeType(Expected::LeapTimeOf64Bits)),
         }
     }
 
-    // The type in force at the second whose leap time is given.
+    // The transitions that have come at the second, if it has a leap time.
     #[inline(always)]
-    fn at_leap_time(
+    pub(super) fn passed_at(
         &self,
         unix_time: i64,
-        leap_time: i64,
+        probes: &mut Probes,
+    ) -> Option<Passed<'_, Transition>>
+        requires { HasRoomFor (digits (length self.now.transitions)) probes.old.reads }
+        ensures come { MatchOption result (IsLeapTimeRefused self.now.leaps unix_time)
+            (λ p. HaveComeAt self.now unix_time p.count (option_map (λ r. r.now) p.latest)) }
+        ensures cost { RoseWithin probes.old probes.new (digits (length self.now.transitions)) 0 }
+        ensures looked { IfSome result (λ _. 0 < length self.now.transitions
+            → probes.old.reads < probes.new.reads) }
+    {
+        if self.leap_seconds.is_empty() {
+            return Some(self.table.passed(unix_time, probes));
+        }
+        self.passed_with_leap_seconds(unix_time, probes)
+    }
+
+    // The same in a zone with leap seconds. Only seconds far from now need their leap time.
+    #[inline(never)]
+    fn passed_with_leap_seconds(
+        &self,
+        unix_time: i64,
+        probes: &mut Probes,
+    ) -> Option<Passed<'_, Transition>>
+        requires leaps { 0 < length self.now.leaps }
+        requires room { HasRoomFor (digits (length self.now.transitions)) probes.old.reads }
+        ensures come { MatchOption result (IsLeapTimeRefused self.now.leaps unix_time)
+            (λ p. HaveComeAt self.now unix_time p.count (option_map (λ r. r.now) p.latest)) }
+        ensures cost { RoseWithin probes.old probes.new (digits (length self.now.transitions)) 0 }
+        ensures looked { IfSome result (λ _. 0 < length self.now.transitions
+            → probes.old.reads < probes.new.reads) }
+    {
+        if -NEAR <= unix_time && unix_time <= NEAR {
+            return Some(self.by_unix_time.passed(unix_time, probes));
+        }
+        match leap_time(&self.leap_seconds, unix_time) {
+            Ok(leap_time) => Some(self.table.passed(leap_time, probes)),
+            Err(_) => None,
+        }
+    }
+
+    // The type in force at a second at which those transitions have come.
+    #[inline(always)]
+    fn type_after(
+        &self,
+        unix_time: i64,
+        passed: Passed<'_, Transition>,
         probes: &mut Probes,
     ) -> Result<&LocalTimeType, Error>
         requires some { 0 < length self.now.transitions }
-        requires room { HasRoom probes.old }
+        requires room { HasRoomFor 1 probes.old.rule_questions }
+        requires come { HaveComeAt self.now unix_time passed.count
+            (option_map (λ r. r.now) passed.latest) }
         ensures found { MatchResult result
-            (λ t. TypeAtLeapTime self.now unix_time leap_time t.now)
-            (λ e. (e ≡ FindLocalTimeType YearThatRuleAnswersIn) × IsFromLast self.now leap_time
+            (λ t. TypeAtLeapTime self.now unix_time (leap_time_at self.now unix_time) t.now)
+            (λ e. (e ≡ FindLocalTimeType YearThatRuleAnswersIn)
+            × IsFromLast self.now (leap_time_at self.now unix_time)
             × IsRefusedBy self.now.rule unix_time) }
-        ensures cost { RoseByInstant self.now probes.old probes.new }
-        ensures looked { probes.old.reads < probes.new.reads }
-        ensures counted { IsAskedAtLeapTime self.now leap_time
+        ensures cost { RoseWithin probes.old probes.new 0 1 }
+        ensures counted { IsAskedAtLeapTime self.now (leap_time_at self.now unix_time)
             probes.old.rule_questions probes.new.rule_questions }
     {
-        let count = self.table.len();
-        let passed = self.table.passed(leap_time, probes);
         let Some(latest) = passed.latest else {
             return Ok(&self.local_types[0]);
         };
-        if passed.count < count {
+        if passed.count < self.table.len() {
             return Ok(&self.local_types[latest.type_index]);
         }
         self.rule_or_type(unix_time, latest.type_index, probes)

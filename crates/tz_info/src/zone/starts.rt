@@ -1,16 +1,45 @@
 //! The first second at which a number of transitions have come, and what a clock shows then.
 
-ghost use Rattle.std.specs.Prelude.{◌≡◌, ℤ, pos, ◌+ℤ◌, ◌≤ℤ◌, ◌↔◌, ◌<◌, ◌≤◌, length, take};
+ghost use Rattle.std.specs.Prelude.{◌≡◌, ℤ, pos, ◌+ℤ◌, ◌≤ℤ◌, ◌↔◌, ◌<◌, ◌≤◌, length, take, MatchResult, ⊤};
 ghost use Rattle.std.specs.Int.{saturate_signed, w64};
 ghost use Rattle.tz_info.specs.Leaps.{AreLeapSeconds, corrections};
 ghost use Rattle.tz_info.specs.Lists.{last_else};
-ghost use Rattle.tz_info.specs.Steps.Starts.{HaveCome, IsReachedFrom};
+ghost use Rattle.tz_info.specs.Steps.Starts.{AreByUnixTime, HaveCome, IsReachedFrom};
 ghost use Rattle.tz_info.specs.Transitions.{AreRising};
 ghost use Rattle.tz_info.specs.WallPieces.{IsStart};
 
 use crate::zone::leap_second::LeapSecond;
 use crate::zone::leap_time::correction_after;
 use crate::zone::transition::Transition;
+use std::alloc::{AllocError, Global};
+use tz_timeline::Timeline;
+
+// The transitions by Unix time, if there are leap seconds: a search for a second needs no leap time
+// then.
+pub(super) fn by_unix_time(
+    alloc: Global,
+    transitions: &[Transition],
+    leaps: &[LeapSecond],
+) -> Result<Timeline<Transition>, AllocError>
+    requires leaps { AreLeapSeconds leaps.now }
+    requires rising { AreRising transitions.now }
+    ensures { MatchResult result (λ t. 0 < length leaps.now → AreByUnixTime transitions.now
+        leaps.now t) (λ _. ⊤) }
+{
+    if leaps.is_empty() {
+        return Ok(Timeline::none(alloc));
+    }
+    let mut entries = Vec::with_capacity(alloc, transitions.len())?;
+    let mut start = i64::MIN;
+    for transition in transitions {
+        start = later(start, first_second(leaps, transition.unix_leap_time));
+        entries.push_reserved(Transition {
+            unix_leap_time: start,
+            type_index: transition.type_index,
+        });
+    }
+    Timeline::new(alloc, entries)
+}
 
 // The first second at which the leap time has come.
 pub(super) fn first_second(leaps: &[LeapSecond], leap_time: i64) -> i64

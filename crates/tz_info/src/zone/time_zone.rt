@@ -1,15 +1,11 @@
 //! A time zone: transitions, the types of its local time, leap seconds, and the rule that goes on
 //! after them.
 
-ghost use Rattle.std.specs.Prelude.{◌≡◌, pos, ◌+◌, ◌*◌, ◌<◌, ◌≤◌, length, MatchResult, ◌⊎◌, option_map};
-ghost use Rattle.std.specs.List.{slice_get};
+ghost use Rattle.std.specs.Prelude.{◌≡◌, pos, ◌<◌, length, MatchResult, ◌⊎◌};
 ghost use Rattle.tz_base.specs.Errors.{IsOutOfMemory};
 ghost use Rattle.tz_base.specs.LocalTypes.{IsUtOffset};
-ghost use Rattle.tz_base.specs.declared.error.Error.TheVariants.{LocalTimeType as TypeError, OutOfMemory, OutOfRange};
-ghost use Rattle.tz_base.specs.declared.error.Expected.TheVariants.{LeapTimeOf64Bits, OffsetAboveI32Min};
-ghost use Rattle.tz_info.specs.Leaps.{IsLeapTime, IsLeapTimeRefused, IsUnixTime, IsUnixTimeRefused, expected_of_leap_time};
-ghost use Rattle.tz_info.specs.WallPieces.{WallIndex, IsIndex};
-ghost use Rattle.tz_info.specs.Windows.{IsGreatest, IsLeast, offsets};
+ghost use Rattle.tz_base.specs.declared.error.Error.TheVariants.{LocalTimeType as TypeError, OutOfMemory};
+ghost use Rattle.tz_base.specs.declared.error.Expected.TheVariants.{OffsetAboveI32Min};
 ghost use Rattle.tz_info.specs.Zones.{Zone, IsValid, ListFault, IsRuleOrNone, plain_zone, zone_of_rule, zone_of_type};
 
 use crate::rule::TransitionRule;
@@ -17,8 +13,8 @@ use crate::zone::extremes::{Extremes, extremes_of};
 use crate::zone::idle::Idle;
 use crate::zone::index::Index;
 use crate::zone::leap_second::LeapSecond;
-use crate::zone::leap_time::{leap_time, unix_time};
 use crate::zone::segments::Lists;
+use crate::zone::starts::by_unix_time;
 use crate::zone::table::Table;
 use crate::zone::transition::Transition;
 use crate::zone::valid::check;
@@ -26,7 +22,7 @@ use std::alloc::Global;
 use std::fmt;
 use std::marker::Model;
 use tz_base::{Error, LocalTimeType};
-use tz_timeline::Probes;
+use tz_timeline::Timeline;
 
 /// A time zone: which type of local time is in force at each instant.
 ///
@@ -40,6 +36,8 @@ use tz_timeline::Probes;
 #[derive(Drop)]
 pub struct TimeZone {
     pub(super) table: Table,
+    // The transitions by Unix time, if there are leap seconds.
+    pub(super) by_unix_time: Timeline<Transition>,
     pub(super) local_types: Vec<LocalTimeType>,
     pub(super) leap_seconds: Vec<LeapSecond>,
     pub(super) last_rule: Option<TransitionRule>,
@@ -69,7 +67,7 @@ impl Model for TimeZone {
       types = z.local_types.items;
       leaps = z.leap_seconds.items;
       rule = z.last_rule;
-    }) z.extremes z.idle z.index };
+    }) z.extremes z.idle z.index z.by_unix_time };
 }
 
 // Of the lists alone: the rest follows from them.
@@ -156,8 +154,10 @@ impl TimeZone {
         let index = Index::new(alloc, lists)?;
         let idle = Idle::new(alloc, lists)?;
         let extremes = extremes_of(&types, &rule);
+        let by_unix_time = by_unix_time(alloc, &transitions, &leaps)?;
         Ok(TimeZone {
             table: Table::new(alloc, transitions)?,
+            by_unix_time,
             local_types: types,
             leap_seconds: leaps,
             last_rule: rule,
@@ -211,6 +211,7 @@ impl TimeZone {
         let extremes = extremes_of(&types, &rule);
         TimeZone {
             table: Table::none(alloc),
+            by_unix_time: Timeline::none(alloc),
             local_types: types,
             leap_seconds: leaps,
             last_rule: rule,
@@ -236,116 +237,5 @@ impl TimeZone {
         ensures rule { IsRuleOrNone self.now.rule }
     {
         let _ = &self.table;
-    }
-
-    /// How many transitions the zone has.
-    pub fn transition_count(&self) -> usize
-        ensures { result ≡ length self.now.transitions }
-    {
-        self.table.len()
-    }
-
-    /// How many types of local time the zone has; one at least.
-    pub fn type_count(&self) -> usize
-        ensures count { result ≡ length self.now.types }
-        ensures some { 0 < length self.now.types }
-    {
-        self.local_types.len()
-    }
-
-    /// The types of local time that the zone lists. Its rule may have others.
-    pub fn local_time_types(&self) -> &[LocalTimeType]
-        ensures types { result.now ≡ self.now.types }
-        // The zone is a valid one, and its rule's numbers are in their limits.
-        ensures valid { IsValid self.now }
-        ensures rule { IsRuleOrNone self.now.rule }
-    {
-        &self.local_types
-    }
-
-    /// The transition at that place, from 0 in the order of time, or `None` if the zone has fewer.
-    pub fn transition_at(&self, place: usize) -> Option<Transition>
-        ensures { result ≡ slice_get self.now.transitions place }
-    {
-        if place >= self.transition_count() {
-            return None;
-        }
-        let mut probes = Probes::new();
-        Some(self.transition(place, &mut probes))
-    }
-
-    /// The leap seconds that the zone lists, in the order of time.
-    pub fn leap_seconds(&self) -> &[LeapSecond]
-        ensures { result.now ≡ self.now.leaps }
-    {
-        &self.leap_seconds
-    }
-
-    /// How many leap seconds the zone has.
-    pub fn leap_count(&self) -> usize
-        ensures { result ≡ length self.now.leaps }
-    {
-        self.leap_seconds.len()
-    }
-
-    /// The rule that says what follows the last transition, or `None` if the zone has none.
-    pub fn rule(&self) -> Option<&TransitionRule>
-        ensures { option_map (λ r. r.now) result ≡ self.now.rule }
-    {
-        self.last_rule.as_ref()
-    }
-
-    /// The least offset of the zone's types and of its rule's, in seconds east of UTC.
-    pub fn least_offset(&self) -> i32
-        ensures { IsLeast (offsets self.now.types self.now.rule) result }
-    {
-        self.extremes.least
-    }
-
-    /// The greatest offset of the zone's types and of its rule's, in seconds east of UTC.
-    pub fn greatest_offset(&self) -> i32
-        ensures { IsGreatest (offsets self.now.types self.now.rule) result }
-    {
-        self.extremes.greatest
-    }
-
-    /// How many pieces the zone's index of the wall-clock axis has.
-    pub fn piece_count(&self) -> usize
-        ensures pieces { (index : WallIndex) × IsIndex self.now index
-            × (result ≡ length index.pieces) }
-        ensures most { result ≤ 2 * length self.now.transitions }
-    {
-        self.index.len()
-    }
-
-    /// The leap time of a Unix time: the second counted from 1970 with the zone's leap seconds.
-    ///
-    /// # Errors
-    ///
-    /// [`Error::OutOfRange`] if the Unix time and the correction of a leap second that it has
-    /// passed leave 64 bits.
-    pub fn unix_time_to_unix_leap_time(&self, unix_time: i64) -> Result<i64, Error>
-        ensures { MatchResult result
-            (λ x. IsLeapTime self.now.leaps unix_time x)
-            (λ e. (e ≡ OutOfRange LeapTimeOf64Bits)
-            × IsLeapTimeRefused self.now.leaps unix_time) }
-    {
-        leap_time(&self.leap_seconds, unix_time)
-    }
-
-    /// The Unix time of a leap time: the second without the leap seconds before it. An inserted
-    /// leap second has the Unix time of the second after it.
-    ///
-    /// # Errors
-    ///
-    /// [`Error::OutOfRange`] if the leap time is `i64::MIN`, or if less its correction it leaves 64
-    /// bits.
-    pub fn unix_leap_time_to_unix_time(&self, unix_leap_time: i64) -> Result<i64, Error>
-        ensures { MatchResult result
-            (λ u. IsUnixTime self.now.leaps unix_leap_time u)
-            (λ e. (e ≡ OutOfRange (expected_of_leap_time unix_leap_time))
-            × IsUnixTimeRefused self.now.leaps unix_leap_time) }
-    {
-        unix_time(&self.leap_seconds, unix_leap_time)
     }
 }

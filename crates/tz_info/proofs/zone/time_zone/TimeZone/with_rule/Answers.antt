@@ -12,6 +12,7 @@ invariant_of-result c =
       valid = zone_of_rule_valid c.args.types.items c.args.rule c.requires;
       limits = c.extremes_of-extremes.ensures.limits;
       extremes = rw c.deref-4.ensures.value at c.extremes_of-extremes.ensures.extremes;
-      runs = λ k below. absurd (omega (arith, c.none-2.ensures));
+      runs = λ k below. absurd (omega (arith, c.none-3.ensures));
       index = rw (c.deref.ensures.value, c.new-transitions.ensures.items, c.deref-2.ensures.value, c.deref-3.ensures.value, c.new-leaps.ensures.items) at c.without_pieces-index.ensures;
+      unix_times = λ some. absurd (omega arith);
     })

@@ -1,0 +1,15 @@
+use Rattle.tz_info.proofs.Words.{length, rules, to_z-of_z, ◌≡◌}
+use Rattle.tz_info.proofs.LeaplessChanges.{own_leap_time}
+use Rattle.tz_info.proofs.PassedTransitions.{first_come_at, last_named}
+use Rattle.tz_info.proofs.zone.time_zone.TimeZone.passed_at.Goals as goal
+
+pub passed-requires : goal.passed-requires
+passed-requires c = rw (← c.self.view_is) at c.requires
+
+pub returns-then-is_empty-clause-come : goal.returns-then-is_empty-clause-come
+returns-then-is_empty-clause-come c =
+    let fu = c.ranges.unix_time in
+    let none : length c.self.inside.leap_seconds.items ≡ 0 = search rules in
+    let first = simp to_z-of_z at c.passed.ensures.passed in
+    rw (← c.self.view_is) (first_come_at _ c.args.unix_time c.args.unix_time c.passed.result.count _ c.self.invariant.valid
+    (own_leap_time _ c.args.unix_time none) c.passed.ensures.within first (last_named _ _ _ c.passed.ensures.latest))

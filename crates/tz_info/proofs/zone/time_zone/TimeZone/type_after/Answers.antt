@@ -1,0 +1,29 @@
+use Rattle.tz_info.proofs.Words.{Bor, LocalType, Zone, ap, arith, length, refl, slice_get_read, to_z-of_z}
+use Rattle.tz_info.proofs.PassedTransitions.{at_first, at_last, at_middle}
+use Rattle.tz_info.proofs.zone.time_zone.TimeZone.type_after.Goals as goal
+
+pub returns-in_default-clause-found : goal.returns-in_default-clause-found
+returns-in_default-clause-found c =
+    let fu = c.ranges.unix_time in
+    let come = rw c.in_default.is at c.requires.come in
+    (at_first c.args.self.now c.args.unix_time _ _ come c.requires.some
+    (rw (← c.self.view_is) (slice_get_read c.self.inside.local_types.items _ 0 _ refl (omega arith) c.index.ensures)))
+
+pub returns-then-passed-len-clause-found : goal.returns-then-passed-len-clause-found
+returns-then-passed-len-clause-found c =
+    let fu = c.ranges.unix_time in
+    let come = rw c.in-Some.is at c.requires.come in
+    let below = come.named.1 in
+    let same = ap (λ (z : Zone). length z.types) c.self.view_is in
+    let all = ap (λ (z : Zone). length z.transitions) c.self.view_is in
+    (at_middle c.args.self.now c.args.unix_time _ c.in-Some.latest.now _ come (omega arith)
+    (rw (← c.self.view_is)
+    (slice_get_read c.self.inside.local_types.items _ c.in-Some.latest.now.type_index _ refl (omega arith) c.index-then-passed-len.ensures)))
+
+pub returns-clause-found : goal.returns-clause-found
+returns-clause-found c =
+    let fu = c.ranges.unix_time in
+    let come = rw c.in-Some.is at c.requires.come in
+    let all = ap (λ (z : Zone). length z.transitions) c.self.view_is in
+    (at_last (λ (t : Bor LocalType). t.now) c.args.self.now c.args.unix_time _ c.in-Some.latest.now c.rule_or_type.result come (omega arith)
+    (simp to_z-of_z at c.rule_or_type.ensures.found))
