@@ -205,3 +205,7 @@ def cited(clause):
         page, there = clause.imports.get(name, (None, None))
         if page and there and page.split(".")[1] in crates():
             yield page, there
+    for alias, name in set(re.findall(rf"(?<![\w.])({NAME})\.({NAME})", clause.text)):
+        page, there = clause.imports.get(alias, (None, None))
+        if page and not there and page.split(".")[1] in crates():
+            yield page, name

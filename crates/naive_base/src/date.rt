@@ -3,7 +3,7 @@ ghost use Rattle.std.specs.Prelude.{◌≡◌, ◌↔◌, IsTrue, IfSome, ◌+�
 ghost use Rattle.gregorian.specs.Year.{floor_div};
 ghost use Rattle.gregorian.specs.Date.{IsDate, day_number};
 ghost use Rattle.gregorian.specs.DateOf.{year_of, month_of, day_of_month};
-ghost use Rattle.naive_base.specs.Range.{IsYearInRange, IsInnerYear, IsWideYear, IsDayInRange, IsInnerDay, IsInRange, IsInner, IsWideDay, IsWide};
+ghost use Rattle.naive_base.specs.Range as range;
 ghost use Rattle.naive_base.specs.Clock.{IsClock, clock_second};
 ghost use Rattle.naive_base.specs.Reading.{reading_at, day_at, second_at};
 
@@ -28,17 +28,17 @@ use gregorian::YearMonthDay;
 #[derive(Clone, Copy, PartialEq, Eq, PartialOrd, Ord, Hash)]
 pub struct NaiveDate {
     day: i32,
-    pub ghost in_range: { IsWideDay day },
+    pub ghost in_range: { range.IsWideDay day },
 }
 
 // 1970-01-01, where 0001-01-01 is day 1.
 const EPOCH_FROM_CE: i64 = 719_163;
 
 fn day_in_range(year: i32, month: u32, day: u32) -> i32
-    requires year { IsYearInRange year }
+    requires year { range.IsYearInRange year }
     requires date { IsDate year month day }
     ensures value { result ≡ day_number year month day }
-    ensures bound { IsDayInRange result }
+    ensures bound { range.IsDayInRange result }
 {
     gregorian::day_number(year, month, day) as i32
 }
@@ -67,8 +67,8 @@ impl NaiveDate {
     /// ```
     pub fn from_ymd_opt(year: i32, month: u32, day: u32) -> Option<NaiveDate>
         ensures value { IsDateOf year month day result }
-        ensures in_range { IfSome result (λ d. IsDayInRange (day_of d)) }
-        ensures inner { IsInnerYear year → IfSome result (λ d. IsInnerDay (day_of d)) }
+        ensures in_range { IfSome result (λ d. range.IsDayInRange (day_of d)) }
+        ensures inner { range.IsInnerYear year → IfSome result (λ d. range.IsInnerDay (day_of d)) }
     {
         if year < FIRST_YEAR || year > LAST_YEAR {
             return None;
@@ -81,10 +81,10 @@ impl NaiveDate {
 
     // The date with these fields, which the calendar has.
     pub(crate) fn of_ymd(year: i32, month: u32, day: u32) -> NaiveDate
-        requires year { IsYearInRange year }
+        requires year { range.IsYearInRange year }
         requires date { IsDate year month day }
         ensures value { day_of result ≡ day_number year month day }
-        ensures in_range { IsDayInRange (day_of result) }
+        ensures in_range { range.IsDayInRange (day_of result) }
     {
         NaiveDate {
             day: day_in_range(year, month, day),
@@ -150,10 +150,10 @@ impl NaiveDate {
     pub fn and_hms_opt(&self, hour: u32, min: u32, sec: u32) -> Option<NaiveDateTime>
         ensures value { IsReadingOn (day_of self.now) (IsClock hour min sec)
             (clock_second hour min sec) 0 result }
-        ensures in_range { IsDayInRange (day_of self.now) → IfSome result
-            (λ r. IsInRange (reading r).s) }
-        ensures inner { IsInnerDay (day_of self.now) → IfSome result
-            (λ r. IsInner (reading r).s) }
+        ensures in_range { range.IsDayInRange (day_of self.now) → IfSome result
+            (λ r. range.IsInRange (reading r).s) }
+        ensures inner { range.IsInnerDay (day_of self.now) → IfSome result
+            (λ r. range.IsInner (reading r).s) }
     {
         let time = NaiveTime::from_hms_opt(hour, min, sec)?;
         Some(self.and_time(time))
@@ -175,10 +175,10 @@ impl NaiveDate {
     ) -> Option<NaiveDateTime>
         ensures value { IsReadingOn (day_of self.now) (IsClock hour min sec)
             (clock_second hour min sec) (milli * 1_000_000) result }
-        ensures in_range { IsDayInRange (day_of self.now) → IfSome result
-            (λ r. IsInRange (reading r).s) }
-        ensures inner { IsInnerDay (day_of self.now) → IfSome result
-            (λ r. IsInner (reading r).s) }
+        ensures in_range { range.IsDayInRange (day_of self.now) → IfSome result
+            (λ r. range.IsInRange (reading r).s) }
+        ensures inner { range.IsInnerDay (day_of self.now) → IfSome result
+            (λ r. range.IsInner (reading r).s) }
     {
         let time = NaiveTime::from_hms_milli_opt(hour, min, sec, milli)?;
         Some(self.and_time(time))
@@ -200,10 +200,10 @@ impl NaiveDate {
     ) -> Option<NaiveDateTime>
         ensures value { IsReadingOn (day_of self.now) (IsClock hour min sec)
             (clock_second hour min sec) (micro * 1_000) result }
-        ensures in_range { IsDayInRange (day_of self.now) → IfSome result
-            (λ r. IsInRange (reading r).s) }
-        ensures inner { IsInnerDay (day_of self.now) → IfSome result
-            (λ r. IsInner (reading r).s) }
+        ensures in_range { range.IsDayInRange (day_of self.now) → IfSome result
+            (λ r. range.IsInRange (reading r).s) }
+        ensures inner { range.IsInnerDay (day_of self.now) → IfSome result
+            (λ r. range.IsInner (reading r).s) }
     {
         let time = NaiveTime::from_hms_micro_opt(hour, min, sec, micro)?;
         Some(self.and_time(time))
@@ -225,10 +225,10 @@ impl NaiveDate {
     ) -> Option<NaiveDateTime>
         ensures value { IsReadingOn (day_of self.now) (IsClock hour min sec)
             (clock_second hour min sec) nano result }
-        ensures in_range { IsDayInRange (day_of self.now) → IfSome result
-            (λ r. IsInRange (reading r).s) }
-        ensures inner { IsInnerDay (day_of self.now) → IfSome result
-            (λ r. IsInner (reading r).s) }
+        ensures in_range { range.IsDayInRange (day_of self.now) → IfSome result
+            (λ r. range.IsInRange (reading r).s) }
+        ensures inner { range.IsInnerDay (day_of self.now) → IfSome result
+            (λ r. range.IsInner (reading r).s) }
     {
         let time = NaiveTime::from_hms_nano_opt(hour, min, sec, nano)?;
         Some(self.and_time(time))
@@ -239,7 +239,7 @@ impl NaiveDate {
         ensures month { result.month ≡ month_of (day_of self.now) }
         ensures day { result.day ≡ day_of_month (day_of self.now) }
         ensures date { IsDate result.year result.month result.day }
-        ensures bound { IsWideYear result.year }
+        ensures bound { range.IsWideYear result.year }
     {
         gregorian::date_of(self.number())
     }
@@ -247,14 +247,14 @@ impl NaiveDate {
     // The day number.
     pub(crate) fn number(&self) -> i64
         ensures value { result ≡ day_of self.now }
-        ensures bound { IsWideDay result }
+        ensures bound { range.IsWideDay result }
     {
         self.day as i64
     }
 
     // The day that a second since the epoch lies in.
     pub(crate) fn of_second(second: i64) -> NaiveDate
-        requires { IsWide second }
+        requires { range.IsWide second }
         ensures { day_of result ≡ floor_div second 86_400 }
     {
         NaiveDate {
@@ -263,7 +263,7 @@ impl NaiveDate {
     }
 
     pub(crate) fn of_day(day: i64) -> NaiveDate
-        requires { IsWideDay day }
+        requires { range.IsWideDay day }
         ensures { day_of result ≡ day }
     {
         NaiveDate { day: day as i32 }
@@ -278,7 +278,7 @@ impl NaiveDate {
     // The seconds from the epoch to midnight.
     pub(crate) fn midnight(&self) -> i64
         ensures value { result ≡ day_of self.now *ℤ pos 86_400 }
-        ensures bound { IsWide result }
+        ensures bound { range.IsWide result }
     {
         self.day as i64 * 86_400
     }

@@ -5,8 +5,8 @@ ghost use Rattle.gregorian.specs.Year.{floor_div};
 ghost use Rattle.gregorian.specs.Date.{day_number};
 ghost use Rattle.gregorian.specs.DateOf.{year_of};
 ghost use Rattle.naive_base.specs.IsoWeek.{IsWeekOf, iso_year, iso_number};
-ghost use Rattle.naive_base.specs.Range.{IsYearInRange, IsInnerYear, IsWideYear, IsDayInRange, IsInnerDay, IsWideDay, IsInRange, IsInner, IsWide, first_day, last_day, first_reading, last_reading};
-ghost use Rattle.naive_base.specs.Reading.{Reading, reading_at, day_at, second_at, moved, difference, IsEarlier, IsEarlierTime, IsEarlierByDay};
+ghost use Rattle.naive_base.specs.Range as range;
+ghost use Rattle.naive_base.specs.Reading as readings;
 ghost use Rattle.naive_base.specs.NaiveDate.{day_of, printed_date};
 ghost use Rattle.naive_base.specs.NaiveTime.{second_of, fraction_of, printed_time};
 ghost use Rattle.naive_base.specs.NaiveDateTime.{reading, printed_reading, debug_reading};
@@ -22,19 +22,19 @@ pub mod comparisons;
 /// The range is that of the years -262143 to 262142, by days as by seconds, and the buffer days lie
 /// in the years next to it. The inner years are all but the first and the last.
 pub fn range_law()
-    ensures days { (day : ℤ) → IsDayInRange day ↔ IsYearInRange (year_of day) }
-    ensures seconds { (s : ℤ) → IsInRange s ↔ IsDayInRange (floor_div s 86_400) }
-    ensures inner_days { (day : ℤ) → IsInnerDay day ↔ IsInnerYear (year_of day) }
-    ensures inner_seconds { (s : ℤ) → IsInner s ↔ IsInnerDay (floor_div s 86_400) }
-    ensures wide_days { (day : ℤ) → IsWideDay day → IsWideYear (year_of day) }
-    ensures wide_seconds { (s : ℤ) → IsWide s ↔ IsWideDay (floor_div s 86_400) }
+    ensures days { (day : ℤ) → range.IsDayInRange day ↔ range.IsYearInRange (year_of day) }
+    ensures seconds { (s : ℤ) → range.IsInRange s ↔ range.IsDayInRange (floor_div s 86_400) }
+    ensures inner_days { (day : ℤ) → range.IsInnerDay day ↔ range.IsInnerYear (year_of day) }
+    ensures inner_seconds { (s : ℤ) → range.IsInner s ↔ range.IsInnerDay (floor_div s 86_400) }
+    ensures wide_days { (day : ℤ) → range.IsWideDay day → range.IsWideYear (year_of day) }
+    ensures wide_seconds { (s : ℤ) → range.IsWide s ↔ range.IsWideDay (floor_div s 86_400) }
 {}
 
 /// The constants: the first local date-time in range, the last that is no leap second, and
 /// midnight.
 pub fn constants() -> (NaiveDateTime, NaiveDateTime, NaiveTime)
-    ensures least { reading result.0 ≡ first_reading }
-    ensures greatest { reading result.1 ≡ last_reading }
+    ensures least { reading result.0 ≡ range.first_reading }
+    ensures greatest { reading result.1 ≡ range.last_reading }
     ensures midnight { (second_of result.2 ≡ 0) × (fraction_of result.2 ≡ 0) }
 {
     (NaiveDateTime::MIN, NaiveDateTime::MAX, NaiveTime::MIN)
@@ -42,35 +42,35 @@ pub fn constants() -> (NaiveDateTime, NaiveDateTime, NaiveTime)
 
 /// The first and the last date in range.
 pub fn first_and_last_date() -> (NaiveDate, NaiveDate)
-    ensures first { day_of result.0 ≡ first_day }
-    ensures last { day_of result.1 ≡ last_day }
+    ensures first { day_of result.0 ≡ range.first_day }
+    ensures last { day_of result.1 ≡ range.last_day }
 {
     (NaiveDate::MIN, NaiveDate::MAX)
 }
 
 /// A local date-time is its day and its time, and any day and time make one.
 pub fn parts_law()
-    ensures joined { (r : Reading) → reading_at (day_at r) (second_at r) r.f ≡ r }
+    ensures joined { (r : readings.Reading) → readings.reading_at (readings.day_at r) (readings.second_at r) r.f ≡ r }
     ensures parted { (day : ℤ) (second f : ℕ) → second < 86_400
-        → (day_at (reading_at day second f) ≡ day) × (second_at (reading_at day second f)
-        ≡ second) }
+        → (readings.day_at (readings.reading_at day second f) ≡ day)
+        × (readings.second_at (readings.reading_at day second f) ≡ second) }
 {}
 
 /// The order of local date-times is the order of their days and, on one day, of their times.
 pub fn order_law()
-    ensures { (a b : Reading) → IsEarlier a b ↔ IsEarlierByDay a b }
+    ensures { (a b : readings.Reading) → readings.IsEarlier a b ↔ readings.IsEarlierByDay a b }
 {}
 
 /// Away from leap seconds a move is undone by its opposite, and the difference says how far it
 /// went. A move of no length changes no local date-time, in leap seconds too, and each is no time
 /// away from itself.
 pub fn moves_law()
-    ensures back { (r : Reading) (d : ℤ) → r.f < 1_000_000_000
-        → ((moved r d).f < 1_000_000_000) × (moved (moved r d) (neg_ℤ d) ≡ r) }
-    ensures difference { (r : Reading) (d : ℤ) → r.f < 1_000_000_000 → difference (moved r d) r
-        ≡ d }
-    ensures stays { (r : Reading) → r.f < 2_000_000_000 → moved r (pos 0) ≡ r }
-    ensures itself { (r : Reading) → difference r r ≡ pos 0 }
+    ensures back { (r : readings.Reading) (d : ℤ) → r.f < 1_000_000_000
+        → ((readings.moved r d).f < 1_000_000_000) × (readings.moved (readings.moved r d) (neg_ℤ d) ≡ r) }
+    ensures difference { (r : readings.Reading) (d : ℤ) → r.f < 1_000_000_000
+        → readings.difference (readings.moved r d) r ≡ d }
+    ensures stays { (r : readings.Reading) → r.f < 2_000_000_000 → readings.moved r (pos 0) ≡ r }
+    ensures itself { (r : readings.Reading) → readings.difference r r ≡ pos 0 }
 {}
 
 /// Each day lies in one ISO week, and in each year 4 January lies in the first.

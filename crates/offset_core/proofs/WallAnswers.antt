@@ -86,3 +86,5 @@ IsWallAnswer-map_of shows shows_too f there back (Ambiguous a b) between = recor
   not_before = λ u c s. let was = back u c s in between.not_before u was.0 was.1;
   not_after = λ u c s. let was = back u c s in between.not_after u was.0 was.1;
 }
+
+pub ruleset exclusions = (never_or_once, never_or_between, once_or_between)

@@ -1,6 +1,6 @@
 //! The answer of a lookup by local time.
 ghost use Rattle.std.specs.Prelude.{◌≡◌, IsSome};
-ghost use Rattle.offset_core.specs.LocalResult.{single_of, earliest_of, latest_of, IsMapped, IsAndThen, IsCallableOnEach, all_or_none};
+ghost use Rattle.offset_core.specs.LocalResult as results;
 
 /// The answer of a lookup by local time: no value, one, or two.
 ///
@@ -34,7 +34,7 @@ impl<T> LocalResult<T> {
     pub fn single(self) -> Option<T>
     where
         T: Drop,
-        ensures { result ≡ single_of self }
+        ensures { result ≡ results.single_of self }
     {
         match self {
             LocalResult::Single(value) => Some(value),
@@ -46,7 +46,7 @@ impl<T> LocalResult<T> {
     pub fn earliest(self) -> Option<T>
     where
         T: Drop,
-        ensures { result ≡ earliest_of self }
+        ensures { result ≡ results.earliest_of self }
     {
         match self {
             LocalResult::Single(value) => Some(value),
@@ -59,7 +59,7 @@ impl<T> LocalResult<T> {
     pub fn latest(self) -> Option<T>
     where
         T: Drop,
-        ensures { result ≡ latest_of self }
+        ensures { result ≡ results.latest_of self }
     {
         match self {
             LocalResult::Single(value) => Some(value),
@@ -73,8 +73,8 @@ impl<T> LocalResult<T> {
     /// Requires: `f` may be called with each value; with the last one in the state in which the call
     /// with the first one left it.
     pub fn map<U, F: FnMut(T) -> U>(self, mut f: F) -> LocalResult<U>
-        requires { IsCallableOnEach F.pre F.step f self }
-        ensures { IsMapped F.step f self result }
+        requires { results.IsCallableOnEach F.pre F.step f self }
+        ensures { results.IsMapped F.step f self result }
     {
         match self {
             LocalResult::Single(value) => LocalResult::Single(f(value)),
@@ -94,15 +94,15 @@ impl<T> LocalResult<T> {
     pub fn and_then<U, F: FnMut(T) -> Option<U>>(self, f: F) -> LocalResult<U>
     where
         U: Drop,
-        requires { IsCallableOnEach F.pre F.step f self }
-        ensures { IsAndThen F.step f self result }
+        requires { results.IsCallableOnEach F.pre F.step f self }
+        ensures { results.IsAndThen F.step f self result }
     {
         self.map(f).all_or_none()
     }
 
     /// Returns the value of a `Single`. Requires: this is one, as [`LocalResult::single`] shows.
     pub fn unwrap(self) -> T
-        requires { IsSome (single_of self) }
+        requires { IsSome (results.single_of self) }
         ensures { self ≡ LocalResult.Single result }
     {
         match self {
@@ -115,7 +115,7 @@ impl<T> LocalResult<T> {
 impl<T: Drop> LocalResult<Option<T>> {
     // The values, or `None` where one of them is missing.
     fn all_or_none(self) -> LocalResult<T>
-        ensures { result ≡ all_or_none self }
+        ensures { result ≡ results.all_or_none self }
     {
         match self {
             LocalResult::Single(value) => match value {

@@ -1,7 +1,7 @@
 //! Lengths of time.
 ghost use Rattle.std.specs.Prelude.{◌≡◌, ◌<◌, ◌≤ℤ◌, pos, neg_ℤ, ◌+ℤ◌, ◌*ℤ◌};
 ghost use Rattle.std.specs.Duration.{as_nanos};
-ghost use Rattle.offset_core.specs.Nanoseconds.{AreParts, FitsTimeDelta, nanos_per_microsecond, nanos_per_millisecond, nanos_per_second, nanos_per_minute, nanos_per_hour, nanos_per_day, nanos_per_week};
+ghost use Rattle.offset_core.specs.Nanoseconds as lengths;
 
 mod arithmetic;
 mod operators;
@@ -30,7 +30,7 @@ pub struct TimeDelta {
     secs: i64,
     // The nanoseconds after these seconds.
     nanos: u32,
-    pub ghost in_range: { AreParts secs nanos },
+    pub ghost in_range: { lengths.AreParts secs nanos },
 }
 
 const SECONDS_PER_MINUTE: i64 = 60;
@@ -73,7 +73,7 @@ impl TimeDelta {
 
     fn of_parts(secs: i64, nanos: u32) -> Option<TimeDelta>
         requires { nanos < 1_000_000_000 }
-        ensures { IsDeltaOf (secs *ℤ nanos_per_second +ℤ pos nanos) result }
+        ensures { IsDeltaOf (secs *ℤ lengths.nanos_per_second +ℤ pos nanos) result }
     {
         let (least, greatest) = (TimeDelta::MIN, TimeDelta::MAX);
         if secs < least.secs || secs > greatest.secs {
@@ -93,7 +93,7 @@ impl TimeDelta {
         requires least { neg_ℤ (pos 20_000_000_000_000_000) ≤ℤ secs }
         requires greatest { secs ≤ℤ pos 20_000_000_000_000_000 }
         requires nanos { nanos < 2_000_000_000 }
-        ensures { IsDeltaOf (secs *ℤ nanos_per_second +ℤ pos nanos) result }
+        ensures { IsDeltaOf (secs *ℤ lengths.nanos_per_second +ℤ pos nanos) result }
     {
         if nanos < 1_000_000_000 {
             return TimeDelta::of_parts(secs, nanos);
@@ -102,7 +102,7 @@ impl TimeDelta {
     }
 
     fn of_seconds(secs: i128) -> Option<TimeDelta>
-        ensures { IsDeltaOf (secs *ℤ nanos_per_second) result }
+        ensures { IsDeltaOf (secs *ℤ lengths.nanos_per_second) result }
     {
         match i64::try_from(secs) {
             Ok(secs) => TimeDelta::of_parts(secs, 0),
@@ -145,7 +145,7 @@ impl TimeDelta {
 
     /// Returns the length of that many microseconds.
     pub fn microseconds(micros: i64) -> TimeDelta
-        ensures { nanos_of result ≡ micros *ℤ nanos_per_microsecond }
+        ensures { nanos_of result ≡ micros *ℤ lengths.nanos_per_microsecond }
     {
         TimeDelta {
             secs: micros.div_euclid(1_000_000),
@@ -156,7 +156,7 @@ impl TimeDelta {
     /// Returns the length of that many milliseconds, or `None` if it is out of range, as only that
     /// of `i64::MIN` is.
     pub fn try_milliseconds(millis: i64) -> Option<TimeDelta>
-        ensures { IsDeltaOf (millis *ℤ nanos_per_millisecond) result }
+        ensures { IsDeltaOf (millis *ℤ lengths.nanos_per_millisecond) result }
     {
         let nanos = millis.rem_euclid(1_000) as u32 * 1_000_000;
         TimeDelta::of_parts(millis.div_euclid(1_000), nanos)
@@ -165,83 +165,83 @@ impl TimeDelta {
     /// Returns the length of that many milliseconds. Requires: [`TimeDelta::try_milliseconds`]
     /// returns one.
     pub fn milliseconds(millis: i64) -> TimeDelta
-        requires { FitsTimeDelta (millis *ℤ nanos_per_millisecond) }
-        ensures { nanos_of result ≡ millis *ℤ nanos_per_millisecond }
+        requires { lengths.FitsTimeDelta (millis *ℤ lengths.nanos_per_millisecond) }
+        ensures { nanos_of result ≡ millis *ℤ lengths.nanos_per_millisecond }
     {
         TimeDelta::try_milliseconds(millis).unwrap()
     }
 
     /// Returns the length of that many seconds, or `None` if it is out of range.
     pub fn try_seconds(secs: i64) -> Option<TimeDelta>
-        ensures { IsDeltaOf (secs *ℤ nanos_per_second) result }
+        ensures { IsDeltaOf (secs *ℤ lengths.nanos_per_second) result }
     {
         TimeDelta::of_parts(secs, 0)
     }
 
     /// Returns the length of that many seconds. Requires: [`TimeDelta::try_seconds`] returns one.
     pub fn seconds(secs: i64) -> TimeDelta
-        requires { FitsTimeDelta (secs *ℤ nanos_per_second) }
-        ensures { nanos_of result ≡ secs *ℤ nanos_per_second }
+        requires { lengths.FitsTimeDelta (secs *ℤ lengths.nanos_per_second) }
+        ensures { nanos_of result ≡ secs *ℤ lengths.nanos_per_second }
     {
         TimeDelta::try_seconds(secs).unwrap()
     }
 
     /// Returns the length of that many minutes, or `None` if it is out of range.
     pub fn try_minutes(minutes: i64) -> Option<TimeDelta>
-        ensures { IsDeltaOf (minutes *ℤ nanos_per_minute) result }
+        ensures { IsDeltaOf (minutes *ℤ lengths.nanos_per_minute) result }
     {
         TimeDelta::of_seconds(minutes as i128 * SECONDS_PER_MINUTE as i128)
     }
 
     /// Returns the length of that many minutes. Requires: [`TimeDelta::try_minutes`] returns one.
     pub fn minutes(minutes: i64) -> TimeDelta
-        requires { FitsTimeDelta (minutes *ℤ nanos_per_minute) }
-        ensures { nanos_of result ≡ minutes *ℤ nanos_per_minute }
+        requires { lengths.FitsTimeDelta (minutes *ℤ lengths.nanos_per_minute) }
+        ensures { nanos_of result ≡ minutes *ℤ lengths.nanos_per_minute }
     {
         TimeDelta::try_minutes(minutes).unwrap()
     }
 
     /// Returns the length of that many hours, or `None` if it is out of range.
     pub fn try_hours(hours: i64) -> Option<TimeDelta>
-        ensures { IsDeltaOf (hours *ℤ nanos_per_hour) result }
+        ensures { IsDeltaOf (hours *ℤ lengths.nanos_per_hour) result }
     {
         TimeDelta::of_seconds(hours as i128 * SECONDS_PER_HOUR as i128)
     }
 
     /// Returns the length of that many hours. Requires: [`TimeDelta::try_hours`] returns one.
     pub fn hours(hours: i64) -> TimeDelta
-        requires { FitsTimeDelta (hours *ℤ nanos_per_hour) }
-        ensures { nanos_of result ≡ hours *ℤ nanos_per_hour }
+        requires { lengths.FitsTimeDelta (hours *ℤ lengths.nanos_per_hour) }
+        ensures { nanos_of result ≡ hours *ℤ lengths.nanos_per_hour }
     {
         TimeDelta::try_hours(hours).unwrap()
     }
 
     /// Returns the length of that many days of 86,400 seconds, or `None` if it is out of range.
     pub fn try_days(days: i64) -> Option<TimeDelta>
-        ensures { IsDeltaOf (days *ℤ nanos_per_day) result }
+        ensures { IsDeltaOf (days *ℤ lengths.nanos_per_day) result }
     {
         TimeDelta::of_seconds(days as i128 * SECONDS_PER_DAY as i128)
     }
 
     /// Returns the length of that many days. Requires: [`TimeDelta::try_days`] returns one.
     pub fn days(days: i64) -> TimeDelta
-        requires { FitsTimeDelta (days *ℤ nanos_per_day) }
-        ensures { nanos_of result ≡ days *ℤ nanos_per_day }
+        requires { lengths.FitsTimeDelta (days *ℤ lengths.nanos_per_day) }
+        ensures { nanos_of result ≡ days *ℤ lengths.nanos_per_day }
     {
         TimeDelta::try_days(days).unwrap()
     }
 
     /// Returns the length of that many weeks of seven such days, or `None` if it is out of range.
     pub fn try_weeks(weeks: i64) -> Option<TimeDelta>
-        ensures { IsDeltaOf (weeks *ℤ nanos_per_week) result }
+        ensures { IsDeltaOf (weeks *ℤ lengths.nanos_per_week) result }
     {
         TimeDelta::of_seconds(weeks as i128 * SECONDS_PER_WEEK as i128)
     }
 
     /// Returns the length of that many weeks. Requires: [`TimeDelta::try_weeks`] returns one.
     pub fn weeks(weeks: i64) -> TimeDelta
-        requires { FitsTimeDelta (weeks *ℤ nanos_per_week) }
-        ensures { nanos_of result ≡ weeks *ℤ nanos_per_week }
+        requires { lengths.FitsTimeDelta (weeks *ℤ lengths.nanos_per_week) }
+        ensures { nanos_of result ≡ weeks *ℤ lengths.nanos_per_week }
     {
         TimeDelta::try_weeks(weeks).unwrap()
     }

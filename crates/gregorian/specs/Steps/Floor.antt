@@ -15,7 +15,8 @@ div_parts (pos a) k h = omega arith
 div_parts (negsuc a) k h = omega arith
 
 pub rem_parts : (a : ℤ) (k : ℕ) → 0 < k
-    → (up (int_rem_euclid a (pos k)) + up (int_div_euclid a (pos k)) * k + down a ≡ down (int_div_euclid a (pos k)) * k + up a) × (down (int_rem_euclid a (pos k)) ≡ 0) × (up (int_rem_euclid a (pos k)) < k)
+    → (up (int_rem_euclid a (pos k)) + up (int_div_euclid a (pos k)) * k + down a ≡ down (int_div_euclid a (pos k)) * k + up a)
+    × (down (int_rem_euclid a (pos k)) ≡ 0) × (up (int_rem_euclid a (pos k)) < k)
 rem_parts (pos a) k h = omega arith
 rem_parts (negsuc a) k h = omega arith
 

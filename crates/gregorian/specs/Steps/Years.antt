@@ -93,12 +93,14 @@ chosen_year : (day near : ℤ) (start : ℤ → ℤ) → start (near -ℤ pos 1)
     → (start y ≤ℤ day) × (day <ℤ start (y +ℤ pos 1))
 chosen_year day near start low high y e =
     let p = back-next near in let q = next-next near in
-    elim (int_lt day (start near)) as (λ b. int_lt day (start near) ≡ b → y ≡ (cond b (near -ℤ pos 1) (cond (int_lt day (start (near +ℤ pos 1))) near (near +ℤ pos 1))) → (start y ≤ℤ day) × (day <ℤ start (y +ℤ pos 1))) [
+    elim (int_lt day (start near)) as (λ b. int_lt day (start near) ≡ b
+    → y ≡ (cond b (near -ℤ pos 1) (cond (int_lt day (start (near +ℤ pos 1))) near (near +ℤ pos 1))) → (start y ≤ℤ day) × (day <ℤ start (y +ℤ pos 1))) [
       | true ↦ λ before f. rw (f, p) (low, omega (arith, floors))
-      | false ↦ λ not_before. elim (int_lt day (start (near +ℤ pos 1))) as (λ b. int_lt day (start (near +ℤ pos 1)) ≡ b → y ≡ (cond b near (near +ℤ pos 1)) → (start y ≤ℤ day) × (day <ℤ start (y +ℤ pos 1))) [
-        | true ↦ λ within f. rw f (omega (arith, floors), omega (arith, floors))
-        | false ↦ λ behind f. rw (f, q) (omega (arith, floors), high)
-      ] refl
+      | false ↦ λ not_before. elim (int_lt day (start (near +ℤ pos 1))) as (λ b. int_lt day (start (near +ℤ pos 1)) ≡ b
+          → y ≡ (cond b near (near +ℤ pos 1)) → (start y ≤ℤ day) × (day <ℤ start (y +ℤ pos 1))) [
+            | true ↦ λ within f. rw f (omega (arith, floors), omega (arith, floors))
+            | false ↦ λ behind f. rw (f, q) (omega (arith, floors), high)
+          ] refl
     ] refl e
 
 pub some_year : (day : ℤ) → (y : ℤ) × LiesIn day y

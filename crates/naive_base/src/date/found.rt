@@ -1,5 +1,6 @@
 //! Dates found by other names: a day of a year, of an ISO week or of a month's weekdays.
-ghost use Rattle.std.specs.Prelude.{◌≡◌, ◌+◌, ◌-◌, ◌*◌, ◌%◌, ◌<◌, ◌≤◌, ℤ, pos, ◌+ℤ◌, ◌-ℤ◌, SomeIff, IfSome, IsSome, MatchOption, option_map};
+ghost use Rattle.std.specs.Prelude.{◌≡◌, ◌+◌, ◌-◌, ◌*◌, ◌%◌, ◌<◌, ◌≤◌, ◌+ℤ◌, ◌-ℤ◌};
+ghost use Rattle.std.specs.Prelude.{ℤ, pos, SomeIff, IfSome, IsSome, MatchOption, option_map};
 ghost use Rattle.gregorian.specs.Year.{year_start, days_in_year};
 ghost use Rattle.naive_base.specs.NaiveDate.{day_of};
 ghost use Rattle.naive_base.specs.Named.{IsWeekdayOfMonth, IsDayOfIsoWeek, IsThursdayOfWeek};

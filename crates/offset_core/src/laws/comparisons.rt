@@ -27,6 +27,7 @@ use std::hash::Hash;
 
 /// Offsets are equal if and only if their seconds are; a hash looks at the seconds, and a clone is
 /// the offset.
+#[tactic(auto, using(crate::proofs::FixedOffsets::one_offset))]
 pub fn fixed_offsets()
     ensures equal { (a b : AnyOffset) → IsTrue (⟦<FixedOffset as PartialEq>⟧.eq a b)
         ↔ (seconds_of a ≡ seconds_of b) }
@@ -39,6 +40,7 @@ pub fn fixed_offsets()
 
 /// Lengths of time are equal if and only if their nanoseconds are, and compare by these; a hash looks
 /// at the seconds, rounded down, and the nanoseconds after these, and a clone is the length.
+#[tactic(auto, using(crate::proofs::TimeDeltas::one_delta, crate::proofs::TimeDeltas::order_of_parts))]
 pub fn time_deltas()
     ensures equal { (a b : AnyDelta) → IsTrue (⟦<TimeDelta as PartialEq>⟧.eq a b)
         ↔ (nanos_of a ≡ nanos_of b) }

@@ -1,5 +1,6 @@
 //! Lengths of time added, multiplied and divided.
-ghost use Rattle.std.specs.Prelude.{◌≡◌, ◌≢◌, ◌↔◌, IsTrue, pos, ◌+ℤ◌, ◌-ℤ◌, ◌*ℤ◌, int_div, unsigned_abs, SomeIff, option_map};
+ghost use Rattle.std.specs.Prelude.{◌≡◌, ◌≢◌, ◌↔◌, ◌+ℤ◌, ◌-ℤ◌, ◌*ℤ◌};
+ghost use Rattle.std.specs.Prelude.{IsTrue, pos, int_div, unsigned_abs, SomeIff, option_map};
 ghost use Rattle.offset_core.specs.TimeDelta.{nanos_of, IsDeltaOf};
 
 use crate::TimeDelta;

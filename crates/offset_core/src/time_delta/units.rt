@@ -2,7 +2,7 @@
 ghost use Rattle.std.specs.Prelude.{◌≡◌, ◌<ℤ◌, pos, FitsSigned, SomeIff, MatchResult, int_div, int_rem};
 ghost use Rattle.std.specs.Int.{w64};
 ghost use Rattle.std.specs.Duration.{as_nanos};
-ghost use Rattle.offset_core.specs.Nanoseconds.{nanos_per_microsecond, nanos_per_millisecond, nanos_per_second, nanos_per_minute, nanos_per_hour, nanos_per_day, nanos_per_week};
+ghost use Rattle.offset_core.specs.Nanoseconds as lengths;
 ghost use Rattle.offset_core.specs.TimeDelta.{nanos_of};
 
 use super::{
@@ -14,35 +14,35 @@ use std::time::Duration;
 impl TimeDelta {
     /// Returns the whole weeks of this length, toward zero.
     pub fn num_weeks(&self) -> i64
-        ensures { result ≡ int_div (nanos_of self.now) nanos_per_week }
+        ensures { result ≡ int_div (nanos_of self.now) lengths.nanos_per_week }
     {
         self.num_seconds() / SECONDS_PER_WEEK
     }
 
     /// Returns the whole days of 86,400 seconds of this length, toward zero.
     pub fn num_days(&self) -> i64
-        ensures { result ≡ int_div (nanos_of self.now) nanos_per_day }
+        ensures { result ≡ int_div (nanos_of self.now) lengths.nanos_per_day }
     {
         self.num_seconds() / SECONDS_PER_DAY
     }
 
     /// Returns the whole hours of this length, toward zero.
     pub fn num_hours(&self) -> i64
-        ensures { result ≡ int_div (nanos_of self.now) nanos_per_hour }
+        ensures { result ≡ int_div (nanos_of self.now) lengths.nanos_per_hour }
     {
         self.num_seconds() / SECONDS_PER_HOUR
     }
 
     /// Returns the whole minutes of this length, toward zero.
     pub fn num_minutes(&self) -> i64
-        ensures { result ≡ int_div (nanos_of self.now) nanos_per_minute }
+        ensures { result ≡ int_div (nanos_of self.now) lengths.nanos_per_minute }
     {
         self.num_seconds() / SECONDS_PER_MINUTE
     }
 
     /// Returns the whole seconds of this length, toward zero.
     pub fn num_seconds(&self) -> i64
-        ensures { result ≡ int_div (nanos_of self.now) nanos_per_second }
+        ensures { result ≡ int_div (nanos_of self.now) lengths.nanos_per_second }
     {
         if (self.secs < 0) & (self.nanos > 0) {
             self.secs + 1
@@ -53,7 +53,7 @@ impl TimeDelta {
 
     /// Returns the whole milliseconds of this length, toward zero.
     pub fn num_milliseconds(&self) -> i64
-        ensures { result ≡ int_div (nanos_of self.now) nanos_per_millisecond }
+        ensures { result ≡ int_div (nanos_of self.now) lengths.nanos_per_millisecond }
     {
         self.num_seconds() * 1_000 + self.subsec_millis() as i64
     }
@@ -61,7 +61,7 @@ impl TimeDelta {
     /// Returns the whole microseconds of this length, toward zero, or `None` if they leave an
     /// `i64`.
     pub fn num_microseconds(&self) -> Option<i64>
-        ensures { let micros = int_div (nanos_of self.now) nanos_per_microsecond in
+        ensures { let micros = int_div (nanos_of self.now) lengths.nanos_per_microsecond in
             SomeIff result (FitsSigned w64 micros) micros }
     {
         let micros = self.num_seconds() as i128 * 1_000_000 + self.subsec_micros() as i128;
@@ -84,7 +84,7 @@ impl TimeDelta {
 
     /// Returns the nanoseconds that the whole seconds leave, with the sign of the length.
     pub fn subsec_nanos(&self) -> i32
-        ensures { result ≡ int_rem (nanos_of self.now) nanos_per_second }
+        ensures { result ≡ int_rem (nanos_of self.now) lengths.nanos_per_second }
     {
         if (self.secs < 0) & (self.nanos > 0) {
             self.nanos as i32 - 1_000_000_000
@@ -95,16 +95,16 @@ impl TimeDelta {
 
     /// Returns the whole microseconds that the whole seconds leave, with the sign of the length.
     pub fn subsec_micros(&self) -> i32
-        ensures { result ≡ int_div (int_rem (nanos_of self.now) nanos_per_second)
-            nanos_per_microsecond }
+        ensures { result ≡ int_div (int_rem (nanos_of self.now) lengths.nanos_per_second)
+            lengths.nanos_per_microsecond }
     {
         self.subsec_nanos() / 1_000
     }
 
     /// Returns the whole milliseconds that the whole seconds leave, with the sign of the length.
     pub fn subsec_millis(&self) -> i32
-        ensures { result ≡ int_div (int_rem (nanos_of self.now) nanos_per_second)
-            nanos_per_millisecond }
+        ensures { result ≡ int_div (int_rem (nanos_of self.now) lengths.nanos_per_second)
+            lengths.nanos_per_millisecond }
     {
         self.subsec_nanos() / 1_000_000
     }
