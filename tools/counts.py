@@ -9,7 +9,7 @@ from sources import TOP, files, shown, text_of
 LONG_LINES = {
     ("src", ".rt", 120): 75,
     ("specs", ".antt", 160): 42,
-    ("proofs", ".antt", 160): 1398,
+    ("proofs", ".antt", 160): 1397,
 }
 # A call whose answer gets a name that nothing reads. With `?` it may end the function, and `next` moves an iterator on.
 DROPPED_ANSWER = re.compile(r"(?m)^ *let _\w+(?:: [^=;]+)? = (?![^;]*\.next\(\);)[^;]*\);$")
