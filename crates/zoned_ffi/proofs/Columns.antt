@@ -1,6 +1,7 @@
 -- Answers to a column's times: by a lookup, and by what is kept of a stretch.
 use Rattle.zoned_ffi.proofs.Words.{List, cases_lt, get_or, ◌+◌}
-use Rattle.zoned_ffi.proofs.Words.{All-contains, AreWithin, Choice, FitsSigned, IsCounted, IsGreatest, IsInRange, IsInstantOf, IsInstantTaken, IsKeptOf, IsLeast}
+use Rattle.zoned_ffi.proofs.Words.{All-contains, AreWithin, Choice, FitsSigned, IsCounted}
+use Rattle.zoned_ffi.proofs.Words.{IsGreatest, IsInRange, IsInstantOf, IsInstantTaken, IsKeptOf, IsLeast}
 use Rattle.zoned_ffi.proofs.Words.{IsLocal, IsNoInstant, IsNoneTaken, IsOffsetStretch, IsRowNumber, IsShownOnce, IsTakenAs, IsWithout, Kept}
 use Rattle.zoned_ffi.proofs.Words.{LieWithin, LocalType, MatchOption, None, OffsetStretch, Option, Shows, Some, Taken, TypeAt, Unit, Zone, ℕ, ℤ, ap, arith}
 use Rattle.zoned_ffi.proofs.Words.{first_second, floor_div, floors, inl, inr, ints, neg_ℤ, offsets, per_second, pos, refl, second_of, subst, sym}
@@ -127,7 +128,8 @@ pub local_times_kept : (z : Zone) (unit : Unit) (choice : Choice) (s : OffsetStr
     → p ≡ s.from *ℤ pos (per_second unit) → q ≡ high *ℤ pos (per_second unit) → r ≡ s.until *ℤ pos (per_second unit) → t ≡ low *ℤ pos (per_second unit)
     → f ≡ first_second *ℤ pos (per_second unit) → e ≡ pos 8_210_266_876_800 *ℤ pos (per_second unit) → add ≡ neg_ℤ (s.offset *ℤ pos (per_second unit))
     → (p +ℤ q) ≤ℤ from → f ≤ℤ from → until ≤ℤ (r +ℤ t) → until ≤ℤ e → LieWithin from until add k → IsKeptOf z unit (ToInstants choice) k
-local_times_kept z unit choice s low high p q r t f e from until add k stretch fits_from fits_until is_low is_high ep eq er et ef ee ea a b c d within = λ x since before.
+local_times_kept z unit choice s low high p q r t f e from until add k stretch fits_from fits_until is_low is_high ep eq er et ef ee ea a b c d within =
+    λ x since before.
     let at = within.each x since before in
     let x_from = at.0 in
     let x_until = at.1 in

@@ -89,7 +89,8 @@ pub use Rattle.zoned_ffi.specs.Kinds.{IsZoneOf, Spells}
 pub use Rattle.zoned_ffi.specs.Owned.{boxed, held, lent, loan, shared_row}
 pub use Rattle.zoned_ffi.specs.Refusals.{IsExtendedFault, IsFault, IsFileError, IsReaderNumber, IsRefusal, IsRefusalInDetail, IsTextFault, refusal_number}
 pub use Rattle.zoned_ffi.specs.Resolved.{AreResolved, IsGapEnd, IsNoneTaken, IsReachedAt, IsResolvedAt, IsTaken, TakesOf, policy_of}
-pub use Rattle.zoned_ffi.specs.Steps.KeptTimes.{AreKept, AreWithin, AreWritten, IsAnsweredBy, IsKept, IsKeptOf, IsNotAnsweredBy, IsNotWritten, IsWritten, LieWithin}
+pub use Rattle.zoned_ffi.specs.Steps.KeptTimes.{AreKept, AreWithin, AreWritten, IsAnsweredBy, IsKept, IsKeptOf, IsNotAnsweredBy, IsNotWritten}
+pub use Rattle.zoned_ffi.specs.Steps.KeptTimes.{IsWritten, LieWithin}
 pub use Rattle.zoned_ffi.specs.Steps.ResolvedInstants.{IsStamp, IsTakenAs, taken_instant}
 pub use Rattle.zoned_ffi.specs.Steps.Told.{told_of}
 pub use Rattle.zoned_ffi.specs.Texts.{IsSaidOf, IsTextOf}

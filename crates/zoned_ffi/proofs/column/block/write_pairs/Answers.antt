@@ -1,4 +1,5 @@
-use Rattle.zoned_ffi.proofs.Words.{AreWritten, FitsSigned, IsWritten, and_parts, arith, get_or, inr, length-set, pos, rules, slice_set, subst, take, to_z-of_z, w64}
+use Rattle.zoned_ffi.proofs.Words.{AreWritten, FitsSigned, IsWritten, and_parts, arith, get_or, inr, length-set, pos}
+use Rattle.zoned_ffi.proofs.Words.{rules, slice_set, subst, take, to_z-of_z, w64}
 use Rattle.zoned_ffi.proofs.Words.{◌+ℤ◌, ◌+◌, ◌∙◌, ◌≡◌}
 use Rattle.zoned_ffi.proofs.Slices.{zip_more}
 use Rattle.zoned_ffi.proofs.column.block.write_pairs.Goals as goal
@@ -52,7 +53,8 @@ loop-row-preserved c =
     let second = get_or c.args.times.now (at.row + 1) (pos 0) +ℤ c.kept_for-other.result.add in
     let long = length-set at.answers at.row first ∙ at.invariant.0 in
     let next = zip_more (IsWritten q) c.args.times.now at.answers at.row (pos 0) first at.invariant.0 (omega arith) at.invariant.2 (inr (a.1, a.2)) in
-    let both = zip_more (IsWritten q) c.args.times.now (slice_set at.answers at.row first) (at.row + 1) (pos 0) second long (omega arith) next (inr (b.1, b.2)) in
+    let more = slice_set at.answers at.row first in
+    let both = zip_more (IsWritten q) c.args.times.now more (at.row + 1) (pos 0) second long (omega arith) next (inr (b.1, b.2)) in
     let last : at.row + 1 + 1 ≡ at.row + 2 = omega arith in
     simp to_z-of_z (
       length-set (slice_set at.answers at.row first) (at.row + 1) second ∙ long,

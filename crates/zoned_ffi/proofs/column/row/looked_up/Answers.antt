@@ -4,4 +4,5 @@ use Rattle.zoned_ffi.proofs.column.row.looked_up.Goals as goal
 pub returns-in-None : goal.returns-in-None
 returns-in-None c =
     let time : FitsSigned w64 c.args.time = c.ranges.time in
-    subst (λ way. IsNotAnswered c.args.question.now.zone.now c.args.question.now.unit way c.args.time 37) (sym c.in-ToLocal.is) (refl, simp to_z-of_z at c.in-None.ensures)
+    let q = c.args.question.now in
+    subst (λ way. IsNotAnswered q.zone.now q.unit way c.args.time 37) (sym c.in-ToLocal.is) (refl, simp to_z-of_z at c.in-None.ensures)

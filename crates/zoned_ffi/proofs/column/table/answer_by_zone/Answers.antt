@@ -2,7 +2,8 @@ use Rattle.zoned_ffi.proofs.Words.{Err, FitsSigned, IsAnsweredBy, IsNotAnsweredB
 use Rattle.zoned_ffi.proofs.Words.{ap, inr, no_time, of_z, to_z-of_z, w64, ℕ, ℤ, ◌≢◌}
 use Rattle.zoned_ffi.proofs.column.table.answer_by_zone.Goals as goal
 
-either : (q : Question) (x : ℤ) (r : Result ℤ ℕ) → x ≢ no_time → MatchResult r (IsAnsweredBy q x) (IsNotAnsweredBy q x) → MatchResult r (IsWritten q x) (IsNotWritten q x)
+either : (q : Question) (x : ℤ) (r : Result ℤ ℕ) → x ≢ no_time → MatchResult r (IsAnsweredBy q x) (IsNotAnsweredBy q x)
+    → MatchResult r (IsWritten q x) (IsNotWritten q x)
 either q x (Err n) time told = (time, told)
 either q x (Ok y) time told = inr (time, told)
 
