@@ -4,11 +4,13 @@ mod alternate;
 mod beside;
 mod changes;
 mod day;
+mod day_places;
 mod kinds;
 mod next_moment;
 pub(crate) mod reader;
 mod transition_rule;
 mod wall_clock;
+mod years;
 
 pub use alternate::AlternateTime;
 pub(crate) use alternate::Season;
