@@ -24,7 +24,7 @@ HABITS = [
     ("want of", "lack of, out of", r"\bwant of\b", 0, 0),
     ("be they", "whether", r"\bbe (?:they|it)\b", 0, 0),
     ("so many, such a one", "n, one", r"\b(?:so many|such a one|no more do)\b", 0, 7),
-    ("is none", "does not count, is not one", r"\b(?:is|are) none\b", 3, 9),
+    ("is none", "does not count, is not one", r"\b(?:is|are) none\b", 2, 9),
     ("alone after a noun", "only", r"\balone\b", 0, 8),
     ("beside", "with, compared with, as well as", r"\bbeside\b", 0, 2),
     ("behind", "after", r"\bbehind\b(?! UTC)", 2, 3),
