@@ -5,6 +5,7 @@ ghost use Rattle.tz_base.specs.LocalTypes.{LocalType};
 ghost use Rattle.tz_info.specs.Zones.{TypeAt};
 
 use crate::zone::time_zone::TimeZone;
+use tz_timeline::Probes;
 
 /// Unix seconds at which one offset is in force: from `from` on and before `until`.
 #[derive(Debug)]
@@ -18,9 +19,35 @@ pub struct OffsetStretch {
 }
 
 impl TimeZone {
-    /// Returns the span of that second as a stretch of one offset. A span without an end is cut 146
-    /// billion years from 1970. `None` if the zone has no type at that second or at such a cut.
+    /// Returns the span of that second as a stretch of one offset, or a part of it from one transition
+    /// to the next. A span without an end is cut 146 billion years from 1970. `None` if the zone has no
+    /// type at that second or at such a cut.
     pub fn offset_stretch_at(&self, unix_time: i64) -> Option<OffsetStretch>
+        ensures { IfSome result (λ s. (u : ℤ) → s.from ≤ℤ u → u <ℤ s.until
+            → (t : LocalType) × TypeAt self.now u t × (s.offset ≡ t.offset)) }
+    {
+        let _ = &self.table;
+        if !self.leap_seconds.is_empty() {
+            return self.offset_stretch_of_span(unix_time);
+        }
+        let count = self.transition_count();
+        let mut probes = Probes::new();
+        let place = self.passed_count(unix_time, &mut probes);
+        if place == count {
+            return self.offset_stretch_of_span(unix_time);
+        }
+        let latest = self.latest(place, &mut probes);
+        let next = self.transition(place, &mut probes);
+        let found = self.listed(latest.type_index);
+        Some(OffsetStretch {
+            from: latest.unix_leap_time,
+            until: next.unix_leap_time,
+            offset: found.offset(),
+        })
+    }
+
+    // The span of the second.
+    fn offset_stretch_of_span(&self, unix_time: i64) -> Option<OffsetStretch>
         ensures { IfSome result (λ s. (u : ℤ) → s.from ≤ℤ u → u <ℤ s.until
             → (t : LocalType) × TypeAt self.now u t × (s.offset ≡ t.offset)) }
     {

@@ -1,0 +1,41 @@
+use Rattle.tz_info.proofs.Words.{Counts, SFits, ap, arith, digits-le, length, rules, to_z-of_z, w32, w64, ◌<◌, ◌≡◌}
+use Rattle.tz_info.proofs.LeaplessChanges.{time_at}
+use Rattle.tz_info.proofs.OffsetStretchLaws.{offset_stretch_between}
+use Rattle.tz_info.proofs.zone.time_zone.TimeZone.offset_stretch_at.Goals as goal
+
+pub passed_count-place-requires : goal.passed_count-place-requires
+passed_count-place-requires c =
+    let n = c.transition_count-count.ensures in
+    let none = ap (λ (p : Counts). p.reads) c.new-probes.ensures in
+    omega (arith, digits-le (length c.args.self.now.transitions))
+
+pub latest-latest-requires-clause-room : goal.latest-latest-requires-clause-room
+latest-latest-requires-clause-room c =
+    let n = c.transition_count-count.ensures in
+    let none = ap (λ (p : Counts). p.reads) c.new-probes.ensures in
+    let k = c.passed_count-place.ensures.cost in
+    omega (arith, digits-le (length c.args.self.now.transitions))
+
+pub transition-next-requires-clause-room : goal.transition-next-requires-clause-room
+transition-next-requires-clause-room c =
+    let n = c.transition_count-count.ensures in
+    let none = ap (λ (p : Counts). p.reads) c.new-probes.ensures in
+    let k = c.passed_count-place.ensures.cost in
+    let l = c.latest-latest.ensures.cost in
+    omega (arith, digits-le (length c.args.self.now.transitions))
+
+pub returns : goal.returns
+returns c =
+    let z = c.args.self.now in
+    let latest = c.latest-latest.result in
+    let next = c.transition-next.result in
+    let place = c.passed_count-place.result in
+    let from : SFits w64 latest.unix_leap_time = search rules in
+    let until : SFits w64 next.unix_leap_time = search rules in
+    let offset : SFits w32 c.offset.result = search rules in
+    let none : length z.leaps ≡ 0 = search rules in
+    let some : place < length z.transitions = search rules in
+    let has = rw c.latest-latest.ensures.index at c.listed-found.ensures in
+    simp to_z-of_z (offset_stretch_between z place latest.unix_leap_time next.unix_leap_time c.offset.result c.listed-found.result.now
+    (rw (← c.self.view_is) c.self.invariant.valid) none some c.latest-latest.ensures.begin
+    (λ d. time_at z.transitions place next d some c.transition-next.ensures.item) has c.offset.ensures.value)
