@@ -5,7 +5,7 @@ use Rattle.zoned_time.proofs.Words.{neg_ℤ, negsuc, of_secs, pos, refl, subst, 
 use Rattle.zoned_time.proofs.Days.{first_whole, to_reached}
 
 -- ---- the order of instants
-through : (x y z : Reading) → ¬ (IsEarlier x y) → ¬ (IsEarlier y z) → ¬ (IsEarlier x z)
+pub through : (x y z : Reading) → ¬ (IsEarlier x y) → ¬ (IsEarlier y z) → ¬ (IsEarlier x z)
 through x y z h k e = by_lt_z x.s y.s (λ less. h (inl less)) (λ more. by_lt_z y.s z.s (λ less. k (inl less)) (λ most. elim e [
   | inl less ↦ omega (arith, ints)
   | inr (same, fewer) ↦ by_lt_z (pos x.f) (pos y.f)
@@ -24,7 +24,7 @@ equal x y h k =
     (λ more. by_lt_z (pos y.f) (pos x.f) (λ less. absurd (k (inr (omega (arith, ints), omega (arith, ints))))) (λ most. omega (arith, ints))))
 
 -- a whole second, as of a midnight
-not_earlier_than : (x y : Reading) → y.f ≡ 0 → y.s ≤ℤ x.s → ¬ (IsEarlier x y)
+pub not_earlier_than : (x y : Reading) → y.f ≡ 0 → y.s ≤ℤ x.s → ¬ (IsEarlier x y)
 not_earlier_than x y whole h (inl less) = omega (arith, ints)
 not_earlier_than x y whole h (inr (_, less)) = omega (arith, ints)
 

@@ -44,23 +44,28 @@ day_shown_by d = day_at (wall_of d)
 
 -- the only instant at which the clocks of its zone show, on the day given, the time that this clock shows; none where no day
 -- is given
-abbrev pub IsOnlyOnDay : {Tz O : Type 0} {f : offset.Ghosts O} {g : debug.Ghosts O} (m : Meaning O) → Instant Tz O f g → Option ℤ → Option (Instant Tz O f g) → Type 0
+abbrev pub IsOnlyOnDay : {Tz O : Type 0} {f : offset.Ghosts O} {g : debug.Ghosts O} (m : Meaning O)
+    → Instant Tz O f g → Option ℤ → Option (Instant Tz O f g) → Type 0
 IsOnlyOnDay m d day new =
     let l = wall_of d in IsOnlyWhere (home_of m d) (option_map (λ n. reading_at n (second_at l) l.f) day) (option_map (λ e. zoned e) new)
 
 -- the only instant at which they show the time given, on the day that this clock shows
-abbrev pub IsOnlyAtTime : {Tz O : Type 0} {f : offset.Ghosts O} {g : debug.Ghosts O} (m : Meaning O) → Instant Tz O f g → Option TimeOfDay → Option (Instant Tz O f g) → Type 0
+abbrev pub IsOnlyAtTime : {Tz O : Type 0} {f : offset.Ghosts O} {g : debug.Ghosts O} (m : Meaning O)
+    → Instant Tz O f g → Option TimeOfDay → Option (Instant Tz O f g) → Type 0
 IsOnlyAtTime m d time new = IsOnlyWhere (home_of m d) (option_map (reading_on (day_at (wall_of d))) time) (option_map (λ e. zoned e) new)
 
 -- the only instant at which they show that time so many months later, or earlier for a negative number
-abbrev pub IsOnlyMonthsLater : {Tz O : Type 0} {f : offset.Ghosts O} {g : debug.Ghosts O} (m : Meaning O) → Instant Tz O f g → ℤ → Option (Instant Tz O f g) → Type 0
+abbrev pub IsOnlyMonthsLater : {Tz O : Type 0} {f : offset.Ghosts O} {g : debug.Ghosts O} (m : Meaning O)
+    → Instant Tz O f g → ℤ → Option (Instant Tz O f g) → Type 0
 IsOnlyMonthsLater m d by new = IsMonthsLater (λ e. day_shown_by e) (IsOnlyOnDay m d) (day_shown_by d) by new
 
 -- and so many days later, or earlier
-abbrev pub IsOnlyDaysLater : {Tz O : Type 0} {f : offset.Ghosts O} {g : debug.Ghosts O} (m : Meaning O) → Instant Tz O f g → ℤ → Option (Instant Tz O f g) → Type 0
+abbrev pub IsOnlyDaysLater : {Tz O : Type 0} {f : offset.Ghosts O} {g : debug.Ghosts O} (m : Meaning O)
+    → Instant Tz O f g → ℤ → Option (Instant Tz O f g) → Type 0
 IsOnlyDaysLater m d by new = IsDaysLater (λ e. day_shown_by e) (IsOnlyOnDay m d) (day_shown_by d) by new
 
 -- the same of days added: none of them leave the instant as it is
-pub record IsDaysAdded {Tz O : Type 0} {f : offset.Ghosts O} {g : debug.Ghosts O} (m : Meaning O) (d : Instant Tz O f g) (days : ℕ) (new : Option (Instant Tz O f g)) : Type 0 where
+pub record IsDaysAdded {Tz O : Type 0} {f : offset.Ghosts O} {g : debug.Ghosts O} (m : Meaning O) (d : Instant Tz O f g)
+    (days : ℕ) (new : Option (Instant Tz O f g)) : Type 0 where
   pub none : days ≡ 0 → new ≡ Some d
   pub some : 0 < days → IsOnlyDaysLater m d (pos days) new

@@ -11,7 +11,7 @@ ghost use Rattle.naive_base.specs.Stamp.{of_secs, IsStamp};
 ghost use Rattle.zoned_time.specs.Choice.{AreOffsetsAround, IsOffsetBeforeGap, IsResolved, IsUnresolved};
 ghost use Rattle.zoned_time.specs.Relocal.{IsRelocal};
 ghost use Rattle.zoned_time.specs.Stamps.{IsAtWhere, of_millis, of_micros};
-ghost use Rattle.zoned_time.specs.Zone.{Meaning, Law, home_law, IsFixed, IsUtc, IsZoneSecond, SameLaw, IsOffsetAt, AreOffsetsFor, midnight_of};
+ghost use Rattle.zoned_time.specs.Zone as zones;
 ghost use Rattle.zoned_time.specs.Zoned.{shown, IsAt};
 
 use crate::resolve::{instant_by, shifted};
@@ -35,23 +35,23 @@ pub trait TimeZone: Sized + Copy {
     type Offset: Offset;
 
     // what an offset means
-    ghost meaning: { Meaning Self.Offset };
+    ghost meaning: { zones.Meaning Self.Offset };
 
     // how many seconds the zone's clocks are ahead of UTC at each second, and which offsets are in
     // force then
-    ghost law: { Self → Law meaning };
+    ghost law: { Self → zones.Law meaning };
 
     /// A zone of the same offsets as the one that gave this offset.
     fn from_offset(offset: &Self::Offset) -> Self
-        ensures { SameLaw (law result) (home_law meaning offset.now) };
+        ensures { zones.SameLaw (law result) (zones.home_law meaning offset.now) };
 
     /// The offset at an instant, given by its UTC date-time.
     fn offset_from_utc_datetime(&self, utc: &NaiveDateTime) -> Self::Offset
-        ensures { IsOffsetAt (law self.now) (reading utc.now).s result };
+        ensures { zones.IsOffsetAt (law self.now) (reading utc.now).s result };
 
     /// The offset at the midnight of UTC that begins a date.
     fn offset_from_utc_date(&self, utc: &NaiveDate) -> Self::Offset
-        ensures { IsOffsetAt (law self.now) (midnight_of utc.now) result }
+        ensures { zones.IsOffsetAt (law self.now) (zones.midnight_of utc.now) result }
     {
         self.offset_from_utc_datetime(&midnight(utc))
     }
@@ -59,11 +59,11 @@ pub trait TimeZone: Sized + Copy {
     /// The offset at the instant when the zone's clocks show a local time: none in a gap, and in a
     /// fold those at the first and at the last such instant.
     fn offset_from_local_datetime(&self, local: &NaiveDateTime) -> LocalResult<Self::Offset>
-        ensures { AreOffsetsFor (law self.now) (reading local.now).s result };
+        ensures { zones.AreOffsetsFor (law self.now) (reading local.now).s result };
 
     /// [`TimeZone::offset_from_local_datetime`] of the midnight that begins a date.
     fn offset_from_local_date(&self, local: &NaiveDate) -> LocalResult<Self::Offset>
-        ensures { AreOffsetsFor (law self.now) (midnight_of local.now) result }
+        ensures { zones.AreOffsetsFor (law self.now) (zones.midnight_of local.now) result }
     {
         self.offset_from_local_datetime(&midnight(local))
     }
@@ -89,7 +89,7 @@ pub trait TimeZone: Sized + Copy {
     }
 
     // clocks are never a day or more away from UTC
-    ghost within_day: { (zone : Self) (u : ℤ) → IsZoneSecond u → IsWithinDay ((law zone).off u) };
+    ghost within_day: { (zone : Self) (u : ℤ) → zones.IsZoneSecond u → IsWithinDay ((law zone).off u) };
 
     // the offset's own seconds
     ghost told: { (offset : Self.Offset) → meaning.seconds offset ≡ Self.Offset.seconds offset };
@@ -109,10 +109,10 @@ pub trait TimeZone: Sized + Copy {
         ensures instants { IsRelocal (law self.now) (reading local.now)
             (map_of (λ d. shown d.datetime d.offset) result) }
         // A zone of one offset has exactly one, where that is in range.
-        ensures fixed { IsFixed (law self.now)
+        ensures fixed { zones.IsFixed (law self.now)
             → IsInRange (behind (reading local.now) ((law self.now).off (pos 0))).s
             → IsSome (single_of result) }
-        ensures utc { IsUtc (law self.now) → IsInRange (reading local.now).s
+        ensures utc { zones.IsUtc (law self.now) → IsInRange (reading local.now).s
             → IsSome (single_of result) }
     {
         self.offset_from_local_datetime(local)
@@ -172,7 +172,7 @@ pub trait TimeZone: Sized + Copy {
             (reading_at (day_number year month day) (clock_second hour min sec) 0)
             (map_of (λ d. shown d.datetime d.offset) result) }
         // A zone of one offset has exactly one.
-        ensures fixed { IsFixed (law self.now) → IsInnerYear year → IsDate year month day
+        ensures fixed { zones.IsFixed (law self.now) → IsInnerYear year → IsDate year month day
             → IsClock hour min sec
             → IsSome (single_of result) }
         ensures missing { (IsYearInRange year → IsDate year month day → IsClock hour min sec → ⊥)
@@ -265,7 +265,7 @@ pub trait TimeZone: Sized + Copy {
 
 // The local time at which a date begins.
 fn midnight(date: &NaiveDate) -> NaiveDateTime
-    ensures { (reading result).s ≡ midnight_of date.now }
+    ensures { (reading result).s ≡ zones.midnight_of date.now }
 {
     date.and_time(NaiveTime::MIN)
 }

@@ -8,8 +8,8 @@ ghost use Rattle.naive_base.specs.Stamp.{of_secs};
 ghost use Rattle.naive_base.specs.Weekday.{weekday_number};
 ghost use Rattle.naive_base.specs.Year.{floor_div};
 ghost use Rattle.zoned_time.specs.DateTime.{zoned};
-ghost use Rattle.zoned_time.specs.Days.{AreEndsOfDay, IsNeverOnDay, IsNoDay, AreInstantsOfDay, IsFirstToReach, IsFirstOutOfRange, IsZonedAtOrAfter, midnight};
-ghost use Rattle.zoned_time.specs.DayEnds.{AreStartsOfDays, IsLengthOfDay, HasNoEnd, IsZonedEnd, IsFirstOfWeek, first_of_month, first_of_year};
+ghost use Rattle.zoned_time.specs.Days as instants;
+ghost use Rattle.zoned_time.specs.DayEnds as ends;
 ghost use Rattle.zoned_time.specs.Zoned.{IsAt};
 
 use crate::{DateTime, TimeZone};
@@ -41,13 +41,13 @@ pub trait ZoneDays: TimeZone {
     /// no second shows it.
     fn seconds_of_day(&self, date: NaiveDate) -> Option<ShownDay<i64>>
         ensures { let off = (Self.law self.now).off in
-            MatchOption result (IsNeverOnDay off (day_of date))
-            (λ s. AreEndsOfDay off (day_of date) s.first s.last) };
+            MatchOption result (instants.IsNeverOnDay off (day_of date))
+            (λ s. instants.AreEndsOfDay off (day_of date) s.first s.last) };
 
     /// Returns the first second of Unix time at which clocks show that local time, in whole seconds,
     /// or a later one.
     fn first_second_at_or_after(&self, local: &NaiveDateTime) -> i64
-        ensures { IsFirstToReach (Self.law self.now).off (reading local.now).s result };
+        ensures { instants.IsFirstToReach (Self.law self.now).off (reading local.now).s result };
 
     /// Returns the first and the last second at which clocks show that date; `None` if no second
     /// shows it, or if one of the two is out of the range of [`DateTime`].
@@ -57,8 +57,8 @@ pub trait ZoneDays: TimeZone {
     /// let seconds = day.last.signed_duration_since(&day.first).num_seconds(); // 82799
     /// ```
     final fn day(&self, date: NaiveDate) -> Option<ShownDay<DateTime<Self>>>
-        ensures { MatchOption result (IsNoDay (Self.law self.now).off (day_of date))
-            (λ d. AreInstantsOfDay (Self.law self.now) (day_of date) (zoned d.first) (zoned d.last)) }
+        ensures { MatchOption result (instants.IsNoDay (Self.law self.now).off (day_of date))
+            (λ d. instants.AreInstantsOfDay (Self.law self.now) (day_of date) (zoned d.first) (zoned d.last)) }
     {
         let seconds = self.seconds_of_day(date)?;
         let first = instant_at(self, seconds.first, 0)?;
@@ -72,8 +72,8 @@ pub trait ZoneDays: TimeZone {
         ensures { let s = (zoned instant.now).utc.s in
             let law = Self.law self.now in
             let day = floor_div (s +ℤ law.off s) 86_400 in
-            MatchOption result (IsNoDay law.off day)
-            (λ d. AreInstantsOfDay law day (zoned d.first) (zoned d.last)
+            MatchOption result (instants.IsNoDay law.off day)
+            (λ d. instants.AreInstantsOfDay law day (zoned d.first) (zoned d.last)
             × ((zoned d.first).utc.s ≤ℤ s) × (s ≤ℤ (zoned d.last).utc.s)) }
     {
         let local = instant.with_timezone(self);
@@ -92,8 +92,8 @@ pub trait ZoneDays: TimeZone {
     /// ```
     final fn first_at_or_after(&self, local: &NaiveDateTime) -> Option<DateTime<Self>>
         ensures { let law = Self.law self.now in
-            MatchOption result (IsFirstOutOfRange law.off (reading local.now))
-            (λ d. IsZonedAtOrAfter law (reading local.now) (zoned d)) }
+            MatchOption result (instants.IsFirstOutOfRange law.off (reading local.now))
+            (λ d. instants.IsZonedAtOrAfter law (reading local.now) (zoned d)) }
     {
         let second = self.first_second_at_or_after(local);
         let whole = instant_at(self, second, 0)?;
@@ -115,8 +115,8 @@ pub trait ZoneDays: TimeZone {
     /// ```
     final fn start_of_day(&self, date: NaiveDate) -> Option<DateTime<Self>>
         ensures { let law = Self.law self.now in
-            MatchOption result (IsFirstOutOfRange law.off (midnight (day_of date)))
-            (λ d. IsZonedAtOrAfter law (midnight (day_of date)) (zoned d)) }
+            MatchOption result (instants.IsFirstOutOfRange law.off (instants.midnight (day_of date)))
+            (λ d. instants.IsZonedAtOrAfter law (instants.midnight (day_of date)) (zoned d)) }
     {
         self.first_at_or_after(&date.and_time(NaiveTime::MIN))
     }
@@ -133,8 +133,8 @@ pub trait ZoneDays: TimeZone {
     /// ```
     final fn end_of_day(&self, date: NaiveDate) -> Option<DateTime<Self>>
         ensures { let law = Self.law self.now in
-            MatchOption result (HasNoEnd law.off (day_of date))
-            (λ d. IsZonedEnd law (day_of date) (zoned d)) }
+            MatchOption result (ends.HasNoEnd law.off (day_of date))
+            (λ d. ends.IsZonedEnd law (day_of date) (zoned d)) }
     {
         let (start, next) = starts_of_days(self, date)?;
         if start == next {
@@ -152,7 +152,7 @@ pub trait ZoneDays: TimeZone {
     /// ```
     final fn length_of_day(&self, date: NaiveDate) -> Option<TimeDelta>
         ensures { MatchOption result (¬ (IsWideDay (day_of date +ℤ pos 1)))
-            (λ length. IsLengthOfDay (Self.law self.now).off (day_of date) (nanos_of length)) }
+            (λ length. ends.IsLengthOfDay (Self.law self.now).off (day_of date) (nanos_of length)) }
     {
         let (start, next) = starts_of_days(self, date)?;
         Some(TimeDelta::seconds(next - start))
@@ -168,9 +168,9 @@ pub trait ZoneDays: TimeZone {
     /// ```
     final fn start_of_week(&self, date: NaiveDate, start: Weekday) -> Option<DateTime<Self>>
         ensures { let law = Self.law self.now in
-            (first : ℤ) × IsFirstOfWeek (weekday_number start) (day_of date) first
-            × MatchOption result (IsFirstOutOfRange law.off (midnight first))
-            (λ d. IsZonedAtOrAfter law (midnight first) (zoned d)) }
+            (first : ℤ) × ends.IsFirstOfWeek (weekday_number start) (day_of date) first
+            × MatchOption result (instants.IsFirstOutOfRange law.off (instants.midnight first))
+            (λ d. instants.IsZonedAtOrAfter law (instants.midnight first) (zoned d)) }
     {
         start_of_earlier_day(self, date, date.weekday().days_since(start))
     }
@@ -184,9 +184,9 @@ pub trait ZoneDays: TimeZone {
     /// ```
     final fn start_of_month(&self, date: NaiveDate) -> Option<DateTime<Self>>
         ensures { let law = Self.law self.now in
-            let first = first_of_month (day_of date) in
-            MatchOption result (IsFirstOutOfRange law.off (midnight first))
-            (λ d. IsZonedAtOrAfter law (midnight first) (zoned d)) }
+            let first = ends.first_of_month (day_of date) in
+            MatchOption result (instants.IsFirstOutOfRange law.off (instants.midnight first))
+            (λ d. instants.IsZonedAtOrAfter law (instants.midnight first) (zoned d)) }
     {
         start_of_earlier_day(self, date, date.day0())
     }
@@ -200,9 +200,9 @@ pub trait ZoneDays: TimeZone {
     /// ```
     final fn start_of_year(&self, date: NaiveDate) -> Option<DateTime<Self>>
         ensures { let law = Self.law self.now in
-            let first = first_of_year (day_of date) in
-            MatchOption result (IsFirstOutOfRange law.off (midnight first))
-            (λ d. IsZonedAtOrAfter law (midnight first) (zoned d)) }
+            let first = ends.first_of_year (day_of date) in
+            MatchOption result (instants.IsFirstOutOfRange law.off (instants.midnight first))
+            (λ d. instants.IsZonedAtOrAfter law (instants.midnight first) (zoned d)) }
     {
         start_of_earlier_day(self, date, date.ordinal0())
     }
@@ -211,7 +211,7 @@ pub trait ZoneDays: TimeZone {
 // The first second of the day of a date, and of the next day; `None` for the last date of all.
 fn starts_of_days<Tz: ZoneDays>(zone: &Tz, date: NaiveDate) -> Option<(i64, i64)>
     ensures { MatchOption result (¬ (IsWideDay (day_of date +ℤ pos 1)))
-        (λ s. AreStartsOfDays (Tz.law zone.now).off (day_of date) s.0 s.1) }
+        (λ s. ends.AreStartsOfDays (Tz.law zone.now).off (day_of date) s.0 s.1) }
 {
     let start = zone.first_second_at_or_after(&date.and_time(NaiveTime::MIN));
     let next = zone.first_second_at_or_after(&midnight_after(date)?);
@@ -221,7 +221,7 @@ fn starts_of_days<Tz: ZoneDays>(zone: &Tz, date: NaiveDate) -> Option<(i64, i64)
 // The midnight after a date, which may be on the buffer day after the range.
 fn midnight_after(date: NaiveDate) -> Option<NaiveDateTime>
     ensures { MatchOption result (¬ (IsWideDay (day_of date +ℤ pos 1)))
-        (λ local. reading local ≡ midnight (day_of date +ℤ pos 1)) }
+        (λ local. reading local ≡ instants.midnight (day_of date +ℤ pos 1)) }
 {
     let start = date.and_time(NaiveTime::MIN);
     if !start.is_in_range() {
@@ -236,8 +236,8 @@ fn midnight_after(date: NaiveDate) -> Option<NaiveDateTime>
 fn start_of_earlier_day<Tz: ZoneDays>(zone: &Tz, date: NaiveDate, days: u32) -> Option<DateTime<Tz>>
     ensures { let law = Tz.law zone.now in
         let first = day_of date -ℤ pos days in
-        MatchOption result (IsFirstOutOfRange law.off (midnight first))
-        (λ d. IsZonedAtOrAfter law (midnight first) (zoned d)) }
+        MatchOption result (instants.IsFirstOutOfRange law.off (instants.midnight first))
+        (λ d. instants.IsZonedAtOrAfter law (instants.midnight first) (zoned d)) }
 {
     zone.start_of_day(date.checked_sub_days(Days::new(days as u64))?)
 }

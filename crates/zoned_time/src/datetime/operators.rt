@@ -8,7 +8,7 @@ ghost use Rattle.offset_core.specs.TimeDelta.{nanos_of};
 ghost use Rattle.naive_base.specs.Months.{months_of, days_of};
 ghost use Rattle.naive_base.specs.Range.{IsInRange};
 ghost use Rattle.naive_base.specs.Reading.{ahead, behind, difference};
-ghost use Rattle.zoned_time.specs.DateTime.{zoned, CanMove, IsMoved, IsSetTo, IsOnlyMonthsLater, IsOnlyDaysLater, IsDaysAdded};
+ghost use Rattle.zoned_time.specs.DateTime as shown;
 
 use super::DateTime;
 use crate::TimeZone;
@@ -28,9 +28,9 @@ use std::time::Duration;
 impl<Tz: TimeZone> Add<TimeDelta> for DateTime<Tz> {
     type Output = DateTime<Tz>;
 
-    ghost can_add = { λ d t. CanMove d (nanos_of t) };
+    ghost can_add = { λ d t. shown.CanMove d (nanos_of t) };
 
-    ghost add_gives = { λ d t r. IsMoved Tz.meaning d (nanos_of t) r };
+    ghost add_gives = { λ d t r. shown.IsMoved Tz.meaning d (nanos_of t) r };
 
     fn add(self, rhs: TimeDelta) -> DateTime<Tz> {
         self.checked_add_signed(rhs).unwrap()
@@ -41,9 +41,9 @@ impl<Tz: TimeZone> Add<TimeDelta> for DateTime<Tz> {
 impl<Tz: TimeZone> Sub<TimeDelta> for DateTime<Tz> {
     type Output = DateTime<Tz>;
 
-    ghost can_sub = { λ d t. CanMove d (neg_ℤ (nanos_of t)) };
+    ghost can_sub = { λ d t. shown.CanMove d (neg_ℤ (nanos_of t)) };
 
-    ghost sub_gives = { λ d t r. IsMoved Tz.meaning d (neg_ℤ (nanos_of t)) r };
+    ghost sub_gives = { λ d t r. shown.IsMoved Tz.meaning d (neg_ℤ (nanos_of t)) r };
 
     fn sub(self, rhs: TimeDelta) -> DateTime<Tz> {
         self.checked_sub_signed(rhs).unwrap()
@@ -51,9 +51,9 @@ impl<Tz: TimeZone> Sub<TimeDelta> for DateTime<Tz> {
 }
 
 impl<Tz: TimeZone> AddAssign<TimeDelta> for DateTime<Tz> {
-    ghost can_add_assign = { λ d t. CanMove d (nanos_of t) };
+    ghost can_add_assign = { λ d t. shown.CanMove d (nanos_of t) };
 
-    ghost add_assign_gives = { λ d t r. IsMoved Tz.meaning d (nanos_of t) r };
+    ghost add_assign_gives = { λ d t r. shown.IsMoved Tz.meaning d (nanos_of t) r };
 
     fn add_assign(&mut self, rhs: TimeDelta) {
         *self = *self + rhs;
@@ -61,9 +61,9 @@ impl<Tz: TimeZone> AddAssign<TimeDelta> for DateTime<Tz> {
 }
 
 impl<Tz: TimeZone> SubAssign<TimeDelta> for DateTime<Tz> {
-    ghost can_sub_assign = { λ d t. CanMove d (neg_ℤ (nanos_of t)) };
+    ghost can_sub_assign = { λ d t. shown.CanMove d (neg_ℤ (nanos_of t)) };
 
-    ghost sub_assign_gives = { λ d t r. IsMoved Tz.meaning d (neg_ℤ (nanos_of t)) r };
+    ghost sub_assign_gives = { λ d t r. shown.IsMoved Tz.meaning d (neg_ℤ (nanos_of t)) r };
 
     fn sub_assign(&mut self, rhs: TimeDelta) {
         *self = *self - rhs;
@@ -75,9 +75,9 @@ impl<Tz: TimeZone> SubAssign<TimeDelta> for DateTime<Tz> {
 impl<Tz: TimeZone> Add<Duration> for DateTime<Tz> {
     type Output = DateTime<Tz>;
 
-    ghost can_add = { λ d t. FitsTimeDelta (pos (as_nanos t)) × CanMove d (pos (as_nanos t)) };
+    ghost can_add = { λ d t. FitsTimeDelta (pos (as_nanos t)) × shown.CanMove d (pos (as_nanos t)) };
 
-    ghost add_gives = { λ d t r. IsMoved Tz.meaning d (pos (as_nanos t)) r };
+    ghost add_gives = { λ d t r. shown.IsMoved Tz.meaning d (pos (as_nanos t)) r };
 
     fn add(self, rhs: Duration) -> DateTime<Tz> {
         self + TimeDelta::from_std(rhs).unwrap()
@@ -90,9 +90,9 @@ impl<Tz: TimeZone> Sub<Duration> for DateTime<Tz> {
     type Output = DateTime<Tz>;
 
     ghost can_sub = { λ d t.
-        FitsTimeDelta (pos (as_nanos t)) × CanMove d (neg_ℤ (pos (as_nanos t))) };
+        FitsTimeDelta (pos (as_nanos t)) × shown.CanMove d (neg_ℤ (pos (as_nanos t))) };
 
-    ghost sub_gives = { λ d t r. IsMoved Tz.meaning d (neg_ℤ (pos (as_nanos t))) r };
+    ghost sub_gives = { λ d t r. shown.IsMoved Tz.meaning d (neg_ℤ (pos (as_nanos t))) r };
 
     fn sub(self, rhs: Duration) -> DateTime<Tz> {
         self - TimeDelta::from_std(rhs).unwrap()
@@ -101,9 +101,9 @@ impl<Tz: TimeZone> Sub<Duration> for DateTime<Tz> {
 
 impl<Tz: TimeZone> AddAssign<Duration> for DateTime<Tz> {
     ghost can_add_assign = { λ d t.
-        FitsTimeDelta (pos (as_nanos t)) × CanMove d (pos (as_nanos t)) };
+        FitsTimeDelta (pos (as_nanos t)) × shown.CanMove d (pos (as_nanos t)) };
 
-    ghost add_assign_gives = { λ d t r. IsMoved Tz.meaning d (pos (as_nanos t)) r };
+    ghost add_assign_gives = { λ d t r. shown.IsMoved Tz.meaning d (pos (as_nanos t)) r };
 
     fn add_assign(&mut self, rhs: Duration) {
         *self = *self + rhs;
@@ -112,9 +112,9 @@ impl<Tz: TimeZone> AddAssign<Duration> for DateTime<Tz> {
 
 impl<Tz: TimeZone> SubAssign<Duration> for DateTime<Tz> {
     ghost can_sub_assign = { λ d t. FitsTimeDelta (pos (as_nanos t))
-        × CanMove d (neg_ℤ (pos (as_nanos t))) };
+        × shown.CanMove d (neg_ℤ (pos (as_nanos t))) };
 
-    ghost sub_assign_gives = { λ d t r. IsMoved Tz.meaning d (neg_ℤ (pos (as_nanos t))) r };
+    ghost sub_assign_gives = { λ d t r. shown.IsMoved Tz.meaning d (neg_ℤ (pos (as_nanos t))) r };
 
     fn sub_assign(&mut self, rhs: Duration) {
         *self = *self - rhs;
@@ -126,9 +126,9 @@ impl<Tz: TimeZone> SubAssign<Duration> for DateTime<Tz> {
 impl<Tz: TimeZone> Add<FixedOffset> for DateTime<Tz> {
     type Output = DateTime<Tz>;
 
-    ghost can_add = { λ d o. IsInRange (ahead (zoned d).utc (seconds_of o)).s };
+    ghost can_add = { λ d o. IsInRange (ahead (shown.zoned d).utc (seconds_of o)).s };
 
-    ghost add_gives = { λ d o r. IsSetTo d (ahead (zoned d).utc (seconds_of o)) r };
+    ghost add_gives = { λ d o r. shown.IsSetTo d (ahead (shown.zoned d).utc (seconds_of o)) r };
 
     fn add(self, rhs: FixedOffset) -> DateTime<Tz> {
         let utc = self.datetime.checked_add_offset(rhs).unwrap();
@@ -141,9 +141,9 @@ impl<Tz: TimeZone> Add<FixedOffset> for DateTime<Tz> {
 impl<Tz: TimeZone> Sub<FixedOffset> for DateTime<Tz> {
     type Output = DateTime<Tz>;
 
-    ghost can_sub = { λ d o. IsInRange (behind (zoned d).utc (seconds_of o)).s };
+    ghost can_sub = { λ d o. IsInRange (behind (shown.zoned d).utc (seconds_of o)).s };
 
-    ghost sub_gives = { λ d o r. IsSetTo d (behind (zoned d).utc (seconds_of o)) r };
+    ghost sub_gives = { λ d o r. shown.IsSetTo d (behind (shown.zoned d).utc (seconds_of o)) r };
 
     fn sub(self, rhs: FixedOffset) -> DateTime<Tz> {
         let utc = self.datetime.checked_sub_offset(rhs).unwrap();
@@ -155,7 +155,7 @@ impl<Tz: TimeZone> Sub<FixedOffset> for DateTime<Tz> {
 impl<Tz: TimeZone> Sub<DateTime<Tz>> for DateTime<Tz> {
     type Output = TimeDelta;
 
-    ghost sub_gives = { λ d e r. nanos_of r ≡ difference (zoned d).utc (zoned e).utc };
+    ghost sub_gives = { λ d e r. nanos_of r ≡ difference (shown.zoned d).utc (shown.zoned e).utc };
 
     fn sub(self, rhs: DateTime<Tz>) -> TimeDelta {
         self.signed_duration_since(&rhs)
@@ -166,7 +166,7 @@ impl<Tz: TimeZone> Sub<DateTime<Tz>> for DateTime<Tz> {
 impl<Tz: TimeZone> Sub<&DateTime<Tz>> for DateTime<Tz> {
     type Output = TimeDelta;
 
-    ghost sub_gives = { λ d e r. nanos_of r ≡ difference (zoned d).utc (zoned e.now).utc };
+    ghost sub_gives = { λ d e r. nanos_of r ≡ difference (shown.zoned d).utc (shown.zoned e.now).utc };
 
     fn sub(self, rhs: &DateTime<Tz>) -> TimeDelta {
         self.signed_duration_since(rhs)
@@ -178,9 +178,9 @@ impl<Tz: TimeZone> Add<Months> for DateTime<Tz> {
     type Output = DateTime<Tz>;
 
     ghost can_add = { λ d n.
-        (e : _) × IsOnlyMonthsLater Tz.meaning d (pos (months_of n)) (Some e) };
+        (e : _) × shown.IsOnlyMonthsLater Tz.meaning d (pos (months_of n)) (Some e) };
 
-    ghost add_gives = { λ d n r. IsOnlyMonthsLater Tz.meaning d (pos (months_of n)) (Some r) };
+    ghost add_gives = { λ d n r. shown.IsOnlyMonthsLater Tz.meaning d (pos (months_of n)) (Some r) };
 
     fn add(self, rhs: Months) -> DateTime<Tz> {
         self.checked_add_months(rhs).unwrap()
@@ -192,10 +192,10 @@ impl<Tz: TimeZone> Sub<Months> for DateTime<Tz> {
     type Output = DateTime<Tz>;
 
     ghost can_sub = { λ d n.
-        (e : _) × IsOnlyMonthsLater Tz.meaning d (neg_ℤ (pos (months_of n))) (Some e) };
+        (e : _) × shown.IsOnlyMonthsLater Tz.meaning d (neg_ℤ (pos (months_of n))) (Some e) };
 
     ghost sub_gives = { λ d n r.
-        IsOnlyMonthsLater Tz.meaning d (neg_ℤ (pos (months_of n))) (Some r) };
+        shown.IsOnlyMonthsLater Tz.meaning d (neg_ℤ (pos (months_of n))) (Some r) };
 
     fn sub(self, rhs: Months) -> DateTime<Tz> {
         self.checked_sub_months(rhs).unwrap()
@@ -206,9 +206,9 @@ impl<Tz: TimeZone> Sub<Months> for DateTime<Tz> {
 impl<Tz: TimeZone> Add<Days> for DateTime<Tz> {
     type Output = DateTime<Tz>;
 
-    ghost can_add = { λ d n. (e : _) × IsDaysAdded Tz.meaning d (days_of n) (Some e) };
+    ghost can_add = { λ d n. (e : _) × shown.IsDaysAdded Tz.meaning d (days_of n) (Some e) };
 
-    ghost add_gives = { λ d n r. IsDaysAdded Tz.meaning d (days_of n) (Some r) };
+    ghost add_gives = { λ d n r. shown.IsDaysAdded Tz.meaning d (days_of n) (Some r) };
 
     fn add(self, rhs: Days) -> DateTime<Tz> {
         self.checked_add_days(rhs).unwrap()
@@ -220,9 +220,9 @@ impl<Tz: TimeZone> Sub<Days> for DateTime<Tz> {
     type Output = DateTime<Tz>;
 
     ghost can_sub = { λ d n.
-        (e : _) × IsOnlyDaysLater Tz.meaning d (neg_ℤ (pos (days_of n))) (Some e) };
+        (e : _) × shown.IsOnlyDaysLater Tz.meaning d (neg_ℤ (pos (days_of n))) (Some e) };
 
-    ghost sub_gives = { λ d n r. IsOnlyDaysLater Tz.meaning d (neg_ℤ (pos (days_of n))) (Some r) };
+    ghost sub_gives = { λ d n r. shown.IsOnlyDaysLater Tz.meaning d (neg_ℤ (pos (days_of n))) (Some r) };
 
     fn sub(self, rhs: Days) -> DateTime<Tz> {
         self.checked_sub_days(rhs).unwrap()
