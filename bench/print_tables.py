@@ -325,9 +325,9 @@ def heads(peers):
     return " | ".join(map(head, peers))
 
 
-def load():
-    """How much else ran, by the mean of the last minute."""
-    return f"Load at the end: {os.getloadavg()[0]:.1f}"
+def load(outputs):
+    """How much else ran, by the mean of the minute before."""
+    return f"Load before: {(outputs / 'load').read_text().strip()}"
 
 
 def versions():
@@ -354,7 +354,7 @@ def main():
     inputs, outputs = Path(sys.argv[1]), Path(sys.argv[2])
     figures, zones = read_figures(outputs / "figures")
     wrong = differences(figures, Answers(inputs, outputs))
-    print(f"{datetime.now(timezone.utc):%Y-%m-%d}, {machine()}. {command('uname', '-sr')}. {load()}. {versions()}.")
+    print(f"{datetime.now(timezone.utc):%Y-%m-%d}, {machine()}. {command('uname', '-sr')}. {load(outputs)}. {versions()}.")
     for (question, years), title in TABLES.items():
         print(f"\n### {title}\n")
         peers = [peer for peer in PEERS if any(key[::3] == (question, peer) for key in figures)]

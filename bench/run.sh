@@ -34,6 +34,8 @@ inputs=$folder/inputs outputs=$folder/outputs
 mkdir -p "$outputs/growth" "$outputs/work" "$outputs/columns"
 { [ -f "$inputs/names" ] && [ -f "$inputs/stamps_at" ]; } || python3 "$here/make_inputs.py" "$inputs" || exit 1
 [ -n "${KEEP:-}" ] || for part in . growth work columns; do : > "$outputs/$part/figures"; done
+# What else runs, by the mean of the minute before.
+cut -d ' ' -f 1 /proc/loadavg > "$outputs/load"
 
 # Builds a driver in C++, and links what else is named.
 build() {
