@@ -14,7 +14,7 @@ ghost use Rattle.zoned.specs.NaiveDate.{day_of};
 ghost use Rattle.zoned.specs.NaiveDateTime.{reading};
 ghost use Rattle.zoned.specs.Range.{IsInRange};
 ghost use Rattle.zoned.specs.Reading.{reading_at, total};
-ghost use Rattle.zoned.specs.Zone.{Shows};
+ghost use Rattle.zoned.specs.Zone.{ShowsByOffset};
 ghost use Rattle.zoned.specs.Zoned.{in_seconds};
 ghost use Rattle.zoned.specs.Zones.{TypeAt};
 
@@ -126,7 +126,7 @@ pub fn place<Tz: TimeZone>(
     ensures shown { IfSome result (λ d. wall_of d ≡ reading shown.now) }
     // It isn't earlier than the line before, if the clock shows that then or later.
     ensures in_order { let s = (zoned before.now).utc.s in (u k : ℤ)
-        → Shows (Tz.law zone.now).off (reading shown.now).s u k → s ≤ℤ u
+        → ShowsByOffset (Tz.law zone.now).off (reading shown.now).s u k → s ≤ℤ u
         → IfSome result (λ d. s ≤ℤ (zoned d).utc.s) }
 {
     let instants = zone.from_local_datetime(shown);

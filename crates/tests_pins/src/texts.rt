@@ -4,7 +4,7 @@ ghost use Rattle.std.specs.Prelude.{◌≡◌, ℕ, [], ◌∷◌, ◌++◌, Lis
 ghost use Rattle.tz_base.specs.Names.{IsName};
 ghost use Rattle.tz_base.specs.declared.error.Error.TheVariants.{InvalidTzString, LocalTimeType, ParseInt, TransitionRule as RuleError, UnsupportedTzString};
 ghost use Rattle.tz_base.specs.declared.error.Expected.TheVariants.{DayFromJ1ToJ365, DaysWhenDaylightSavingTimeStartsAndEnds, Digit, HoursMinutesAndSecondsWithinTheirLimits, NameOfThreeToSevenBytes};
-ghost use Rattle.tz_info.specs.TzGrammar.{time_limit, seconds_of, IsTzText, IsTextFault};
+ghost use Rattle.tz_info.specs.TzGrammar.{time_limit, signed_seconds, IsTzText, IsTextFault};
 ghost use Rattle.tz_info.specs.PosixZones.{IsPosixZone, posix_zone, types_of};
 ghost use Rattle.tz_info.specs.Zones.{Zone, plain_zone};
 ghost use Rattle.tz_info.specs.declared.rule.transition_rule.TransitionRule.{TransitionRule};
@@ -53,8 +53,8 @@ pub fn names()
 pub fn times()
     ensures plain { time_limit false ≡ 24 }
     ensures extended { time_limit true ≡ 167 }
-    ensures west { seconds_of true 1 30 15 ≡ neg_ℤ (pos 5_415) }
-    ensures east { seconds_of false 1 30 15 ≡ pos 5_415 }
+    ensures west { signed_seconds true 1 30 15 ≡ neg_ℤ (pos 5_415) }
+    ensures east { signed_seconds false 1 30 15 ≡ pos 5_415 }
 {}
 
 /// RFC 8536's examples of its extensions: a time of 26 hours, and times before midnight.

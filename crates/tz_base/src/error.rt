@@ -1,7 +1,7 @@
 //! Why bytes, values or instants give an error.
 
 ghost use Rattle.std.specs.Prelude.{◌≡◌};
-ghost use Rattle.tz_base.specs.Errors.{number_of};
+ghost use Rattle.tz_base.specs.Errors.{error_number};
 ghost use Rattle.tz_base.specs.declared.error.Error.TheVariants.{OutOfMemory};
 
 use std::alloc::{AllocError, AllocFailed};
@@ -224,7 +224,7 @@ pub enum Error {
 impl Error {
     /// Returns the number of the error, from 1 to 17 in the order of the variants.
     pub fn number(&self) -> u8
-        ensures { result ≡ number_of self.now }
+        ensures { result ≡ error_number self.now }
     {
         match self {
             Error::DateTime(_) => 1,

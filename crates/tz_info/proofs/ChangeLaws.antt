@@ -1,6 +1,6 @@
 -- At a second there is one change, and so one next change, one previous change and one list of them.
-use Rattle.tz_info.proofs.Words.{AllPairs, AreChanges, Change, Contains, IsBeforeGap, IsChange, IsFirst, IsLast, List, LocalType, None, Option, Some, TypeAt}
-use Rattle.tz_info.proofs.Words.{Zone, ap, arith, by_lt_z, inl, inr, ints, pos, refl, subst, suc, sym, zero, ℤ, [], ◌-ℤ◌, ◌<ℤ◌, ◌∷◌, ◌≡◌, ◌≤ℤ◌, ◌⊎◌}
+use Rattle.tz_info.proofs.Words.{AllPairs, AreChanges, Change, Contains, IsTypeBeforeGap, IsChange, IsFirst, IsLast, List, LocalType, None, Option, Some}
+use Rattle.tz_info.proofs.Words.{TypeAt, Zone, ap, arith, by_lt_z, inl, inr, ints, pos, refl, subst, suc, sym, zero, ℤ, [], ◌-ℤ◌, ◌<ℤ◌, ◌∷◌, ◌≡◌, ◌≤ℤ◌, ◌⊎◌}
 use Rattle.tz_info.proofs.ZoneLaws.{type_once}
 
 same_parts : (c d : Change) → c.at ≡ d.at → c.before ≡ d.before → c.after ≡ d.after → c ≡ d
@@ -89,7 +89,7 @@ front_is_first z from until c cs h =
     }
 
 -- ---- the type before a gap
-pub one_type_before_gap : (z : Zone) (l : ℤ) (s t : LocalType) → IsBeforeGap (TypeAt z) l s → IsBeforeGap (TypeAt z) l t → s ≡ t
+pub one_type_before_gap : (z : Zone) (l : ℤ) (s t : LocalType) → IsTypeBeforeGap (TypeAt z) l s → IsTypeBeforeGap (TypeAt z) l t → s ≡ t
 one_type_before_gap z l s t a b =
     let less = a.least b.first b.more in
     let more = b.least a.first a.more in

@@ -1,11 +1,8 @@
 -- Spans by the changes on both sides of a second, from the place between transitions where it lies.
 use Rattle.tz_info.proofs.Words.{Alternate, AlternateAt, AreComeAt, AreComeOrAll, Change, HasNoChange, HasNoTurnsAt, HasType, IfSome, IsAhead, IsBegin}
-use Rattle.tz_info.proofs.Words.{IsByRule}
-use Rattle.tz_info.proofs.Words.{IsFirst, IsInStretch, IsInTable, IsLast, IsNearest, IsRuleOrNone, IsRuleTime, IsSecondOfNearest, IsSpanAt, IsValid}
-use Rattle.tz_info.proofs.Words.{LocalType, MatchOption, None, Option, SFits, Some}
-use Rattle.tz_info.proofs.Words.{TypeAt, Zone, ap, arith, false, index_of, inl, inr, ints, length, pos, refl, segment_of, subst}
-use Rattle.tz_info.proofs.Words.{sym, true, w64, ℕ, ℤ}
-use Rattle.tz_info.proofs.Words.{◌-ℤ◌, ◌<ℤ◌, ◌<◌, ◌∙◌, ◌≡◌, ◌≤ℤ◌, ◌≤◌}
+use Rattle.tz_info.proofs.Words.{IsChangeByRule, IsFirst, IsInStretch, IsInTable, IsLast, IsNearest, IsRuleOrNone, IsRuleTime, IsSecondOfNearest, IsSpanAt}
+use Rattle.tz_info.proofs.Words.{IsValid, LocalType, MatchOption, None, Option, SFits, Some, TypeAt, Zone, ap, arith, false, index_of, inl, inr, ints, length}
+use Rattle.tz_info.proofs.Words.{pos, refl, segment_of, subst, sym, true, w64, ℕ, ℤ, ◌-ℤ◌, ◌<ℤ◌, ◌<◌, ◌∙◌, ◌≡◌, ◌≤ℤ◌, ◌≤◌}
 use Rattle.tz_info.specs.declared.rule.transition_rule.TransitionRule.TheVariants.{Alternate as AlternateRule}
 use Rattle.tz_info.proofs.ChangeSearch.{InForce, first_nearest, last_nearest, nearest_moved, nearest_within}
 use Rattle.tz_info.proofs.RuleChanges.{rule_second}
@@ -22,7 +19,7 @@ type_then z u k t valid some come has =
     let b = segment_at z u k valid.transitions.rising (sym come.is) in
     (type_in_before z k u come.leap_time t l (rw (← l.sum) at b) some has).type
 
-no_rule_yet : (z : Zone) (u : ℤ) (k : ℕ) → IsValid z → k < length z.transitions → AreComeAt z u k → HasNoChange (TypeAt z) (IsByRule z (λ v. v ≤ℤ u))
+no_rule_yet : (z : Zone) (u : ℤ) (k : ℕ) → IsValid z → k < length z.transitions → AreComeAt z u k → HasNoChange (TypeAt z) (IsChangeByRule z (λ v. v ≤ℤ u))
 no_rule_yet z u k valid some come d is inside =
     let n = come.is in let i = inside.inside in let e = inside.by_rule in
     let r = segments_rise z (d.at -ℤ pos 1) u valid.transitions.rising valid.leaps (omega (arith, ints)) in
@@ -47,28 +44,28 @@ table_over z u valid (inl come) d is inside =
 
 pub span_at_end : (z : Zone) (u : ℤ) (t : LocalType) (from until : Option ℤ) → IsValid z → IsRuleOrNone z.rule → SFits w64 u → TypeAt z u t
     → AreComeOrAll z u (length z.transitions) → IsSecondOfNearest false (TypeAt z) (λ v. v ≤ℤ u) from
-    → IsSecondOfNearest true (TypeAt z) (IsByRule z (λ v. u <ℤ v)) until
+    → IsSecondOfNearest true (TypeAt z) (IsChangeByRule z (λ v. u <ℤ v)) until
     → IsSpanAt (TypeAt z) u (record { local_time_type = t; from = from; until = until })
 span_at_end z u t from until valid limits fits h come (last, before, begins) (next, after, ends) =
     rw (begins, ends) (span_between z u t last next valid limits fits h (last_nearest (TypeAt z) (λ v. v ≤ℤ u) last before)
-    (rule_first z (λ v. u <ℤ v) next valid (table_over z u valid come) (first_nearest (TypeAt z) (IsByRule z (λ v. u <ℤ v)) next after)))
+    (rule_first z (λ v. u <ℤ v) next valid (table_over z u valid come) (first_nearest (TypeAt z) (IsChangeByRule z (λ v. u <ℤ v)) next after)))
 
 -- the last change up to u is the rule's, or else the table's
 nearest_last : (f : InForce) (within : ℤ → Type 0) (found : Option Change) → IsLast f within found → IsNearest false f within found
 nearest_last f within None h = h
 nearest_last f within (Some c) h = record { is = h.is; inside = h.inside; nearest = h.last }
 
-pub start_by_rule : (z : Zone) (u second : ℤ) → IsValid z → IsSecondOfNearest false (TypeAt z) (IsByRule z (λ v. v ≤ℤ u)) (Some second)
+pub start_by_rule : (z : Zone) (u second : ℤ) → IsValid z → IsSecondOfNearest false (TypeAt z) (IsChangeByRule z (λ v. v ≤ℤ u)) (Some second)
     → IsSecondOfNearest false (TypeAt z) (λ v. v ≤ℤ u) (Some second)
 start_by_rule z u second valid (None, is, e) = cc
 start_by_rule z u second valid (Some c, is, e) = (
   Some c,
-  nearest_last (TypeAt z) (λ v. v ≤ℤ u) (Some c) (rule_is_last z (λ v. v ≤ℤ u) c valid (last_nearest (TypeAt z) (IsByRule z (λ v. v ≤ℤ u))
+  nearest_last (TypeAt z) (λ v. v ≤ℤ u) (Some c) (rule_is_last z (λ v. v ≤ℤ u) c valid (last_nearest (TypeAt z) (IsChangeByRule z (λ v. v ≤ℤ u))
       (Some c) is)),
   e,
 )
 
-pub start_by_table : (z : Zone) (u : ℤ) (found : Option Change) → IsValid z → IsSecondOfNearest false (TypeAt z) (IsByRule z (λ v. v ≤ℤ u)) None
+pub start_by_table : (z : Zone) (u : ℤ) (found : Option Change) → IsValid z → IsSecondOfNearest false (TypeAt z) (IsChangeByRule z (λ v. v ≤ℤ u)) None
     → IsLast (TypeAt z) (IsInTable z (λ v. v ≤ℤ u)) found → IsNearest false (TypeAt z) (λ v. v ≤ℤ u) found
 start_by_table z u found valid (None, none, e) h = nearest_last (TypeAt z) (λ v. v ≤ℤ u) found (table_is_last z (λ v. v ≤ℤ u) found valid none h)
 start_by_table z u found valid (Some c, is, e) h = cc
@@ -100,7 +97,7 @@ kept f u begin previous (Some s) (Some c) is e h =
 pub last_by_rule : (z : Zone) (a : Alternate) (u begin : ℤ) (previous by_rule : Option ℤ) → IsValid z → z.rule ≡ Some (AlternateRule a) → IsBegin z begin
     → IsSecondOfNearest false (AlternateAt a) (IsAhead false u) previous
     → MatchOption by_rule (IfSome previous (λ s. s ≤ℤ begin)) (λ s. (begin <ℤ s) × (previous ≡ Some s))
-    → IsSecondOfNearest false (TypeAt z) (IsByRule z (λ v. v ≤ℤ u)) by_rule
+    → IsSecondOfNearest false (TypeAt z) (IsChangeByRule z (λ v. v ≤ℤ u)) by_rule
 last_by_rule z a u begin previous by_rule valid rule h (found, is, e) after =
     let (r, within, same) = kept (AlternateAt a) u begin previous by_rule found is e after in
     (r, rule_found z a false u begin r valid rule h (nearest_within false (AlternateAt a) begin u found r is within), same)

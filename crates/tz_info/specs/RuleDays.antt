@@ -50,7 +50,7 @@ IsCommonDate n month day =
 
 -- the day of the month has the weekday and lies in the week: week w has the days 7 (w - 1) + 1 to 7 w, and week 5 the
 -- last such weekday of the month
-pub record IsWeekdayOfMonth (year : ℤ) (month week weekday day : ℕ) : Type 0 where
+pub record IsWeekdayInWeek (year : ℤ) (month week weekday day : ℕ) : Type 0 where
   pub date : IsDate year month day
   pub falls : weekday_of (day_number year month day) ≡ weekday
   pub in_week : week < 5 → (7 * (week - 1) + 1 ≤ day) × (day ≤ 7 * week)
@@ -61,7 +61,7 @@ abbrev pub IsDayOf : DayForm → ℤ → ℤ → Type 0
 IsDayOf (Julian1 n) year number = (month : ℕ) × (day : ℕ) × IsCommonDate n month day × (number ≡ day_number year month day)
 IsDayOf (Julian0 n) year number = number ≡ day_number year 1 1 +ℤ pos n
 IsDayOf (MonthWeekday month week weekday) year number =
-    (day : ℕ) × IsWeekdayOfMonth year month week weekday day × (number ≡ day_number year month day)
+    (day : ℕ) × IsWeekdayInWeek year month week weekday day × (number ≡ day_number year month day)
 
 -- the month and the day of the month of a day number in that year; the day after 31 December is written as the 32nd
 abbrev pub IsWrittenDate : ℤ → ℤ → ℕ → ℤ → Type 0

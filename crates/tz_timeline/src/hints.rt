@@ -5,8 +5,9 @@
 //! second of a stretch is then the one of its hint, or one of the few up to that of the next hint.
 
 ghost use Rattle.std.specs.Prelude.{◌≡◌, ◌+◌, ◌*◌, ◌/◌, ◌^◌, ◌<◌, ◌≤◌, ◌≤ℤ◌, ◌-ℤ◌, pos, suc, length, map, List, ℤ, ℕ, slice_index, MatchOption, MatchResult, ⊤};
-ghost use Rattle.tz_timeline.specs.Steps.Hints.{AreFilled, AreHints, AreMarked, AreRaised, AreRising, IsHinted, stretch_of};
-ghost use Rattle.tz_timeline.specs.Search.{AreOrdered, time_at};
+ghost use Rattle.tz_timeline.specs.Steps.Hints.{AreFilled, AreHints, AreMarked, AreNonDecreasing, AreRaised, IsHinted};
+ghost use Rattle.tz_timeline.specs.Steps.Hints.{stretch_of};
+ghost use Rattle.tz_timeline.specs.Search.{AreOrdered, item_time};
 
 use crate::timeline::Timed;
 use std::alloc::{AllocError, Global};
@@ -65,7 +66,7 @@ impl Hints {
     #[inline(always)]
     pub(crate) fn near(&self, seconds: u64) -> Option<Near>
         requires shift { self.now.shift < 64 }
-        requires rising { AreRising self.now.places.items }
+        requires rising { AreNonDecreasing self.now.places.items }
         ensures { MatchOption result ⊤
             (λ near. IsHinted self.now.places.items (seconds / 2 ^ self.now.shift) near) }
     {
@@ -106,9 +107,9 @@ fn shift_for(span: u64, most: u64) -> u32
 fn fill<T: Timed>(places: &mut [u32], items: &[T], first: i64, shift: u32) -> u32
     requires shift { shift < 64 }
     requires ordered { AreOrdered (map T.time items.now) }
-    requires first { (k : ℕ) → k < length items.now → first ≤ℤ time_at (map T.time items.now) k }
+    requires first { (k : ℕ) → k < length items.now → first ≤ℤ item_time (map T.time items.now) k }
     requires room { (k : ℕ) → k < length items.now → suc (stretch_of first
-        (time_at (map T.time items.now) k) shift) < length places.old }
+        (item_time (map T.time items.now) k) shift) < length places.old }
     requires none { (b : ℕ) → slice_index places.old b ≡ 0 }
     requires few { length items.now < 2 ^ 32 }
     ensures { AreFilled (map T.time items.now) first shift places.old places.new result }
@@ -122,9 +123,9 @@ fn fill<T: Timed>(places: &mut [u32], items: &[T], first: i64, shift: u32) -> u3
 fn mark<T: Timed>(places: &mut [u32], items: &[T], first: i64, shift: u32)
     requires shift { shift < 64 }
     requires ordered { AreOrdered (map T.time items.now) }
-    requires first { (k : ℕ) → k < length items.now → first ≤ℤ time_at (map T.time items.now) k }
+    requires first { (k : ℕ) → k < length items.now → first ≤ℤ item_time (map T.time items.now) k }
     requires room { (k : ℕ) → k < length items.now → suc (stretch_of first
-        (time_at (map T.time items.now) k) shift) < length places.old }
+        (item_time (map T.time items.now) k) shift) < length places.old }
     requires none { (b : ℕ) → slice_index places.old b ≡ 0 }
     requires few { length items.now < 2 ^ 32 }
     ensures marked { AreMarked (map T.time items.now) first shift (length items.now) places.new }

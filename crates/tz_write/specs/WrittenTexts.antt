@@ -45,14 +45,14 @@ abbrev pub IsPlainTime : ℤ → Type 0
 IsPlainTime time = (pos 0 ≤ℤ time) × (time <ℤ pos 90_000)
 
 -- a time of day of a text with extensions, or without
-abbrev pub IsTimeOf : Bool → ℤ → Type 0
-IsTimeOf true time = IsWithinWeek time
-IsTimeOf false time = IsPlainTime time
+abbrev pub IsTextTime : Bool → ℤ → Type 0
+IsTextTime true time = IsWithinWeek time
+IsTextTime false time = IsPlainTime time
 
 -- a text with extensions, or without, has room for the rule's times
 abbrev pub AreTimesOf : Bool → TransitionRule → Type 0
 AreTimesOf extended (rules.Fixed t) = Unit {0}
-AreTimesOf extended (rules.Alternate a) = IsTimeOf extended a.start.time × IsTimeOf extended a.end.time
+AreTimesOf extended (rules.Alternate a) = IsTextTime extended a.start.time × IsTextTime extended a.end.time
 
 -- a text without extensions spells the rule
 abbrev pub HasPlainText : TransitionRule → Type 0

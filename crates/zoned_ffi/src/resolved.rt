@@ -4,7 +4,7 @@ ghost use Rattle.std.specs.Prelude.{◌≡◌, ◌≢◌, ◌-ℤ◌, pos, lengt
 ghost use Rattle.naive_base.specs.NaiveDateTime.{reading};
 ghost use Rattle.naive_base.specs.Range.{IsInRange};
 ghost use Rattle.zoned_ffi.specs.Resolved.{AreResolved, IsNoneTaken, IsReachedAt, IsResolvedAt, unresolved};
-ghost use Rattle.zoned_ffi.specs.Steps.ResolvedInstants.{IsStamp, IsTakenAs};
+ghost use Rattle.zoned_ffi.specs.Steps.ResolvedInstants.{IsResolvedStamp, IsTakenAs};
 
 use crate::choice::{Choice, GapChoice};
 use crate::instants::offset_at;
@@ -58,7 +58,7 @@ impl Resolved {
 
     // The instant and the offset in force then, if the instant is in range.
     fn within(instant: i64, offset: i32) -> Resolved
-        ensures { IsStamp instant offset result }
+        ensures { IsResolvedStamp instant offset result }
     {
         match NaiveDateTime::from_timestamp_opt(instant, 0) {
             Some(_) => Resolved {

@@ -3,7 +3,7 @@ ghost use Rattle.std.specs.Prelude.{◌≡◌, MatchOption, refl};
 ghost use Rattle.offset_core.specs.LocalResult.{map_of};
 ghost use Rattle.offset_core.specs.WallAnswer.{IsWallAnswer};
 ghost use Rattle.naive_base.specs.NaiveDateTime.{reading};
-ghost use Rattle.tz_info.specs.Gaps.{IsBeforeGap, IsShown};
+ghost use Rattle.tz_info.specs.Gaps.{IsTypeBeforeGap, IsShown};
 ghost use Rattle.tz_info.specs.WallClocks.{Shows};
 ghost use Rattle.tz_info.specs.Zones.{TypeAt};
 ghost use Rattle.zoned_time.specs.Choice.{AreOffsetsAround, IsOffsetBeforeGap};
@@ -94,7 +94,7 @@ impl TimeZone for KeptZone {
         // It is the offset of the type before the gap.
         ensures local_type { MatchOption result
             (IsShown (TypeAt (zone_of self.now)) (reading local.now).s)
-            (λ o. IsBeforeGap (TypeAt (zone_of self.now)) (reading local.now).s (type_of o)) }
+            (λ o. IsTypeBeforeGap (TypeAt (zone_of self.now)) (reading local.now).s (type_of o)) }
     {
         match self.borrowed.offset_before_gap(local) {
             Some(before) => Some(KeptOffset::of(self, before.local_type())),

@@ -1,8 +1,8 @@
 -- The changes of a zone's types as instants, and that clocks stand between them.
 use Rattle.zoned_ref.proofs.Words.{AreAround, AreOffsetsOf, Bool, Change, HasNoChange, IfSome, IsAfter, IsAt, IsChange, IsFirst, IsFirstChange, IsInRange}
 use Rattle.zoned_ref.proofs.Words.{IsLast, IsLastChange, IsTrue, IsUpTo, Law, LocalType, MatchOption, Meaning, None, Option, Some, StandAlike, StandWithin}
-use Rattle.zoned_ref.proofs.Words.{TypeAt, Zone, Zoned, ap, arith, change_between, false, gap_of, inl, inr, ints, of_secs, option_map, pos, refl, subst, suc}
-use Rattle.zoned_ref.proofs.Words.{sym, true, type_once, unsigned_abs, zero, ℕ, ℤ, ◌+ℤ◌, ◌-ℤ◌, ◌<ℤ◌, ◌↔◌, ◌∙◌, ◌≡◌, ◌≢◌, ◌≤ℤ◌, ◌⊎◌}
+use Rattle.zoned_ref.proofs.Words.{TypeAt, Zone, Zoned, ap, arith, change_of_instants, false, gap_of, inl, inr, ints, of_secs, option_map, pos, refl, subst}
+use Rattle.zoned_ref.proofs.Words.{suc, sym, true, type_once, unsigned_abs, zero, ℕ, ℤ, ◌+ℤ◌, ◌-ℤ◌, ◌<ℤ◌, ◌↔◌, ◌∙◌, ◌≡◌, ◌≢◌, ◌≤ℤ◌, ◌⊎◌}
 
 -- types of local time are equal or not
 abbrev pub AreDecided : Type 0
@@ -124,6 +124,6 @@ abbrev change_at : ℤ → LocalType → LocalType → Change
 change_at u s t = record { at = u; before = s; after = t }
 
 pub change_is : {O : Type 0} (type_of : O → LocalType) (c : Change) (d e : Zoned O) → e.utc.s ≡ c.at
-    → type_of d.offset ≡ c.before → type_of e.offset ≡ c.after → change_between type_of d e ≡ c
+    → type_of d.offset ≡ c.before → type_of e.offset ≡ c.after → change_of_instants type_of d e ≡ c
 change_is type_of c d e at before after =
     ap (λ u. change_at u (type_of d.offset) (type_of e.offset)) at ∙ ap (λ t. change_at c.at t (type_of e.offset)) before ∙ ap (change_at c.at c.before) after

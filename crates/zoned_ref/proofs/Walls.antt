@@ -7,7 +7,7 @@ use Rattle.zoned_ref.proofs.Words.{AreOffsetsOf, IsNarrow, IsWallAnswer, IsWallA
 use Rattle.zoned_ref.proofs.Words.{arith, ints, map_of, sym, type_once, ℤ, ◌+ℤ◌, ◌-ℤ◌, ◌∙◌, ◌≡◌}
 use Rattle.zoned_ref.proofs.Offsets.{type_within}
 
-pub shown_by_type : (z : Zone) (off : ℤ → ℤ) (l : ℤ) → IsNarrow z → AreOffsetsOf z off → IsWide l → (u : ℤ) (t : LocalType) → types.Shows (TypeAt z) l u t → offsets.Shows off l u t.offset
+pub shown_by_type : (z : Zone) (off : ℤ → ℤ) (l : ℤ) → IsNarrow z → AreOffsetsOf z off → IsWide l → (u : ℤ) (t : LocalType) → types.Shows (TypeAt z) l u t → offsets.ShowsByOffset off l u t.offset
 shown_by_type z off l narrow of_zone wide u t s =
     let day = type_within z u t narrow s.type in
     let shown : u +ℤ t.offset ≡ l = s.shown in
@@ -15,16 +15,16 @@ shown_by_type z off l narrow of_zone wide u t s =
     let there = of_zone u inside in
     record { in_zone = inside; offset = ap (λ y. y.offset) (type_once z u t there.type s.type there.in_force) ∙ sym there.offset; shown = shown }
 
-pub shown_by_offset : (z : Zone) (off : ℤ → ℤ) (l : ℤ) → AreOffsetsOf z off → (u k : ℤ) → offsets.Shows off l u k → (t : LocalType) × types.Shows (TypeAt z) l u t
+pub shown_by_offset : (z : Zone) (off : ℤ → ℤ) (l : ℤ) → AreOffsetsOf z off → (u k : ℤ) → offsets.ShowsByOffset off l u k → (t : LocalType) × types.Shows (TypeAt z) l u t
 shown_by_offset z off l of_zone u k s =
     let there = of_zone u s.in_zone in
     let inside = s.in_zone in
     let same : k ≡ there.type.offset = s.offset ∙ there.offset in
     (there.type, record { fits = omega (arith, ints, inside); type = there.in_force; shown = rw (← same) s.shown })
 
-pub zone_wall : (z : Zone) (off : ℤ → ℤ) (l : ℤ) → IsNarrow z → AreOffsetsOf z off → IsWide l → (answer : LocalResult LocalType) → IsWallAnswer (types.Shows (TypeAt z) l) answer → IsWallAnswer (offsets.Shows off l) (map_of (λ t. t.offset) answer)
+pub zone_wall : (z : Zone) (off : ℤ → ℤ) (l : ℤ) → IsNarrow z → AreOffsetsOf z off → IsWide l → (answer : LocalResult LocalType) → IsWallAnswer (types.Shows (TypeAt z) l) answer → IsWallAnswer (offsets.ShowsByOffset off l) (map_of (λ t. t.offset) answer)
 zone_wall z off l narrow of_zone wide =
-    IsWallAnswer-map_of (types.Shows (TypeAt z) l) (offsets.Shows off l) (λ t. t.offset) (shown_by_type z off l narrow of_zone wide) (shown_by_offset z off l of_zone)
+    IsWallAnswer-map_of (types.Shows (TypeAt z) l) (offsets.ShowsByOffset off l) (λ t. t.offset) (shown_by_type z off l narrow of_zone wide) (shown_by_offset z off l of_zone)
 
 -- each type of the answer is within a day
 pub each_within : (z : Zone) (l : ℤ) → IsNarrow z → (answer : LocalResult LocalType) → IsWallAnswer (types.Shows (TypeAt z) l) answer → offsets.Each (λ t. IsWithinDay t.offset) answer

@@ -31,8 +31,8 @@ pub use Rattle.zoned_ref.specs.OffsetAt.{offset_at, offset_with}
 pub use Rattle.zoned_ref.specs.Offsets.{AreOffsetsOf, HasOffset, HasOffsets, HasOneOffset, IsNarrow, rule_types}
 pub use Rattle.zoned_ref.specs.Steps.OffsetAt.{one_offset}
 pub use Rattle.zoned_ref.specs.TimeZoneRef.{off_of, zone_of}
-pub use Rattle.zoned_ref.specs.WallClock.{Tells}
-pub use Rattle.zoned_ref.specs.ZoneChange.{AreAround, IsAfter, IsOfZone, IsUpTo, StandAlike, StandWithin, change_between, change_of}
+pub use Rattle.zoned_ref.specs.WallClock.{IsWallClockOf}
+pub use Rattle.zoned_ref.specs.ZoneChange.{AreAround, IsAfter, IsOfZone, IsUpTo, StandAlike, StandWithin, change_of, change_of_instants}
 pub use Rattle.zoned_ref.specs.ZoneOffset.{IsInForce, law_of, meaning_of, type_of}
 pub use Rattle.zoned_ref.specs.declared.time_zone_ref.TimeZoneRef.{TimeZoneRef}
 pub use Rattle.zoned_ref.specs.declared.zone_offset.ZoneOffset.{ZoneOffset}

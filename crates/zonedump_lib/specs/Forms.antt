@@ -23,8 +23,8 @@ abbrev pub IsTextTold : Form → List ℕ → ℤ → ℤ → List ℕ → Type 
 IsTextTold form tz first last text = (zone : Zone) × IsPosixZone tz zone × IsTold form zone first last text
 
 -- a text is told after what was there before
-abbrev pub Tells : (List ℕ → Type 0) → List ℕ → List ℕ → Type 0
-Tells is_text before after = (text : List ℕ) × is_text text × (after ≡ before ++ text)
+abbrev pub AddsText : (List ℕ → Type 0) → List ℕ → List ℕ → Type 0
+AddsText is_text before after = (text : List ℕ) × is_text text × (after ≡ before ++ text)
 
 -- why nothing is written of a file: memory ran out, or the first fault of the file
 abbrev pub IsFileRefused : List ℕ → Error → Type 0

@@ -5,7 +5,7 @@ use Rattle.tz_info.specs.Changes.{HasNoChange, IsChange}
 use Rattle.tz_info.specs.Moments.{AlternateAt, type_when}
 use Rattle.tz_info.specs.Rules.{Alternate}
 use Rattle.tz_info.specs.Steps.Changes.{IsAhead, IsNearest}
-use Rattle.tz_info.specs.Steps.Gaps.{change_at}
+use Rattle.tz_info.specs.Steps.Gaps.{moment_change}
 use Rattle.tz_info.specs.Zones.{Zone, TypeAt}
 use Rattle.tz_base.specs.declared.change.Change.{Change}
 use Rattle.tz_info.specs.declared.rule.beside.Beside.{Beside}
@@ -14,7 +14,7 @@ use Rattle.tz_info.specs.declared.rule.wall_clock.Moment.{Moment}
 
 -- the change at the moment that was found, if one was
 abbrev pub change_found : Alternate → Option Moment → Option Change
-change_found a found = option_map (change_at a) found
+change_found a found = option_map (moment_change a) found
 
 -- of the changes at seconds that `within` takes the first one in that direction, or nothing if there is none
 abbrev pub IsNearestMomentOf : Bool → Alternate → (ℤ → Type 0) → Option Moment → Type 0

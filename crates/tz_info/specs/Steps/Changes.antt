@@ -77,14 +77,14 @@ IsAhead true s u = s <ℤ u
 IsAhead false s u = u ≤ℤ s
 
 -- u is ahead of s, and not beyond the second `end`
-abbrev pub IsUpTo : Bool → ℤ → ℤ → ℤ → Type 0
-IsUpTo true s end u = (s <ℤ u) × (u ≤ℤ end)
-IsUpTo false s end u = (end <ℤ u) × (u ≤ℤ s)
+abbrev pub IsAheadUpTo : Bool → ℤ → ℤ → ℤ → Type 0
+IsAheadUpTo true s end u = (s <ℤ u) × (u ≤ℤ end)
+IsAheadUpTo false s end u = (end <ℤ u) × (u ≤ℤ s)
 
 -- in that direction no change comes from the second s up to `end`
 pub record IsIdleTo (forward : Bool) (in_force : ℤ → LocalType → Type 0) (s end : ℤ) : Type 0 where
   pub reached : Precedes forward s end
-  pub none : HasNoChange in_force (IsUpTo forward s end)
+  pub none : HasNoChange in_force (IsAheadUpTo forward s end)
 
 -- of the second at which a change may come and the one before it, the one that comes first in that direction, and the other one
 abbrev pub near_side : Bool → ℤ → ℤ
@@ -148,7 +148,7 @@ abbrev pub HasNoneAt : Zone → ℕ → Type 0
 HasNoneAt z place = (d : Change) → IsChange (TypeAt z) d → segment_of z (d.at -ℤ pos 1) ≤ place → place < segment_of z d.at → ⊥
 
 -- u is a second that `within` takes, and at the second before u all transitions have come
-pub record IsByRule (z : Zone) (within : ℤ → Type 0) (u : ℤ) : Type 0 where
+pub record IsChangeByRule (z : Zone) (within : ℤ → Type 0) (u : ℤ) : Type 0 where
   pub inside : within u
   pub by_rule : segment_of z (u -ℤ pos 1) ≡ length z.transitions
 

@@ -43,8 +43,8 @@ pub record AreBefore (leaps : List LeapSecond) (x : ℤ) (n : ℕ) : Type 0 wher
   pub from : (d : LeapSecond) → n < length leaps → x ≤ℤ (slice_index_or leaps n d).unix_leap_time
 
 -- where clocks of that offset show `cut` or later, `count` transitions have come, and where they show less, fewer
-abbrev pub IsCut : List Transition → List LeapSecond → ℕ → ℤ → ℤ → Type 0
-IsCut transitions leaps count offset cut = (local x : ℤ) → IsWide local → IsLeapTime leaps (local -ℤ offset) x → (count ≤ length (passed transitions x)) ↔ (cut ≤ℤ local)
+abbrev pub HaveComeFrom : List Transition → List LeapSecond → ℕ → ℤ → ℤ → Type 0
+HaveComeFrom transitions leaps count offset cut = (local x : ℤ) → IsWide local → IsLeapTime leaps (local -ℤ offset) x → (count ≤ length (passed transitions x)) ↔ (cut ≤ℤ local)
 
 -- the time and any offset are a sum of 64 bits
 abbrev pub IsFarFromEnds : ℤ → Type 0

@@ -5,7 +5,7 @@ ghost use Rattle.std.specs.Prelude.{◌≡◌, ◌≢◌, ◌≤◌, pos, ◌<�
 ghost use Rattle.tz_info.specs.Moments.{AlternateAt, IsRuleTime, type_when};
 ghost use Rattle.tz_info.specs.Steps.Beside.{IsMomentAt, IsNearestMomentOf, change_found};
 ghost use Rattle.tz_info.specs.Steps.Changes.{IsAhead, IsIdleTo, IsNearest, IsNearestChange, far_side, near_end, near_side};
-ghost use Rattle.tz_info.specs.Steps.Gaps.{change_at};
+ghost use Rattle.tz_info.specs.Steps.Gaps.{moment_change};
 ghost use Rattle.tz_info.specs.Steps.Seasons.{IsAmid, IsDecidedIn, IsLimit, IsSeason};
 
 use crate::change::is_same_type;
@@ -89,7 +89,7 @@ impl AlternateTime {
         requires decides { IsDecidedIn season second }
         ensures { MatchResult result
             (λ m. IsNearestChange forward (AlternateAt self.now) (IsAhead forward second)
-            (change_at self.now m))
+            (moment_change self.now m))
             (IsIdleTo forward (AlternateAt self.now) second) }
     {
         let limit = season.limit(forward);

@@ -11,7 +11,7 @@ ghost use Rattle.tz_timeline.specs.Counts.{RoseWithin, HasRoomFor};
 ghost use Rattle.tz_info.specs.Moments.{type_when};
 ghost use Rattle.tz_info.specs.RuleTypes.{RuleAt};
 ghost use Rattle.tz_info.specs.Rules.{IsAlternateRule};
-ghost use Rattle.tz_info.specs.Steps.Gaps.{IsNeverFrom, IsRuleGap, change_at};
+ghost use Rattle.tz_info.specs.Steps.Gaps.{IsNeverFrom, IsRuleGap, moment_change};
 ghost use Rattle.tz_info.specs.Steps.RuleSeconds.{TypeFrom, IsAskedSince, IsAskedFrom, IsAmidFrom, AreUtOffsets};
 ghost use Rattle.tz_info.specs.Steps.Seasons.{IsSeason, IsSeasonFor, IsSeasonOf};
 ghost use Rattle.tz_info.specs.Steps.Walk.{IsAskedLast};
@@ -238,7 +238,7 @@ impl AlternateTime {
         requires local { IsWide local }
         requires never { IsNeverFrom self.now from local }
         ensures { MatchOption result ⊤
-            (λ m. IsRuleGap self.now from local (change_at self.now m)) }
+            (λ m. IsRuleGap self.now from local (moment_change self.now m)) }
     {
         let Some(season) = season else {
             return None;

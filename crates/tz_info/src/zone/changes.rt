@@ -9,8 +9,8 @@ ghost use Rattle.std.specs.Int.{w64};
 ghost use Rattle.tz_info.specs.Changes.{IsChange, HasNoChange, IsFirst, IsLast};
 ghost use Rattle.tz_info.specs.Leaps.{AreLeapSeconds, IsLeapTime};
 ghost use Rattle.tz_info.specs.Rules.{Alternate as AlternateRule};
-ghost use Rattle.tz_info.specs.Steps.Changes.{AreComeOrAll, ComesAt, HasNoneAt};
-ghost use Rattle.tz_info.specs.Steps.Changes.{IsAhead, IsBegin, IsByRule, IsInTable, IsNearest};
+ghost use Rattle.tz_info.specs.Steps.Changes.{AreComeOrAll, ComesAt, HasNoneAt, IsAhead, IsBegin, IsChangeByRule};
+ghost use Rattle.tz_info.specs.Steps.Changes.{IsInTable, IsNearest};
 ghost use Rattle.tz_info.specs.Zones.{HasType, TypeAt};
 ghost use Rattle.tz_info.specs.declared.rule.transition_rule.TransitionRule.TheVariants.{Alternate};
 
@@ -77,7 +77,7 @@ impl TimeZone {
     // The nearest change ahead of the second in that direction, of those that come after all
     // transitions.
     fn change_by_rule(&self, second: i64, forward: bool) -> Option<Change>
-        ensures { IsNearest forward (TypeAt self.now) (IsByRule self.now (IsAhead forward second))
+        ensures { IsNearest forward (TypeAt self.now) (IsChangeByRule self.now (IsAhead forward second))
             result }
     {
         let _ = &self.table;

@@ -5,9 +5,9 @@ ghost use Rattle.naive_base.specs.NaiveDateTime.{reading};
 ghost use Rattle.naive_base.specs.Range.{IsWide};
 ghost use Rattle.offset_core.specs.WallAnswer.{IsNeverShown};
 ghost use Rattle.tz_timeline.specs.Counts.{HasRoom, RoseWithin, HasRoomFor};
-ghost use Rattle.tz_info.specs.Around.{IsAround, IsAroundOrBefore, map_both};
+ghost use Rattle.tz_info.specs.Around.{AreTypesAround, IsAroundOrBefore, map_both};
 ghost use Rattle.tz_info.specs.Steps.HeldChanges.{change_held};
-ghost use Rattle.tz_info.specs.Gaps.{IsBeforeGap, HasGap, IsShown};
+ghost use Rattle.tz_info.specs.Gaps.{IsTypeBeforeGap, HasGap, IsShown};
 ghost use Rattle.tz_info.specs.Looks.{RoseAround};
 ghost use Rattle.tz_info.specs.Questions.{IsAskedFor};
 ghost use Rattle.tz_info.specs.Segments.{table_count};
@@ -35,7 +35,7 @@ impl TimeZone {
     /// In New York clocks were set forward from 02:00 to 03:00 on 14 March 2021. For 02:30 that day
     /// it returns the change at 1615705200 from EST to EDT, and for 03:30 EDT.
     pub fn find_local_time_type_around(&self, local: NaiveDateTime) -> Around<LocalTimeType, Change>
-        ensures { IsAround (TypeAt self.now) (reading local).s result }
+        ensures { AreTypesAround (TypeAt self.now) (reading local).s result }
     {
         self.find_local_time_type_around_counted(local, &mut Probes::new())
     }
@@ -54,7 +54,7 @@ impl TimeZone {
         probes: &mut Probes,
     ) -> Around<LocalTimeType, Change>
         requires { HasRoom probes.old }
-        ensures found { IsAround (TypeAt self.now) (reading local).s result }
+        ensures found { AreTypesAround (TypeAt self.now) (reading local).s result }
         ensures cost { RoseAround self.now result probes.old probes.new }
         ensures questions { IsAskedFor self.now (reading local).s
             probes.old.rule_questions probes.new.rule_questions }
@@ -87,7 +87,7 @@ impl TimeZone {
     fn around(&self, local: i64, probes: &mut Probes) -> Around<&LocalTimeType, HeldChange<'_>>
         requires local { IsWide local }
         requires room { HasRoom probes.old }
-        ensures found { IsAround (TypeAt self.now) local
+        ensures found { AreTypesAround (TypeAt self.now) local
             (map_both (λ r. r.now) change_held result) }
         ensures cost { RoseAround self.now (map_both (λ r. r.now) change_held result)
             probes.old probes.new }
@@ -112,7 +112,7 @@ impl TimeZone {
     pub fn find_local_time_type_before_gap(&self, local: NaiveDateTime) -> Option<LocalTimeType>
         ensures { MatchOption result
             (IsShown (TypeAt self.now) (reading local).s)
-            (λ t. IsBeforeGap (TypeAt self.now) (reading local).s t) }
+            (λ t. IsTypeBeforeGap (TypeAt self.now) (reading local).s t) }
     {
         match self.find_local_time_type_around(local) {
             Around::Gap(gap) => Some(gap.before),

@@ -7,7 +7,7 @@ ghost use Rattle.std.specs.Prelude.{◌≡◌, ◌<◌, ◌≤ℤ◌, ◌<ℤ◌
 ghost use Rattle.std.specs.Prelude.{MatchResult, Some};
 ghost use Rattle.tz_info.specs.Spans.{IsSpanAt};
 ghost use Rattle.tz_info.specs.Steps.Beside.{HasNoTurnsAt, IsSecondOfNearest};
-ghost use Rattle.tz_info.specs.Steps.Changes.{AreComeOrAll, IsByRule};
+ghost use Rattle.tz_info.specs.Steps.Changes.{AreComeOrAll, IsChangeByRule};
 ghost use Rattle.tz_info.specs.Zones.{TypeAt, IsTypeError};
 
 use crate::zone::time_zone::TimeZone;
@@ -109,7 +109,7 @@ impl TimeZone {
     fn span_start(&self, unix_time: i64, by_rule: Option<i64>) -> Option<i64>
         requires come { AreComeOrAll self.now unix_time (length self.now.transitions) }
         requires by_rule { IsSecondOfNearest false (TypeAt self.now)
-            (IsByRule self.now (λ u. u ≤ℤ unix_time)) by_rule }
+            (IsChangeByRule self.now (λ u. u ≤ℤ unix_time)) by_rule }
         ensures { IsSecondOfNearest false (TypeAt self.now) (λ u. u ≤ℤ unix_time) result }
     {
         let _ = &self.table;

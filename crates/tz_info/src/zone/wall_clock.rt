@@ -12,7 +12,7 @@ ghost use Rattle.tz_info.specs.Looks.{RoseByWallClock};
 ghost use Rattle.tz_info.specs.Questions.{IsAskedFor};
 ghost use Rattle.tz_info.specs.Segments.{table_count};
 ghost use Rattle.tz_info.specs.WallClocks.{Shows};
-ghost use Rattle.tz_info.specs.WallPieces.{IsShownAmong, ShownAmong, wall_of};
+ghost use Rattle.tz_info.specs.WallPieces.{IsShownAmong, ShownAmong, shown_indexes};
 ghost use Rattle.tz_info.specs.Steps.Pieces.{AreBelow, AreListed};
 ghost use Rattle.tz_info.specs.Steps.Seasons.{IsSeasonOf};
 ghost use Rattle.tz_info.specs.Steps.Walk.{IsShownIn};
@@ -199,8 +199,8 @@ impl TimeZone {
 // The types of the indexes.
 #[inline(always)]
 fn types_of(types: &[LocalTimeType], shown: Shown) -> MappedLocalTime<&LocalTimeType>
-    requires { AreBelow (length types.now) (wall_of shown) }
-    ensures { AreListed types.now (wall_of shown) (map_of (λ r. r.now) result) }
+    requires { AreBelow (length types.now) (shown_indexes shown) }
+    ensures { AreListed types.now (shown_indexes shown) (map_of (λ r. r.now) result) }
 {
     match shown {
         Shown::Less(_) | Shown::Skipped(_) => MappedLocalTime::None,

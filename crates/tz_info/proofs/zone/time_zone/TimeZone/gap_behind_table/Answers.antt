@@ -1,4 +1,4 @@
-use Rattle.tz_info.proofs.Words.{SFits, change_at, rules, to_z-of_z, w64}
+use Rattle.tz_info.proofs.Words.{SFits, moment_change, rules, to_z-of_z, w64}
 use Rattle.tz_info.proofs.RuleGaps.{gap_by_rule, never_from}
 use Rattle.tz_info.proofs.zone.time_zone.TimeZone.gap_behind_table.Goals as goal
 
@@ -13,7 +13,7 @@ returns-in-Some-gap_from c =
     let fl = c.ranges.local in
     let ff : SFits w64 c.rule_from.result = search rules in
     let reach = c.requires.reach in
-    let gap = gap_by_rule c.args.self.now c.in-Some.turns.now c.args.local reach.0 reach.1 c.rule_from.result (change_at c.in-Some.turns.now c.in-Some-gap_from.moment)
+    let gap = gap_by_rule c.args.self.now c.in-Some.turns.now c.args.local reach.0 reach.1 c.rule_from.result (moment_change c.in-Some.turns.now c.in-Some-gap_from.moment)
     (rw (← c.self.view_is) c.self.invariant.valid) c.in-Some.ensures (rw (c.rule_from.ensures, ← c.self.view_is) c.self.invariant.index.rule_from)
     c.requires.never reach.2 c.requires.less (simp to_z-of_z at c.in-Some-gap_from.ensures) in
     rw (c.change_of.ensures.at, c.change_of.ensures.before, c.change_of.ensures.after) gap

@@ -1,4 +1,4 @@
-use Rattle.tz_info.proofs.Words.{IsByRule, TypeAt, to_z-of_z, ◌<ℤ◌}
+use Rattle.tz_info.proofs.Words.{IsChangeByRule, TypeAt, to_z-of_z, ◌<ℤ◌}
 use Rattle.tz_info.proofs.ChangeSearch.{first_nearest}
 use Rattle.tz_info.proofs.ZoneChanges.{rule_first, table_first}
 use Rattle.tz_info.proofs.zone.time_zone.TimeZone.next_from.Goals as goal
@@ -8,5 +8,5 @@ returns-in-Some c = let fa = c.ranges.after in table_first c.args.self.now (λ u
 
 pub returns-in-None : goal.returns-in-None
 returns-in-None c = let fa = c.ranges.after in rule_first c.args.self.now (λ u. c.args.after <ℤ u) c.change_by_rule.result (rw
-    (← c.self.view_is) c.self.invariant.valid) (simp to_z-of_z at c.in-None.ensures) (first_nearest (TypeAt c.args.self.now) (IsByRule c.args.self.now
+    (← c.self.view_is) c.self.invariant.valid) (simp to_z-of_z at c.in-None.ensures) (first_nearest (TypeAt c.args.self.now) (IsChangeByRule c.args.self.now
     (λ u. c.args.after <ℤ u)) c.change_by_rule.result (simp to_z-of_z at c.change_by_rule.ensures))

@@ -1,11 +1,11 @@
-use Rattle.tz_info.proofs.Words.{IsByRule, Some, TypeAt, to_z-of_z, ◌≤ℤ◌}
+use Rattle.tz_info.proofs.Words.{IsChangeByRule, Some, TypeAt, to_z-of_z, ◌≤ℤ◌}
 use Rattle.tz_info.proofs.ChangeSearch.{last_nearest}
 use Rattle.tz_info.proofs.ZoneChanges.{rule_is_last, table_is_last}
 use Rattle.tz_info.proofs.zone.time_zone.TimeZone.previous_change.Goals as goal
 
 pub returns-in-Some : goal.returns-in-Some
 returns-in-Some c = let fa = c.ranges.before_or_at in rule_is_last c.args.self.now (λ u. u ≤ℤ c.args.before_or_at) c.in-Some.change (rw
-    (← c.self.view_is) c.self.invariant.valid) (last_nearest (TypeAt c.args.self.now) (IsByRule c.args.self.now (λ u. u ≤ℤ c.args.before_or_at))
+    (← c.self.view_is) c.self.invariant.valid) (last_nearest (TypeAt c.args.self.now) (IsChangeByRule c.args.self.now (λ u. u ≤ℤ c.args.before_or_at))
     (Some c.in-Some.change) (simp to_z-of_z at c.in-Some.ensures))
 
 pub returns-in-None : goal.returns-in-None
