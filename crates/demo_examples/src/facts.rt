@@ -1,5 +1,6 @@
 //! Facts about instants, stated in the words that the library passes on. None has a proof file.
-ghost use Rattle.std.specs.Prelude.{◌≡◌, ℤ, pos, ◌+ℤ◌, ◌≤ℤ◌, ◌<ℤ◌, ◌++◌, ◌∷◌, IfErr, IfOk, IfSome, option_map, string_bytes, FitsSigned};
+ghost use Rattle.std.specs.Prelude.{◌≡◌, ℤ, pos, ◌+ℤ◌, ◌≤ℤ◌, ◌<ℤ◌, ◌++◌, ◌∷◌, IfErr, IfOk, IfSome, option_map};
+ghost use Rattle.std.specs.Prelude.{string_bytes, FitsSigned};
 ghost use Rattle.std.specs.Int.{w64};
 ghost use Rattle.zoned.specs.Choice.{IsUnresolved};
 ghost use Rattle.zoned.specs.DateTime.{zoned, wall_of, IsIn};

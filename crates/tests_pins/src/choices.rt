@@ -8,7 +8,8 @@ ghost use Rattle.offset_core.specs.ResolveNumbers.{resolve_error_number};
 ghost use Rattle.zoned_time.specs.Zoned.{Zoned};
 ghost use Rattle.offset_core.specs.declared.resolve_error.ResolveError.{ResolveError};
 ghost use Rattle.offset_core.specs.declared.resolve_error.ResolveError.TheVariants.{Gap, Fold, OutOfRange};
-ghost use Rattle.tests_pins.specs.Choices.{set_forward, set_back, forward, back, half_past, refuse, shift, earliest, latest};
+ghost use Rattle.tests_pins.specs.Choices.{set_forward, set_back, forward, back, half_past, refuse, shift, earliest};
+ghost use Rattle.tests_pins.specs.Choices.{latest};
 
 /// Before the gap clocks were at 0, and by no other offset 00:30 is taken.
 pub fn gaps()

@@ -4,7 +4,8 @@
 
 ghost use Rattle.std.specs.Prelude.{◌≡◌, ℤ, pos, neg_ℤ, Option, Some, None};
 ghost use Rattle.naive_base.specs.Date.{day_number};
-ghost use Rattle.naive_base.specs.Fields.{IsDateGiven, IsOrdinalGiven, IsMonthsLater, IsDaysLater, with_hour, with_minute, with_second, with_fraction};
+ghost use Rattle.naive_base.specs.Fields.{IsDateGiven, IsOrdinalGiven, IsMonthsLater, IsDaysLater, with_hour};
+ghost use Rattle.naive_base.specs.Fields.{with_minute, with_second, with_fraction};
 ghost use Rattle.naive_base.specs.Months.{month_number, year_of_number, month_of_number};
 ghost use Rattle.naive_base.specs.Weekday.{weekday_of, weekday_number, days_from_monday};
 ghost use Rattle.naive_base.specs.declared.weekday.Weekday.TheVariants.{Mon, Tue, Wed, Thu, Fri, Sat, Sun};

@@ -3,7 +3,8 @@
 ghost use Rattle.std.specs.Prelude.{◌≡◌, ℕ, Bool, true, false, [], ◌∷◌, ◌++◌, List, None, pos, neg_ℤ};
 ghost use Rattle.tz_base.specs.LocalTypes.{LocalType};
 ghost use Rattle.tz_base.specs.declared.error.Error.TheVariants.{InvalidTzFile, LocalTimeType};
-ghost use Rattle.tz_base.specs.declared.error.Expected.TheVariants.{OffsetAboveI32Min, TzTextInFooter, ZeroOrOneAsIsDst};
+ghost use Rattle.tz_base.specs.declared.error.Expected.TheVariants.{OffsetAboveI32Min, TzTextInFooter};
+ghost use Rattle.tz_base.specs.declared.error.Expected.TheVariants.{ZeroOrOneAsIsDst};
 ghost use Rattle.tz_info.specs.FileContents.{IsMark, SpellsType, TypeFault, SpellsLeapSecond, IndicatorsAgree};
 ghost use Rattle.tz_info.specs.FileContents.{file_time};
 ghost use Rattle.tz_base.specs.Grammar.{Spells, be_u32};
@@ -17,7 +18,8 @@ ghost use Rattle.tz_info.specs.declared.file.header.Version.{Version};
 ghost use Rattle.tz_info.specs.declared.file.header.Version.TheVariants.{One, Two, Three};
 ghost use Rattle.tz_info.specs.Footers.{IsFooter, FooterFault};
 ghost use Rattle.tests_pins.specs.Honolulu.{designations, hst_record, hst_footer, first_time, least_time_bytes};
-ghost use Rattle.tests_pins.specs.Files.{one_to_six, of_types, short_record, long_record, one_leap_second, with_leap_second};
+ghost use Rattle.tests_pins.specs.Files.{one_to_six, of_types, short_record, long_record, one_leap_second};
+ghost use Rattle.tests_pins.specs.Files.{with_leap_second};
 ghost use Rattle.tests_pins.specs.LeapSeconds.{entry};
 ghost use Rattle.tests_pins.specs.Zones.{hst, hst10};
 

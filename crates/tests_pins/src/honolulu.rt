@@ -4,7 +4,8 @@
 ghost use Rattle.std.specs.Prelude.{◌≡◌, ℕ, List, [], ◌∷◌, ◌++◌, None, pos, neg_ℤ};
 ghost use Rattle.tz_base.specs.Grammar.{Spells};
 ghost use Rattle.tz_base.specs.declared.error.Error.TheVariants.{InvalidTzFile, UnsupportedTzFile};
-ghost use Rattle.tz_base.specs.declared.error.Expected.TheVariants.{NothingAfterBlockOfVersion1, Version1To3, Version2Or3InSecondHeader};
+ghost use Rattle.tz_base.specs.declared.error.Expected.TheVariants.{NothingAfterBlockOfVersion1, Version1To3};
+ghost use Rattle.tz_base.specs.declared.error.Expected.TheVariants.{Version2Or3InSecondHeader};
 ghost use Rattle.tz_info.specs.FileBlocks.{block as a_block};
 ghost use Rattle.tz_info.specs.FileContents.{SpellTransitions, SpellTypes, IndicatorsAgree};
 ghost use Rattle.tz_info.specs.FileHeaders.{header as a_header};

@@ -6,7 +6,9 @@ ghost use Rattle.zoned_round.specs.Errors.{IsRoundingFault, message};
 ghost use Rattle.zoned_round.specs.Multiples.{multiple_below, multiple_above, nearest_multiple};
 ghost use Rattle.zoned_round.specs.Subseconds.{rounded, cut};
 ghost use Rattle.zoned_round.specs.declared.error.RoundingError.{RoundingError};
-ghost use Rattle.zoned_round.specs.declared.error.RoundingError.TheVariants.{DurationExceedsLimit, DurationExceedsTimestamp, TimestampExceedsLimit};
+ghost use Rattle.zoned_round.specs.declared.error.RoundingError.TheVariants.{DurationExceedsLimit};
+ghost use Rattle.zoned_round.specs.declared.error.RoundingError.TheVariants.{DurationExceedsTimestamp};
+ghost use Rattle.zoned_round.specs.declared.error.RoundingError.TheVariants.{TimestampExceedsLimit};
 ghost use Rattle.tests_pins.specs.Readings.{clock_reading};
 
 /// 12:00:00.154 to ten milliseconds is 12:00:00.150, and to a day the next midnight. A tie goes up,

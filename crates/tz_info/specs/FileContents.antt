@@ -21,7 +21,8 @@ file_time size bytes = if size == 4 then signed w32 bytes else signed w64 bytes
 -- records of one size laid end to end, and what each of them spells
 abbrev pub AreRecords : {X : Type 0} → ℕ → (List ℕ → X → Type 0) → List ℕ → List X → Type 0
 AreRecords size Spells bytes [] = bytes ≡ []
-AreRecords size Spells bytes (x ∷ xs) = (first : List ℕ) × (rest : List ℕ) × (bytes ≡ first ++ rest) × (length first ≡ size) × Spells first x × AreRecords size Spells rest xs
+AreRecords size Spells bytes (x ∷ xs) =
+    (first : List ℕ) × (rest : List ℕ) × (bytes ≡ first ++ rest) × (length first ≡ size) × Spells first x × AreRecords size Spells rest xs
 
 -- the first record that spells nothing has that fault
 pub record HasRecordFault {X : Type 0} (size : ℕ) (Spells : List ℕ → X → Type 0) (Fault : List ℕ → Error → Type 0) (bytes : List ℕ) (e : Error) : Type 0 where

@@ -26,7 +26,8 @@ is_rule_day (MonthWeekday month week weekday) = nat_le 1 month && nat_le month 1
 pub rule_day_from : (form : DayForm) → is_rule_day form ≡ true → IsRuleDay form
 rule_day_from (Julian1 n) h = (grind (arith, nat_tests), grind (arith, nat_tests))
 rule_day_from (Julian0 n) h = grind (arith, nat_tests)
-rule_day_from (MonthWeekday m w d) h = (grind (arith, nat_tests), grind (arith, nat_tests), grind (arith, nat_tests), grind (arith, nat_tests), grind (arith, nat_tests))
+rule_day_from (MonthWeekday m w d) h =
+    (grind (arith, nat_tests), grind (arith, nat_tests), grind (arith, nat_tests), grind (arith, nat_tests), grind (arith, nat_tests))
 
 pub rule_day_to : (form : DayForm) → IsRuleDay form → is_rule_day form ≡ true
 rule_day_to (Julian1 n) h = let a = h.0 in let b = h.1 in grind (arith, nat_tests)

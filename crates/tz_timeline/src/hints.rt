@@ -4,7 +4,8 @@
 //! two of them, and of each stretch a hint says which item is the last one before it. The latest item at a
 //! second of a stretch is then the one of its hint, or one of the few up to that of the next hint.
 
-ghost use Rattle.std.specs.Prelude.{◌≡◌, ◌+◌, ◌*◌, ◌/◌, ◌^◌, ◌<◌, ◌≤◌, ◌≤ℤ◌, ◌-ℤ◌, pos, suc, length, map, List, ℤ, ℕ, slice_index, MatchOption, MatchResult, ⊤};
+ghost use Rattle.std.specs.Prelude.{◌≡◌, ◌+◌, ◌*◌, ◌/◌, ◌^◌, ◌<◌, ◌≤◌, ◌≤ℤ◌, ◌-ℤ◌, pos, suc, length, map, List, ℤ, ℕ};
+ghost use Rattle.std.specs.Prelude.{slice_index, MatchOption, MatchResult, ⊤};
 ghost use Rattle.tz_timeline.specs.Steps.Hints.{AreFilled, AreHints, AreMarked, AreNonDecreasing, AreRaised, IsHinted};
 ghost use Rattle.tz_timeline.specs.Steps.Hints.{stretch_of};
 ghost use Rattle.tz_timeline.specs.Search.{AreOrdered, item_time};

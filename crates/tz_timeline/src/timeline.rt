@@ -5,7 +5,8 @@
 //! others. A search compares with these two first, and if one of them decides, that counts as a
 //! probe of its item. Hints are not counted.
 
-ghost use Rattle.std.specs.Prelude.{◌≡◌, ◌+◌, ◌-◌, ◌*◌, ◌/◌, ◌<◌, ◌≤◌, [], length, map, option_map, slice_index_or, MatchResult, ℕ, ⊤};
+ghost use Rattle.std.specs.Prelude.{◌≡◌, ◌+◌, ◌-◌, ◌*◌, ◌/◌, ◌<◌, ◌≤◌, [], length, map, option_map, slice_index_or};
+ghost use Rattle.std.specs.Prelude.{MatchResult, ℕ, ⊤};
 ghost use Rattle.tz_timeline.specs.Counts.{Counts, HasRoomFor};
 ghost use Rattle.tz_timeline.specs.Digits.{digits};
 ghost use Rattle.tz_timeline.specs.Search.{AreOrdered, ArePassed, AreProbesCounted, IsLastOf};

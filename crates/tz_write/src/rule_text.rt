@@ -1,6 +1,7 @@
 //! The TZ string of a rule.
 
-ghost use Rattle.std.specs.Prelude.{◌≡◌, ◌∷◌, ◌++◌, List, ℕ, true, false, OnOk, IsTrue, MatchBool, ◌↔◌, MatchResult, MatchOption, IfOk, OnErr, Bool, Some, None, string_bytes};
+ghost use Rattle.std.specs.Prelude.{◌≡◌, ◌∷◌, ◌++◌, List, ℕ, true, false, OnOk, IsTrue, MatchBool, ◌↔◌, MatchResult};
+ghost use Rattle.std.specs.Prelude.{MatchOption, IfOk, OnErr, Bool, Some, None, string_bytes};
 ghost use Rattle.tz_base.specs.Errors.{IsOutOfMemory};
 ghost use Rattle.tz_base.specs.Names.{IsName};
 ghost use Rattle.tz_info.specs.RuleTypes.{IsRule};
@@ -8,7 +9,8 @@ ghost use Rattle.tz_info.specs.Rules.{IsAlternateRule};
 ghost use Rattle.tz_info.specs.declared.rule.transition_rule.TransitionRule.{TransitionRule as Rule};
 ghost use Rattle.offset_core.specs.Offset.{IsWithinDay};
 ghost use Rattle.tz_info.specs.TzGrammar.{IsTzText};
-ghost use Rattle.tz_write.specs.WrittenTexts.{IsWrittenText, IsUnspelled, IsNamedType, IsPlainTime, CanBeSpelled, AreTimesOf, HasPlainText};
+ghost use Rattle.tz_write.specs.WrittenTexts.{IsWrittenText, IsUnspelled, IsNamedType, IsPlainTime, CanBeSpelled};
+ghost use Rattle.tz_write.specs.WrittenTexts.{AreTimesOf, HasPlainText};
 ghost use Rattle.tz_write.specs.FileDesignations.{name_of};
 ghost use Rattle.tz_write.specs.Steps.TextPieces.{spelled_name, spelled_type, spelled_days, spelled_alternate};
 ghost use Rattle.tz_write.specs.Steps.TextPieces.{spelled_rule};

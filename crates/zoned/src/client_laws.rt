@@ -1,7 +1,8 @@
 //! Theorems for a client's own contracts: that a question has one answer, that an instant made from
 //! one of a zone is one of that zone, and some in the shape of a client's clauses. Calling one makes
 //! its statement available in the caller's proof, and does nothing when it runs.
-ghost use Rattle.std.specs.Prelude.{◌≡◌, ◌≢◌, ◌⊎◌, ◌∷◌, [], ℕ, ℤ, pos, ◌+ℤ◌, ◌-ℤ◌, ◌≤ℤ◌, ◌<ℤ◌, List, MatchOption, Ok, Option, Some};
+ghost use Rattle.std.specs.Prelude.{◌≡◌, ◌≢◌, ◌⊎◌, ◌∷◌, [], ℕ, ℤ, pos, ◌+ℤ◌, ◌-ℤ◌, ◌≤ℤ◌, ◌<ℤ◌, List, MatchOption, Ok};
+ghost use Rattle.std.specs.Prelude.{Option, Some};
 ghost use Rattle.offset_core.specs.declared.local_result.LocalResult.TheVariants.{None as NoInstant};
 ghost use Rattle.offset_core.specs.LocalResult.{map_of};
 ghost use Rattle.offset_core.specs.TimeDelta.{nanos_of};

@@ -85,8 +85,10 @@ pub data IsResolvedAt (z : Zone) (choice : Choice) (local : ℤ) (w : Resolved) 
       → w ≡ record { number = 0; offset = after.offset; instant = at } → IsResolvedAt z choice local w
   none : (n : ℕ) → IsInRange local → IsNoneTaken z local choice n → w ≡ unresolved n → IsResolvedAt z choice local w
   outside : ¬ (IsInRange local) → w ≡ unresolved 23 → IsResolvedAt z choice local w
-  taken_outside : (t : LocalType) → IsInRange local → IsTakenType z local choice t → ¬ (IsInRange (local -ℤ t.offset)) → w ≡ unresolved 23 → IsResolvedAt z choice local w
-  ended_outside : (at : ℤ) (after : LocalType) → IsInRange local → IsTakenGapEnd z local choice at after → ¬ (IsInRange at) → w ≡ unresolved 23 → IsResolvedAt z choice local w
+  taken_outside : (t : LocalType) → IsInRange local → IsTakenType z local choice t → ¬ (IsInRange (local -ℤ t.offset)) → w ≡ unresolved 23
+      → IsResolvedAt z choice local w
+  ended_outside : (at : ℤ) (after : LocalType) → IsInRange local → IsTakenGapEnd z local choice at after → ¬ (IsInRange at) → w ≡ unresolved 23
+      → IsResolvedAt z choice local w
 
 -- one for each local time, in their order
 abbrev pub AreResolved : Zone → Choice → List ℤ → List Resolved → Type 0

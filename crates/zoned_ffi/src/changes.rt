@@ -3,7 +3,8 @@
 ghost use Rattle.std.specs.Prelude.{◌≡◌, ◌≢◌, ◌≤ℤ◌, ◌<ℤ◌, slice_set};
 ghost use Rattle.tz_info.specs.Changes.{HasNoChange};
 ghost use Rattle.tz_info.specs.Zones.{TypeAt};
-ghost use Rattle.zoned_ffi.specs.WrittenChanges.{AreFirstWritten, AreWrittenChanges, IsFirstWritten, IsGapWritten, IsLastWritten, IsNoGap, written_change};
+ghost use Rattle.zoned_ffi.specs.WrittenChanges.{AreFirstWritten, AreWrittenChanges, IsFirstWritten, IsGapWritten};
+ghost use Rattle.zoned_ffi.specs.WrittenChanges.{IsLastWritten, IsNoGap, written_change};
 
 use crate::local_type::WrittenType;
 use crate::refusal::{NO_CHANGE, NO_GAP, OUT_OF_RANGE};

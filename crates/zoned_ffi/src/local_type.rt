@@ -1,7 +1,8 @@
 //! The local time types at instants, as C reads them.
 
 ghost use Rattle.std.specs.Prelude.{◌≡◌, ◌≢◌, Some, length};
-ghost use Rattle.zoned_ffi.specs.WrittenTypes.{AreWrittenTypesAt, IsWrittenTypeAt, mark, no_type, written_type, zero_ended};
+ghost use Rattle.zoned_ffi.specs.WrittenTypes.{AreWrittenTypesAt, IsWrittenTypeAt, mark, no_type, written_type};
+ghost use Rattle.zoned_ffi.specs.WrittenTypes.{zero_ended};
 
 use crate::instants::NO_OFFSET;
 use crate::refusal::OTHER_SIZE;

@@ -56,7 +56,8 @@ shown_rule (Some (rules.Alternate _)) = codes "alternate"
 -- a zone that was accepted: `ok TRANSITIONS TYPES LEAPS RULE`
 abbrev pub shown_zone : Zone → List ℕ
 shown_zone zone =
-    codes "ok " ++ decimal (length zone.transitions) ++ codes " " ++ decimal (length zone.types) ++ codes " " ++ decimal (length zone.leaps) ++ codes " " ++ shown_rule zone.rule
+    codes "ok " ++ decimal (length zone.transitions) ++ codes " " ++ decimal (length zone.types) ++ codes " " ++ decimal (length zone.leaps)
+    ++ codes " " ++ shown_rule zone.rule
 
 abbrev pub shown_refusal : ℕ → List ℕ
 shown_refusal number = codes "refused " ++ decimal number

@@ -1,6 +1,7 @@
 //! The answer to a line.
 
-ghost use Rattle.std.specs.Prelude.{◌≡◌, ℕ, List, [], ◌∷◌, ◌++◌, ◌⊎◌, OnOk, IfOk, IfErr, IfSome, MatchResult, codes, string_bytes, Some};
+ghost use Rattle.std.specs.Prelude.{◌≡◌, ℕ, List, [], ◌∷◌, ◌++◌, ◌⊎◌, OnOk, IfOk, IfErr, IfSome, MatchResult, codes};
+ghost use Rattle.std.specs.Prelude.{string_bytes, Some};
 ghost use Rattle.naive_base.specs.NaiveDateTime.{reading};
 ghost use Rattle.naive_base.specs.Text.{reading_text};
 ghost use Rattle.zoned_time.specs.DateTime.{zoned};

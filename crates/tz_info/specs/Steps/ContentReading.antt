@@ -66,7 +66,8 @@ unfoldable pub text_before_zero : List ℕ → Result (List ℕ) Error
 text_before_zero bytes = front_of bytes (position_from is_zero 0 bytes)
 
 unfoldable pub designation_at : List ℕ → ℕ → Result (List ℕ) Error
-designation_at designations place = if nat_lt place (length designations) then text_before_zero (drop place designations) else Err (InvalidTzFile NameWithinDesignations)
+designation_at designations place =
+    if nat_lt place (length designations) then text_before_zero (drop place designations) else Err (InvalidTzFile NameWithinDesignations)
 
 unfoldable pub type_of_record : List ℕ → List ℕ → Result LocalType Error
 type_of_record designations bytes = do
@@ -85,4 +86,5 @@ abbrev pub pair_agrees : List ℕ → List ℕ → ℕ → Bool
 pair_agrees standard_wall ut_local k = not ((slice_index standard_wall k == 0) && (slice_index ut_local k == 1))
 
 unfoldable pub indicators_of : List ℕ → List ℕ → Result Unit Error
-indicators_of standard_wall ut_local = if all_below (length ut_local) (pair_agrees standard_wall ut_local) then Ok tt else Err (InvalidTzFile StandardTimeWhereTimeIsUt)
+indicators_of standard_wall ut_local =
+    if all_below (length ut_local) (pair_agrees standard_wall ut_local) then Ok tt else Err (InvalidTzFile StandardTimeWhereTimeIsUt)

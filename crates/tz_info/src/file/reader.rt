@@ -13,7 +13,8 @@ ghost use Rattle.tz_info.specs.Steps.FooterReading.{footer_of};
 ghost use Rattle.tz_info.specs.Steps.FileLists.{pieces_of, pieces_at, zone_of_lists, lists_in, with_types, with_rule};
 ghost use Rattle.tz_info.specs.Steps.FileLists.{HasLengths, Reads};
 ghost use Rattle.tz_info.specs.FileHeaders.{HasOtherMagic};
-ghost use Rattle.tz_info.specs.FilePieces.{FilePieces, HasPieces, is_extended, first_version, later_version, after_first_block};
+ghost use Rattle.tz_info.specs.FilePieces.{FilePieces, HasPieces, is_extended, first_version, later_version};
+ghost use Rattle.tz_info.specs.FilePieces.{after_first_block};
 ghost use Rattle.tz_info.specs.TzFiles.{IsTzFile, IsZoneFault};
 
 use crate::file::block::{Block, read_block};

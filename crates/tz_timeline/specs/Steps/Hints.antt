@@ -21,7 +21,8 @@ pub record AreHints (times : List ℤ) (hints : Hints) : Type 0 where
   pub rising : AreNonDecreasing hints.places.items
   pub places : (b : ℕ) → b < length hints.places.items → IsLastBefore times (item_time times 0 +ℤ pos (b * 2 ^ hints.shift)) (slice_index hints.places.items b)
   pub some : 0 < length hints.places.items → 4 ≤ length times
-  pub narrow : (b : ℕ) → suc b < length hints.places.items → 2 * (slice_index hints.places.items (suc b) + 1) ≤ 2 * slice_index hints.places.items b + length times
+  pub narrow : (b : ℕ) → suc b < length hints.places.items
+      → 2 * (slice_index hints.places.items (suc b) + 1) ≤ 2 * slice_index hints.places.items b + length times
 
 -- the items from the stretch's hint on, up to that of the next
 pub record IsHinted (places : List ℕ) (stretch : ℕ) (near : Near) : Type 0 where
@@ -35,7 +36,8 @@ stretch_of first time shift = nat_abs (time -ℤ first) / 2 ^ shift
 
 -- of the first n items the last one in each stretch is noted after it, and 0 where there is none
 pub record AreMarked (times : List ℤ) (first : ℤ) (shift n : ℕ) (places : List ℕ) : Type 0 where
-  pub of_item : (b : ℕ) → b < length places → (slice_index places b ≡ 0) ⊎ ((slice_index places b < n) × (suc (stretch_of first (item_time times (slice_index places b)) shift) ≡ b))
+  pub of_item : (b : ℕ) → b < length places
+      → (slice_index places b ≡ 0) ⊎ ((slice_index places b < n) × (suc (stretch_of first (item_time times (slice_index places b)) shift) ≡ b))
   pub latest : (k : ℕ) → k < n → k ≤ slice_index places (suc (stretch_of first (item_time times k) shift))
 
 -- each number of the first n is raised to the greatest up to it, by at most so much from one to the next
