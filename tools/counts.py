@@ -7,8 +7,8 @@ from sources import TOP, files, shown, text_of
 
 # Lines with more columns than that, and how many of them are allowed: the counts of the day, which `--write` lowers.
 LONG_LINES = {
-    ("src", ".rt", 120): 53,
-    ("specs", ".antt", 160): 34,
+    ("src", ".rt", 120): 15,
+    ("specs", ".antt", 160): 20,
     ("proofs", ".antt", 160): 1339,
 }
 # A call whose answer gets a name that nothing reads. With `?` it may end the function, and `next` moves an iterator on.

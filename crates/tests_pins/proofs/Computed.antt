@@ -1,8 +1,8 @@
 -- What examples compute with: to unfold one of these words is to unfold all that its line names.
-use Rattle.tz_info.specs.TzGrammar.{checked_day, hours_minutes_seconds, minutes_seconds, more, name, numbered_day as day_of_text, optional_minutes, quoted}
+use Rattle.tz_info.specs.TzGrammar.{checked_day, hours_minutes_seconds, minutes_seconds, more, name, numbered_day, optional_minutes, quoted}
 use Rattle.tz_info.specs.TzGrammar.{sign, time_sign}
 use Rattle.tz_timeline.specs.Digits.{digits as binary_digits}
-use Rattle.zoneq_lib.specs.Questions.{calendar_day as date_of_line, fold, gap, text_query as text_of_line, unix_seconds as seconds_of_line}
+use Rattle.zoneq_lib.specs.Questions.{calendar_day, fold, gap, text_query, unix_seconds}
 use Rattle.zoneq_lib.proofs.CitedWords.{Begins, Word, at_query, data_query, int_at, integer, local_time, next, question, resolve_query, show_query, tag_at}
 use Rattle.zoneq_lib.proofs.CitedWords.{wall_query}
 use Rattle.tz_info.proofs.Words.{alternate, date, day, days, dst_offset, duration, end, fixed, given_offset, julian_date, month_date, named, next_hour, offset}
@@ -38,7 +38,7 @@ binary = 0
 -- TZ strings
 unfoldable pub texts : ℕ
 unfolding name quoted seconds minutes_seconds optional_minutes hours_minutes_seconds sign duration offset time_sign time checked_day month_date julian_date
-    day_of_text date optional_time day days next_hour more given_offset dst_offset named end fixed alternate rule text int_at tag_at optional_tag_at
+    numbered_day date optional_time day days next_hour more given_offset dst_offset named end fixed alternate rule text int_at tag_at optional_tag_at
 texts = 0
 
 -- files, read and written
@@ -52,7 +52,7 @@ written = 0
 
 -- the lines of `zoneq`
 unfoldable pub lines : ℕ
-unfolding calendar Word Begins integer seconds_of_line next date_of_line local_time gap fold choice text_of_line data_query at_query resolve_query wall_query
+unfolding calendar Word Begins integer unix_seconds next calendar_day local_time gap fold choice text_query data_query at_query resolve_query wall_query
     show_query question
     query_line int_at tag_at optional_tag_at
 lines = 0

@@ -55,8 +55,8 @@ pub fn names()
     ensures underscore { ¬ (IsName (codes "E_T")) }
 {}
 
-/// Hours of a time of day go to 24, and with extensions to 167. Of an offset 1:30:15 west is less
-/// than UTC by so many seconds.
+/// Hours of a time of day go to 24, and with extensions to 167. An offset of 1:30:15 west is
+/// 5,415 seconds less than UTC.
 pub fn times()
     ensures plain { time_limit false ≡ 24 }
     ensures extended { time_limit true ≡ 167 }

@@ -1,4 +1,4 @@
--- Names of local time types: the "time zone designations" of RFC 8536 section 3.2, and the `std` and `dst` of a TZ text
+-- Names of local time types: the "time zone designations" of RFC 8536 section 3.2, and the `std` and `dst` of a TZ string
 -- (POSIX.1 section 8.3). Here they are three to seven letters, digits, `+` or `-` of ASCII; RFC 8536 says that they should
 -- have three to six.
 use Rattle.std.proofs.Common.{ℕ, zero, suc, ◌≡◌, ◌<◌, ◌≤◌, ◌==◌, nat_le, Bool, true, ◌&&◌, ◌||◌, List, [], ◌∷◌, Option, Some, None, length, slice_index, get_or}

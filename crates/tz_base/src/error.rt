@@ -108,7 +108,7 @@ impl Expected {
             Expected::StandardTimeWhereTimeIsUt => "standard time where the time is UT",
             Expected::FooterInUtf8 => "a footer in UTF-8",
             Expected::FooterBetweenNewlines => "a footer between newlines",
-            Expected::TzTextInFooter => "a TZ text in the footer",
+            Expected::TzTextInFooter => "a TZ string in the footer",
             Expected::CountsThatAgree => "counts that agree",
             Expected::TZifAtFrontOfHeader => "TZif at the front of a header",
             Expected::Version2Or3InSecondHeader => "version 2 or 3 in a second header",
@@ -183,7 +183,7 @@ pub enum Error {
     #[error("invalid TZif file: expected {0}")]
     InvalidTzFile(Expected),
     /// A time or offset of a TZ string is out of its limits, or extra bytes follow the string.
-    #[error("invalid TZ text: expected {0}")]
+    #[error("invalid TZ string: expected {0}")]
     InvalidTzString(Expected),
     /// Unexpected end of input.
     #[error("unexpected end: expected {0}")]
@@ -211,7 +211,7 @@ pub enum Error {
     #[error("unsupported TZif version: expected {0}")]
     UnsupportedTzFile(Expected),
     /// A TZ string names daylight saving time but has no rule for it.
-    #[error("unsupported TZ text: expected {0}")]
+    #[error("unsupported TZ string: expected {0}")]
     UnsupportedTzString(Expected),
     /// A TZ string that is not UTF-8.
     #[error("invalid UTF-8: expected {0}")]

@@ -1,4 +1,4 @@
--- The zone of a TZ text.
+-- The zone of a TZ string.
 use Rattle.tz_info.proofs.Words.{Bool, Decided, Err, Error, IfErr, IfOk, IsPosixFault, IsPosixZone, IsTextFault, IsTrimAscii, IsTzText, List, MatchResult, Ok}
 use Rattle.tz_info.proofs.Words.{Result, TransitionRule, Zone, apart, arith, done, false, fault_low, fault_once, inl, inr, length, like, made, nat_tests}
 use Rattle.tz_info.proofs.Words.{error_number, plain_zone, pos, posix_zone, refl, rule_in, sym, trimmed, true, value_once, ℕ, [], ◌==◌, ◌>>=◌, ◌∙◌, ◌∷◌, ◌≡◌}

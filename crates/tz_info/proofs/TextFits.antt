@@ -1,4 +1,4 @@
--- The numbers of a rule that a TZ text spells are in their limits.
+-- The numbers of a rule that a TZ string spells are in their limits.
 use Rattle.tz_info.proofs.Words.{Bool, DayForm, DayTime, IsAlternateRule, IsRule, IsRuleDay, IsTzText, IsWithinDay, IsWithinWeek, List, LocalType, Spells}
 use Rattle.tz_info.proofs.Words.{TransitionRule, alternate, arith, date, day, days, dst_offset, duration, false, fixed, given_offset, inl, inr, ints}
 use Rattle.tz_info.proofs.Words.{julian_date, month_date, named, named_type, next_hour, not, offset, optional_time, pos, rule, signed_seconds, subst, sym, text}

@@ -1,4 +1,4 @@
--- The law of a whole TZ text, and what it says of a reader.
+-- The law of a whole TZ string, and what it says of a reader.
 use Rattle.tz_info.proofs.Words.{Bool, Decided, Err, Error, Gives, IfErr, IfOk, IsOkAnd, IsTextFault, IsTzText, List, Ok, Result, Spells, TransitionRule}
 use Rattle.tz_info.proofs.Words.{alternate, ap, apart, end, fault_low, fault_once, fixed, inl, inr, lawful, named, error_number, read, rule, said, subst, sym}
 use Rattle.tz_info.proofs.Words.{text, value_once, ℕ, ℤ, [], ◌∙◌, ◌≡◌, ◌≤◌}

@@ -1,4 +1,4 @@
--- TZ texts, stdoffset[dst[offset],start[/time],end[/time]] (POSIX.1 section 8.3, "TZ"), with the extensions of RFC 8536
+-- TZ strings, stdoffset[dst[offset],start[/time],end[/time]] (POSIX.1 section 8.3, "TZ"), with the extensions of RFC 8536
 -- section 3.3.1 where `extended` holds. Each line is a piece of the text, in the order in which it stands there.
 use Rattle.std.specs.Prelude.{ℕ, ℤ, pos, neg_ℤ, ◌+ℤ◌, ◌+◌, ◌*◌, ◌≡◌, ◌≤◌, ◌≤ℤ◌, ◌==◌, nat_le, int_le, Bool, true, false, not, ◌&&◌, ◌||◌, if◌then◌else◌, List}
 use Rattle.std.specs.Prelude.{[], Some}
@@ -269,10 +269,10 @@ text extended = do
   std_offset ← offset
   rule extended std_name std_offset
 
--- the bytes are a TZ text, with extensions or without, that spells the rule
+-- the bytes are a TZ string, with extensions or without, that spells the rule
 abbrev pub IsTzText : Bool → List ℕ → TransitionRule → Type 0
 IsTzText extended bytes rule = Spells (text extended) bytes rule []
 
--- what is wrong with a TZ text
+-- what is wrong with a TZ string
 abbrev pub IsTextFault : Bool → List ℕ → Error → Type 0
 IsTextFault extended bytes e = HasFault (text extended) bytes e

@@ -62,7 +62,7 @@ impl Hints {
         Ok(Hints { places, shift })
     }
 
-    // The items among which the latest one is at so many seconds after the first item, if there is
+    // The items among which the latest one is that many seconds after the first item, if there is
     // a hint.
     #[inline(always)]
     pub(crate) fn near(&self, seconds: u64) -> Option<Near>
@@ -90,7 +90,7 @@ pub(crate) fn seconds_between(first: i64, second: i64) -> u64
     (second as i128 - first as i128) as u64
 }
 
-// The least power of two by which the span has at most so many stretches.
+// The least power of two by which the span has at most `most` stretches.
 fn shift_for(span: u64, most: u64) -> u32
     ensures shift { result < 64 }
     ensures stretches { span / 2 ^ result ≤ most + 1 }

@@ -24,7 +24,7 @@ pub trait Timed: Drop {
     // when it comes
     ghost time: { Self → ℤ };
 
-    // counts with so many looks more
+    // counts with that many more looks
     ghost counted: { Counts → ℕ → Counts };
 
     // how many looks there were

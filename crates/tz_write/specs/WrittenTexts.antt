@@ -1,4 +1,4 @@
--- The TZ text that is written of a rule, or of a zone that a TZ text gives (POSIX.1 section 8.3, "TZ"; RFC 8536 section 3.3.1
+-- The TZ string that is written of a rule, or of a zone that a TZ string gives (POSIX.1 section 8.3, "TZ"; RFC 8536 section 3.3.1
 -- has the extensions).
 use Rattle.std.specs.Prelude.{ℕ, ◌≡◌, ◌<◌, ◌⊎◌, ℤ, pos, ◌≤ℤ◌, ◌<ℤ◌, Bool, true, false, List, [], ◌∷◌, length, Option, Some, None}
 use Rattle.offset_core.specs.Offset.{IsWithinDay}

@@ -4,7 +4,7 @@ use Rattle.zoned_ffi.proofs.Words.{Bool, Err, Error, IfErr, IsErrorOfKind, IsExt
 use Rattle.zoned_ffi.proofs.Words.{IsPosixZone, IsReaderNumber, IsStringError, IsTrue, IsUtf8, IsZoneFault, IsZoneOf, Kind, List, Ok, Refusal, Result}
 use Rattle.zoned_ffi.proofs.Words.{SpellsZone, Zone, arith, error_number, inl, inr, refl, refusal_number, subst, sym, true, ℕ, ◌↔◌, ◌≡◌, ◌≢◌, ◌⊎◌}
 use Rattle.tz_info.specs.PosixZones.{IsExtendedZone}
-use Rattle.tz_info.specs.TzGrammar.{IsTextFault as IsStringFault}
+use Rattle.tz_info.specs.TzGrammar.{IsTextFault}
 use Rattle.zoned_ffi.specs.Kinds.{kind_number}
 use Rattle.zoned_ffi.specs.declared.kind.Kind.TheVariants as kinds
 
@@ -16,7 +16,7 @@ text_refused bytes e utf8 fault memory = elim fault [
 ]
 
 -- and so is that of a TZ string with extensions
-pub extended_refused : (bytes : List ℕ) (e : Error) → IsOutOfMemory e ⊎ IsStringFault true bytes e → (IsOutOfMemory e → (z : Zone) × IsExtendedZone bytes z) → IsExtendedFault bytes (error_number e)
+pub extended_refused : (bytes : List ℕ) (e : Error) → IsOutOfMemory e ⊎ IsTextFault true bytes e → (IsOutOfMemory e → (z : Zone) × IsExtendedZone bytes z) → IsExtendedFault bytes (error_number e)
 extended_refused bytes e fault memory = elim fault [
   | inl is ↦ let zone = memory is in subst (IsExtendedFault bytes) (sym is) (IsExtendedFault.No_memory zone.0 zone.1)
   | inr there ↦ IsExtendedFault.In_string e there

@@ -16,7 +16,7 @@ kind_number kinds.ExtendedText = 2
 abbrev pub IsKind : ℕ → Type 0
 IsKind number = (kind : Kind) × (number ≡ kind_number kind)
 
--- bytes of that kind spell the zone: a TZif file of valid lists, a TZ text in UTF-8, or a TZ string with extensions
+-- bytes of that kind spell the zone: a TZif file of valid lists, a TZ string in UTF-8, or a TZ string with extensions
 abbrev pub SpellsZone : Kind → List ℕ → Zone → Type 0
 SpellsZone kinds.File bytes z = IsTzFile bytes z × IsValid z
 SpellsZone kinds.Text bytes z = IsUtf8 bytes × IsPosixZone bytes z

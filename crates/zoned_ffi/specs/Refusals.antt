@@ -8,7 +8,7 @@ use Rattle.tz_base.specs.declared.error.Expected.{Expected}
 use Rattle.tz_base.specs.declared.error.Expected.TheVariants as expected
 use Rattle.tz_info.specs.PosixZones.{IsPosixZone, IsPosixFault, IsExtendedZone}
 use Rattle.tz_info.specs.TzFiles.{IsZoneFault}
-use Rattle.tz_info.specs.TzGrammar.{IsTextFault as IsStringFault}
+use Rattle.tz_info.specs.TzGrammar.{IsTextFault}
 use Rattle.tz_info.specs.Zones.{Zone}
 use Rattle.zoned_ffi.specs.Kinds.{IsKind, kind_number}
 use Rattle.zoned_ffi.specs.declared.kind.Kind.{Kind}
@@ -31,7 +31,7 @@ pub data IsStringError (bytes : List ℕ) : ℕ → Type 0 where
 
 -- what is wrong with a TZ string that may have extensions, by the number of the error: it has a fault, or there is no memory for its zone
 pub data IsExtendedFault (bytes : List ℕ) : ℕ → Type 0 where
-  In_string : (e : Error) → IsStringFault true bytes e → IsExtendedFault bytes (error_number e)
+  In_string : (e : Error) → IsTextFault true bytes e → IsExtendedFault bytes (error_number e)
   No_memory : (z : Zone) → IsExtendedZone bytes z → IsExtendedFault bytes 17
 
 -- what is wrong with a file, by the number of the error

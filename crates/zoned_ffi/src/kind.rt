@@ -72,7 +72,7 @@ fn read_file(alloc: Global, bytes: &[u8]) -> Result<TimeZone, Refusal>
     }
 }
 
-// The zone of a TZ text.
+// The zone of a TZ string.
 fn read_text(alloc: Global, bytes: &[u8]) -> Result<TimeZone, Refusal>
     ensures found { IfOk result (λ z. SpellsZone Text bytes.now z) }
     ensures only { (z : Zone) → SpellsZone Text bytes.now z

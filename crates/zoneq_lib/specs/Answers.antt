@@ -70,7 +70,7 @@ AnswersRead is_zone is_fault zone answer after =
     ⊎ ((e : Error) × (IsOutOfMemory e ⊎ (is_fault e × ((found : Zone) → ¬ (is_zone found)))) × (answer ≡ shown_refusal (error_number e))
     × (after ≡ zone))
 
--- a TZ text is read
+-- a TZ string is read
 abbrev pub AnswersText : Option Zone → List ℕ → List ℕ → Option Zone → Type 0
 AnswersText zone text answer after = AnswersRead (IsPosixZone text) (IsPosixFault text) zone answer after
 

@@ -17,9 +17,10 @@ use Rattle.tz_base.specs.Grammar.{Grammar, Nothing, Marked, Ended, End, Byte, Nu
 use Rattle.tz_base.specs.Refusals.{Refusal, InvalidTzString}
 use Rattle.tz_base.specs.Tests.{Test, at_most, between}
 use Rattle.tz_base.specs.declared.error.Expected.TheVariants.{OtherBytes}
+use Rattle.tz_info.specs.TzGrammar.{minus, slash}
 use Rattle.zoneq_lib.specs.Hex.{SpellBytes, bytes_test, bytes_of}
 
--- a question: to read a TZ text or the bytes of a TZif file as the zone; for the type in force at a Unix time; for the
+-- a question: to read a TZ string or the bytes of a TZif file as the zone; for the type in force at a Unix time; for the
 -- types that are in force when a clock shows a local time, the seconds from 1970-01-01 00:00:00 on the clock, every day
 -- counted as 86,400; for the instant that a choice for gaps and folds takes for a reading of a clock; or for what the
 -- zone's clocks show at a Unix time, and nanoseconds beside it
@@ -56,12 +57,6 @@ abbrev pub After : {X : Type 0} → List ℕ → Grammar X → Grammar X → Gra
 After word g h = Begins word >>= chosen g h
 
 -- ---- numbers: decimal digits, with any leading zeros
-abbrev pub minus : ℕ
-minus = 45
-
-abbrev pub slash : ℕ
-slash = 47
-
 abbrev pub space : ℕ
 space = 32
 

@@ -49,7 +49,7 @@ pub fn answer(
     }
 }
 
-// Reads a TZ text. A call of its own, so that no other line pays for the room of a zone that is
+// Reads a TZ string. A call of its own, so that no other line pays for the room of a zone that is
 // read.
 #[inline(never)]
 fn take_text(

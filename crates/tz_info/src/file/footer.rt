@@ -75,7 +75,7 @@ fn trimmed(bytes: &[u8]) -> &[u8]
     bytes.trim_ascii()
 }
 
-// A colon in front would name a file, and a 0 byte is in no TZ text.
+// A colon in front would name a file, and a 0 byte is in no TZ string.
 fn is_no_text(text: &[u8]) -> bool
     ensures { result ≡ is_no_text text.now }
 {

@@ -158,7 +158,7 @@ fn later_version<'a>(cursor: &mut Cursor<'a>) -> Result<Pieces<'a>, Error>
     })
 }
 
-// From version 3 on the TZ text has the extensions of RFC 8536 section 3.3.1.
+// From version 3 on the TZ string has the extensions of RFC 8536 section 3.3.1.
 fn is_extended(version: Version) -> bool
     ensures { result ≡ is_extended version }
 {
