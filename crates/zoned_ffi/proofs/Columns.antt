@@ -1,11 +1,9 @@
 -- Answers to a column's times: by a lookup, and by what is kept of a stretch.
-use Rattle.zoned_ffi.proofs.Words.{List, cases_lt, get_or, ◌+◌}
-use Rattle.zoned_ffi.proofs.Words.{All-contains, AreKeptTimes, Choice, FitsSigned, IsCounted}
-use Rattle.zoned_ffi.proofs.Words.{IsGreatest, IsInRange, IsInstantOf, IsInstantTaken, IsKeptOf, IsLeast}
-use Rattle.zoned_ffi.proofs.Words.{IsLocal, IsNoInstant, IsNoneTaken, IsOffsetStretch, IsRowNumber, IsShownOnce, IsTakenAs, IsWithout, Kept}
-use Rattle.zoned_ffi.proofs.Words.{LieWithin, LocalType, MatchOption, None, OffsetStretch, Option, Shows, Some, Taken, TypeAt, Unit, Zone, ℕ, ℤ, ap, arith}
-use Rattle.zoned_ffi.proofs.Words.{first_second, floor_div, floors, inl, inr, ints, neg_ℤ, offsets, per_second, pos, refl, second_holding, subst, sym}
-use Rattle.zoned_ffi.proofs.Words.{taken_instant, uncounted, w64, ◌*ℤ◌, ◌+ℤ◌, ◌-ℤ◌, ◌<ℤ◌, ◌∙◌, ◌≡◌, ◌≤ℤ◌}
+use Rattle.zoned_ffi.proofs.Words.{All-contains, AreKeptTimes, Choice, FitsSigned, IsCounted, IsGreatest, IsInRange, IsInstantOf, IsInstantTaken, IsKeptOf}
+use Rattle.zoned_ffi.proofs.Words.{IsLeast, IsLocal, IsNoInstant, IsNoneTaken, IsOffsetStretch, IsRowNumber, IsShownOnce, IsTakenAs, IsWithout, Kept, LieWithin}
+use Rattle.zoned_ffi.proofs.Words.{List, LocalType, MatchOption, None, OffsetStretch, Option, Shows, Some, Taken, TypeAt, Unit, Zone, ap, arith, cases_lt}
+use Rattle.zoned_ffi.proofs.Words.{first_second, floor_div, floors, get_or, inl, inr, ints, neg_ℤ, offsets, per_second, pos, refl, second_holding, subst, sym}
+use Rattle.zoned_ffi.proofs.Words.{taken_instant, uncounted, w64, ℕ, ℤ, ◌*ℤ◌, ◌+ℤ◌, ◌+◌, ◌-ℤ◌, ◌<ℤ◌, ◌∙◌, ◌≡◌, ◌≤ℤ◌}
 use Rattle.zoned_ffi.proofs.Resolving.{none_is, taken_once}
 use Rattle.tz_info.proofs.ExtremeLaws.{at_least_least, at_most_greatest}
 use Rattle.tz_info.proofs.ForCallers.{type_once}

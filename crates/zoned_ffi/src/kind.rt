@@ -90,6 +90,7 @@ fn read_text(alloc: Global, bytes: &[u8]) -> Result<TimeZone, Refusal>
 }
 
 // The zone of a TZ string with extensions.
+#[tactic(auto, using(crate::proofs::Reading::extended_refused))]
 fn read_extended(alloc: Global, bytes: &[u8]) -> Result<TimeZone, Refusal>
     ensures found { IfOk result (λ z. SpellsZone ExtendedText bytes.now z) }
     ensures only { (z : Zone) → SpellsZone ExtendedText bytes.now z
