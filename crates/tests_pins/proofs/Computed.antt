@@ -1,6 +1,5 @@
 -- What examples compute with: to unfold one of these words is to unfold all that its line names.
-use Rattle.tz_info.specs.TzGrammar.{checked_day, hours_minutes_seconds, minutes_seconds, more, name, numbered_day, optional_minutes, quoted}
-use Rattle.tz_info.specs.TzGrammar.{sign, time_sign}
+use Rattle.tz_info.specs.TzGrammar.{checked_day, hours_minutes_seconds, minutes_seconds, more, name, numbered_day, optional_minutes, quoted, sign, time_sign}
 use Rattle.tz_timeline.specs.Digits.{digits as binary_digits}
 use Rattle.zoneq_lib.specs.Questions.{calendar_day, fold, gap, text_query, unix_seconds}
 use Rattle.zoneq_lib.proofs.CitedWords.{Begins, Word, at_query, data_query, int_at, integer, local_time, next, question, resolve_query, show_query, tag_at}

@@ -4,17 +4,17 @@ use Rattle.tz_base.specs.declared.error.Expected.TheVariants.{NothingAfterBlockO
 use Rattle.tz_info.specs.declared.file.header.Version.TheVariants.{Two}
 use Rattle.tz_base.specs.Names.{is_name, name_from}
 use Rattle.tests_pins.proofs.Words.{Bool, Error, HasPieces, IndicatorsAgree, IsAscii-cons, IsAscii-nil, IsFooter, IsMark, IsTzFile, IsUtf8-from_ascii, List}
-use Rattle.tests_pins.proofs.Words.{None, PieceFault, Place, SpellTransitions, SpellTypes, Spells, SpellsType, Version, Zone, apart, arith, be_u32}
-use Rattle.tests_pins.proofs.Words.{block as a_block, counts, counts_test, designations, false, file as a_file, file_with, first_pieces, from_be_bytes}
-use Rattle.tests_pins.proofs.Words.{header as a_header, honolulu, honolulu_file, honolulu_from, hst10, hst_footer, indicators, inl, inr, lawful, least_offset}
-use Rattle.tests_pins.proofs.Words.{length, long_times, magic, neg_ℤ, parts, pieces, pos, refl, short_file, short_times, signed, six_counts, true, type_indexes}
-use Rattle.tests_pins.proofs.Words.{type_records, tzif, version, w32, ℕ, ℤ, [], ◌++◌, ◌<ℤ◌, ◌<◌, ◌∷◌, ◌≡◌, Transition}
+use Rattle.tests_pins.proofs.Words.{None, PieceFault, Place, SpellTransitions, SpellTypes, Spells, SpellsType, Transition, Version, Zone, [], apart}
+use Rattle.tests_pins.proofs.Words.{arith, be_u32, block as a_block, counts, counts_test, designations, false, file as a_file, file_with, first_pieces}
+use Rattle.tests_pins.proofs.Words.{from_be_bytes, header as a_header, honolulu, honolulu_file, honolulu_from, hst10, hst_footer, indicators, inl, inr, lawful}
+use Rattle.tests_pins.proofs.Words.{least_offset, length, long_times, magic, neg_ℤ, parts, pieces, pos, refl, short_file, short_times, signed, six_counts, true}
+use Rattle.tests_pins.proofs.Words.{type_indexes, type_records, tzif, version, w32, ℕ, ℤ, ◌++◌, ◌<ℤ◌, ◌<◌, ◌∷◌, ◌≡◌}
 use Rattle.tests_pins.proofs.Computed.{files}
 use Rattle.std.proofs.Common.{drop, map, sym, take}
 use Rattle.std.proofs.lemmas.List.{take-append-drop}
 use Rattle.tz_info.specs.FileContents.{AreRecords, file_time}
 use Rattle.tests_pins.specs.Honolulu.{honolulu_block, honolulu_header}
-use Rattle.tests_pins.specs.Zones.{honolulu_type}
+use Rattle.tests_pins.specs.Zones.{honolulu_type, hst}
 use Rattle.tests_pins.proofs.FileParts.{parts_are}
 use Rattle.tests_pins.proofs.SpelledTexts.{hst_10, some_bytes}
 
@@ -95,6 +95,10 @@ spells a b mark before after west dst first second offset above marked whole som
   name = refl;
   name_fits = name_from (first ∷ second ∷ 84 ∷ []) letters;
 }
+
+pub hst_spelled : SpellsType designations (255 ∷ 255 ∷ 115 ∷ 96 ∷ 0 ∷ 4 ∷ []) hst
+unfolding signed
+hst_spelled = spells 115 96 0 (76 ∷ 77 ∷ 84 ∷ 0 ∷ []) _ (pos 36_000) false 72 83 refl (omega arith) refl refl (omega arith) (omega arith) refl
 
 pub types : SpellTypes designations type_records (honolulu hst10).types
 unfolding signed

@@ -60,6 +60,7 @@ pub fn counts_that_agree()
 {}
 
 /// The isdst byte is 0 or 1.
+#[tactic(auto, using(crate::proofs::FileParts::no_flag))]
 pub fn flags()
     ensures standard { IsMark 0 false }
     ensures daylight { IsMark 1 true }
