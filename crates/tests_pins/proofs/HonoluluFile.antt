@@ -4,7 +4,7 @@ use Rattle.tz_base.specs.declared.error.Expected.TheVariants.{NothingAfterBlockO
 use Rattle.tz_info.specs.declared.file.header.Version.TheVariants.{Two}
 use Rattle.tz_base.specs.Names.{is_name, name_from}
 use Rattle.tests_pins.proofs.Words.{Bool, Error, HasPieces, IndicatorsAgree, IsAscii-cons, IsAscii-nil, IsFooter, IsMark, IsTzFile, IsUtf8-from_ascii, List}
-use Rattle.tests_pins.proofs.Words.{None, PieceFault, Place, SpellTransitions, SpellTypes, Spells, SpellsType, Transition, Version, Zone, [], apart}
+use Rattle.tests_pins.proofs.Words.{LocalType, None, PieceFault, Place, SpellTransitions, SpellTypes, Spells, SpellsType, Transition, Version, Zone, [], apart}
 use Rattle.tests_pins.proofs.Words.{arith, be_u32, block as a_block, counts, counts_test, designations, false, file as a_file, file_with, first_pieces}
 use Rattle.tests_pins.proofs.Words.{from_be_bytes, header as a_header, honolulu, honolulu_file, honolulu_from, hst10, hst_footer, indicators, inl, inr, lawful}
 use Rattle.tests_pins.proofs.Words.{least_offset, length, long_times, magic, neg_ℤ, parts, pieces, pos, refl, short_file, short_times, signed, six_counts, true}
@@ -100,51 +100,29 @@ pub hst_spelled : SpellsType designations (255 ∷ 255 ∷ 115 ∷ 96 ∷ 0 ∷ 
 unfolding signed
 hst_spelled = spells 115 96 0 (76 ∷ 77 ∷ 84 ∷ 0 ∷ []) _ (pos 36_000) false 72 83 refl (omega arith) refl refl (omega arith) (omega arith) refl
 
+-- the records of types, one in front of others
+record AreTypes (bytes : List ℕ) (ts : List LocalType) : Type 0 where
+  are : SpellTypes designations bytes ts
+
+none : AreTypes [] []
+none = record { are = refl }
+
+then_type : {rest : List ℕ} {t : LocalType} {ts : List LocalType} (a b mark place : ℕ) → SpellsType designations (255 ∷ 255 ∷ a ∷ b ∷ mark ∷ place ∷ []) t
+    → AreTypes rest ts → AreTypes (255 ∷ 255 ∷ a ∷ b ∷ mark ∷ place ∷ rest) (t ∷ ts)
+then_type {rest = rest} a b mark place here others = record { are = (255 ∷ 255 ∷ a ∷ b ∷ mark ∷ place ∷ [], rest, refl, refl, here, others.are) }
+
 pub types : SpellTypes designations type_records (honolulu hst10).types
 unfolding signed
-types = (
-  255 ∷ 255 ∷ 108 ∷ 2 ∷ 0 ∷ 0 ∷ [],
-  _,
-  refl,
-  refl,
-  spells 108 2 0 [] _ (pos 37_886) false 76 77 refl (omega arith) refl refl (omega arith) (omega arith) refl,
-  (
-    255 ∷ 255 ∷ 108 ∷ 88 ∷ 0 ∷ 4 ∷ [],
-    _,
-    refl,
-    refl,
-    spells 108 88 0 (76 ∷ 77 ∷ 84 ∷ 0 ∷ []) _ (pos 37_800) false 72 83 refl (omega arith) refl refl (omega arith) (omega arith) refl,
-    (
-      255 ∷ 255 ∷ 122 ∷ 104 ∷ 1 ∷ 8 ∷ [],
-      _,
-      refl,
-      refl,
-      spells 122 104 1 (76 ∷ 77 ∷ 84 ∷ 0 ∷ 72 ∷ 83 ∷ 84 ∷ 0 ∷ []) _ (pos 34_200) true 72 68 refl (omega arith) refl refl (omega arith) (omega arith) refl,
-      (
-        255 ∷ 255 ∷ 122 ∷ 104 ∷ 1 ∷ 12 ∷ [],
-        _,
-        refl,
-        refl,
-        spells 122 104 1 (76 ∷ 77 ∷ 84 ∷ 0 ∷ 72 ∷ 83 ∷ 84 ∷ 0 ∷ 72 ∷ 68 ∷ 84 ∷ 0 ∷ []) _ (pos 34_200) true 72 87 refl (omega arith) refl refl (omega arith) (omega arith) refl,
-        (
-          255 ∷ 255 ∷ 122 ∷ 104 ∷ 1 ∷ 16 ∷ [],
-          _,
-          refl,
-          refl,
-          spells 122 104 1 (76 ∷ 77 ∷ 84 ∷ 0 ∷ 72 ∷ 83 ∷ 84 ∷ 0 ∷ 72 ∷ 68 ∷ 84 ∷ 0 ∷ 72 ∷ 87 ∷ 84 ∷ 0 ∷ []) _ (pos 34_200) true 72 80 refl (omega arith) refl refl (omega arith) (omega arith) refl,
-          (
-            255 ∷ 255 ∷ 115 ∷ 96 ∷ 0 ∷ 4 ∷ [],
-            _,
-            refl,
-            refl,
-            spells 115 96 0 (76 ∷ 77 ∷ 84 ∷ 0 ∷ []) _ (pos 36_000) false 72 83 refl (omega arith) refl refl (omega arith) (omega arith) refl,
-            refl,
-          ),
-        ),
-      ),
-    ),
-  ),
-)
+types =
+    (then_type 108 2 0 0 (spells 108 2 0 [] _ (pos 37_886) false 76 77 refl (omega arith) refl refl (omega arith) (omega arith) refl)
+    (then_type 108 88 0 4 (spells 108 88 0 (76 ∷ 77 ∷ 84 ∷ 0 ∷ []) _ (pos 37_800) false 72 83 refl (omega arith) refl refl (omega arith) (omega arith) refl)
+    (then_type 122 104 1 8
+    (spells 122 104 1 (76 ∷ 77 ∷ 84 ∷ 0 ∷ 72 ∷ 83 ∷ 84 ∷ 0 ∷ []) _ (pos 34_200) true 72 68 refl (omega arith) refl refl (omega arith) (omega arith) refl)
+    (then_type 122 104 1 12 (spells 122 104 1 (76 ∷ 77 ∷ 84 ∷ 0 ∷ 72 ∷ 83 ∷ 84 ∷ 0 ∷ 72 ∷ 68 ∷ 84 ∷ 0 ∷ []) _ (pos 34_200) true 72 87 refl
+    (omega arith) refl refl (omega arith) (omega arith) refl)
+    (then_type 122 104 1 16 (spells 122 104 1 (76 ∷ 77 ∷ 84 ∷ 0 ∷ 72 ∷ 83 ∷ 84 ∷ 0 ∷ 72 ∷ 68 ∷ 84 ∷ 0 ∷ 72 ∷ 87 ∷ 84 ∷ 0 ∷ []) _ (pos 34_200) true 72 80 refl
+    (omega arith) refl refl (omega arith) (omega arith) refl)
+    (then_type 115 96 0 4 hst_spelled none)))))).are
 
 pub footer : IsFooter false hst_footer hst10
 footer = record {

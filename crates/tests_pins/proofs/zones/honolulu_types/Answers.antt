@@ -6,7 +6,8 @@ use Rattle.tests_pins.proofs.zones.honolulu_types.Goals as goal
 leapless : (z : Zone) (u : ℤ) (t : LocalType) → z.leaps ≡ [] → TypeAtLeapTime z u u t → TypeAt z u t
 leapless z u t none in_force = record {
   leap_time = u;
-  of_second = λ _. subst (λ (ls : List LeapSecond). IsLeapTime ls u u) (sym none) (record { sum = omega (arith, ints); fits = λ k h. absurd (omega (arith, h)) });
+  of_second = λ _. subst (λ (ls : List LeapSecond). IsLeapTime ls u u) (sym none)
+      (record { sum = omega (arith, ints); fits = λ k h. absurd (omega (arith, h)) });
   in_force = in_force;
 }
 
