@@ -52,7 +52,7 @@ pub record IsMomentAhead (w : Bool) (a : Alternate) (s : Season) (second limit m
   pub least : neg_ℤ (pos 67_768_100_504_812_800) ≤ℤ moment
   pub amid : (moment ≡ limit → ⊥) → IsAmid s moment
 
-moment_is : (w : Bool) (a : Alternate) (s : Season) (second limit moment : ℤ) → IsSeason a s → IsRuleTime second → IsDecidedIn s second
+pub moment_is : (w : Bool) (a : Alternate) (s : Season) (second limit moment : ℤ) → IsSeason a s → IsRuleTime second → IsDecidedIn s second
     → IsLimit w s limit → IsNearestMoment w s.turns.start s.turns.end second limit moment → IsMomentAhead w a s second limit moment
 moment_is true a s second limit moment season time decides is h =
     let (until, last) = (is limit).0 (omega (arith, ints)) in

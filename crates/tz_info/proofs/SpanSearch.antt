@@ -2,17 +2,18 @@
 use Rattle.tz_info.proofs.Words.{Alternate, AlternateAt, AreComeAt, AreComeOrAll, Change, HasNoChange, HasNoTurnsAt, HasType, IfSome, IsAhead, IsBegin}
 use Rattle.tz_info.proofs.Words.{IsByRule}
 use Rattle.tz_info.proofs.Words.{IsFirst, IsInStretch, IsInTable, IsLast, IsNearest, IsRuleOrNone, IsRuleTime, IsSecondOfNearest, IsSpanAt, IsValid}
-use Rattle.tz_info.proofs.Words.{LocalType, MatchOption, None, Option, SFits, Some}
+use Rattle.tz_info.proofs.Words.{LocalType, MatchOption, None, Option, SFits, Some, Transition, get_or, least_time}
 use Rattle.tz_info.proofs.Words.{TypeAt, Zone, ap, arith, false, index_of, inl, inr, ints, length, pos, refl, segment_of, subst}
 use Rattle.tz_info.proofs.Words.{sym, true, w64, ℕ, ℤ}
-use Rattle.tz_info.proofs.Words.{◌-ℤ◌, ◌<ℤ◌, ◌<◌, ◌∙◌, ◌≡◌, ◌≤ℤ◌, ◌≤◌}
+use Rattle.tz_info.proofs.Words.{◌+◌, ◌-ℤ◌, ◌<ℤ◌, ◌<◌, ◌∙◌, ◌≡◌, ◌≢◌, ◌≤ℤ◌, ◌≤◌}
 use Rattle.tz_info.specs.declared.rule.transition_rule.TransitionRule.TheVariants.{Alternate as AlternateRule}
 use Rattle.tz_info.proofs.ChangeSearch.{InForce, first_nearest, last_nearest, nearest_moved, nearest_within}
 use Rattle.tz_info.proofs.RuleChanges.{rule_second}
-use Rattle.tz_info.proofs.SegmentLaws.{segment_at, segment_most, segments_rise, type_in_before}
+use Rattle.tz_info.proofs.LeaplessChanges.{made, time_at}
+use Rattle.tz_info.proofs.SegmentLaws.{index_next, segment_at, segment_most, segments_rise, type_in_before}
 use Rattle.tz_info.proofs.SpanLaws.{seconds_of, span_between}
-use Rattle.tz_info.proofs.ZoneChanges.{at_end, begun, from_rule, refused_after, refused_on, rule_first, rule_found, rule_is_last, rule_leap_time}
-use Rattle.tz_info.proofs.ZoneChanges.{table_is_last, to_rule}
+use Rattle.tz_info.proofs.ZoneChanges.{ahead_come, at_end, begun, from_rule, refused_after, refused_on, rule_first, rule_found, rule_is_last, rule_leap_time}
+use Rattle.tz_info.proofs.ZoneChanges.{table_first, table_is_last, table_last, to_rule, yet_come, yet_found}
 
 -- ---- before the last transition
 type_then : (z : Zone) (u : ℤ) (k : ℕ) (t : LocalType) → IsValid z → k < length z.transitions → AreComeAt z u k
@@ -36,6 +37,27 @@ span_in_table z u k t last next valid limits fits some (inr r) has before after 
 span_in_table z u k t last next valid limits fits some (inl come) has before after =
     span_between z u t last next valid limits fits (type_then z u k t valid some come has)
     (table_is_last z (λ v. v ≤ℤ u) last valid (no_rule_yet z u k valid some come) before) after
+
+-- without leap seconds from one transition to the next, if both change the type
+pub span_from_to : (z : Zone) (u : ℤ) (k : ℕ) (first end : Transition) (before here after : LocalType) → IsValid z → IsRuleOrNone z.rule → SFits w64 u
+    → AreComeOrAll z u (k + 1) → k + 1 < length z.transitions → length z.leaps ≡ 0 → first ≡ get_or z.transitions k first
+    → end ≡ get_or z.transitions (k + 1) end → ¬ (first.unix_leap_time ≡ least_time) → SFits w64 first.unix_leap_time → SFits w64 end.unix_leap_time
+    → HasType z (index_of z.transitions k) before → HasType z first.type_index here → HasType z end.type_index after → before ≢ here → here ≢ after
+    → IsSpanAt (TypeAt z) u (record { local_time_type = here; from = Some first.unix_leap_time; until = Some end.unix_leap_time })
+span_from_to z u k first end before here after valid limits fits come some none item item_end not_least fits_first fits_end has_before has_here has_after one other =
+    let begins : Change = record { at = first.unix_leap_time; before = before; after = here } in
+    let ends : Change = record { at = end.unix_leap_time; before = here; after = after } in
+    let rising = valid.transitions.rising k (k + 1) first (omega arith) some in
+    let time = ap (λ (s : Transition). s.unix_leap_time) item in
+    let time_end = time_at z.transitions (k + 1) end first some item_end in
+    let index : index_of z.transitions (k + 1) ≡ first.type_index =
+    index_next z.transitions k first (omega arith) ∙ ap (λ (d : Transition). d.type_index) (sym item) in
+    let has : HasType z (index_of z.transitions (k + 1)) here = rw index has_here in
+    let b = made z k first before here (Some begins) valid none (omega arith) item not_least fits_first has_before has_here (one, refl) in
+    let e = made z (k + 1) end here after (Some ends) valid none some item_end (λ l. omega (arith, ints)) fits_end has has_after (other, refl) in
+    span_in_table z u (k + 1) here (Some begins) (Some ends) valid limits fits some come has
+    (table_last z u k begins valid (ahead_come z u (k + 1) valid come) b.0 b.1)
+    (table_first z (λ v. u <ℤ v) ends valid (yet_found z u (k + 1) (k + 1) ends some come (omega arith) (yet_come z u (k + 1) valid come) e.0 e.1))
 
 -- ---- from the last transition on
 table_over : (z : Zone) (u : ℤ) → IsValid z → AreComeOrAll z u (length z.transitions) → HasNoChange (TypeAt z) (IsInTable z (λ v. u <ℤ v))

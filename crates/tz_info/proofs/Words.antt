@@ -101,7 +101,7 @@ pub use Rattle.tz_info.specs.Spans.{IsInSpan, IsSince, IsSpan, IsSpanAt, IsUntil
 pub use Rattle.tz_info.specs.Steps.Answers.{joined, shown_if}
 pub use Rattle.tz_info.specs.Steps.Asked.{IsAskedAtLeapTime}
 pub use Rattle.tz_info.specs.Steps.Below.{all_below}
-pub use Rattle.tz_info.specs.Steps.Beside.{HasNoTurnsAt, IsNearestMomentOf, IsSecondOfNearest, change_found}
+pub use Rattle.tz_info.specs.Steps.Beside.{AreInside, HasNoTurnsAt, IsNearestMomentOf, IsOrder, IsOrderOf, IsSecondOfNearest, change_found}
 pub use Rattle.tz_info.specs.Steps.ChangeLists.{all_fit, alternate_type, change_between, change_here, changes_in, is_dst_by_three, is_rule_year, is_second}
 pub use Rattle.tz_info.specs.Steps.ChangeLists.{rule_type, rule_type_or, type_at_leap_time}
 unfoldable pub use Rattle.tz_info.specs.Steps.ChangeLists.{changes_of, seconds_between, type_or_none}
@@ -158,6 +158,8 @@ pub use Rattle.tz_info.specs.Zones.{by_leap_time, by_rule, index_at, last_transi
 pub use Rattle.tz_info.specs.declared.file.header.Version.{Version}
 pub use Rattle.tz_info.specs.declared.file.reader.Lists.{Lists}
 pub use Rattle.tz_info.specs.declared.rule.alternate.Season.{Season}
+pub use Rattle.tz_info.specs.declared.rule.alternate.Turns.{Turns}
+pub use Rattle.tz_info.specs.declared.rule.beside.Order.{Order}
 pub use Rattle.tz_info.specs.declared.rule.day.DayForm.{DayForm}
 pub use Rattle.tz_info.specs.declared.rule.day.DayTime.{DayTime}
 pub use Rattle.tz_info.specs.declared.rule.transition_rule.TransitionRule.{TransitionRule}

@@ -98,8 +98,7 @@ impl TimeZone {
         }
     }
 
-    // The transitions that have come at the second, if it has a leap time. Only a second far from now
-    // needs it.
+    // The transitions that have come at the second, if it has a leap time.
     #[inline(always)]
     pub(super) fn passed_at(
         &self,
@@ -113,7 +112,28 @@ impl TimeZone {
         ensures looked { IfSome result (λ _. 0 < length self.now.transitions
             → probes.old.reads < probes.new.reads) }
     {
-        if !self.leap_seconds.is_empty() && -NEAR <= unix_time && unix_time <= NEAR {
+        if self.leap_seconds.is_empty() {
+            return Some(self.table.passed(unix_time, probes));
+        }
+        self.passed_beside_leaps(unix_time, probes)
+    }
+
+    // The same if there are leap seconds. Only a second far from now needs its leap time.
+    #[inline(never)]
+    fn passed_beside_leaps(
+        &self,
+        unix_time: i64,
+        probes: &mut Probes,
+    ) -> Option<Passed<'_, Transition>>
+        requires leaps { 0 < length self.now.leaps }
+        requires room { HasRoomFor (digits (length self.now.transitions)) probes.old.reads }
+        ensures come { MatchOption result (IsLeapTimeRefused self.now.leaps unix_time)
+            (λ p. HaveComeAt self.now unix_time p.count (option_map (λ r. r.now) p.latest)) }
+        ensures cost { RoseWithin probes.old probes.new (digits (length self.now.transitions)) 0 }
+        ensures looked { IfSome result (λ _. 0 < length self.now.transitions
+            → probes.old.reads < probes.new.reads) }
+    {
+        if -NEAR <= unix_time && unix_time <= NEAR {
             return Some(self.by_unix_time.passed(unix_time, probes));
         }
         match leap_time(&self.leap_seconds, unix_time) {

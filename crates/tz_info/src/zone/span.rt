@@ -10,6 +10,7 @@ ghost use Rattle.tz_info.specs.Steps.Beside.{HasNoTurnsAt, IsSecondOfNearest};
 ghost use Rattle.tz_info.specs.Steps.Changes.{AreComeOrAll, IsByRule};
 ghost use Rattle.tz_info.specs.Zones.{TypeAt, IsTypeError};
 
+use crate::change::is_same_type;
 use crate::zone::time_zone::TimeZone;
 use tz_base::{Change, Error, LocalTimeType, Span};
 use tz_timeline::Probes;
@@ -55,6 +56,50 @@ impl TimeZone {
         requires table { come < length self.now.transitions }
         ensures { IsSpanAt (TypeAt self.now) unix_time result }
     {
+        match self.span_between(unix_time, come) {
+            Some(span) => span,
+            None => self.span_by_changes(unix_time, come),
+        }
+    }
+
+    // The same from one transition to the next, if there are no leap seconds and both of these
+    // change the type.
+    #[inline(always)]
+    fn span_between(&self, unix_time: i64, come: usize) -> Option<Span>
+        requires come { AreComeOrAll self.now unix_time come }
+        requires table { come < length self.now.transitions }
+        ensures { IfSome result (IsSpanAt (TypeAt self.now) unix_time) }
+    {
+        let _ = &self.table;
+        if come == 0 || !self.leap_seconds.is_empty() {
+            return None;
+        }
+        let mut probes = Probes::new();
+        let first = self.transition(come - 1, &mut probes);
+        let end = self.transition(come, &mut probes);
+        let before = self.listed(self.latest(come - 1, &mut probes).type_index);
+        let here = self.listed(first.type_index);
+        let after = self.listed(end.type_index);
+        if first.unix_leap_time == i64::MIN
+            || is_same_type(before, here)
+            || is_same_type(here, after)
+        {
+            return None;
+        }
+        Some(Span {
+            local_time_type: *here,
+            from: Some(first.unix_leap_time),
+            until: Some(end.unix_leap_time),
+        })
+    }
+
+    // The same by the changes on both sides.
+    #[inline(never)]
+    fn span_by_changes(&self, unix_time: i64, come: usize) -> Span
+        requires come { AreComeOrAll self.now unix_time come }
+        requires table { come < length self.now.transitions }
+        ensures { IsSpanAt (TypeAt self.now) unix_time result }
+    {
         let _ = &self.table;
         let latest = self.latest(come, &mut Probes::new());
         Span {
@@ -66,7 +111,7 @@ impl TimeZone {
 
     // The span of a second from the last transition on, if there is a rule of two types, and it
     // answers then.
-    #[inline(always)]
+    #[inline(never)]
     fn span_by_turns(&self, unix_time: i64) -> Option<Span>
         requires { AreComeOrAll self.now unix_time (length self.now.transitions) }
         ensures { MatchOption result (HasNoTurnsAt self.now unix_time)

@@ -1,6 +1,6 @@
 use Rattle.tz_info.proofs.Words.{to_z-of_z}
 use Rattle.tz_info.proofs.SpanSearch.{span_in_table}
-use Rattle.tz_info.proofs.zone.time_zone.TimeZone.span_in_table.Goals as goal
+use Rattle.tz_info.proofs.zone.time_zone.TimeZone.span_by_changes.Goals as goal
 
 pub returns : goal.returns
 returns c =
