@@ -131,6 +131,7 @@ impl TimeZone {
 
     // How many transitions have come at the second. If its leap time leaves 64 bits, these are all
     // that come at some second.
+    #[inline(always)]
     pub(super) fn come_at(&self, second: i64) -> usize
         ensures { AreComeOrAll self.now second result }
     {

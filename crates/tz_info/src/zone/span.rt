@@ -40,6 +40,17 @@ impl TimeZone {
         if come < self.transition_count() {
             return Ok(self.span_in_table(unix_time, come));
         }
+        self.span_from_last(unix_time)
+    }
+
+    // The span of a second from the last transition on: a function of its own, so that the other has
+    // few values to keep.
+    #[inline(never)]
+    fn span_from_last(&self, unix_time: i64) -> Result<Span, Error>
+        requires { AreComeOrAll self.now unix_time (length self.now.transitions) }
+        ensures { MatchResult result (IsSpanAt (TypeAt self.now) unix_time)
+            (IsTypeError self.now unix_time) }
+    {
         if let Some(span) = self.span_by_turns(unix_time) {
             return Ok(span);
         }
@@ -111,7 +122,7 @@ impl TimeZone {
 
     // The span of a second from the last transition on, if there is a rule of two types, and it
     // answers then.
-    #[inline(never)]
+    #[inline(always)]
     fn span_by_turns(&self, unix_time: i64) -> Option<Span>
         requires { AreComeOrAll self.now unix_time (length self.now.transitions) }
         ensures { MatchOption result (HasNoTurnsAt self.now unix_time)
