@@ -136,7 +136,7 @@ pub use Rattle.tz_info.specs.Steps.Runs.{AreNoneBefore, AreNoneFrom, IsBeyondJum
 pub use Rattle.tz_info.specs.Steps.Seasons.{IsAmid, IsDecidedIn, IsLimit, IsSeason, IsSeasonFor, IsSeasonOf}
 pub use Rattle.tz_info.specs.Steps.Segments.{begin_of, index_of}
 pub use Rattle.tz_info.specs.Steps.Shown.{together}
-pub use Rattle.tz_info.specs.Steps.Starts.{AreByUnixTime, HaveCome, HaveComeAt, IsCut, IsLeapless, IsReachedFrom, leap_time_at}
+pub use Rattle.tz_info.specs.Steps.Starts.{AreByUnixTime, AreInTurn, HaveCome, HaveComeAt, IsCut, IsLeapless, IsReachedFrom, leap_time_at}
 pub use Rattle.tz_info.specs.Steps.Turns.{is_between, is_dst_by_one, is_in_three}
 pub use Rattle.tz_info.specs.Steps.Validity.{Stands}
 pub use Rattle.tz_info.specs.Steps.Walk.{IsAskedLast, IsShownIn, IsTried, TypeIn}

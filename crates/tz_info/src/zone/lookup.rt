@@ -21,7 +21,7 @@ use tz_base::{Error, Expected, LocalTimeType};
 use tz_timeline::{Passed, Probes};
 
 // No leap time of a second up to this one leaves 64 bits, nor of one down to its negative.
-const NEAR: i64 = 10_000_000_000_000;
+pub(super) const NEAR: i64 = 10_000_000_000_000;
 
 impl TimeZone {
     /// The type in force at the second of Unix time.

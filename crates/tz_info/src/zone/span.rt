@@ -8,10 +8,13 @@ ghost use Rattle.std.specs.Prelude.{MatchResult, Some};
 ghost use Rattle.tz_info.specs.Spans.{IsSpanAt};
 ghost use Rattle.tz_info.specs.Steps.Beside.{HasNoTurnsAt, IsSecondOfNearest};
 ghost use Rattle.tz_info.specs.Steps.Changes.{AreComeOrAll, IsByRule};
+ghost use Rattle.tz_info.specs.Steps.Starts.{AreInTurn};
 ghost use Rattle.tz_info.specs.Zones.{TypeAt, IsTypeError};
 
 use crate::change::is_same_type;
+use crate::zone::lookup::NEAR;
 use crate::zone::time_zone::TimeZone;
+use crate::zone::transition::Transition;
 use tz_base::{Change, Error, LocalTimeType, Span};
 use tz_timeline::Probes;
 
@@ -67,22 +70,27 @@ impl TimeZone {
         requires table { come < length self.now.transitions }
         ensures { IsSpanAt (TypeAt self.now) unix_time result }
     {
-        match self.span_between(unix_time, come) {
+        let between = if self.leap_seconds.is_empty() {
+            self.span_between(unix_time, come)
+        } else {
+            self.span_by_unix_time(unix_time, come)
+        };
+        match between {
             Some(span) => span,
             None => self.span_by_changes(unix_time, come),
         }
     }
 
-    // The same from one transition to the next, if there are no leap seconds and both of these
-    // change the type.
+    // The same without leap seconds from one transition to the next, if both change the type.
     #[inline(always)]
     fn span_between(&self, unix_time: i64, come: usize) -> Option<Span>
         requires come { AreComeOrAll self.now unix_time come }
         requires table { come < length self.now.transitions }
+        requires leaps { length self.now.leaps ≡ 0 }
         ensures { IfSome result (IsSpanAt (TypeAt self.now) unix_time) }
     {
         let _ = &self.table;
-        if come == 0 || !self.leap_seconds.is_empty() {
+        if come == 0 {
             return None;
         }
         let mut probes = Probes::new();
@@ -95,6 +103,59 @@ impl TimeZone {
             || is_same_type(before, here)
             || is_same_type(here, after)
         {
+            return None;
+        }
+        Some(Span {
+            local_time_type: *here,
+            from: Some(first.unix_leap_time),
+            until: Some(end.unix_leap_time),
+        })
+    }
+
+    // The same with leap seconds, from one transition by Unix time to the next.
+    #[inline(never)]
+    fn span_by_unix_time(&self, unix_time: i64, come: usize) -> Option<Span>
+        requires { 0 < length self.now.leaps }
+        ensures { IfSome result (IsSpanAt (TypeAt self.now) unix_time) }
+    {
+        let entries = self.by_unix_time.items();
+        let count = entries.len();
+        if come < 2 || count < 4 || count - 2 < come {
+            return None;
+        }
+        let before = entries[come - 2];
+        let first = entries[come - 1];
+        self.span_among(unix_time, before, first, entries[come], entries[come + 1])
+    }
+
+    // The span from the second one to the third, if both change the type, and the others come at
+    // other seconds.
+    #[inline(always)]
+    fn span_among(
+        &self,
+        unix_time: i64,
+        before: Transition,
+        first: Transition,
+        end: Transition,
+        after: Transition,
+    ) -> Option<Span>
+        requires { AreInTurn self.now before first end after }
+        ensures { IfSome result (IsSpanAt (TypeAt self.now) unix_time) }
+    {
+        let _ = &self.table;
+        if before.unix_leap_time <= -NEAR
+            || first.unix_leap_time <= before.unix_leap_time
+            || unix_time < first.unix_leap_time
+            || end.unix_leap_time <= unix_time
+            || after.unix_leap_time <= end.unix_leap_time
+            || NEAR < end.unix_leap_time
+        {
+            return None;
+        }
+        let type_before = self.listed(before.type_index);
+        let here = self.listed(first.type_index);
+        let type_after = self.listed(end.type_index);
+        if is_same_type(type_before, here) || is_same_type(here, type_after) {
             return None;
         }
         Some(Span {
