@@ -131,7 +131,6 @@ impl TimeZone {
 
     // How many transitions have come at the second. If its leap time leaves 64 bits, these are all
     // that come at some second.
-    #[inline(always)]
     pub(super) fn come_at(&self, second: i64) -> usize
         ensures { AreComeOrAll self.now second result }
     {
@@ -232,6 +231,7 @@ impl TimeZone {
     }
 
     // The first second at which the transition at that place has come.
+    #[inline(never)]
     fn start_of(&self, place: usize) -> i128
         requires { place < length self.now.transitions }
         ensures comes { ComesAt self.now place result }

@@ -5,9 +5,12 @@
 
 ghost use Rattle.std.specs.Prelude.{◌≡◌, ◌<◌, ◌≤ℤ◌, ◌<ℤ◌, false, length, option_map, IfSome, MatchOption};
 ghost use Rattle.std.specs.Prelude.{MatchResult, Some};
+ghost use Rattle.std.specs.declared.option.Option.{Option};
+ghost use Rattle.tz_base.specs.declared.change.Change.{Change};
+ghost use Rattle.tz_info.specs.Changes.{IsLast};
 ghost use Rattle.tz_info.specs.Spans.{IsSpanAt};
 ghost use Rattle.tz_info.specs.Steps.Beside.{HasNoTurnsAt, IsSecondOfNearest};
-ghost use Rattle.tz_info.specs.Steps.Changes.{AreComeOrAll, IsByRule};
+ghost use Rattle.tz_info.specs.Steps.Changes.{AreComeOrAll, IsByRule, IsInTable};
 ghost use Rattle.tz_info.specs.Steps.Starts.{AreInTurn};
 ghost use Rattle.tz_info.specs.Zones.{TypeAt, IsTypeError};
 
@@ -70,12 +73,24 @@ impl TimeZone {
         requires table { come < length self.now.transitions }
         ensures { IsSpanAt (TypeAt self.now) unix_time result }
     {
-        let between = if self.leap_seconds.is_empty() {
-            self.span_between(unix_time, come)
-        } else {
-            self.span_by_unix_time(unix_time, come)
-        };
-        match between {
+        if !self.leap_seconds.is_empty() {
+            return self.span_beside_leaps(unix_time, come);
+        }
+        match self.span_between(unix_time, come) {
+            Some(span) => span,
+            None => self.span_by_changes(unix_time, come),
+        }
+    }
+
+    // The same with leap seconds.
+    #[inline(never)]
+    fn span_beside_leaps(&self, unix_time: i64, come: usize) -> Span
+        requires come { AreComeOrAll self.now unix_time come }
+        requires table { come < length self.now.transitions }
+        requires leaps { 0 < length self.now.leaps }
+        ensures { IsSpanAt (TypeAt self.now) unix_time result }
+    {
+        match self.span_by_unix_time(unix_time, come) {
             Some(span) => span,
             None => self.span_by_changes(unix_time, come),
         }
@@ -113,7 +128,7 @@ impl TimeZone {
     }
 
     // The same with leap seconds, from one transition by Unix time to the next.
-    #[inline(never)]
+    #[inline(always)]
     fn span_by_unix_time(&self, unix_time: i64, come: usize) -> Option<Span>
         requires { 0 < length self.now.leaps }
         ensures { IfSome result (IsSpanAt (TypeAt self.now) unix_time) }
@@ -232,8 +247,19 @@ impl TimeZone {
         let _ = &self.table;
         match by_rule {
             Some(second) => Some(second),
-            None => second_of(self.previous_in_table(unix_time, self.transition_count())),
+            None => self.start_by_table(unix_time),
         }
+    }
+
+    // The second of the table's last change.
+    #[inline(never)]
+    fn start_by_table(&self, unix_time: i64) -> Option<i64>
+        requires { AreComeOrAll self.now unix_time (length self.now.transitions) }
+        ensures { (found : Option Change)
+            × IsLast (TypeAt self.now) (IsInTable self.now (λ u. u ≤ℤ unix_time)) found
+            × (result ≡ option_map (λ c. c.at) found) }
+    {
+        second_of(self.previous_in_table(unix_time, self.transition_count()))
     }
 }
 
