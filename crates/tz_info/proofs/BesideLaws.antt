@@ -1,5 +1,6 @@
 -- What a rule says on both sides of a second where a season's moments lie in the season one after the other.
-use Rattle.tz_info.proofs.Words.{Alternate, AlternateAt, Bool, Change, IsAhead, IsChange, IsDecidedIn, IsIdleTo, IsLimit, IsNearestMoment, IsOrder, IsOrderOf, IsOutside, Precedes}
+use Rattle.tz_info.proofs.Words.{Alternate, AlternateAt, Bool, Change, IsAhead, IsChange, IsDecidedIn, IsIdleTo, IsLimit}
+use Rattle.tz_info.proofs.Words.{IsNearestMoment, IsOrder, IsOrderOf, IsOutside, Precedes}
 use Rattle.tz_info.proofs.Words.{IsRuleTime, IsSeason, IsSecondOfNearest, Option, Order, SFits, Season, Some, Turns, ap, arith, by_lt_z, false, inl, inr, ints}
 use Rattle.tz_info.proofs.Words.{is_dst_by_one, le_false, le_true, lt_false, lt_true, near_side, pos, refl, subst, sym, true, type_when, w64, ℤ}
 use Rattle.tz_info.proofs.Words.{◌-ℤ◌, ◌<ℤ◌, ◌≡◌, ◌≢◌, ◌≤ℤ◌, ◌⊎◌}
@@ -15,7 +16,8 @@ of_turns P t o (inr e) p q = (subst P e.1 q, subst P e.0 p)
 -- ---- clocks change at both
 -- at a moment standard time gives way to daylight saving time, or this to standard time
 turned : (start end : ℤ) → start <ℤ end
-    → (is_dst_by_one start end (start -ℤ pos 1) ≡ false) × (is_dst_by_one start end start ≡ true) × (is_dst_by_one start end (end -ℤ pos 1) ≡ true) × (is_dst_by_one start end end ≡ false)
+    → (is_dst_by_one start end (start -ℤ pos 1) ≡ false) × (is_dst_by_one start end start ≡ true)
+    × (is_dst_by_one start end (end -ℤ pos 1) ≡ true) × (is_dst_by_one start end end ≡ false)
 turned start end h = rw (le_true start end (omega (arith, ints))) (
   rw (le_false start (start -ℤ pos 1) (omega (arith, ints))) refl,
   rw (le_true start start (omega (arith, ints)), lt_true start end h) refl,
@@ -24,7 +26,8 @@ turned start end h = rw (le_true start end (omega (arith, ints))) (
 )
 
 turned_back : (start end : ℤ) → end <ℤ start
-    → (is_dst_by_one start end (end -ℤ pos 1) ≡ true) × (is_dst_by_one start end end ≡ false) × (is_dst_by_one start end (start -ℤ pos 1) ≡ false) × (is_dst_by_one start end start ≡ true)
+    → (is_dst_by_one start end (end -ℤ pos 1) ≡ true) × (is_dst_by_one start end end ≡ false)
+    × (is_dst_by_one start end (start -ℤ pos 1) ≡ false) × (is_dst_by_one start end start ≡ true)
 turned_back start end h = rw (le_false start end (omega (arith, ints))) (
   rw (le_false end (end -ℤ pos 1) (omega (arith, ints))) refl,
   rw (le_true end end (omega (arith, ints)), lt_true end start h) refl,

@@ -44,7 +44,8 @@ pub span_from_to : (z : Zone) (u : ℤ) (k : ℕ) (first end : Transition) (befo
     → end ≡ get_or z.transitions (k + 1) end → ¬ (first.unix_leap_time ≡ least_time) → SFits w64 first.unix_leap_time → SFits w64 end.unix_leap_time
     → HasType z (index_of z.transitions k) before → HasType z first.type_index here → HasType z end.type_index after → before ≢ here → here ≢ after
     → IsSpanAt (TypeAt z) u (record { local_time_type = here; from = Some first.unix_leap_time; until = Some end.unix_leap_time })
-span_from_to z u k first end before here after valid limits fits come some none item item_end not_least fits_first fits_end has_before has_here has_after one other =
+span_from_to z u k first end before here after valid limits fits come some none item item_end not_least fits_first fits_end has_before has_here has_after
+    one other =
     let begins : Change = record { at = first.unix_leap_time; before = before; after = here } in
     let ends : Change = record { at = end.unix_leap_time; before = here; after = after } in
     let rising = valid.transitions.rising k (k + 1) first (omega arith) some in

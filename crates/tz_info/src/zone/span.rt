@@ -44,7 +44,10 @@ impl TimeZone {
         let _ = &self.table;
         let come = self.come_at(unix_time);
         if come < self.transition_count() {
-            return Ok(self.span_in_table(unix_time, come));
+            return match self.span_between(unix_time, come) {
+                Some(span) => Ok(span),
+                None => self.span_in_table(unix_time, come),
+            };
         }
         self.span_from_last(unix_time)
     }
@@ -66,46 +69,33 @@ impl TimeZone {
         }
     }
 
-    // The span of a second before the last transition, at which that number of them have come.
-    #[inline(always)]
-    fn span_in_table(&self, unix_time: i64, come: usize) -> Span
+    // The span of a second before the last transition, at which that number of them have come. It is
+    // always found: what it returns is that of `span_at`, so that it is written where that one's is.
+    #[inline(never)]
+    fn span_in_table(&self, unix_time: i64, come: usize) -> Result<Span, Error>
         requires come { AreComeOrAll self.now unix_time come }
         requires table { come < length self.now.transitions }
-        ensures { IsSpanAt (TypeAt self.now) unix_time result }
+        ensures { MatchResult result (IsSpanAt (TypeAt self.now) unix_time)
+            (IsTypeError self.now unix_time) }
     {
         if !self.leap_seconds.is_empty() {
-            return self.span_beside_leaps(unix_time, come);
+            if let Some(span) = self.span_by_unix_time(unix_time, come) {
+                return Ok(span);
+            }
         }
-        match self.span_between(unix_time, come) {
-            Some(span) => span,
-            None => self.span_by_changes(unix_time, come),
-        }
+        Ok(self.span_by_changes(unix_time, come))
     }
 
-    // The same with leap seconds.
-    #[inline(never)]
-    fn span_beside_leaps(&self, unix_time: i64, come: usize) -> Span
-        requires come { AreComeOrAll self.now unix_time come }
-        requires table { come < length self.now.transitions }
-        requires leaps { 0 < length self.now.leaps }
-        ensures { IsSpanAt (TypeAt self.now) unix_time result }
-    {
-        match self.span_by_unix_time(unix_time, come) {
-            Some(span) => span,
-            None => self.span_by_changes(unix_time, come),
-        }
-    }
-
-    // The same without leap seconds from one transition to the next, if both change the type.
+    // The same from one transition to the next, if there are no leap seconds and both of these
+    // change the type.
     #[inline(always)]
     fn span_between(&self, unix_time: i64, come: usize) -> Option<Span>
         requires come { AreComeOrAll self.now unix_time come }
         requires table { come < length self.now.transitions }
-        requires leaps { length self.now.leaps ≡ 0 }
         ensures { IfSome result (IsSpanAt (TypeAt self.now) unix_time) }
     {
         let _ = &self.table;
-        if come == 0 {
+        if come == 0 || !self.leap_seconds.is_empty() {
             return None;
         }
         let mut probes = Probes::new();

@@ -13,7 +13,8 @@ returns-then-second-order c =
     let rising = inside.rising in let low = inside.first in let high = inside.last in
     let since = c.requires.decides.0 in let until = c.requires.decides.1 in
     let t0 = simp to_z-of_z at c.if-second-order.true in
-    simp to_z-of_z (rw c.if-forward.true (found_second true c.args.self.now c.args.season c.args.order c.args.second c.args.order.first c.requires.season c.requires.order
+    simp to_z-of_z (rw c.if-forward.true (found_second true c.args.self.now c.args.season
+    c.args.order c.args.second c.args.order.first c.requires.season c.requires.order
     c.requires.time c.requires.decides (inl refl) (omega (arith, ints)) (omega (arith, ints)) (inr (omega (arith, ints))) (inr (omega (arith, ints)))))
 
 pub returns-then-second-order-2 : goal.returns-then-second-order-2
@@ -28,7 +29,8 @@ returns-then-second-order-2 c =
     let since = c.requires.decides.0 in let until = c.requires.decides.1 in
     let t0 = simp to_z-of_z at c.if-second-order.false in
     let t1 = simp to_z-of_z at c.if-second-order-2.true in
-    simp to_z-of_z (rw c.if-forward.true (found_second true c.args.self.now c.args.season c.args.order c.args.second c.args.order.last c.requires.season c.requires.order
+    simp to_z-of_z (rw c.if-forward.true (found_second true c.args.self.now c.args.season
+    c.args.order c.args.second c.args.order.last c.requires.season c.requires.order
     c.requires.time c.requires.decides (inr refl) (omega (arith, ints)) (omega (arith, ints)) (inl (omega (arith, ints))) (inr (omega (arith, ints)))))
 
 pub returns-else-second-order-2 : goal.returns-else-second-order-2
@@ -59,7 +61,8 @@ returns-then-order-second c =
     let rising = inside.rising in let low = inside.first in let high = inside.last in
     let since = c.requires.decides.0 in let until = c.requires.decides.1 in
     let t0 = simp to_z-of_z at c.if-order-second.true in
-    simp to_z-of_z (rw c.if-forward.false (found_second false c.args.self.now c.args.season c.args.order c.args.second c.args.order.last c.requires.season c.requires.order
+    simp to_z-of_z (rw c.if-forward.false (found_second false c.args.self.now c.args.season
+    c.args.order c.args.second c.args.order.last c.requires.season c.requires.order
     c.requires.time c.requires.decides (inr refl) (omega (arith, ints)) (omega (arith, ints)) (inr (omega (arith, ints))) (inr (omega (arith, ints)))))
 
 pub returns-then-order-second-2 : goal.returns-then-order-second-2
@@ -74,7 +77,8 @@ returns-then-order-second-2 c =
     let since = c.requires.decides.0 in let until = c.requires.decides.1 in
     let t0 = simp to_z-of_z at c.if-order-second.false in
     let t1 = simp to_z-of_z at c.if-order-second-2.true in
-    simp to_z-of_z (rw c.if-forward.false (found_second false c.args.self.now c.args.season c.args.order c.args.second c.args.order.first c.requires.season c.requires.order
+    simp to_z-of_z (rw c.if-forward.false (found_second false c.args.self.now c.args.season
+    c.args.order c.args.second c.args.order.first c.requires.season c.requires.order
     c.requires.time c.requires.decides (inl refl) (omega (arith, ints)) (omega (arith, ints)) (inr (omega (arith, ints))) (inl (omega (arith, ints)))))
 
 pub returns-else-order-second-2 : goal.returns-else-order-second-2

@@ -11,7 +11,7 @@ returns c =
     let fs : SFits w64 s.unix_leap_time = search rules in
     let e : c.args.come ≡ (c.args.come - 1) + 1 = omega arith in
     let table = c.requires.table in
-    let none : length z.leaps ≡ 0 = c.requires.leaps in
+    let none : length z.leaps ≡ 0 = search rules in
     let come : AreComeOrAll z c.args.unix_time c.args.come = c.requires.come in
     let first_other = c.if-is_same_type.false in let end_other = c.if-is_same_type-2.false in
     simp to_z-of_z (span_from_to z c.args.unix_time (c.args.come - 1) t s c.listed-before.result.now c.listed-here.result.now c.listed-after.result.now
