@@ -14,6 +14,7 @@ use Rattle.tz_info.proofs.SegmentLaws.{index_next, segment_at, segment_most, seg
 use Rattle.tz_info.proofs.SpanLaws.{seconds_of, span_between}
 use Rattle.tz_info.proofs.ZoneChanges.{ahead_come, at_end, begun, from_rule, refused_after, refused_on, rule_first, rule_found, rule_is_last, rule_leap_time}
 use Rattle.tz_info.proofs.ZoneChanges.{table_first, table_is_last, table_last, to_rule, yet_come, yet_found}
+use Rattle.tz_info.proofs.ZoneLaws.{leap_time_decided}
 
 -- ---- before the last transition
 type_then : (z : Zone) (u : ℤ) (k : ℕ) (t : LocalType) → IsValid z → k < length z.transitions → AreComeAt z u k
@@ -149,3 +150,10 @@ come_all z u n valid come h = subst (AreComeOrAll z u) (all come) come where
   all : AreComeOrAll z u n → n ≡ length z.transitions
   all (inl c) = let k = c.is in let m = segment_most z u valid.transitions.rising in omega arith
   all (inr r) = r.1
+
+-- where there is no transition, all have come
+pub none_come : (z : Zone) (u : ℤ) → IsValid z → length z.transitions ≡ 0 → AreComeOrAll z u (length z.transitions)
+none_come z u valid none = elim (leap_time_decided z.leaps u) [
+  | inl x ↦ let m = segment_most z u valid.transitions.rising in inl (record { leap_time = x.0; of_second = x.1; is = omega arith })
+  | inr r ↦ inr (r, refl)
+]

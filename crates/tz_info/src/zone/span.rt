@@ -42,6 +42,20 @@ impl TimeZone {
             (IsTypeError self.now unix_time) }
     {
         let _ = &self.table;
+        if self.transition_count() == 0 {
+            return self.span_from_last(unix_time);
+        }
+        self.span_by_place(unix_time)
+    }
+
+    // The same by the place between transitions: a function of its own, since a zone without any
+    // needs no search.
+    #[inline(never)]
+    fn span_by_place(&self, unix_time: i64) -> Result<Span, Error>
+        ensures { MatchResult result (IsSpanAt (TypeAt self.now) unix_time)
+            (IsTypeError self.now unix_time) }
+    {
+        let _ = &self.table;
         let come = self.come_at(unix_time);
         if come < self.transition_count() {
             return match self.span_between(unix_time, come) {
