@@ -2,11 +2,11 @@
 pub use Rattle.std.proofs.Common.{All, AllPairs, Contains, Err, IfErr, IfOk, IfSome, IsTrue, MatchResult, None, Ok, Option, Result, Some, add-one, int_eq}
 pub use Rattle.std.proofs.Common.{length-take, nat_le, nat_lt, not, slice_get, vec_capacity, vec_len, ⊎_elim, ◌&&◌, ◌==◌, ◌||◌, ◌↔◌}
 pub use Rattle.std.proofs.Math.ListN.{get_or-eq_default}
-pub use Rattle.std.proofs.Math.Seq.{take-append_seam}
+pub use Rattle.std.proofs.Math.Seq.{take-append_seam, take-suc}
 pub use Rattle.std.proofs.lemmas.Bool.{and_parts, false≢true, not-false, or_cases, or_left, or_right, true≢false}
 pub use Rattle.std.proofs.lemmas.Bool.Decides.{Decides-and, Decides-eqb, Decides-int_eq, Decides-ltb, Decides-or}
 pub use Rattle.std.proofs.lemmas.List.{append-nil, drop-drop, get_or-map, get_or_append_left, get_or_default, get_or_push, length-drop, length_push, nil_from_length, take-append-drop}
-pub use Rattle.std.proofs.lemmas.List.{take_more}
+pub use Rattle.std.proofs.lemmas.List.{take_all, take_more}
 pub use Rattle.std.proofs.lemmas.List.Elements.{All-append, All-contains, All-push, Contains-append_left, Contains-append_right, Contains-get_or, Contains-push}
 pub use Rattle.std.proofs.lemmas.List.Elements.{Contains-push_cases}
 pub use Rattle.std.proofs.lemmas.List.Kept.{AllPairs-cons}

@@ -149,7 +149,7 @@ impl Index {
             return self.before;
         }
         match self.pieces.passed(local, probes).latest {
-            Some(piece) => piece.answer,
+            Some(piece) => piece.answer.shown(),
             None => self.before,
         }
     }

@@ -14,6 +14,7 @@ ghost use Rattle.tz_info.specs.Transitions.{passed};
 ghost use Rattle.tz_info.specs.Zones.{RuleOrType, IsRefusedBy, IsFromLast, TypeAtLeapTime, TypeAt, IsTypeError};
 ghost use Rattle.tz_info.specs.declared.rule.transition_rule.TransitionRule.{TransitionRule};
 
+use crate::zone::kept::Kept;
 use crate::zone::leap_time::leap_time;
 use crate::zone::time_zone::TimeZone;
 use crate::zone::transition::Transition;
@@ -101,11 +102,7 @@ impl TimeZone {
     // The transitions that have come at the second, if it has a leap time. Only a second far from now
     // needs it.
     #[inline(always)]
-    pub(super) fn passed_at(
-        &self,
-        unix_time: i64,
-        probes: &mut Probes,
-    ) -> Option<Passed<'_, Transition>>
+    pub(super) fn passed_at(&self, unix_time: i64, probes: &mut Probes) -> Option<Passed<'_, Kept>>
         requires { HasRoomFor (digits (length self.now.transitions)) probes.old.reads }
         ensures come { MatchOption result (IsLeapTimeRefused self.now.leaps unix_time)
             (λ p. HaveComeAt self.now unix_time p.count (option_map (λ r. r.now) p.latest)) }
@@ -127,7 +124,7 @@ impl TimeZone {
     fn type_after(
         &self,
         unix_time: i64,
-        passed: Passed<'_, Transition>,
+        passed: Passed<'_, Kept>,
         probes: &mut Probes,
     ) -> Result<&LocalTimeType, Error>
         requires some { 0 < length self.now.transitions }
@@ -147,9 +144,9 @@ impl TimeZone {
             return Ok(&self.local_types[0]);
         };
         if passed.count < self.table.len() {
-            return Ok(&self.local_types[latest.type_index]);
+            return Ok(&self.local_types[latest.type_index()]);
         }
-        self.rule_or_type(unix_time, latest.type_index, probes)
+        self.rule_or_type(unix_time, latest.type_index(), probes)
     }
 
     // The rule's type at the second, or without a rule the type of that index.

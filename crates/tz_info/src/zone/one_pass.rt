@@ -1,6 +1,6 @@
 //! The pieces of a zone's table in one pass over its transitions, where their cuts come in order.
 
-ghost use Rattle.std.specs.Prelude.{◌≡◌, ◌+ℤ◌, ◌≤ℤ◌, ◌<ℤ◌, ◌-◌, ◌<◌, ◌≤◌, length, IsTrue, IsFalse, MatchOption, MatchResult};
+ghost use Rattle.std.specs.Prelude.{◌≡◌, ◌+ℤ◌, ◌≤ℤ◌, ◌<ℤ◌, ◌-◌, ◌<◌, ◌≤◌, length, IsTrue, IsFalse, MatchOption, MatchResult, ⊤};
 ghost use Rattle.std.specs.Int.{saturate_signed, w64};
 ghost use Rattle.tz_base.specs.LocalTypes.{IsUtOffset};
 ghost use Rattle.tz_base.specs.declared.error.Error.TheVariants.{OutOfMemory};
@@ -18,7 +18,7 @@ use crate::zone::segments::{Lists, Pieces, Segment, segment_at, table_count};
 use crate::zone::shown::{Jump, Shown};
 use crate::zone::starts::{cut_at, start_of};
 use crate::zone::transition::Transition;
-use std::alloc::Global;
+use std::alloc::{AllocError, Global};
 use tz_base::Error;
 
 // How far from 1970 a transition may lie whose time takes an offset within 64 bits.
@@ -76,13 +76,13 @@ fn pieces_by(alloc: Global, lists: Lists, leapless: bool) -> Result<Option<Piece
     let mut before = segment_at(lists, 0);
     for place in 1..count {
         let behind = segment_at(lists, place);
-        let (first, last) = pieces_at(lists, place, before, behind, leapless);
+        let (first, last) = pieces_at(lists, place, before, behind, leapless)?;
         if is_crossed(place, latest, first.start) {
             return Ok(None);
         }
+        latest = last.start;
         pieces.push_reserved(first);
         pieces.push_reserved(last);
-        latest = last.start;
         before = behind;
     }
     if count == lists.transitions.len() {
@@ -93,10 +93,8 @@ fn pieces_by(alloc: Global, lists: Lists, leapless: bool) -> Result<Option<Piece
         if is_crossed(count, latest, end) {
             return Ok(None);
         }
-        pieces.push_reserved(Piece {
-            start: end,
-            answer: Shown::Less(before.index),
-        });
+        let piece = Piece::new(end, Shown::Less(before.index))?;
+        pieces.push_reserved(piece);
     }
     Ok(Some(Pieces {
         before: Shown::Once(segment_at(lists, 0).index),
@@ -122,14 +120,15 @@ fn pieces_at(
     before: Segment,
     behind: Segment,
     leapless: bool,
-) -> (Piece, Piece)
+) -> Result<(Piece, Piece), AllocError>
     requires valid { IsValid (zone_in lists) }
     requires some { 0 < place }
     requires place { place < table_count (zone_in lists) }
     requires before { IsSegment (zone_in lists) (place - 1) before }
     requires behind { IsSegment (zone_in lists) place behind }
     requires leapless { IsTrue leapless → IsLeapless lists.transitions.now lists.leaps.now }
-    ensures { ArePiecesAt (zone_in lists.entry) place result.0 result.1 }
+    ensures { MatchResult result
+        (λ made. ArePiecesAt (zone_in lists.entry) place made.0 made.1) (λ _. ⊤) }
 {
     let second = start_by(lists.transitions, lists.leaps, place, leapless);
     let end = cut_by(second, before.offset, leapless);
@@ -143,16 +142,9 @@ fn pieces_at(
     } else {
         (start, Shown::Several(before.index, behind.index), end)
     };
-    (
-        Piece {
-            start: first,
-            answer,
-        },
-        Piece {
-            start: last,
-            answer: Shown::Once(behind.index),
-        },
-    )
+    let earlier = Piece::new(first, answer)?;
+    let later = Piece::new(last, Shown::Once(behind.index))?;
+    Ok((earlier, later))
 }
 
 // Whether there are no leap seconds, and each transition is so far from the ends of 64 bits that
