@@ -62,6 +62,7 @@ fn has_idle(lists: Lists) -> bool
 }
 
 // Whether the transition at that place changes nothing: it names the type in force before it.
+#[inline(always)]
 fn is_idle(lists: Lists, place: usize) -> bool
     requires valid { IsValid (zone_in lists) }
     requires place { place < length lists.transitions.now }

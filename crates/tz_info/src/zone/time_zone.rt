@@ -153,10 +153,10 @@ impl TimeZone {
             leaps: &leaps,
             rule: &rule,
         };
-        let index = Index::new(alloc, lists)?;
+        let by_unix_time = by_unix_time(alloc, lists.transitions, lists.leaps)?;
+        let index = Index::new(alloc, lists, by_unix_time.items())?;
         let idle = Idle::new(alloc, lists)?;
         let extremes = extremes_of(&types, &rule);
-        let by_unix_time = by_unix_time(alloc, &transitions, &leaps)?;
         Ok(TimeZone {
             table: Table::new(alloc, transitions)?,
             by_unix_time,
