@@ -1,8 +1,9 @@
 //! Hints at the places of items that come in order of time.
 //!
 //! The time from the first item on is cut into stretches of equal length, one for each item or for
-//! two of them, or fewer in a very long list, and of each stretch a hint says which item is the last one before it. The latest item at a
-//! second of a stretch is then the one of its hint, or one of the few up to that of the next hint.
+//! two of them, or in a long list for up to four, and of each stretch a hint says which item is the
+//! last one before it. The latest item at a second of a stretch is then the one of its hint, or one
+//! of the few up to that of the next hint.
 
 ghost use Rattle.std.specs.Prelude.{◌≡◌, ◌+◌, ◌*◌, ◌/◌, ◌^◌, ◌<◌, ◌≤◌, ◌≤ℤ◌, ◌-ℤ◌, pos, suc, length, map, List, ℤ, ℕ, slice_index, MatchOption, MatchResult, ⊤};
 ghost use Rattle.tz_timeline.specs.Steps.Hints.{AreFilled, AreHints, AreMarked, AreRaised, AreRising, IsHinted, stretch_of};
@@ -10,10 +11,10 @@ ghost use Rattle.tz_timeline.specs.Search.{AreOrdered, time_at};
 
 use crate::timeline::Timed;
 use std::alloc::{AllocError, Global};
-use std::cmp::{max, min};
+use std::cmp::max;
 
-// More stretches are not made, so that of a very long list the hints stay in a processor's caches.
-const MOST_STRETCHES: usize = 131_072;
+// A longer list has a stretch for two to four items, so that its hints take half as much memory.
+const LONG: usize = 65_536;
 
 // The place of the last item before each stretch, or of the first item where none comes before it.
 // There are no hints where they would leave more than half of the items between two of them, or
@@ -54,7 +55,7 @@ impl Hints {
         }
         let first = items[0].second();
         let span = seconds_between(first, items[count - 1].second());
-        let shift = shift_for(span, min(count, MOST_STRETCHES) as u64);
+        let shift = shift_for(span, most_stretches(count));
         let mut places = vec![in alloc; 0; (span >> shift) as usize + 2]?;
         let most = fill(&mut places, items, first, shift);
         if 2 * (most as usize + 1) > count {
@@ -89,6 +90,16 @@ pub(crate) fn seconds_between(first: i64, second: i64) -> u64
     ensures { pos result ≡ second -ℤ first }
 {
     (second as i128 - first as i128) as u64
+}
+
+// How many stretches there are at most, beside two more, for so many items.
+fn most_stretches(count: usize) -> u64
+    ensures { result ≤ count }
+{
+    if count > LONG {
+        return count as u64 / 2;
+    }
+    count as u64
 }
 
 // The least power of two by which the span has at most so many stretches.
