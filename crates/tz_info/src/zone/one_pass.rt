@@ -26,7 +26,8 @@ use tz_timeline::Timed;
 const FAR: i64 = 1 << 62;
 
 // The pieces of the table, two for each transition. None where a transition does not cut the
-// axis after the one before it, as if the two lie closer together than their offsets differ.
+// axis after the one before it, as if the two lie closer together than their offsets differ. The
+// starts are the transitions by Unix time, if there are leap seconds.
 //
 // Most zones have no leap seconds, and there the pass is made without them: it is written once and
 // compiled twice.

@@ -6,7 +6,13 @@ none = record { unix_leap_time = pos 0; type_index = 0 }
 
 pub loop-transition-preserved : goal.loop-transition-preserved
 loop-transition-preserved c = record {
-  all = rw (add-one, take-suc c.args.transitions.now c.loop-transition.transition-index none (omega arith), c.push_reserved.ensures.items, c.loop-transition.invariant.all, c.in_ok-entry.ensures) refl;
+  all = rw (
+    add-one,
+    take-suc c.args.transitions.now c.loop-transition.transition-index none (omega arith),
+    c.push_reserved.ensures.items,
+    c.loop-transition.invariant.all,
+    c.in_ok-entry.ensures,
+  ) refl;
   count = omega (arith, c.push_reserved.ensures.len);
   room = omega (arith, c.push_reserved.ensures.capacity);
 }

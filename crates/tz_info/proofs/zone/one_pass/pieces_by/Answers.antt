@@ -21,7 +21,8 @@ loop-place-preserved c =
     let strict = simp to_z-of_z at (c.is_crossed.ensures.behind c.if-is_crossed.false) in
     let out = c.push_reserved-in-loop-place.ensures.items ∙ ap (λ (ps : List Piece). ps ++ (c.in_ok-first.last ∷ [])) c.push_reserved.ensures.items in
     rw add-one (record {
-      pieces = simp to_z-of_z (open_more (zone_in c.args.lists) c.loop-place.place _ c.loop-place.pieces.items _ _ c.in_ok-first.first c.in_ok-first.last c.requires.valid (omega arith) (omega arith) c.loop-place.invariant.pieces c.in_ok-first.ensures strict out);
+      pieces = simp to_z-of_z (open_more (zone_in c.args.lists) c.loop-place.place _ c.loop-place.pieces.items _ _ c.in_ok-first.first c.in_ok-first.last
+          c.requires.valid (omega arith) (omega arith) c.loop-place.invariant.pieces c.in_ok-first.ensures strict out);
       before = let one : suc c.loop-place.place - 1 ≡ c.loop-place.place = omega arith in rw one c.segment_at-behind.ensures;
       count = omega (arith, c.push_reserved.ensures.len, c.push_reserved-in-loop-place.ensures.len);
       room = omega (arith, c.push_reserved.ensures.capacity, c.push_reserved-in-loop-place.ensures.capacity);
@@ -32,7 +33,8 @@ returns-then-is_crossed c =
     let ff : SFits w64 c.in_ok-first.first.start = search rules in
     let count = c.table_count-count.ensures in
     let crossed = simp to_z-of_z at (c.is_crossed.ensures.crossed c.if-is_crossed.true) in
-    crossed_by (zone_in c.args.lists) c.loop-place.place _ _ _ c.in_ok-first.first.start (within_table (zone_in c.args.lists) c.loop-place.place (omega arith)) crossed.0 c.loop-place.invariant.pieces
+    crossed_by (zone_in c.args.lists) c.loop-place.place _ _ _ c.in_ok-first.first.start (within_table (zone_in c.args.lists) c.loop-place.place
+    (omega arith)) crossed.0 c.loop-place.invariant.pieces
     (cuts_of (zone_in c.args.lists) c.loop-place.place c.in_ok-first.first c.in_ok-first.last c.in_ok-first.ensures).0 crossed.1
 
 -- the last segment is the one before the loop's end, and a cut by its offset ends it
@@ -68,7 +70,15 @@ returns c =
           let here : c.table_count-count.result ≡ c.loop-place.place = omega arith in
           let strict = rw here at (simp to_z-of_z at (w.is_crossed-then-count-lists.ensures.behind w.if-is_crossed-2.false)) in
           let cut = end_cut (zone_in c.args.lists) c.loop-place.place c.loop-place.before w.start_of.result w.cut_at-end.result seg (rw here at w.start_of.ensures) (simp to_z-of_z at w.cut_at-end.ensures) in
-          rw (w.pieces-is, w.push_reserved-then-count-lists.ensures.items, simp to_z-of_z at w.in_ok-piece.ensures, seg.index, all, c.segment_at.ensures.index) (rw all at (c.loop-place.invariant.pieces.closed (omega arith) seg.type w.cut_at-end.result (rw seg.index at seg.listed) seg.is_offset cut strict))
+          rw (
+            w.pieces-is,
+            w.push_reserved-then-count-lists.ensures.items,
+            simp to_z-of_z at w.in_ok-piece.ensures,
+            seg.index,
+            all,
+            c.segment_at.ensures.index,
+          ) (rw all at (c.loop-place.invariant.pieces.closed (omega arith) seg.type w.cut_at-end.result
+          (rw seg.index at seg.listed) seg.is_offset cut strict))
       | else-count-lists w ↦ rw (w.pieces-is, c.segment_at.ensures.index) (rw all at (c.loop-place.invariant.pieces.whole (let rule = w.if-count-lists.false in omega arith)))
     ]
 

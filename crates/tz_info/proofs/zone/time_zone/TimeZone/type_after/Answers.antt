@@ -18,7 +18,8 @@ returns-then-passed-len-clause-found c =
     let all = ap (λ (z : Zone). length z.transitions) c.self.view_is in
     (at_middle c.args.self.now c.args.unix_time _ c.in-Some.latest.now _ come (omega arith)
     (rw (← c.self.view_is)
-    (slice_get_read c.self.inside.local_types.items _ c.in-Some.latest.now.type_index _ refl (omega arith) (rw c.type_index.ensures at c.index-then-passed-len.ensures))))
+    (slice_get_read c.self.inside.local_types.items _ c.in-Some.latest.now.type_index _ refl (omega arith)
+    (rw c.type_index.ensures at c.index-then-passed-len.ensures))))
 
 pub returns-clause-found : goal.returns-clause-found
 returns-clause-found c =
