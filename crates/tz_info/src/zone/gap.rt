@@ -6,7 +6,7 @@ ghost use Rattle.naive_base.specs.Range.{IsWide};
 ghost use Rattle.offset_core.specs.WallAnswer.{IsNeverShown};
 ghost use Rattle.tz_timeline.specs.Counts.{HasRoom, RoseWithin, HasRoomFor};
 ghost use Rattle.tz_info.specs.Around.{IsAround, IsAroundOrBefore, map_both};
-ghost use Rattle.tz_info.specs.Steps.HeldChanges.{change_held};
+ghost use Rattle.tz_info.specs.HeldChanges.{change_held};
 ghost use Rattle.tz_info.specs.Gaps.{IsBeforeGap, HasGap, IsShown};
 ghost use Rattle.tz_info.specs.Looks.{RoseAround};
 ghost use Rattle.tz_info.specs.Questions.{IsAskedFor};

@@ -8,10 +8,12 @@ ghost use Rattle.std.specs.Prelude.{MatchResult, Some};
 ghost use Rattle.tz_info.specs.Spans.{IsSpanAt};
 ghost use Rattle.tz_info.specs.Steps.Beside.{HasNoTurnsAt, IsSecondOfNearest};
 ghost use Rattle.tz_info.specs.Steps.Changes.{AreComeOrAll, IsByRule};
+ghost use Rattle.tz_info.specs.HeldChanges.{change_held};
 ghost use Rattle.tz_info.specs.Zones.{TypeAt, IsTypeError};
 
+use crate::change::HeldChange;
 use crate::zone::time_zone::TimeZone;
-use tz_base::{Change, Error, LocalTimeType, Span};
+use tz_base::{Error, LocalTimeType, Span};
 use tz_timeline::Probes;
 
 impl TimeZone {
@@ -121,8 +123,8 @@ impl TimeZone {
 }
 
 // The second of the change, if there is one.
-fn second_of(change: Option<Change>) -> Option<i64>
-    ensures { result ≡ option_map (λ c. c.at) change }
+fn second_of(change: Option<HeldChange<'_>>) -> Option<i64>
+    ensures { result ≡ option_map (λ c. c.at) (option_map change_held change.entry) }
 {
     match change {
         Some(change) => Some(change.at),

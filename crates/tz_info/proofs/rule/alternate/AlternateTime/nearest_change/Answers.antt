@@ -23,7 +23,7 @@ returns-in-Some c =
     let (fa, fl, e) = ahead (goal.at.returns-in-Some c).After-stretch_ahead-ahead in
     let fn : SFits w64 c.near_end-near.result = search rules in
     let a = c.args.self.now in
-    rw (c.copied.ensures, c.change_of.ensures.at, c.change_of.ensures.before, c.change_of.ensures.after)
+    rw (c.change_of.ensures.at, c.change_of.ensures.before, c.change_of.ensures.after)
     (nearest_ahead c.args.forward (AlternateAt a) c.args.begin c.args.second _ _ (Some (change_at a c.in-Some.moment)) e
     (nearest_within c.args.forward (AlternateAt a) _ _ (change_found a c.nearest_moment.result) (Some (change_at a c.in-Some.moment))
     (rw c.near_end-near.ensures at (simp to_z-of_z at c.nearest_moment.ensures)) (c.in-Some.ensures a)))

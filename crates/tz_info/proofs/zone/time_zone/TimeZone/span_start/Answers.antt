@@ -1,4 +1,4 @@
-use Rattle.tz_info.proofs.Words.{IsValid, SFits, rules, to_z-of_z, w64}
+use Rattle.tz_info.proofs.Words.{IsValid, SFits, change_held, option_map, rules, to_z-of_z, w64}
 use Rattle.tz_info.proofs.SpanSearch.{start_by_rule, start_by_table}
 use Rattle.tz_info.proofs.zone.time_zone.TimeZone.span_start.Goals as goal
 
@@ -13,8 +13,8 @@ pub returns-in-None : goal.returns-in-None
 returns-in-None c =
     let fu = c.ranges.unix_time in
     let valid : IsValid c.args.self.now = rw (← c.self.view_is) c.self.invariant.valid in (
-      c.previous_in_table.result,
-      start_by_table c.args.self.now c.args.unix_time c.previous_in_table.result valid (rw c.in-None.is at c.requires.by_rule)
+      (option_map change_held c.previous_in_table.result),
+      start_by_table c.args.self.now c.args.unix_time (option_map change_held c.previous_in_table.result) valid (rw c.in-None.is at c.requires.by_rule)
           (simp to_z-of_z at c.previous_in_table.ensures),
       c.second_of.ensures,
     )
