@@ -9,9 +9,6 @@ use Rattle.zoned_ref.proofs.Walls.{shown_by_offset, shown_by_type}
 offset_is : (z : Zone) (off : ℤ → ℤ) (u : ℤ) (t : LocalType) → AreOffsetsOf z off → IsZoneSecond u → TypeAt z u t → off u ≡ t.offset
 offset_is z off u t of_zone inside k = let there = of_zone u inside in there.offset ∙ ap (λ y. y.offset) (type_once z u there.type t there.in_force k)
 
-pub before_of : (z : Zone) (l : ℤ) (before after : LocalType) (at : ℤ) → types.HasGap (TypeAt z) l before after at → types.IsBeforeGap (TypeAt z) l before
-before_of z l before after at g = record { never = g.never; first = at; more = record { type = after; here = g.here; more = g.more }; least = g.least; before = g.earlier }
-
 pub before_within : (z : Zone) (l : ℤ) (t : LocalType) → IsNarrow z → types.IsBeforeGap (TypeAt z) l t → IsWithinDay t.offset
 before_within z l t narrow g = type_within z (g.first -ℤ pos 1) t narrow g.before
 

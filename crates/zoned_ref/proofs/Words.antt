@@ -11,6 +11,7 @@ pub use Rattle.tz_base.specs.declared.change.Change.{Change}
 pub use Rattle.tz_info.proofs.ForCallers.{leap_times_answer, one_first, one_last, rule_year, type_decided, type_listed, type_not_refused, type_once}
 pub use Rattle.tz_info.proofs.ForCallers.{wall_decided}
 pub use Rattle.tz_info.proofs.Words.{All, All-append, All-contains, Alternate, AreEndsWithin, Bool, Contains-append_left, Contains-append_right, FitsSigned}
+pub use Rattle.tz_info.specs.HeldChanges.{change_held}
 pub use Rattle.tz_info.proofs.Words.{HasNoChange, IfSome, IsChange, IsFirst, IsFirstAtOrAfter, IsFirstChange, IsGreatest, IsLast, IsLastChange, IsLeast}
 pub use Rattle.tz_info.proofs.Words.{IsNeverWithin, IsRefusedBy, IsRuleOrNone, IsTypeOf, IsTypeRefused, IsValid, LocalType, Shows, ShowsAtOrAfter, ShowsWithin}
 pub use Rattle.tz_info.proofs.Words.{TypeAt, Zone, by_leap_time, by_rule, false, false≢true, get_or, length, length-map, lies_in, map, offsets, rule_offsets}

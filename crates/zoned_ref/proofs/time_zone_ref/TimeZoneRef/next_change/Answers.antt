@@ -1,4 +1,4 @@
-use Rattle.zoned_ref.proofs.Words.{AreOffsetsOf, IsOfZone, SFits, TypeAt, arith, change_of, ints, off_of, subst, to_z-of_z, w64, zone_of, zoned}
+use Rattle.zoned_ref.proofs.Words.{AreOffsetsOf, IsOfZone, SFits, TypeAt, arith, change_held, change_of, ints, off_of, subst, to_z-of_z, w64, zone_of, zoned}
 use Rattle.zoned_ref.proofs.Changes.{first_told, none_after, stand_until}
 use Rattle.zoned_ref.proofs.time_zone_ref.TimeZoneRef.next_change.Goals as goal
 
@@ -6,7 +6,7 @@ pub returns-clause-change : goal.returns-clause-change
 returns-clause-change g c =
     let r = c.args.self.now in let s = (zoned c.args.after.now).utc.s in let here = c.args.after.now.in_range in
     let fits : SFits w64 s = omega (arith, ints, here) in
-    first_told change_of (IsOfZone r) (TypeAt (zone_of r)) s c.in_ok-change.change c.instants_around.result here
+    first_told change_of (IsOfZone r) (TypeAt (zone_of r)) s (change_held c.in_ok-change.change) c.instants_around.result here
     (simp (c.zone-zone.ensures.zone, c.timestamp.ensures, to_z-of_z) at c.in_ok-change.ensures) c.instants_around.ensures
 
 pub returns-clause-until : goal.returns-clause-until

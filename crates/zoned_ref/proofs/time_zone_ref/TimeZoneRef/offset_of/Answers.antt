@@ -11,7 +11,7 @@ returns-clause-offset c =
     let r = c.args.self.now in let z = zone_of r in let t = c.args.local_type.now in
     let there = c.requires.offsets c.args.second c.requires.second in
     record {
-      there = c.new.ensures.seconds ∙ ap (λ t. t.offset) (type_once z c.args.second t there.type c.requires.in_force there.in_force) ∙ sym there.offset;
+      there = ap (λ t. t.offset) (c.new.ensures.local_type ∙ type_once z c.args.second t there.type c.requires.in_force there.in_force) ∙ sym there.offset;
       in_force = in_force_by r z t c.new.result refl c.new.ensures.local_type c.args.second c.requires.in_force;
       same_home = same_law c.new.result r c.new.ensures.zone;
     }
