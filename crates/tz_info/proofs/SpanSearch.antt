@@ -7,7 +7,7 @@ use Rattle.tz_info.proofs.Words.{TypeAt, Zone, ap, arith, false, index_of, inl, 
 use Rattle.tz_info.proofs.Words.{sym, true, w64, ℕ, ℤ}
 use Rattle.tz_info.proofs.Words.{◌-ℤ◌, ◌<ℤ◌, ◌<◌, ◌∙◌, ◌≡◌, ◌≤ℤ◌, ◌≤◌}
 use Rattle.tz_info.specs.declared.rule.transition_rule.TransitionRule.TheVariants.{Alternate as AlternateRule}
-use Rattle.tz_info.proofs.ChangeSearch.{InForce, first_nearest, last_nearest, nearest_moved, nearest_within}
+use Rattle.tz_info.proofs.ChangeSearch.{InForce, nearest_moved, nearest_within}
 use Rattle.tz_info.proofs.RuleChanges.{rule_second}
 use Rattle.tz_info.proofs.SegmentLaws.{segment_at, segment_most, segments_rise, type_in_before}
 use Rattle.tz_info.proofs.SpanLaws.{seconds_of, span_between}
@@ -50,27 +50,18 @@ pub span_at_end : (z : Zone) (u : ℤ) (t : LocalType) (from until : Option ℤ)
     → IsSecondOfNearest true (TypeAt z) (IsByRule z (λ v. u <ℤ v)) until
     → IsSpanAt (TypeAt z) u (record { local_time_type = t; from = from; until = until })
 span_at_end z u t from until valid limits fits h come (last, before, begins) (next, after, ends) =
-    rw (begins, ends) (span_between z u t last next valid limits fits h (last_nearest (TypeAt z) (λ v. v ≤ℤ u) last before)
-    (rule_first z (λ v. u <ℤ v) next valid (table_over z u valid come) (first_nearest (TypeAt z) (IsByRule z (λ v. u <ℤ v)) next after)))
+    rw (begins, ends) (span_between z u t last next valid limits fits h before
+    (rule_first z (λ v. u <ℤ v) next valid (table_over z u valid come) after))
 
 -- the last change up to u is the rule's, or else the table's
-nearest_last : (f : InForce) (within : ℤ → Type 0) (found : Option Change) → IsLast f within found → IsNearest false f within found
-nearest_last f within None h = h
-nearest_last f within (Some c) h = record { is = h.is; inside = h.inside; nearest = h.last }
-
 pub start_by_rule : (z : Zone) (u second : ℤ) → IsValid z → IsSecondOfNearest false (TypeAt z) (IsByRule z (λ v. v ≤ℤ u)) (Some second)
     → IsSecondOfNearest false (TypeAt z) (λ v. v ≤ℤ u) (Some second)
 start_by_rule z u second valid (None, is, e) = cc
-start_by_rule z u second valid (Some c, is, e) = (
-  Some c,
-  nearest_last (TypeAt z) (λ v. v ≤ℤ u) (Some c) (rule_is_last z (λ v. v ≤ℤ u) c valid (last_nearest (TypeAt z) (IsByRule z (λ v. v ≤ℤ u))
-      (Some c) is)),
-  e,
-)
+start_by_rule z u second valid (Some c, is, e) = (Some c, rule_is_last z (λ v. v ≤ℤ u) c valid is, e)
 
 pub start_by_table : (z : Zone) (u : ℤ) (found : Option Change) → IsValid z → IsSecondOfNearest false (TypeAt z) (IsByRule z (λ v. v ≤ℤ u)) None
     → IsLast (TypeAt z) (IsInTable z (λ v. v ≤ℤ u)) found → IsNearest false (TypeAt z) (λ v. v ≤ℤ u) found
-start_by_table z u found valid (None, none, e) h = nearest_last (TypeAt z) (λ v. v ≤ℤ u) found (table_is_last z (λ v. v ≤ℤ u) found valid none h)
+start_by_table z u found valid (None, none, e) h = table_is_last z (λ v. v ≤ℤ u) found valid none h
 start_by_table z u found valid (Some c, is, e) h = cc
 
 -- ---- by a rule of two types

@@ -65,7 +65,7 @@ pub use Rattle.tz_timeline.proofs.Words.{◌<ℤ◌, ◌<◌, ◌∙◌, ◌∷�
 unfoldable pub use Rattle.tz_timeline.proofs.Words.{digits}
 pub use Rattle.tz_timeline.specs.Counts.{RoseWithin, reads_more}
 pub use Rattle.tz_info.specs.Around.{IsAround}
-pub use Rattle.tz_info.specs.Changes.{AreChanges, HasNoChange, IsChange, IsFirst, IsFirstChange, IsFromUntil, IsLast, IsLastChange}
+pub use Rattle.tz_info.specs.Changes.{AreChanges, HasNoChange, IsChange, IsFirst, IsFirstChange, IsFromUntil, IsLast, IsLastChange, IsNearest, IsNearestChange, Precedes}
 unfoldable pub use Rattle.tz_info.specs.ChangesLeft.{changes_left}
 pub use Rattle.tz_info.specs.Differences.{AreDifferences, IsDifference, IsInDifference}
 pub use Rattle.tz_info.specs.FileBlocks.{Parts}
@@ -110,8 +110,8 @@ pub use Rattle.tz_info.specs.Steps.Held.{IsEndOrTyped}
 pub use Rattle.tz_info.specs.Steps.Idle.{AreAlike, AreStarts, AreStartsUpTo, IsCarried, IsRun}
 pub use Rattle.tz_info.specs.Steps.Changes.{AreAhead, AreComeAt, AreComeOrAll, AreIn, ComesAt, HasNoneAt, IsAhead, IsAtEnd, IsBegin, IsByRule}
 pub use Rattle.tz_info.specs.Steps.Changes.{IsEarlierOf, IsIdle}
-pub use Rattle.tz_info.specs.Steps.Changes.{IsIdleTo, IsInStretch, IsInTable, IsLaterOf, IsNearRuleTime, IsNearest, IsNearestChange, IsOfYear, IsOneOf}
-pub use Rattle.tz_info.specs.Steps.Changes.{IsStretchAhead, IsUpTo, Precedes, far_side, near_end, near_side, nearer_one, new_year, year_at}
+pub use Rattle.tz_info.specs.Steps.Changes.{IsIdleTo, IsInStretch, IsInTable, IsLaterOf, IsNearRuleTime, IsOfYear, IsOneOf}
+pub use Rattle.tz_info.specs.Steps.Changes.{IsStretchAhead, IsUpTo, far_side, near_end, near_side, nearer_one, new_year, year_at}
 unfoldable pub use Rattle.tz_info.specs.Steps.Changes.{moments_near}
 pub use Rattle.tz_info.specs.Steps.ContentReading.{GivesInMemory, front_of, is_name_or_none, is_zero, leap_second_in, leap_second_of, mark_of, pair_agrees}
 pub use Rattle.tz_info.specs.Steps.ContentReading.{record_at, transition_in, type_in, values_below, with_next_type}

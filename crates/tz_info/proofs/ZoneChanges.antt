@@ -1,16 +1,16 @@
 -- Where a zone's types change: at its transitions, and behind them where the rule's types do.
 use Rattle.tz_info.proofs.Words.{Alternate as AlternateRule, AlternateAt, AreAhead, AreAlike, AreComeAt, AreComeOrAll, AreLeapSeconds, Change}
-use Rattle.tz_info.proofs.Words.{Bool, ComesAt, HasNoChange}
+use Rattle.tz_info.proofs.Words.{Bool, ComesAt, HasNoChange, false, true}
 use Rattle.tz_info.proofs.Words.{HasNoneAt, HaveCome, IsAhead, IsAtEnd, IsBegin, IsByRule, IsChange, IsFirst, IsFirstChange, IsInTable, IsLast, IsLastChange}
 use Rattle.tz_info.proofs.Words.{IsLeapTime, IsLeapTimeRefused, IsNearest, IsRuleTime, IsValid, LeapSecond, List, LocalType, MatchOption, None, Option}
 use Rattle.tz_info.proofs.Words.{RuleOrType, SFits}
 use Rattle.tz_info.proofs.Words.{Some, Transition, TransitionRule, TypeAt, Zone, ap, arith, by_lt_z, cases_lt, cond, count_by, get_or, index_of, inl}
 use Rattle.tz_info.proofs.Words.{inr, int_le, ints}
-use Rattle.tz_info.proofs.Words.{length, nat_tests, passed, passed_count, pos, refl, segment_of, slice_get, suc, sum_by-cons, sym}
+use Rattle.tz_info.proofs.Words.{length, nat_tests, passed_count, pos, refl, segment_of, slice_get, suc, sum_by-cons, sym}
 use Rattle.tz_info.proofs.Words.{thresholds, w64}
 use Rattle.tz_info.proofs.Words.{zero, ℕ, ℤ, [], ◌+◌, ◌-ℤ◌, ◌-◌, ◌<ℤ◌, ◌<◌, ◌↔◌, ◌∙◌, ◌∷◌, ◌≡◌, ◌≤ℤ◌, ◌≤◌, ◌⊎◌}
 use Rattle.tz_info.specs.declared.rule.transition_rule.TransitionRule.TheVariants.{Alternate, Fixed}
-use Rattle.tz_info.proofs.ChangeSearch.{first_moved, last_moved, nearest_moved}
+use Rattle.tz_info.proofs.ChangeSearch.{nearest_moved}
 use Rattle.tz_info.proofs.GapLaws.{HasOneType, IsSteady, one_type}
 use Rattle.tz_info.proofs.LeapEntries.{follow, threshold_at}
 use Rattle.tz_info.proofs.LeapOrder.{bounded}
@@ -134,7 +134,7 @@ yet_found z after first place c some (inl count) at yet is comes =
     record {
       is = is;
       inside = record { inside = by_lt_z after c.at (λ k. k) (λ m. let b = begun.1 m in absurd (omega arith)); table = not_come z place c some is comes };
-      first = λ d is_d inside. (comes d.at is_d.after.leap_time (time_of z d.at d.after (omega arith) is_d.after)).0 (yet d is_d inside);
+      nearest = λ d is_d inside. (comes d.at is_d.after.leap_time (time_of z d.at d.after (omega arith) is_d.after)).0 (yet d is_d inside);
     }
 
 pub yet_none : (z : Zone) (after : ℤ) (place : ℕ) → IsValid z → length z.transitions ≤ place → AreYet z after place
@@ -281,12 +281,12 @@ pub table_first : (z : Zone) (within : ℤ → Type 0) (c : Change) → IsValid 
 table_first z within c valid h = record {
   is = h.is;
   inside = h.inside.inside;
-  first = λ d is inside. elim (in_either z within d.at valid inside) [ inl t ↦ h.first d is t | inr r ↦ table_sooner z within c.at d.at valid h.inside r ];
+  nearest = λ d is inside. elim (in_either z within d.at valid inside) [ inl t ↦ h.nearest d is t | inr r ↦ table_sooner z within c.at d.at valid h.inside r ];
 }
 
 pub rule_first : (z : Zone) (within : ℤ → Type 0) (found : Option Change) → IsValid z → HasNoChange (TypeAt z) (IsInTable z within) → IsFirst (TypeAt z) (IsByRule z within) found → IsFirst (TypeAt z) within found
 rule_first z within found valid none =
-    first_moved (TypeAt z) (TypeAt z) (IsByRule z within) within found
+    nearest_moved true (TypeAt z) (TypeAt z) (IsByRule z within) within found
     (λ d is inside. elim (in_either z within d.at valid inside) [ inl t ↦ absurd (none d is t) | inr r ↦ (is, r) ])
     (λ d is inside. (is, inside.inside))
 
@@ -359,7 +359,7 @@ table_last z last place c valid h is comes =
     record {
       is = is;
       inside = record { inside = up_to; table = not_come z place c (omega arith) is comes };
-      last = λ d is_d inside.
+      nearest = λ d is_d inside.
           let a = h.ahead d is_d inside.inside inside.table in
           let come = comes (d.at -ℤ pos 1) is_d.before.leap_time (time_of z (d.at -ℤ pos 1) d.before (omega arith) is_d.before) in
           by_lt_z c.at d.at (λ less. let k = come.1 (omega (arith, ints)) in absurd (omega arith)) (λ m. m);
@@ -370,12 +370,12 @@ pub rule_is_last : (z : Zone) (within : ℤ → Type 0) (c : Change) → IsValid
 rule_is_last z within c valid h = record {
   is = h.is;
   inside = h.inside.inside;
-  last = λ d is inside. elim (in_either z within d.at valid inside) [ inl t ↦ table_sooner z within d.at c.at valid t h.inside | inr r ↦ h.last d is r ];
+  nearest = λ d is inside. elim (in_either z within d.at valid inside) [ inl t ↦ table_sooner z within d.at c.at valid t h.inside | inr r ↦ h.nearest d is r ];
 }
 
 pub table_is_last : (z : Zone) (within : ℤ → Type 0) (found : Option Change) → IsValid z → HasNoChange (TypeAt z) (IsByRule z within) → IsLast (TypeAt z) (IsInTable z within) found → IsLast (TypeAt z) within found
 table_is_last z within found valid none =
-    last_moved (TypeAt z) (TypeAt z) (IsInTable z within) within found
+    nearest_moved false (TypeAt z) (TypeAt z) (IsInTable z within) within found
     (λ d is inside. elim (in_either z within d.at valid inside) [ inl t ↦ (is, t) | inr r ↦ absurd (none d is r) ])
     (λ d is inside. (is, inside.inside))
 

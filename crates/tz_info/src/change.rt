@@ -1,7 +1,8 @@
 //! Changes of the clocks, made of two types, and chosen by their seconds.
 
-ghost use Rattle.std.specs.Prelude.{◌≡◌, ◌≢◌, ◌≤ℤ◌, ◌<ℤ◌, IsTrue, ◌↔◌, IfSome, MatchOption, Some, option_map};
+ghost use Rattle.std.specs.Prelude.{◌≡◌, ◌≢◌, IsTrue, ◌↔◌, IfSome, MatchOption, Some, option_map};
 ghost use Rattle.tz_info.specs.HeldChanges.{change_held};
+ghost use Rattle.tz_info.specs.Steps.Changes.{IsInStretch};
 
 use tz_base::{Change, LocalTimeType};
 
@@ -57,25 +58,19 @@ pub(crate) fn copied(change: Option<HeldChange<'_>>) -> Option<Change>
     }
 }
 
-// The change, if it comes at that second or later.
-pub(crate) fn if_from(change: Change, second: i64) -> Option<Change>
-    ensures { MatchOption result (change.at <ℤ second) (λ c. (second ≤ℤ change.at) × (c ≡ change)) }
+// The change that was found, if it comes after that second, and up to `last`.
+pub(crate) fn if_within(found: Option<HeldChange<'_>>, after: i64, last: i64) -> Option<Change>
+    ensures { MatchOption result
+        (IfSome (option_map change_held found.entry) (λ c. ¬ (IsInStretch after last c.at)))
+        (λ c. IsInStretch after last c.at × (option_map change_held found.entry ≡ Some c)) }
 {
-    if change.at < second {
-        None
+    let Some(change) = found else {
+        return None;
+    };
+    if after < change.at && change.at <= last {
+        Some(change.copied())
     } else {
-        Some(change)
-    }
-}
-
-// The change, if it comes before that second.
-pub(crate) fn if_before(change: Change, second: i64) -> Option<Change>
-    ensures { MatchOption result (second ≤ℤ change.at) (λ c. (change.at <ℤ second) × (c ≡ change)) }
-{
-    if second <= change.at {
         None
-    } else {
-        Some(change)
     }
 }
 

@@ -4,7 +4,8 @@ use Rattle.tz_base.specs.LocalTypes.{LocalType}
 use Rattle.tz_info.specs.Changes.{HasNoChange, IsChange}
 use Rattle.tz_info.specs.Moments.{AlternateAt, type_when}
 use Rattle.tz_info.specs.Rules.{Alternate}
-use Rattle.tz_info.specs.Steps.Changes.{IsAhead, IsNearest}
+use Rattle.tz_info.specs.Changes.{IsNearest}
+use Rattle.tz_info.specs.Steps.Changes.{IsAhead}
 use Rattle.tz_info.specs.Steps.Gaps.{change_at}
 use Rattle.tz_info.specs.Zones.{Zone, TypeAt}
 use Rattle.tz_base.specs.declared.change.Change.{Change}

@@ -1,9 +1,9 @@
 -- The way to the next and to the previous change.
-use Rattle.std.specs.Prelude.{ℕ, ◌<◌, ◌≤◌, ◌+◌, length, neg_ℤ, List, [], ◌∷◌, slice_index_or, MatchOption, ℤ, pos, ◌+ℤ◌, ◌-ℤ◌, ◌*ℤ◌, ◌≤ℤ◌, ◌<ℤ◌, ◌↔◌, ◌≡◌, ◌⊎◌}
+use Rattle.std.specs.Prelude.{ℕ, ◌<◌, ◌≤◌, ◌+◌, length, neg_ℤ, List, [], ◌∷◌, slice_index_or, ℤ, pos, ◌+ℤ◌, ◌-ℤ◌, ◌*ℤ◌, ◌≤ℤ◌, ◌<ℤ◌, ◌↔◌, ◌≡◌, ◌⊎◌}
 use Rattle.std.specs.Prelude.{Option, Some, None, Bool, true, false, if◌then◌else◌, int_lt}
 use Rattle.naive_base.specs.Year.{year_start}
 use Rattle.tz_base.specs.LocalTypes.{LocalType}
-use Rattle.tz_info.specs.Changes.{IsChange, HasNoChange}
+use Rattle.tz_info.specs.Changes.{IsChange, HasNoChange, Precedes}
 use Rattle.tz_info.specs.Leaps.{IsLeapTime, IsLeapTimeRefused}
 use Rattle.tz_info.specs.Moments.{AlternateAt, IsRuleTime, IsYearOf, start_in, end_in}
 use Rattle.tz_info.specs.Rules.{Alternate}
@@ -48,21 +48,6 @@ IsLaterOf one other later = (u : ℤ) → (later ≤ℤ u) ↔ ((one ≤ℤ u) �
 -- the earlier one of two seconds
 abbrev pub IsEarlierOf : ℤ → ℤ → ℤ → Type 0
 IsEarlierOf one other earlier = (u : ℤ) → (u ≤ℤ earlier) ↔ ((u ≤ℤ one) × (u ≤ℤ other))
-
--- in that direction x does not come after y
-abbrev pub Precedes : Bool → ℤ → ℤ → Type 0
-Precedes true x y = x ≤ℤ y
-Precedes false x y = y ≤ℤ x
-
--- of the changes at seconds that `within` takes c is the first one in that direction
-pub record IsNearestChange (forward : Bool) (in_force : ℤ → LocalType → Type 0) (within : ℤ → Type 0) (c : Change) : Type 0 where
-  pub is : IsChange in_force c
-  pub inside : within c.at
-  pub nearest : (d : Change) → IsChange in_force d → within d.at → Precedes forward c.at d.at
-
--- that change, or nothing if there is none
-abbrev pub IsNearest : Bool → (ℤ → LocalType → Type 0) → (ℤ → Type 0) → Option Change → Type 0
-IsNearest forward in_force within found = MatchOption found (HasNoChange in_force within) (IsNearestChange forward in_force within)
 
 -- of two changes the one that comes first in that direction
 abbrev pub nearer_one : Bool → Option Change → Option Change → Option Change

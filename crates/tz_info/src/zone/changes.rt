@@ -6,11 +6,11 @@
 
 ghost use Rattle.std.specs.Prelude.{◌≡◌, ◌≢◌, ◌<◌, length, ℤ, pos, neg_ℤ, ◌<ℤ◌, ◌-ℤ◌, ◌≤ℤ◌, ◌↔◌, FitsSigned, MatchOption, Some, option_map};
 ghost use Rattle.std.specs.Int.{w64};
-ghost use Rattle.tz_info.specs.Changes.{IsChange, HasNoChange, IsFirst, IsLast};
+ghost use Rattle.tz_info.specs.Changes.{IsChange, HasNoChange, IsFirst, IsLast, IsNearest};
 ghost use Rattle.tz_info.specs.Leaps.{AreLeapSeconds, IsLeapTime};
 ghost use Rattle.tz_info.specs.Rules.{Alternate as AlternateRule};
 ghost use Rattle.tz_info.specs.Steps.Changes.{AreComeOrAll, ComesAt, HasNoneAt};
-ghost use Rattle.tz_info.specs.Steps.Changes.{IsAhead, IsBegin, IsByRule, IsInTable, IsNearest};
+ghost use Rattle.tz_info.specs.Steps.Changes.{IsAhead, IsBegin, IsByRule, IsInTable};
 ghost use Rattle.tz_info.specs.HeldChanges.{change_held};
 ghost use Rattle.tz_info.specs.Zones.{HasType, TypeAt};
 ghost use Rattle.tz_info.specs.declared.rule.transition_rule.TransitionRule.TheVariants.{Alternate};
