@@ -1,8 +1,7 @@
 //! When the clocks of a borrowed zone change, as instants.
-ghost use Rattle.std.specs.Prelude.{◌≡◌, ◌≢◌, ◌⊎◌, pos, ◌-ℤ◌, ◌≤ℤ◌, ◌<ℤ◌, IfSome, MatchOption, option_map};
+ghost use Rattle.std.specs.Prelude.{◌≡◌, pos, ◌-ℤ◌, ◌≤ℤ◌, ◌<ℤ◌, IfSome, MatchOption, option_map};
 ghost use Rattle.naive_base.specs.Range.{IsInRange};
 ghost use Rattle.naive_base.specs.Stamp.{of_secs};
-ghost use Rattle.tz_base.specs.LocalTypes.{LocalType};
 ghost use Rattle.tz_info.specs.Changes.{IsChange, IsFirst, IsLast};
 ghost use Rattle.tz_info.specs.HeldChanges.{change_held};
 ghost use Rattle.tz_info.specs.Zones.{TypeAt};
@@ -65,7 +64,6 @@ impl<'a> TimeZoneRef<'a> {
             (λ u. (s ≤ℤ u) × IfSome result (λ c. u <ℤ (zoned c.at).utc.s)) }
     {
         let zone = self.zone();
-        types_are_decided();
         let change = zone.next_held_change(after.timestamp())?;
         self.instants_around(change)
     }
@@ -94,7 +92,6 @@ impl<'a> TimeZoneRef<'a> {
             (λ u. (u ≤ℤ s) × IfSome result (λ c. (zoned c.at).utc.s ≤ℤ u)) }
     {
         let zone = self.zone();
-        types_are_decided();
         let change = zone.previous_held_change(before_or_at.timestamp())?;
         self.instants_around(change)
     }
@@ -130,11 +127,4 @@ impl<'a> TimeZoneRef<'a> {
         let offset = self.offset_of(second, local_type);
         Some(DateTime::of_parts(&utc, &offset))
     }
-}
-
-// Types of local time are equal or not. This does nothing: its contract is a law.
-fn types_are_decided()
-    ensures { (s t : LocalType) → (s ≡ t) ⊎ (s ≢ t) }
-{
-    tz_base::laws::local_time_types();
 }
