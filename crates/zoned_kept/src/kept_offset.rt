@@ -71,6 +71,6 @@ impl fmt::Debug for KeptOffset {
     ghost debug_output = { λ offset. Some (offset_text (ahead_of offset)) };
 
     fn fmt<W: fmt::Write>(&self, f: &mut fmt::Formatter<W>) -> fmt::Result {
-        fmt::Display::fmt(&self.borrowed, f)
+        fmt::Display::fmt(self, f)
     }
 }
