@@ -1,6 +1,8 @@
 -- At a second there is one change, and so one next change, one previous change and one list of them.
-use Rattle.tz_info.proofs.Words.{AllPairs, AreChanges, Bool, Change, Contains, IsBeforeGap, IsChange, IsFirst, IsNearest, List, LocalType, None, Option, Precedes, Some, TypeAt}
-use Rattle.tz_info.proofs.Words.{Zone, ap, arith, by_lt_z, false, inl, inr, ints, pos, refl, subst, suc, sym, true, zero, ℤ, [], ◌-ℤ◌, ◌<ℤ◌, ◌∷◌, ◌≡◌, ◌≤ℤ◌, ◌⊎◌}
+use Rattle.tz_info.proofs.Words.{AllPairs, AreChanges, Bool, Change, Contains, IsBeforeGap, IsChange, IsFirst, IsNearest, List, LocalType, None, Option}
+use Rattle.tz_info.proofs.Words.{Precedes, Some, TypeAt}
+use Rattle.tz_info.proofs.Words.{Zone, ap, arith, by_lt_z, false, inl, inr, ints, pos, refl, subst, suc, sym, true, zero, ℤ, [], ◌-ℤ◌, ◌<ℤ◌, ◌∷◌, ◌≡◌, ◌≤ℤ◌}
+use Rattle.tz_info.proofs.Words.{◌⊎◌}
 use Rattle.tz_info.proofs.ZoneLaws.{type_once}
 
 same_parts : (c d : Change) → c.at ≡ d.at → c.before ≡ d.before → c.after ≡ d.after → c ≡ d
@@ -20,7 +22,8 @@ pub one_nearest : (w : Bool) (z : Zone) (within : ℤ → Type 0) (a b : Option 
 one_nearest w z within None None h k = refl
 one_nearest w z within None (Some d) h k = absurd (h d k.is k.inside)
 one_nearest w z within (Some c) None h k = absurd (k c h.is h.inside)
-one_nearest w z within (Some c) (Some d) h k = ap Some (one_change z c d h.is k.is (each_way w c.at d.at (h.nearest d k.is k.inside) (k.nearest c h.is h.inside)))
+one_nearest w z within (Some c) (Some d) h k = ap Some (one_change z c d h.is k.is
+    (each_way w c.at d.at (h.nearest d k.is k.inside) (k.nearest c h.is h.inside)))
 
 -- ---- lists
 abbrev Rise : List Change → Type 0
@@ -83,7 +86,9 @@ front_is_first z from until c cs h =
     record {
       is = here.0;
       inside = omega (arith, ints, low);
-      nearest = λ d is inside. by_lt_z {P = c.at ≤ℤ d.at} d.at until (λ before. not_before c d cs h.rising ((h.each d).1 (is, (omega (arith, ints, inside), before)))) (λ from_on. let high = here.1.1 in omega (arith, ints, high, from_on));
+      nearest = λ d is inside. by_lt_z {P = c.at ≤ℤ d.at} d.at until
+          (λ before. not_before c d cs h.rising ((h.each d).1 (is, (omega (arith, ints, inside), before))))
+          (λ from_on. let high = here.1.1 in omega (arith, ints, high, from_on));
     }
 
 -- ---- the type before a gap

@@ -122,7 +122,8 @@ around z from until c valid limits is inside =
     rw split (parts (type_or_none z) from m (1 + n) ∙ rw first (ap (λ cs. changes_in (type_or_none z) from m ++ cs) (parts (type_or_none z) c.at 1 n ∙ rw (at, here) refl)))
 
 -- ---- a step of the iterator
-pub steps_first : (s t : Changes) (c : Change) → IsValid s.zone.now → IsRuleOrNone s.zone.now.rule → IsFirstChange (TypeAt s.zone.now) (IsInStretch s.after s.last) c
+pub steps_first : (s t : Changes) (c : Change) → IsValid s.zone.now → IsRuleOrNone s.zone.now.rule
+    → IsFirstChange (TypeAt s.zone.now) (IsInStretch s.after s.last) c
     → t ≡ record { zone = s.zone; after = c.at; last = s.last } → changes_left s ≡ c ∷ changes_left t
 unfolding changes_left
 steps_first s t c valid limits h e =
@@ -131,7 +132,8 @@ steps_first s t c valid limits h e =
     (λ d is k. let l = k.0 in let u = k.1 in let m = h.nearest d is (omega (arith, ints), omega (arith, ints)) in omega (arith, ints)) in
     rw e (rw none at (around s.zone.now (s.after +ℤ pos 1) (s.last +ℤ pos 1) c valid limits h.is (omega (arith, ints), omega (arith, ints))))
 
-pub steps_last : (s t : Changes) (c : Change) → IsValid s.zone.now → IsRuleOrNone s.zone.now.rule → IsLastChange (TypeAt s.zone.now) (IsInStretch s.after s.last) c
+pub steps_last : (s t : Changes) (c : Change) → IsValid s.zone.now → IsRuleOrNone s.zone.now.rule
+    → IsLastChange (TypeAt s.zone.now) (IsInStretch s.after s.last) c
     → t ≡ record { zone = s.zone; after = s.after; last = c.at -ℤ pos 1 } → changes_left s ≡ changes_left t ++ c ∷ []
 unfolding changes_left
 steps_last s t c valid limits h e =
@@ -141,10 +143,12 @@ steps_last s t c valid limits h e =
     let until : (c.at -ℤ pos 1) +ℤ pos 1 ≡ c.at = omega (arith, ints) in
     rw (e, until) (rw none at (around s.zone.now (s.after +ℤ pos 1) (s.last +ℤ pos 1) c valid limits h.is (omega (arith, ints), omega (arith, ints))))
 
-pub steps_none : (s : Changes) → IsValid s.zone.now → IsRuleOrNone s.zone.now.rule → HasNoChange (TypeAt s.zone.now) (IsInStretch s.after s.last) → changes_left s ≡ []
+pub steps_none : (s : Changes) → IsValid s.zone.now → IsRuleOrNone s.zone.now.rule → HasNoChange (TypeAt s.zone.now) (IsInStretch s.after s.last)
+    → changes_left s ≡ []
 unfolding changes_left
 steps_none s valid limits none =
-    none_left s.zone.now (s.after +ℤ pos 1) (s.last +ℤ pos 1) valid limits (λ d is k. let l = k.0 in let u = k.1 in none d is (omega (arith, ints), omega (arith, ints)))
+    none_left s.zone.now (s.after +ℤ pos 1) (s.last +ℤ pos 1) valid limits
+    (λ d is k. let l = k.0 in let u = k.1 in none d is (omega (arith, ints), omega (arith, ints)))
 
 -- ---- the changes from one second on and before another
 -- of the seconds after the first one of 64 bits, before which no change comes, exactly those from `from` on come after `after`
@@ -160,11 +164,24 @@ all_left s from until valid limits before end =
       rising = all.rising;
       each = λ c. (
         λ inside.
-            let (is, i) = (all.each c).0 inside in let fits = is.fits_before in let l = i.0 in let u = i.1 in
-            (is, ((before c.at (omega (arith, ints))).0 (omega (arith, ints)), by_lt_z c.at until (λ k. k) (λ k. let m = (end c.at (omega (arith, ints))).1 k in absurd (omega (arith, ints))))),
+            let (is, i) = (all.each c).0 inside in let fits = is.fits_before in let l = i.0 in let u = i.1 in (
+              is,
+              (
+                (before c.at (omega (arith, ints))).0 (omega (arith, ints)),
+                by_lt_z c.at until (λ k. k)
+                    (λ k. let m = (end c.at (omega (arith, ints))).1 k in absurd (omega (arith, ints))),
+              ),
+            ),
         λ k.
             let fits = k.0.fits_before in let l = (before c.at (omega (arith, ints))).1 k.1.0 in let u = k.1.1 in
-            (all.each c).1 (k.0, (omega (arith, ints), by_lt_z c.at (s.last +ℤ pos 1) (λ m. m) (λ m. let n = (end c.at (omega (arith, ints))).0 (omega (arith, ints)) in absurd (omega (arith, ints))))),
+            (all.each c).1 (
+              k.0,
+              (
+                omega (arith, ints),
+                by_lt_z c.at (s.last +ℤ pos 1) (λ m. m)
+                    (λ m. let n = (end c.at (omega (arith, ints))).0 (omega (arith, ints)) in absurd (omega (arith, ints))),
+              ),
+            ),
       );
     }
 

@@ -105,7 +105,8 @@ pub nearest_within : (w : Bool) (f : InForce) (after last : ℤ) (found r : Opti
     → MatchOption r (IfSome found (λ c. IsInStretch after last c.at → ⊥)) (λ c. IsInStretch after last c.at × (found ≡ Some c))
     → IsNearest w f (IsInStretch after last) r
 nearest_within w f after last None None h out = λ d is k. h d is (ahead_within w after last d.at k)
-nearest_within w f after last (Some c) None h out = λ d is k. out (within_too w after last c.at d.at h.inside (h.nearest d is (ahead_within w after last d.at k)) k)
+nearest_within w f after last (Some c) None h out = λ d is k. out
+    (within_too w after last c.at d.at h.inside (h.nearest d is (ahead_within w after last d.at k)) k)
 nearest_within w f after last found (Some c) h within = let k = rw within.1 at h in
     record { is = k.is; inside = within.0; nearest = λ d is i. k.nearest d is (ahead_within w after last d.at i) }
 

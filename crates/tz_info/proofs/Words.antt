@@ -65,7 +65,8 @@ pub use Rattle.tz_timeline.proofs.Words.{◌<ℤ◌, ◌<◌, ◌∙◌, ◌∷�
 unfoldable pub use Rattle.tz_timeline.proofs.Words.{digits}
 pub use Rattle.tz_timeline.specs.Counts.{RoseWithin, reads_more}
 pub use Rattle.tz_info.specs.Around.{IsAround}
-pub use Rattle.tz_info.specs.Changes.{AreChanges, HasNoChange, IsChange, IsFirst, IsFirstChange, IsFromUntil, IsLast, IsLastChange, IsNearest, IsNearestChange, Precedes}
+pub use Rattle.tz_info.specs.Changes.{AreChanges, HasNoChange, IsChange, IsFirst, IsFirstChange, IsFromUntil, IsLast, IsLastChange, IsNearest}
+pub use Rattle.tz_info.specs.Changes.{IsNearestChange, Precedes}
 unfoldable pub use Rattle.tz_info.specs.ChangesLeft.{changes_left}
 pub use Rattle.tz_info.specs.Differences.{AreDifferences, IsDifference, IsInDifference}
 pub use Rattle.tz_info.specs.FileBlocks.{Parts}

@@ -2,7 +2,8 @@
 use Rattle.tz_info.specs.Steps.Changes.{IsUpTo as IsBetween}
 use Rattle.zoned_ref.proofs.Words.{AreAround, AreOffsetsOf, Bool, Change, HasNoChange, IfSome, IsAfter, IsAhead, IsAt, IsInRange, IsNearest, IsNearestChange}
 use Rattle.zoned_ref.proofs.Words.{IsUpTo, Law, LocalType, MatchOption, Meaning, None, Option, Precedes, Some, StandAlike, StandWithin, TypeAt, Zone, Zoned}
-use Rattle.zoned_ref.proofs.Words.{ap, arith, change_between, false, ints, of_secs, option_map, pos, stays, subst, sym, true, type_once, ℤ, ◌-ℤ◌, ◌∙◌, ◌≡◌, ◌≤ℤ◌}
+use Rattle.zoned_ref.proofs.Words.{ap, arith, change_between, false, ints, of_secs, option_map, pos, stays, subst, sym, true, type_once, ℤ, ◌-ℤ◌, ◌∙◌, ◌≡◌}
+use Rattle.zoned_ref.proofs.Words.{◌≤ℤ◌}
 
 -- ---- the nearest change that instants tell
 -- in that direction from the second s on, as far as both its seconds are in range
@@ -21,7 +22,10 @@ is_told false s u a before at = (omega (arith, ints, before), a)
 -- what comes before a change in range is in range
 sooner : (w : Bool) (s c d : ℤ) → IsInRange s → IsAhead w s c → Precedes w c d → IsInRange (d -ℤ pos 1) → IsInRange d → IsInRange (c -ℤ pos 1) × IsInRange c
 sooner true s c d here a p before at = ((omega (arith, ints, here, a), omega (arith, ints, p, at)), (omega (arith, ints, here, a), omega (arith, ints, p, at)))
-sooner false s c d here a p before at = ((omega (arith, ints, p, before), omega (arith, ints, here, a)), (omega (arith, ints, p, at), omega (arith, ints, here, a)))
+sooner false s c d here a p before at = (
+  (omega (arith, ints, p, before), omega (arith, ints, here, a)),
+  (omega (arith, ints, p, at), omega (arith, ints, here, a)),
+)
 
 pub none_told : (w : Bool) (in_force : ℤ → LocalType → Type 0) (s : ℤ) → IsInRange s → HasNoChange in_force (IsAhead w s) → HasNoChange in_force (IsTold w s)
 none_told w in_force s here none = λ d is k. none d is (told w s d.at here k).0
@@ -41,7 +45,8 @@ nearest_told w change also in_force s c (Some d) here h tells =
     (record { is = h.is; inside = is_told w s c.at h.inside tells.2 tells.3; nearest = λ e is k. h.nearest e is (told w s e.at here k).0 })
 
 -- ---- where no change comes the type in force stands
-stands_on : (z : Zone) (off : ℤ → ℤ) → AreOffsetsOf z off → (s u : ℤ) (t : LocalType) → IsInRange s → IsInRange u → s ≤ℤ u → HasNoChange (TypeAt z) (IsBetween true s u) → TypeAt z s t → TypeAt z u t
+stands_on : (z : Zone) (off : ℤ → ℤ) → AreOffsetsOf z off → (s u : ℤ) (t : LocalType) → IsInRange s → IsInRange u → s ≤ℤ u
+    → HasNoChange (TypeAt z) (IsBetween true s u) → TypeAt z s t → TypeAt z u t
 stands_on z off has s u t here there on none h =
     stays (TypeAt z) s u t (omega (arith, ints, here)) (omega (arith, ints, there)) on none
     (λ v low high. let at = has v (omega (arith, ints, here, low), omega (arith, ints, there, high)) in (at.type, at.in_force)) h
@@ -74,7 +79,8 @@ not_beyond false s u c d a p (k, l) = omega (arith, ints, a, p, k)
 none_between : {T : Type 0} (w : Bool) (change : T → Change) (in_force : ℤ → LocalType → Type 0) (s u : ℤ) (found : Option T) → IsInRange s → IsInRange u
     → IsNearest w in_force (IsTold w s) (option_map change found) → IfSome found (λ c. IsAhead w u (change c).at) → HasNoChange in_force (IsBetween w s u)
 none_between w change in_force s u None here there none short = λ d is k. none d is (between w s u d.at here there k)
-none_between w change in_force s u (Some c) here there h short = λ d is k. not_beyond w s u (change c).at d.at short (h.nearest d is (between w s u d.at here there k)) k
+none_between w change in_force s u (Some c) here there h short = λ d is k. not_beyond w s u (change c).at d.at short
+    (h.nearest d is (between w s u d.at here there k)) k
 
 pub stand_within : {T : Type 0} (w : Bool) (change : T → Change) (z : Zone) (off : ℤ → ℤ) → AreOffsetsOf z off → (s : ℤ) → IsInRange s → (found : Option T)
     → IsNearest w (TypeAt z) (IsTold w s) (option_map change found) → StandWithin z off s (λ u. Precedes w s u × IfSome found (λ c. IsAhead w u (change c).at))

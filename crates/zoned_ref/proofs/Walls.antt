@@ -45,7 +45,8 @@ pub of_zone : (r : TimeZoneRef) (z : Zone) → z ≡ zone_of r → AreOffsetsOf 
 of_zone r z is h = subst (λ y. AreOffsetsOf y (off_of r)) is h
 
 -- and their offsets are what the zone gives
-pub offsets_given : (r : TimeZoneRef) (l : ℤ) (given : LocalResult ZoneOffset) → AreOffsetsOf (zone_of r) (off_of r) → IsWide l → offsets.Each (λ o. o.zone ≡ r) given
+pub offsets_given : (r : TimeZoneRef) (l : ℤ) (given : LocalResult ZoneOffset) → AreOffsetsOf (zone_of r) (off_of r) → IsWide l
+    → offsets.Each (λ o. o.zone ≡ r) given
     → IsWallAnswer (types.Shows (TypeAt (zone_of r)) l) (map_of type_of given) → offsets.AreOffsetsFor (law_of r) l given
 offsets_given r l None of_zone wide home wall =
     record { wall = zone_wall (zone_of r) (off_of r) l r.narrow of_zone wide None wall; in_force = tt; same_home = tt }

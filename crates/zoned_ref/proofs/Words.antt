@@ -12,7 +12,8 @@ pub use Rattle.tz_info.proofs.ForCallers.{wall_decided}
 pub use Rattle.tz_info.proofs.Words.{All, All-append, All-contains, Alternate, AreEndsWithin, Bool, Contains-append_left, Contains-append_right, FitsSigned}
 pub use Rattle.tz_info.specs.HeldChanges.{change_held}
 pub use Rattle.tz_info.proofs.Words.{HasNoChange, IfSome, IsAhead, IsFirst, IsFirstAtOrAfter, IsGreatest, IsLeast, IsNearest, IsNearestChange}
-pub use Rattle.tz_info.proofs.Words.{IsNeverWithin, Precedes, IsRefusedBy, IsRuleOrNone, IsTypeOf, IsTypeRefused, IsValid, LocalType, Shows, ShowsAtOrAfter, ShowsWithin}
+pub use Rattle.tz_info.proofs.Words.{IsNeverWithin, Precedes, IsRefusedBy, IsRuleOrNone, IsTypeOf, IsTypeRefused, IsValid, LocalType, Shows, ShowsAtOrAfter}
+pub use Rattle.tz_info.proofs.Words.{ShowsWithin}
 pub use Rattle.tz_info.proofs.Words.{TypeAt, Zone, by_leap_time, by_rule, false, false≢true, get_or, length, length-map, lies_in, map, offsets, rule_offsets}
 pub use Rattle.tz_info.proofs.Words.{slice_get, true, type_when, unsigned_abs, ◌<◌, ◌≢◌}
 pub use Rattle.tz_info.specs.declared.rule.transition_rule.TransitionRule.{TransitionRule}

@@ -20,15 +20,18 @@ new-requires-in-Gap c = before_within c.zone.result.now (reading c.args.local.no
 
 pub returns-in-Single : goal.returns-in-Single
 returns-in-Single c = let local = c.args.local.now in
-    offsets_given c.args.self.now (reading local).s (Single c.new.result) (of_zone c.args.self.now c.zone.result.now c.zone.ensures.zone c.zone.ensures.offsets) local.in_range.0 c.new.ensures.zone
+    offsets_given c.args.self.now (reading local).s (Single c.new.result)
+    (of_zone c.args.self.now c.zone.result.now c.zone.ensures.zone c.zone.ensures.offsets) local.in_range.0 c.new.ensures.zone
     (rw (c.new.ensures.local_type, ← c.zone.ensures.zone) c.in-Single.ensures)
 
 pub returns-in-Ambiguous : goal.returns-in-Ambiguous
 returns-in-Ambiguous c = let local = c.args.local.now in let first = c.new-in-Ambiguous in let last = c.new-in-Ambiguous-2 in
-    offsets_given c.args.self.now (reading local).s (Ambiguous first.result last.result) (of_zone c.args.self.now c.zone.result.now c.zone.ensures.zone c.zone.ensures.offsets) local.in_range.0
+    offsets_given c.args.self.now (reading local).s (Ambiguous first.result last.result)
+    (of_zone c.args.self.now c.zone.result.now c.zone.ensures.zone c.zone.ensures.offsets) local.in_range.0
     (first.ensures.zone, last.ensures.zone) (rw (first.ensures.local_type, last.ensures.local_type, ← c.zone.ensures.zone) c.in-Ambiguous.ensures)
 
 pub returns-in-Gap : goal.returns-in-Gap
 returns-in-Gap c = let local = c.args.local.now in
-    gap_given c.args.self.now (reading local).s c.new-in-Gap.result (of_zone c.args.self.now c.zone.result.now c.zone.ensures.zone c.zone.ensures.offsets) local.in_range.0 c.new-in-Gap.ensures.zone
+    gap_given c.args.self.now (reading local).s c.new-in-Gap.result
+    (of_zone c.args.self.now c.zone.result.now c.zone.ensures.zone c.zone.ensures.offsets) local.in_range.0 c.new-in-Gap.ensures.zone
     (rw (c.new-in-Gap.ensures.local_type, ← c.zone.ensures.zone) c.in-Gap.ensures)

@@ -21,4 +21,5 @@ returns-in_err-change-clause-until g c =
     let r = c.args.self.now in let s = (zoned c.args.after.now).utc.s in let here = c.args.after.now.in_range in
     let fits : SFits w64 s = omega (arith, ints, here) in
     stand_within true change_of (zone_of r) (off_of r) (of_zone r c.zone-zone.result.now c.zone-zone.ensures.zone c.zone-zone.ensures.offsets)
-    s here c.from_residual.result (rw c.from_residual.ensures (none_told true (TypeAt (zone_of r)) s here (simp (c.zone-zone.ensures.zone, c.timestamp.ensures, to_z-of_z) at c.in_err-change.ensures)))
+    s here c.from_residual.result (rw c.from_residual.ensures
+    (none_told true (TypeAt (zone_of r)) s here (simp (c.zone-zone.ensures.zone, c.timestamp.ensures, to_z-of_z) at c.in_err-change.ensures)))

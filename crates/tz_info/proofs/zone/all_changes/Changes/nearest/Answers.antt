@@ -11,5 +11,6 @@ returns-then-forward-clause-found c =
 pub returns-else-forward-clause-found : goal.returns-else-forward-clause-found
 returns-else-forward-clause-found c =
     let s = c.args.self.now in let fa : SFits w64 s.after = search rules in let fl : SFits w64 s.last = search rules in
-    rw c.if-forward.false (nearest_within false (TypeAt s.zone.now) s.after s.last (option_map change_held c.previous_held_change.result) c.if_within-else-forward.result
+    rw c.if-forward.false (nearest_within false (TypeAt s.zone.now) s.after s.last (option_map change_held c.previous_held_change.result)
+    c.if_within-else-forward.result
     (simp to_z-of_z at c.previous_held_change.ensures) (simp to_z-of_z at c.if_within-else-forward.ensures))

@@ -7,7 +7,8 @@ returns-in-Some-clause-steps c =
     let s = c.args.self.now in
     let last = c.in-Some.ensures.found in let fits = last.is.fits in
     let fb : SFits w64 (c.in-Some.change.at -ℤ pos 1) = last.is.fits_before in
-    simp to_z-of_z (steps_last s (record { zone = s.zone; after = s.after; last = c.in-Some.change.at -ℤ pos 1 }) c.in-Some.change c.nearest.ensures.valid c.nearest.ensures.rule last refl)
+    simp to_z-of_z (steps_last s (record { zone = s.zone; after = s.after; last = c.in-Some.change.at -ℤ pos 1 }) c.in-Some.change
+    c.nearest.ensures.valid c.nearest.ensures.rule last refl)
 
 pub returns-in-Some-clause-goes : goal.returns-in-Some-clause-goes
 returns-in-Some-clause-goes c =

@@ -6,7 +6,8 @@ pub returns-in-Some-clause-steps : goal.returns-in-Some-clause-steps
 returns-in-Some-clause-steps c =
     let s = c.args.self.now in
     let first = c.in-Some.ensures.found in let fits = first.is.fits in
-    simp to_z-of_z (steps_first s (record { zone = s.zone; after = c.in-Some.change.at; last = s.last }) c.in-Some.change c.nearest.ensures.valid c.nearest.ensures.rule first refl)
+    simp to_z-of_z (steps_first s (record { zone = s.zone; after = c.in-Some.change.at; last = s.last }) c.in-Some.change c.nearest.ensures.valid
+    c.nearest.ensures.rule first refl)
 
 pub returns-in-Some-clause-goes : goal.returns-in-Some-clause-goes
 returns-in-Some-clause-goes c =

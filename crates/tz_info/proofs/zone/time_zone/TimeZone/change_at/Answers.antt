@@ -23,4 +23,5 @@ returns c =
     let s = simp to_z-of_z at c.in-Some.ensures in
     let fb : SFits w64 c.in-Some.second_before = rw s.1 s.0 in
     let before = rw s.1 at (simp to_z-of_z at c.in-Ok.ensures) in
-    change_made (TypeAt c.args.self.now) c.args.second _ _ (option_map change_held c.change_between.result) (type_once c.args.self.now) fs s.0 before (simp to_z-of_z at c.in-Ok-find_local_time_type.ensures) (simp to_z-of_z at c.change_between.ensures)
+    change_made (TypeAt c.args.self.now) c.args.second _ _ (option_map change_held c.change_between.result) (type_once c.args.self.now) fs s.0 before
+    (simp to_z-of_z at c.in-Ok-find_local_time_type.ensures) (simp to_z-of_z at c.change_between.ensures)

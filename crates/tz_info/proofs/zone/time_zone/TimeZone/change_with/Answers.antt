@@ -12,4 +12,5 @@ returns c =
     let fw : SFits w128 c.start_of-start.result = search rules in
     let least = c.start_of-start.ensures.bound in
     let fs : SFits w64 c.start_of-start.result = omega (arith, ints) in
-    with_start c.args.self.now c.args.place c.start_of-start.result (option_map change_held c.change_at.result) (rw (← c.self.view_is) c.self.invariant.valid) c.requires c.start_of-start.ensures.comes (simp to_z-of_z at c.change_at.ensures)
+    with_start c.args.self.now c.args.place c.start_of-start.result (option_map change_held c.change_at.result)
+    (rw (← c.self.view_is) c.self.invariant.valid) c.requires c.start_of-start.ensures.comes (simp to_z-of_z at c.change_at.ensures)

@@ -5,7 +5,8 @@ use Rattle.tz_info.proofs.zone.time_zone.TimeZone.next_from.Goals as goal
 pub returns-in-Some : goal.returns-in-Some
 returns-in-Some c =
     let fa = c.ranges.after in
-    table_first c.args.self.now (λ u. c.args.after <ℤ u) (change_held c.in-Some.change) (rw (← c.self.view_is) c.self.invariant.valid) (simp to_z-of_z at c.in-Some.ensures)
+    table_first c.args.self.now (λ u. c.args.after <ℤ u) (change_held c.in-Some.change) (rw (← c.self.view_is) c.self.invariant.valid)
+    (simp to_z-of_z at c.in-Some.ensures)
 
 pub returns-in-None : goal.returns-in-None
 returns-in-None c =

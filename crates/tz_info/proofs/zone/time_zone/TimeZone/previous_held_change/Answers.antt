@@ -5,10 +5,12 @@ use Rattle.tz_info.proofs.zone.time_zone.TimeZone.previous_held_change.Goals as 
 pub returns-in-Some : goal.returns-in-Some
 returns-in-Some c =
     let fa = c.ranges.before_or_at in
-    rule_is_last c.args.self.now (λ u. u ≤ℤ c.args.before_or_at) (change_held c.in-Some.change) (rw (← c.self.view_is) c.self.invariant.valid) (simp to_z-of_z at c.in-Some.ensures)
+    rule_is_last c.args.self.now (λ u. u ≤ℤ c.args.before_or_at) (change_held c.in-Some.change) (rw (← c.self.view_is) c.self.invariant.valid)
+    (simp to_z-of_z at c.in-Some.ensures)
 
 pub returns-in-None : goal.returns-in-None
 returns-in-None c =
     let fa = c.ranges.before_or_at in
-    table_is_last c.args.self.now (λ u. u ≤ℤ c.args.before_or_at) (option_map change_held c.previous_in_table.result) (rw (← c.self.view_is) c.self.invariant.valid)
+    table_is_last c.args.self.now (λ u. u ≤ℤ c.args.before_or_at) (option_map change_held c.previous_in_table.result)
+    (rw (← c.self.view_is) c.self.invariant.valid)
     (simp to_z-of_z at c.in-None.ensures) (simp to_z-of_z at c.previous_in_table.ensures)
