@@ -1,6 +1,6 @@
 //! The wall clock of a rule.
 
-ghost use Rattle.std.specs.Prelude.{◌≡◌, ◌≢◌, ◌-ℤ◌, MatchOption, Some, not, ⊤};
+ghost use Rattle.std.specs.Prelude.{◌≡◌, ◌≢◌, ◌-ℤ◌, ◌≤ℤ◌, MatchOption, Some, not, ⊤};
 ghost use Rattle.std.specs.Result.{IsOkAnd};
 ghost use Rattle.naive_base.specs.NaiveDateTime.{reading};
 ghost use Rattle.naive_base.specs.Range.{IsWide};
@@ -59,46 +59,31 @@ impl TransitionRule {
         ensures { IsWallAnswer (Shows (RuleAt self.now) local)
             (map_of (λ r. r.now) result) }
     {
-        let season = self.season_for(i64::MIN, local);
-        self.answer_from(season, i64::MIN, local, &mut Probes::new())
-    }
-
-    // The moments of the local time's year, if these decide at both seconds that could show it, and
-    // neither comes before that one.
-    #[inline(always)]
-    pub(crate) fn season_for(&self, from: i64, local: i64) -> Option<Season>
-        requires { IsWide local }
-        ensures { MatchOption result ⊤ (IsSeasonOf (Some self.now) local) }
-    {
-        match self {
-            TransitionRule::Fixed(_) => None,
-            TransitionRule::Alternate(turns) => turns.season_for(from, local),
-        }
+        self.answer_from(i64::MIN, local, &mut Probes::new()).1
     }
 
     // The types in force at the seconds from that one on at which a clock by this rule shows the
-    // local time.
+    // local time; before them the moments of its year, if these alone decided.
     #[inline(always)]
     pub(crate) fn answer_from(
         &self,
-        season: Option<Season>,
         from: i64,
         local: i64,
         probes: &mut Probes,
-    ) -> MappedLocalTime<&LocalTimeType>
-        requires season { MatchOption season ⊤ (IsSeasonOf (Some self.now) local) }
+    ) -> (Option<Season>, MappedLocalTime<&LocalTimeType>)
         requires local { IsWide local }
         requires room { HasRoomFor 2 probes.old.rule_questions }
+        ensures season { MatchOption result.0 ⊤ (IsSeasonOf (Some self.now) local) }
         ensures found { IsWallAnswer (Shows (TypeFrom self.now from) local)
-            (map_of (λ r. r.now) result) }
+            (map_of (λ r. r.now) result.1) }
         ensures cost { RoseWithin probes.old probes.new 0 2 }
         ensures counted { IsAskedFrom self.now from local
             probes.old.rule_questions probes.new.rule_questions }
         ensures offsets { AreUtOffsets self.now }
     {
         match self {
-            TransitionRule::Fixed(only) => answer_of_one(only, from, local, probes),
-            TransitionRule::Alternate(turns) => turns.answer_from(season, from, local, probes),
+            TransitionRule::Fixed(only) => (None, answer_of_one(only, from, local, probes)),
+            TransitionRule::Alternate(turns) => turns.answer_from(from, local, probes),
         }
     }
 }
@@ -133,7 +118,9 @@ impl AlternateTime {
     #[inline(always)]
     fn season_for(&self, from: i64, local: i64) -> Option<Season>
         requires { IsWide local }
-        ensures { MatchOption result ⊤ (IsSeasonFor self.now local) }
+        ensures { MatchOption result ⊤ (λ s. IsSeasonFor self.now local s
+            × (from ≤ℤ (local -ℤ self.now.std.offset))
+            × (from ≤ℤ (local -ℤ self.now.dst.offset))) }
     {
         let by_std = second_showing(local, self.std().offset());
         let by_dst = second_showing(local, self.dst().offset());
@@ -152,16 +139,15 @@ impl AlternateTime {
     #[inline(always)]
     fn answer_from(
         &self,
-        season: Option<Season>,
         from: i64,
         local: i64,
         probes: &mut Probes,
-    ) -> MappedLocalTime<&LocalTimeType>
-        requires season { MatchOption season ⊤ (IsSeasonFor self.now local) }
+    ) -> (Option<Season>, MappedLocalTime<&LocalTimeType>)
         requires local { IsWide local }
         requires room { HasRoomFor 2 probes.old.rule_questions }
+        ensures season { MatchOption result.0 ⊤ (IsSeasonFor self.now local) }
         ensures found { IsWallAnswer (Shows (TypeFrom (Alternate self.now) from) local)
-            (map_of (λ r. r.now) result) }
+            (map_of (λ r. r.now) result.1) }
         ensures cost { RoseWithin probes.old probes.new 0 2 }
         ensures counted { IsAskedFrom (Alternate self.now) from local
             probes.old.rule_questions probes.new.rule_questions }
@@ -172,23 +158,22 @@ impl AlternateTime {
         let by_std = second_showing(local, standard);
         let by_dst = second_showing(local, daylight);
         if by_std < from && by_dst < from {
-            return MappedLocalTime::None;
+            return (None, MappedLocalTime::None);
         }
         if standard == daylight {
-            return self.ask(from, local, standard, MappedLocalTime::None, probes);
+            let only = self.ask(from, local, standard, MappedLocalTime::None, probes);
+            return (None, only);
         }
-        if let Some(season) = season {
-            if from <= by_std && from <= by_dst {
-                return self.answer_amid(season, from, local, probes);
-            }
+        if let Some(season) = self.season_for(from, local) {
+            return (Some(season), self.answer_amid(season, from, local, probes));
         }
         // The greater offset has the earlier second.
         if standard < daylight {
             let one = self.ask(from, local, daylight, MappedLocalTime::None, probes);
-            return self.ask(from, local, standard, one, probes);
+            return (None, self.ask(from, local, standard, one, probes));
         }
         let one = self.ask(from, local, standard, MappedLocalTime::None, probes);
-        self.ask(from, local, daylight, one, probes)
+        (None, self.ask(from, local, daylight, one, probes))
     }
 
     // Asks for the two seconds that could show the local time, where the season's moments decide at

@@ -94,8 +94,7 @@ impl TimeZone {
         ensures questions { IsAskedFor self.now local
             probes.old.rule_questions probes.new.rule_questions }
     {
-        let season = self.season_for(local);
-        let (shown, answer) = self.wall_answer_of(season, local, probes);
+        let (shown, season, answer) = self.wall_answer_of(local, probes);
         match answer {
             MappedLocalTime::None => Around::Gap(self.gap_at(local, shown, season, probes)),
             MappedLocalTime::Single(only) => Around::Single(only),

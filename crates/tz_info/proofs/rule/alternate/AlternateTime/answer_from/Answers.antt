@@ -26,6 +26,7 @@ pub returns-then-by_dst-from : goal.returns-then-by_dst-from
 returns-then-by_dst-from c =
     let (fl, ff, fs, fd, gs, gd, vs, vd, ss, sd) = offsets (goal.at.returns-then-by_dst-from c).After-second_showing-by_dst in
     record {
+      season = search rules;
       found = none_since c.args.self.now c.args.from c.args.local (omega (arith, ints)) (omega (arith, ints));
       cost = search rules;
       counted = asked_never c.args.self.now c.args.from c.args.local _ (omega (arith, ints)) (omega (arith, ints));
@@ -38,41 +39,48 @@ returns-then-standard-daylight c =
     let a = c.args.self.now in
     let same : a.std.offset ≡ a.dst.offset = omega (arith, ints) in
     record {
+      season = search rules;
       found = asked_one (TypeFrom (Alternate a) c.args.from) c.args.local a.std.offset _ (one_second a c.args.from c.args.local same)
-          (rw vs at (simp to_z-of_z at c.ask.ensures.asked));
+          (rw vs at (simp to_z-of_z at c.ask-only.ensures.asked));
       cost = search rules;
-      counted = asked_once a c.args.from c.args.local _ _ same (rw vs at (simp to_z-of_z at c.ask.ensures.counted));
+      counted = asked_once a c.args.from c.args.local _ _ same (rw vs at (simp to_z-of_z at c.ask-only.ensures.counted));
       rule = search rules;
     }
 
 pub answer_amid-requires-clause-season : goal.answer_amid-requires-clause-season
-answer_amid-requires-clause-season c = (rw c.in-Some.is at c.requires.season).season
+answer_amid-requires-clause-season c = let fl = c.ranges.local in let ff = c.ranges.from in (simp to_z-of_z at c.in-Some.ensures).0.season
 
 pub answer_amid-requires-clause-standard : goal.answer_amid-requires-clause-standard
 answer_amid-requires-clause-standard c =
-    let (fl, ff, fs, fd, gs, gd, vs, vd, ss, sd) = offsets (goal.at.answer_amid-requires-clause-standard c).After-second_showing-by_dst in
-    simp to_z-of_z (record { decided = (rw c.in-Some.is at c.requires.season).standard; since = omega (arith, ints) })
+    let fl = c.ranges.local in let ff = c.ranges.from in
+    let (of_year, since, _) = simp to_z-of_z at c.in-Some.ensures in
+    simp to_z-of_z (record { decided = of_year.standard; since = since })
 
 pub answer_amid-requires-clause-daylight : goal.answer_amid-requires-clause-daylight
 answer_amid-requires-clause-daylight c =
-    let (fl, ff, fs, fd, gs, gd, vs, vd, ss, sd) = offsets (goal.at.answer_amid-requires-clause-daylight c).After-second_showing-by_dst in
-    simp to_z-of_z (record { decided = (rw c.in-Some.is at c.requires.season).daylight; since = omega (arith, ints) })
+    let fl = c.ranges.local in let ff = c.ranges.from in
+    let (of_year, _, since) = simp to_z-of_z at c.in-Some.ensures in
+    simp to_z-of_z (record { decided = of_year.daylight; since = since })
 
-pub returns-then-from-by_dst-clause-found : goal.returns-then-from-by_dst-clause-found
-returns-then-from-by_dst-clause-found c = let fl = c.ranges.local in let ff = c.ranges.from in simp to_z-of_z at c.answer_amid.ensures.found
+pub returns-in-Some-clause-season : goal.returns-in-Some-clause-season
+returns-in-Some-clause-season c = let fl = c.ranges.local in let ff = c.ranges.from in (simp to_z-of_z at c.in-Some.ensures).0
 
-pub returns-then-from-by_dst-clause-counted : goal.returns-then-from-by_dst-clause-counted
-returns-then-from-by_dst-clause-counted c = let fl = c.ranges.local in let ff = c.ranges.from in simp to_z-of_z at c.answer_amid.ensures.counted
+pub returns-in-Some-clause-found : goal.returns-in-Some-clause-found
+returns-in-Some-clause-found c = let fl = c.ranges.local in let ff = c.ranges.from in simp to_z-of_z at c.answer_amid.ensures.found
+
+pub returns-in-Some-clause-counted : goal.returns-in-Some-clause-counted
+returns-in-Some-clause-counted c = let fl = c.ranges.local in let ff = c.ranges.from in simp to_z-of_z at c.answer_amid.ensures.counted
 
 pub returns-then-standard-daylight-2 : goal.returns-then-standard-daylight-2
 returns-then-standard-daylight-2 c =
     let (fl, ff, fs, fd, gs, gd, vs, vd, ss, sd) = offsets (goal.at.returns-then-standard-daylight-2 c).After-second_showing-by_dst in
     let a = c.args.self.now in
     record {
+      season = search rules;
       found = asked_both (TypeFrom (Alternate a) c.args.from) c.args.local a.dst.offset a.std.offset _ _ (omega (arith, ints))
-          (dst_or_std a c.args.from c.args.local) (rw vd at (simp to_z-of_z at c.ask-one.ensures.asked)) (rw vs at (simp to_z-of_z at c.ask-then-standard-daylight-2.ensures.asked));
+          (dst_or_std a c.args.from c.args.local) (rw vd at (simp to_z-of_z at c.ask-one.ensures.asked)) (rw vs at (simp to_z-of_z at c.ask.ensures.asked));
       cost = search rules;
-      counted = asked_dst_std a c.args.from c.args.local _ _ _ (λ e. omega (arith, ints)) (rw vd at (simp to_z-of_z at c.ask-one.ensures.counted)) (rw vs at (simp to_z-of_z at c.ask-then-standard-daylight-2.ensures.counted));
+      counted = asked_dst_std a c.args.from c.args.local _ _ _ (λ e. omega (arith, ints)) (rw vd at (simp to_z-of_z at c.ask-one.ensures.counted)) (rw vs at (simp to_z-of_z at c.ask.ensures.counted));
       rule = search rules;
     }
 
@@ -82,6 +90,7 @@ returns c =
     let a = c.args.self.now in
     let other : a.std.offset ≢ a.dst.offset = λ e. omega (arith, ints) in
     record {
+      season = search rules;
       found = asked_both (TypeFrom (Alternate a) c.args.from) c.args.local a.std.offset a.dst.offset _ _ (omega (arith, ints))
           (std_or_dst a c.args.from c.args.local) (rw vs at (simp to_z-of_z at c.ask-one-2.ensures.asked)) (rw vd at (simp to_z-of_z at c.ask-2.ensures.asked));
       cost = search rules;
@@ -89,8 +98,8 @@ returns c =
       rule = search rules;
     }
 
-pub ask-requires-then-standard-daylight-2-clause-room : goal.ask-requires-then-standard-daylight-2-clause-room
-ask-requires-then-standard-daylight-2-clause-room c = omega (arith, c.requires.room, c.ask-one.ensures.cost.questions_most)
+pub ask-requires-clause-room : goal.ask-requires-clause-room
+ask-requires-clause-room c = omega (arith, c.requires.room, c.ask-one.ensures.cost.questions_most)
 
 pub ask-requires-2-clause-room : goal.ask-requires-2-clause-room
 ask-requires-2-clause-room c = omega (arith, c.requires.room, c.ask-one-2.ensures.cost.questions_most)
