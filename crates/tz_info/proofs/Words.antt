@@ -121,6 +121,7 @@ pub use Rattle.tz_info.specs.Steps.FileLists.{HasLengths, Reads, pieces_of, zone
 unfoldable pub use Rattle.tz_info.specs.Steps.FileLists.{file_at, lists_in, pieces_at, with_rule, with_types}
 pub use Rattle.tz_info.specs.Steps.FooterReading.{footer_of, is_between_newlines, is_no_text, rule_or_none, trimmed_back, trimmed_front, unless_space}
 unfoldable pub use Rattle.tz_info.specs.Steps.FooterReading.{footer_at, rule_in, trimmed}
+pub use Rattle.tz_info.specs.Steps.HeldChanges.{change_held}
 pub use Rattle.tz_info.specs.Steps.Gaps.{AreLess, HasReach, IsNeverFrom, IsRuleGap, change_at}
 unfoldable pub use Rattle.tz_info.specs.Steps.KindPlaces.{place_by, places_by_kind}
 pub use Rattle.tz_info.specs.Steps.Kinds.{is_calm, is_calm_kind, is_inside, kind_place, second_at, second_in}
@@ -131,9 +132,9 @@ pub use Rattle.tz_info.specs.Steps.Pieces.{AreBelow, AreCutsCrossed, AreListed, 
 pub use Rattle.tz_info.specs.Steps.Pieces.{zone_in}
 pub use Rattle.tz_info.specs.Steps.RuleDays.{closed_day_is, julian_is, julian_place, number_after, weekday_at, weekday_is, weekday_place}
 unfoldable pub use Rattle.tz_info.specs.Steps.RuleDays.{closed_day}
-pub use Rattle.tz_info.specs.Steps.RuleSeconds.{AreUtOffsets, IsAmidFrom, IsAskedFrom, IsAskedSince, IsSecondFrom, TypeFrom}
+pub use Rattle.tz_info.specs.Steps.RuleSeconds.{AreUtOffsets, IsAskedFrom, IsAskedSince, IsSecondFrom, TypeFrom}
 pub use Rattle.tz_info.specs.Steps.Runs.{AreNoneBefore, AreNoneFrom, IsBeyondJumps, IsEnd, IsRunSince, IsRunUntil, IsWindowOf, IsWithinRun}
-pub use Rattle.tz_info.specs.Steps.Seasons.{IsAmid, IsDecidedIn, IsLimit, IsSeason, IsSeasonFor, IsSeasonOf}
+pub use Rattle.tz_info.specs.Steps.Seasons.{IsAmid, IsAmidFrom, IsDecidedIn, IsLimit, IsSeason, IsSeasonFor, IsSeasonIn, IsSeasonOf}
 pub use Rattle.tz_info.specs.Steps.Segments.{begin_of, index_of}
 pub use Rattle.tz_info.specs.Steps.Shown.{together}
 pub use Rattle.tz_info.specs.Steps.Starts.{AreByUnixTime, HaveCome, HaveComeAt, IsCut, IsLeapless, IsReachedFrom, leap_time_at}

@@ -1,6 +1,6 @@
 //! The wall clock of a rule.
 
-ghost use Rattle.std.specs.Prelude.{◌≡◌, ◌≢◌, ◌-ℤ◌, ◌≤ℤ◌, MatchOption, Some, not, ⊤};
+ghost use Rattle.std.specs.Prelude.{◌≡◌, ◌≢◌, ◌-ℤ◌, ℤ, MatchOption, Some, not, ⊤};
 ghost use Rattle.std.specs.Result.{IsOkAnd};
 ghost use Rattle.naive_base.specs.NaiveDateTime.{reading};
 ghost use Rattle.naive_base.specs.Range.{IsWide};
@@ -11,9 +11,10 @@ ghost use Rattle.tz_timeline.specs.Counts.{RoseWithin, HasRoomFor};
 ghost use Rattle.tz_info.specs.Moments.{type_when};
 ghost use Rattle.tz_info.specs.RuleTypes.{RuleAt};
 ghost use Rattle.tz_info.specs.Rules.{IsAlternateRule};
-ghost use Rattle.tz_info.specs.Steps.Gaps.{IsNeverFrom, IsRuleGap, change_at};
-ghost use Rattle.tz_info.specs.Steps.RuleSeconds.{TypeFrom, IsAskedSince, IsAskedFrom, IsAmidFrom, AreUtOffsets};
-ghost use Rattle.tz_info.specs.Steps.Seasons.{IsSeason, IsSeasonFor, IsSeasonOf};
+ghost use Rattle.tz_info.specs.Steps.Gaps.{IsNeverFrom, IsRuleGap};
+ghost use Rattle.tz_info.specs.Steps.HeldChanges.{change_held};
+ghost use Rattle.tz_info.specs.Steps.RuleSeconds.{TypeFrom, IsAskedSince, IsAskedFrom, AreUtOffsets};
+ghost use Rattle.tz_info.specs.Steps.Seasons.{IsSeasonFor, IsSeasonOf};
 ghost use Rattle.tz_info.specs.Steps.Walk.{IsAskedLast};
 ghost use Rattle.tz_info.specs.WallClocks.{Shows};
 ghost use Rattle.tz_info.specs.declared.rule.transition_rule.TransitionRule.TheVariants.{Fixed, Alternate};
@@ -73,7 +74,7 @@ impl TransitionRule {
     ) -> (Option<Season>, MappedLocalTime<&LocalTimeType>)
         requires local { IsWide local }
         requires room { HasRoomFor 2 probes.old.rule_questions }
-        ensures season { MatchOption result.0 ⊤ (IsSeasonOf (Some self.now) local) }
+        ensures season { MatchOption result.0 ⊤ (IsSeasonOf (Some self.now) from local) }
         ensures found { IsWallAnswer (Shows (TypeFrom self.now from) local)
             (map_of (λ r. r.now) result.1) }
         ensures cost { RoseWithin probes.old probes.new 0 2 }
@@ -118,9 +119,7 @@ impl AlternateTime {
     #[inline(always)]
     fn season_for(&self, from: i64, local: i64) -> Option<Season>
         requires { IsWide local }
-        ensures { MatchOption result ⊤ (λ s. IsSeasonFor self.now local s
-            × (from ≤ℤ (local -ℤ self.now.std.offset))
-            × (from ≤ℤ (local -ℤ self.now.dst.offset))) }
+        ensures { MatchOption result ⊤ (IsSeasonFor self.now from local) }
     {
         let by_std = second_showing(local, self.std().offset());
         let by_dst = second_showing(local, self.dst().offset());
@@ -145,7 +144,7 @@ impl AlternateTime {
     ) -> (Option<Season>, MappedLocalTime<&LocalTimeType>)
         requires local { IsWide local }
         requires room { HasRoomFor 2 probes.old.rule_questions }
-        ensures season { MatchOption result.0 ⊤ (IsSeasonFor self.now local) }
+        ensures season { MatchOption result.0 ⊤ (IsSeasonFor self.now from local) }
         ensures found { IsWallAnswer (Shows (TypeFrom (Alternate self.now) from) local)
             (map_of (λ r. r.now) result.1) }
         ensures cost { RoseWithin probes.old probes.new 0 2 }
@@ -188,10 +187,8 @@ impl AlternateTime {
     ) -> MappedLocalTime<&LocalTimeType>
         requires local { IsWide local }
         requires room { HasRoomFor 2 probes.old.rule_questions }
-        requires season { IsSeason self.now season }
+        requires season { IsSeasonFor self.now from local season }
         requires other { self.now.std.offset ≢ self.now.dst.offset }
-        requires standard { IsAmidFrom season from (local -ℤ self.now.std.offset) }
-        requires daylight { IsAmidFrom season from (local -ℤ self.now.dst.offset) }
         ensures found { IsWallAnswer (Shows (TypeFrom (Alternate self.now) from) local)
             (map_of (λ r. r.now) result) }
         ensures cost { RoseWithin probes.old probes.new 0 2 }
@@ -212,34 +209,26 @@ impl AlternateTime {
         }
     }
 
-    // The moment at which clocks jump over the local time, among the seconds from that one on, if
-    // the moments of its year decide at both seconds that could show it.
+    // The change at which clocks jump over the local time, where the season's moments decide at both
+    // seconds that could show it.
     //
     // At the earlier of these two the type of the lesser offset is in force, and at the later one
     // the other type, since neither shows the local time. So one moment lies between them.
     #[inline(always)]
-    pub(crate) fn gap_from(&self, season: Option<Season>, from: i64, local: i64) -> Option<Moment>
-        requires season { MatchOption season ⊤ (IsSeasonFor self.now local) }
-        requires local { IsWide local }
-        requires never { IsNeverFrom self.now from local }
-        ensures { MatchOption result ⊤
-            (λ m. IsRuleGap self.now from local (change_at self.now m)) }
+    pub(crate) fn gap_in(&self, season: Season, local: i64) -> HeldChange<'_>
+        requires { IsWide local }
+        ensures { (from : ℤ) → IsSeasonFor self.now from local season → IsNeverFrom self.now from local
+            → IsRuleGap self.now from local (change_held result) }
     {
-        let Some(season) = season else {
-            return None;
-        };
-        let by_std = second_showing(local, self.std().offset());
-        let by_dst = second_showing(local, self.dst().offset());
-        if by_std < from || by_dst < from {
-            return None;
-        }
-        if by_dst < by_std {
-            return Some(Moment {
+        let standard = self.std().offset();
+        let daylight = self.dst().offset();
+        if standard < daylight {
+            return self.change_of(Moment {
                 at: season.turns.start,
                 to_dst: true,
             });
         }
-        Some(Moment {
+        self.change_of(Moment {
             at: season.turns.end,
             to_dst: false,
         })

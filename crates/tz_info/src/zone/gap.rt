@@ -12,7 +12,7 @@ ghost use Rattle.tz_info.specs.Looks.{RoseAround};
 ghost use Rattle.tz_info.specs.Questions.{IsAskedFor};
 ghost use Rattle.tz_info.specs.Segments.{table_count};
 ghost use Rattle.tz_info.specs.Steps.Gaps.{HasReach};
-ghost use Rattle.tz_info.specs.Steps.Seasons.{IsSeasonOf};
+ghost use Rattle.tz_info.specs.Steps.Seasons.{IsSeasonIn};
 ghost use Rattle.tz_info.specs.WallClocks.{Shows};
 ghost use Rattle.tz_info.specs.WallPieces.{AreLessAmong, Jumps, IsShownAmong};
 ghost use Rattle.tz_info.specs.Zones.{TypeAt};
@@ -130,7 +130,7 @@ impl TimeZone {
         probes: &mut Probes,
     ) -> HeldChange<'_>
         requires local { IsWide local }
-        requires season { MatchOption season ⊤ (IsSeasonOf self.now.rule local) }
+        requires season { MatchOption season ⊤ (IsSeasonIn self.now local) }
         requires never { IsNeverShown (Shows (TypeAt self.now) local) }
         requires shown { IsShownAmong self.now 0 (table_count self.now) local shown }
         requires room { HasRoomFor 1 probes.old.reads }
@@ -171,7 +171,7 @@ impl TimeZone {
     #[inline(always)]
     fn gap_behind_table(&self, local: i64, season: Option<Season>) -> HeldChange<'_>
         requires local { IsWide local }
-        requires season { MatchOption season ⊤ (IsSeasonOf self.now.rule local) }
+        requires season { MatchOption season ⊤ (IsSeasonIn self.now local) }
         requires never { IsNeverShown (Shows (TypeAt self.now) local) }
         requires reach { HasReach self.now local }
         requires less { AreLessAmong self.now 0 (table_count self.now) local }
@@ -182,10 +182,10 @@ impl TimeZone {
         let Some(turns) = self.turns() else {
             return self.gap_by_search(local);
         };
-        match turns.gap_from(season, self.index.rule_from(), local) {
-            Some(moment) => turns.change_of(moment),
-            None => self.gap_by_search(local),
-        }
+        let Some(season) = season else {
+            return self.gap_by_search(local);
+        };
+        turns.gap_in(season, local)
     }
 
     // The gap by the first second at which clocks show the local time or a later one.

@@ -14,7 +14,7 @@ ghost use Rattle.tz_info.specs.Segments.{table_count};
 ghost use Rattle.tz_info.specs.WallClocks.{Shows};
 ghost use Rattle.tz_info.specs.WallPieces.{IsShownAmong, ShownAmong, wall_of};
 ghost use Rattle.tz_info.specs.Steps.Pieces.{AreBelow, AreListed};
-ghost use Rattle.tz_info.specs.Steps.Seasons.{IsSeasonOf};
+ghost use Rattle.tz_info.specs.Steps.Seasons.{IsSeasonIn};
 ghost use Rattle.tz_info.specs.Steps.Walk.{IsShownIn};
 ghost use Rattle.tz_info.specs.Zones.{IsValid, TypeAt};
 
@@ -118,7 +118,7 @@ impl TimeZone {
         requires local { IsWide local }
         requires room { HasRoom probes.old }
         ensures shown { IsShownAmong self.now 0 (table_count self.now) local result.0 }
-        ensures season { MatchOption result.1 ⊤ (IsSeasonOf self.now.rule local) }
+        ensures season { MatchOption result.1 ⊤ (IsSeasonIn self.now local) }
         ensures found { IsWallAnswer (Shows (TypeAt self.now) local)
             (map_of (λ r. r.now) result.2) }
         ensures cost { RoseByWallClock self.now probes.old probes.new }
@@ -173,7 +173,7 @@ impl TimeZone {
         requires seen { IsWallAnswer
             (IsShownIn self.now local (length self.now.transitions))
             (map_of (λ r. r.now) answer) }
-        ensures season { MatchOption result.0 ⊤ (IsSeasonOf self.now.rule local) }
+        ensures season { MatchOption result.0 ⊤ (IsSeasonIn self.now local) }
         ensures found { IsWallAnswer (IsShownIn self.now local
             (length self.now.transitions + 1)) (map_of (λ r. r.now) result.1) }
         ensures cost { RoseWithin probes.old probes.new 0 2 }

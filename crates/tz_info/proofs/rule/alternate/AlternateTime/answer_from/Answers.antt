@@ -48,22 +48,10 @@ returns-then-standard-daylight c =
     }
 
 pub answer_amid-requires-clause-season : goal.answer_amid-requires-clause-season
-answer_amid-requires-clause-season c = let fl = c.ranges.local in let ff = c.ranges.from in (simp to_z-of_z at c.in-Some.ensures).0.season
-
-pub answer_amid-requires-clause-standard : goal.answer_amid-requires-clause-standard
-answer_amid-requires-clause-standard c =
-    let fl = c.ranges.local in let ff = c.ranges.from in
-    let (of_year, since, _) = simp to_z-of_z at c.in-Some.ensures in
-    simp to_z-of_z (record { decided = of_year.standard; since = since })
-
-pub answer_amid-requires-clause-daylight : goal.answer_amid-requires-clause-daylight
-answer_amid-requires-clause-daylight c =
-    let fl = c.ranges.local in let ff = c.ranges.from in
-    let (of_year, _, since) = simp to_z-of_z at c.in-Some.ensures in
-    simp to_z-of_z (record { decided = of_year.daylight; since = since })
+answer_amid-requires-clause-season c = let fl = c.ranges.local in let ff = c.ranges.from in simp to_z-of_z (simp to_z-of_z at c.in-Some.ensures)
 
 pub returns-in-Some-clause-season : goal.returns-in-Some-clause-season
-returns-in-Some-clause-season c = let fl = c.ranges.local in let ff = c.ranges.from in (simp to_z-of_z at c.in-Some.ensures).0
+returns-in-Some-clause-season c = let fl = c.ranges.local in let ff = c.ranges.from in simp to_z-of_z at c.in-Some.ensures
 
 pub returns-in-Some-clause-found : goal.returns-in-Some-clause-found
 returns-in-Some-clause-found c = let fl = c.ranges.local in let ff = c.ranges.from in simp to_z-of_z at c.answer_amid.ensures.found

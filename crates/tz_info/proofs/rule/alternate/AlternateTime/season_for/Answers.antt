@@ -17,12 +17,9 @@ returns-then-decides c =
     let ff = c.ranges.from in
     let both = and_parts c.decides.result c.decides-2.result c.if-decides.true in
     let low_std : c.args.from ≤ℤ c.second_showing-by_std.result = omega (arith, ints) in
-    let low_dst : c.args.from ≤ℤ c.second_showing-by_dst.result = omega (arith, ints) in (
-      record {
-        season = c.season-season.ensures;
-        standard = rw (rw es at vs) at ((simp to_z-of_z at c.decides.ensures).0 both.0);
-        daylight = rw (rw ed at vd) at ((simp to_z-of_z at c.decides-2.ensures).0 both.1);
-      },
-      rw (rw es at vs) at low_std,
-      rw (rw ed at vd) at low_dst,
-    )
+    let low_dst : c.args.from ≤ℤ c.second_showing-by_dst.result = omega (arith, ints) in
+    record {
+      season = c.season-season.ensures;
+      standard = record { decided = rw (rw es at vs) at ((simp to_z-of_z at c.decides.ensures).0 both.0); since = rw (rw es at vs) at low_std };
+      daylight = record { decided = rw (rw ed at vd) at ((simp to_z-of_z at c.decides-2.ensures).0 both.1); since = rw (rw ed at vd) at low_dst };
+    }

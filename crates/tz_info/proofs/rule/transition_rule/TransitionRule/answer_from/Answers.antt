@@ -14,4 +14,4 @@ pub returns-in-Alternate-clause-counted : goal.returns-in-Alternate-clause-count
 returns-in-Alternate-clause-counted c = let fl = c.ranges.local in let ff = c.ranges.from in rw c.in-Alternate.is (simp to_z-of_z at c.answer_from.ensures.counted)
 
 pub returns-in-Alternate-clause-season : goal.returns-in-Alternate-clause-season
-returns-in-Alternate-clause-season c = let fl = c.ranges.local in rw c.in-Alternate.is (simp to_z-of_z at c.answer_from.ensures.season)
+returns-in-Alternate-clause-season c = let fl = c.ranges.local in let ff = c.ranges.from in rw c.in-Alternate.is (simp to_z-of_z at c.answer_from.ensures.season)

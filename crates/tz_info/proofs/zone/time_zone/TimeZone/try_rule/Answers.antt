@@ -1,6 +1,7 @@
 use Rattle.tz_info.proofs.Words.{IsShownIn, IsStart, IsValid, SFits, Shows, TypeFrom, length, rules, to_z-of_z, w64}
 use Rattle.tz_info.proofs.AnswerLaws.{joined_answer}
 use Rattle.tz_info.proofs.QuestionLaws.{asked_by_zone}
+use Rattle.tz_info.proofs.RuleGaps.{season_in}
 use Rattle.tz_info.proofs.WalkLaws.{with_rule}
 use Rattle.tz_info.proofs.zone.time_zone.TimeZone.try_rule.Goals as goal
 use Rattle.tz_info.proofs.zone.time_zone.TimeZone.try_rule.Goals.{After-rule_from}
@@ -27,4 +28,6 @@ returns-clause-counted c =
     (simp to_z-of_z at c.answer_from-season.ensures.counted)
 
 pub returns-clause-season : goal.returns-clause-season
-returns-clause-season c = let fl = c.ranges.local in rw c.requires.rule (simp to_z-of_z at c.answer_from-season.ensures.season)
+returns-clause-season c =
+    let (fl, ff, start) = begun (goal.at.returns-clause-season c).After-rule_from in
+    season_in c.args.self.now c.args.rule.now c.rule_from.result c.args.local c.answer_from-season.result.0 c.requires.rule start (simp to_z-of_z at c.answer_from-season.ensures.season)
