@@ -114,26 +114,6 @@ fn answer_of_one<'a>(
 }
 
 impl AlternateTime {
-    // The moments of the local time's year, if these decide at both seconds that could show it, and
-    // neither comes before that one.
-    #[inline(always)]
-    fn season_for(&self, from: i64, local: i64) -> Option<Season>
-        requires { IsWide local }
-        ensures { MatchOption result ⊤ (IsSeasonFor self.now from local) }
-    {
-        let by_std = second_showing(local, self.std().offset());
-        let by_dst = second_showing(local, self.dst().offset());
-        if by_std < from || by_dst < from {
-            return None;
-        }
-        let season = self.season(local);
-        if season.decides(by_std) & season.decides(by_dst) {
-            Some(season)
-        } else {
-            None
-        }
-    }
-
     // Asks for the two seconds that could show the local time.
     #[inline(always)]
     fn answer_from(
@@ -163,8 +143,11 @@ impl AlternateTime {
             let only = self.ask(from, local, standard, MappedLocalTime::None, probes);
             return (None, only);
         }
-        if let Some(season) = self.season_for(from, local) {
-            return (Some(season), self.answer_amid(season, from, local, probes));
+        if from <= by_std && from <= by_dst {
+            let season = self.season(local);
+            if season.decides(by_std) & season.decides(by_dst) {
+                return self.answer_amid(season, from, local, probes);
+            }
         }
         // The greater offset has the earlier second.
         if standard < daylight {
@@ -176,7 +159,7 @@ impl AlternateTime {
     }
 
     // Asks for the two seconds that could show the local time, where the season's moments decide at
-    // both.
+    // both, and hands the season on.
     #[inline(always)]
     fn answer_amid(
         &self,
@@ -184,13 +167,14 @@ impl AlternateTime {
         from: i64,
         local: i64,
         probes: &mut Probes,
-    ) -> MappedLocalTime<&LocalTimeType>
+    ) -> (Option<Season>, MappedLocalTime<&LocalTimeType>)
         requires local { IsWide local }
         requires room { HasRoomFor 2 probes.old.rule_questions }
         requires season { IsSeasonFor self.now from local season }
         requires other { self.now.std.offset ≢ self.now.dst.offset }
+        ensures season { MatchOption result.0 ⊤ (IsSeasonFor self.now from local) }
         ensures found { IsWallAnswer (Shows (TypeFrom (Alternate self.now) from) local)
-            (map_of (λ r. r.now) result) }
+            (map_of (λ r. r.now) result.1) }
         ensures cost { RoseWithin probes.old probes.new 0 2 }
         ensures counted { IsAskedFrom (Alternate self.now) from local
             probes.old.rule_questions probes.new.rule_questions }
@@ -203,9 +187,15 @@ impl AlternateTime {
         let is_dst = self.is_dst_amid(season, second_showing(local, daylight));
         // The greater offset has the earlier second.
         if standard < daylight {
-            answer_of_two(self.dst(), is_dst, self.std(), is_std)
+            (
+                Some(season),
+                answer_of_two(self.dst(), is_dst, self.std(), is_std),
+            )
         } else {
-            answer_of_two(self.std(), is_std, self.dst(), is_dst)
+            (
+                Some(season),
+                answer_of_two(self.std(), is_std, self.dst(), is_dst),
+            )
         }
     }
 

@@ -37,6 +37,7 @@ returns-then-standard-daylight c =
     let less : a.std.offset <ℤ a.dst.offset = let other = c.requires.other in omega (arith, ints) in
     let two = rw (c.std-then-standard-daylight.ensures.value, c.dst-then-standard-daylight.ensures.value) at c.answer_of_two.ensures in
     record {
+      season = c.requires.season;
       found = rw two (both_asked (Alternate a) c.args.from c.args.local a.dst a.std _ _ less (dst_or_std a c.args.from c.args.local)
           (record { fits = rw vd at gd; since = c.requires.season.daylight.since }) (record { fits = rw vs at gs; since = c.requires.season.standard.since })
           (dst_shown a _ _ (rw vd at (simp to_z-of_z at c.is_dst_amid-is_dst.ensures))) (std_shown a _ _ (rw vs at (simp to_z-of_z at c.is_dst_amid-is_std.ensures))));
@@ -52,6 +53,7 @@ returns-else-standard-daylight c =
     let less : a.dst.offset <ℤ a.std.offset = let other = c.requires.other in omega (arith, ints) in
     let two = rw (c.std-else-standard-daylight.ensures.value, c.dst-else-standard-daylight.ensures.value) at c.answer_of_two-else-standard-daylight.ensures in
     record {
+      season = c.requires.season;
       found = rw two (both_asked (Alternate a) c.args.from c.args.local a.std a.dst _ _ less (std_or_dst a c.args.from c.args.local)
           (record { fits = rw vs at gs; since = c.requires.season.standard.since }) (record { fits = rw vd at gd; since = c.requires.season.daylight.since })
           (std_shown a _ _ (rw vs at (simp to_z-of_z at c.is_dst_amid-is_std.ensures))) (dst_shown a _ _ (rw vd at (simp to_z-of_z at c.is_dst_amid-is_dst.ensures))));

@@ -1,4 +1,4 @@
-use Rattle.tz_info.proofs.Words.{LocalType, SFits, TypeFrom, ap, arith, ints, rules, to_z-of_z, w32, w64, ◌-ℤ◌, ◌∙◌, ◌≡◌, ◌≢◌}
+use Rattle.tz_info.proofs.Words.{LocalType, SFits, TypeFrom, and_parts, ap, arith, ints, rules, to_z-of_z, w32, w64, ◌-ℤ◌, ◌∙◌, ◌≡◌, ◌≢◌}
 use Rattle.tz_info.specs.declared.rule.transition_rule.TransitionRule.TheVariants.{Alternate}
 use Rattle.tz_info.proofs.Candidates.{asked_both, asked_one, dst_or_std, none_since, one_second, std_or_dst}
 use Rattle.tz_info.proofs.QuestionLaws.{asked_dst_std, asked_never, asked_once, asked_std_dst}
@@ -48,16 +48,25 @@ returns-then-standard-daylight c =
     }
 
 pub answer_amid-requires-clause-season : goal.answer_amid-requires-clause-season
-answer_amid-requires-clause-season c = let fl = c.ranges.local in let ff = c.ranges.from in simp to_z-of_z (simp to_z-of_z at c.in-Some.ensures)
+answer_amid-requires-clause-season c =
+    let (fl, ff, fs, fd, gs, gd, vs, vd, ss, sd) = offsets (goal.at.answer_amid-requires-clause-season c).After-second_showing-by_dst in
+    let f0 : SFits w64 c.season-season.result.from = search rules in
+    let f1 : SFits w64 c.season-season.result.until = search rules in
+    let both = and_parts c.decides.result c.decides-then-from-by_dst.result c.if-decides.true in
+    simp to_z-of_z (record {
+      season = c.season-season.ensures;
+      standard = record { decided = rw ss at ((simp to_z-of_z at c.decides.ensures).0 both.0); since = omega (arith, ints) };
+      daylight = record { decided = rw sd at ((simp to_z-of_z at c.decides-then-from-by_dst.ensures).0 both.1); since = omega (arith, ints) };
+    })
 
-pub returns-in-Some-clause-season : goal.returns-in-Some-clause-season
-returns-in-Some-clause-season c = let fl = c.ranges.local in let ff = c.ranges.from in simp to_z-of_z at c.in-Some.ensures
+pub returns-then-decides-clause-season : goal.returns-then-decides-clause-season
+returns-then-decides-clause-season c = let fl = c.ranges.local in let ff = c.ranges.from in simp to_z-of_z at c.answer_amid.ensures.season
 
-pub returns-in-Some-clause-found : goal.returns-in-Some-clause-found
-returns-in-Some-clause-found c = let fl = c.ranges.local in let ff = c.ranges.from in simp to_z-of_z at c.answer_amid.ensures.found
+pub returns-then-decides-clause-found : goal.returns-then-decides-clause-found
+returns-then-decides-clause-found c = let fl = c.ranges.local in let ff = c.ranges.from in simp to_z-of_z at c.answer_amid.ensures.found
 
-pub returns-in-Some-clause-counted : goal.returns-in-Some-clause-counted
-returns-in-Some-clause-counted c = let fl = c.ranges.local in let ff = c.ranges.from in simp to_z-of_z at c.answer_amid.ensures.counted
+pub returns-then-decides-clause-counted : goal.returns-then-decides-clause-counted
+returns-then-decides-clause-counted c = let fl = c.ranges.local in let ff = c.ranges.from in simp to_z-of_z at c.answer_amid.ensures.counted
 
 pub returns-then-standard-daylight-2 : goal.returns-then-standard-daylight-2
 returns-then-standard-daylight-2 c =
