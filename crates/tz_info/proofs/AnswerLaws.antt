@@ -31,7 +31,12 @@ record Ends {T : Type 0} (p : ℤ → T → Type 0) (first last : ℤ) (a b : T)
   pub not_after : (u : ℤ) (t : T) → p u t → u ≤ℤ last
 
 of_one : {T : Type 0} (p : ℤ → T → Type 0) (a : T) → (h : IsWallAnswer p (Single a)) → Ends p h.second h.second a a
-of_one p a h = record { at_first = h.shown; at_last = h.shown; not_before = λ u t k. let e = h.only u t k in omega (arith, ints); not_after = λ u t k. let e = h.only u t k in omega (arith, ints) }
+of_one p a h = record {
+  at_first = h.shown;
+  at_last = h.shown;
+  not_before = λ u t k. let e = h.only u t k in omega (arith, ints);
+  not_after = λ u t k. let e = h.only u t k in omega (arith, ints);
+}
 
 of_several : {T : Type 0} (p : ℤ → T → Type 0) (a b : T) → (h : IsWallAnswer p (Ambiguous a b)) → Ends p h.first h.last a b
 of_several p a b h = record { at_first = h.at_first; at_last = h.at_last; not_before = h.not_before; not_after = h.not_after }

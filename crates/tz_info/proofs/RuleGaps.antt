@@ -1,7 +1,8 @@
 -- A rule's gaps: where a season's moments decide at both seconds that could show a local time and neither does, one moment lies between them.
 use Rattle.std.specs.Prelude.{⊤}
 use Rattle.tz_info.proofs.Words.{Alternate as AlternateRule, AlternateAt, AreLess, AreLessAmong, Bool, Change, HasGap, IsAmidFrom, IsDecidedIn, IsNear}
-use Rattle.tz_info.proofs.Words.{IsNeverFrom, IsRuleGap, IsSeason, IsSeasonFor, IsSeasonIn, IsSeasonOf, IsStart, IsValid, IsWindowOf, LocalType, MatchOption, None, Option}
+use Rattle.tz_info.proofs.Words.{IsNeverFrom, IsRuleGap, IsSeason, IsSeasonFor, IsSeasonIn, IsSeasonOf, IsStart, IsValid, IsWindowOf, LocalType}
+use Rattle.tz_info.proofs.Words.{MatchOption, None, Option}
 use Rattle.tz_info.proofs.Words.{Season, Some, TransitionRule, TypeAt, Zone}
 use Rattle.tz_info.proofs.Words.{ap, arith, by_lt_z, false, ints, is_dst_by_one, length, not, pos, refl, subst, sym, table_count, true, true≢false, type_when}
 use Rattle.tz_info.proofs.Words.{ℤ, ◌+ℤ◌, ◌-ℤ◌, ◌<ℤ◌, ◌∙◌, ◌≡◌, ◌≤ℤ◌}
@@ -73,8 +74,8 @@ rule_gap a s from l u v moment dst season near_u near_v amid_u amid_v order show
     }
 
 -- to daylight saving time, if its second comes first
-pub gap_at_start : (a : AlternateRule) (s : Season) (from l : ℤ) → IsNear (l -ℤ a.std.offset) → IsNear (l -ℤ a.dst.offset) → IsSeasonFor a from l s → IsNeverFrom a from l
-    → a.std.offset <ℤ a.dst.offset → IsRuleGap a from l (record { at = s.turns.start; before = a.std; after = a.dst })
+pub gap_at_start : (a : AlternateRule) (s : Season) (from l : ℤ) → IsNear (l -ℤ a.std.offset) → IsNear (l -ℤ a.dst.offset) → IsSeasonFor a from l s
+    → IsNeverFrom a from l → a.std.offset <ℤ a.dst.offset → IsRuleGap a from l (record { at = s.turns.start; before = a.std; after = a.dst })
 gap_at_start a s from l near_std near_dst h never less =
     let u = l -ℤ a.dst.offset in let v = l -ℤ a.std.offset in
     let shown_u : (u +ℤ a.dst.offset) ≡ l = omega (arith, ints) in let shown_v : (v +ℤ a.std.offset) ≡ l = omega (arith, ints) in
@@ -83,8 +84,8 @@ gap_at_start a s from l near_std near_dst h never less =
     (starts s.turns.start s.turns.end u v order (other_at a s from l u true h.season near_dst h.daylight never shown_u) (other_at a s from l v false h.season near_std h.standard never shown_v))
 
 -- or else to standard time
-pub gap_at_end : (a : AlternateRule) (s : Season) (from l : ℤ) → IsNear (l -ℤ a.std.offset) → IsNear (l -ℤ a.dst.offset) → IsSeasonFor a from l s → IsNeverFrom a from l
-    → a.dst.offset ≤ℤ a.std.offset → IsRuleGap a from l (record { at = s.turns.end; before = a.dst; after = a.std })
+pub gap_at_end : (a : AlternateRule) (s : Season) (from l : ℤ) → IsNear (l -ℤ a.std.offset) → IsNear (l -ℤ a.dst.offset) → IsSeasonFor a from l s
+    → IsNeverFrom a from l → a.dst.offset ≤ℤ a.std.offset → IsRuleGap a from l (record { at = s.turns.end; before = a.dst; after = a.std })
 gap_at_end a s from l near_std near_dst h never less =
     let u = l -ℤ a.std.offset in let v = l -ℤ a.dst.offset in
     let shown_u : (u +ℤ a.std.offset) ≡ l = omega (arith, ints) in let shown_v : (v +ℤ a.dst.offset) ≡ l = omega (arith, ints) in
@@ -96,8 +97,8 @@ gap_at_end a s from l near_std near_dst h never less =
 
 -- ---- of a zone with the rule
 -- the season of the rule is the zone's
-pub season_in : (z : Zone) (rule : TransitionRule) (from l : ℤ) (s : Option Season) → z.rule ≡ Some rule → IsStart z.transitions z.leaps (length z.transitions) from
-    → MatchOption s ⊤ (IsSeasonOf (Some rule) from l) → MatchOption s ⊤ (IsSeasonIn z l)
+pub season_in : (z : Zone) (rule : TransitionRule) (from l : ℤ) (s : Option Season) → z.rule ≡ Some rule
+    → IsStart z.transitions z.leaps (length z.transitions) from → MatchOption s ⊤ (IsSeasonOf (Some rule) from l) → MatchOption s ⊤ (IsSeasonIn z l)
 season_in z rule from l None is start h = h
 season_in z rule from l (Some s) is start h = (from, start, rw is h)
 
@@ -121,7 +122,8 @@ gap_by_rule z a l low high from c valid rule start never reach all g =
     gap_found z l low high c.at c.after c.before never reach g.near less (by c.at c.after g.near (omega (arith, ints)) g.after) g.more (by (c.at -ℤ pos 1) c.before g.near_before since g.before)
 
 -- so is that of a season of the zone
-pub gap_by_season : (z : Zone) (a : AlternateRule) (l low high : ℤ) (s : Season) (c : Change) → IsValid z → z.rule ≡ Some (Alternate a) → IsSeasonIn z l s → IsNever z l → IsWindowOf z l l low high
-    → AreLessAmong z 0 (table_count z) l → ((from : ℤ) → IsSeasonFor a from l s → IsNeverFrom a from l → IsRuleGap a from l c) → HasGap (TypeAt z) l c.before c.after c.at
+pub gap_by_season : (z : Zone) (a : AlternateRule) (l low high : ℤ) (s : Season) (c : Change) → IsValid z → z.rule ≡ Some (Alternate a) → IsSeasonIn z l s
+    → IsNever z l → IsWindowOf z l l low high → AreLessAmong z 0 (table_count z) l
+    → ((from : ℤ) → IsSeasonFor a from l s → IsNeverFrom a from l → IsRuleGap a from l c) → HasGap (TypeAt z) l c.before c.after c.at
 gap_by_season z a l low high s c valid rule (from, start, season) never reach all made =
     gap_by_rule z a l low high from c valid rule start never reach all (made from (rw rule at season) (never_from z a l from valid rule start never))

@@ -6,7 +6,8 @@ use Rattle.tz_info.proofs.zone.time_zone.TimeZone.first_within.Goals.{After-seco
 -- what was given fits, and so do the run and the seconds between which a clock of its type shows a local time of the stretch
 between : (c : After-second_by-before)
     → SFits w64 c.args.window.high × SFits w64 c.run_until-end.result × SFits w64 c.second_by-since.result × SFits w64 c.second_by-before.result
-    × (c.second_by-since.result ≡ c.args.from -ℤ c.type_at-local_type.result.now.offset) × (c.second_by-before.result ≡ c.args.until -ℤ c.type_at-local_type.result.now.offset)
+    × (c.second_by-since.result ≡ c.args.from -ℤ c.type_at-local_type.result.now.offset)
+    × (c.second_by-before.result ≡ c.args.until -ℤ c.type_at-local_type.result.now.offset)
 between c =
     let ff = c.ranges.from in let fu = c.ranges.until in
     let fs : SFits w64 c.second_by-since.result = search rules in

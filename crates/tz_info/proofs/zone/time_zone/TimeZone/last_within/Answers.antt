@@ -17,7 +17,8 @@ fits c =
 -- the seconds between which a clock of the run's type shows a local time of the stretch
 between : (c : After-second_by-before)
     → SFits w64 c.second_by-since.result × SFits w64 c.second_by-before.result
-    × (c.second_by-since.result ≡ c.args.from -ℤ c.type_at-local_type.result.now.offset) × (c.second_by-before.result ≡ c.args.until -ℤ c.type_at-local_type.result.now.offset)
+    × (c.second_by-since.result ≡ c.args.from -ℤ c.type_at-local_type.result.now.offset)
+    × (c.second_by-before.result ≡ c.args.until -ℤ c.type_at-local_type.result.now.offset)
 between c =
     let ff = c.ranges.from in let fu = c.ranges.until in
     let fs : SFits w64 c.second_by-since.result = search rules in

@@ -30,4 +30,5 @@ returns-clause-counted c =
 pub returns-clause-season : goal.returns-clause-season
 returns-clause-season c =
     let (fl, ff, start) = begun (goal.at.returns-clause-season c).After-rule_from in
-    season_in c.args.self.now c.args.rule.now c.rule_from.result c.args.local c.answer_from-season.result.0 c.requires.rule start (simp to_z-of_z at c.answer_from-season.ensures.season)
+    season_in c.args.self.now c.args.rule.now c.rule_from.result c.args.local c.answer_from-season.result.0 c.requires.rule start
+    (simp to_z-of_z at c.answer_from-season.ensures.season)
